@@ -1,13 +1,13 @@
-//! A CoAP client over reliable transports (RFC 8323), and the command lines of both programs: all public names of the
-//! crates of the client.
+//! CoAP client over reliable transports (RFC 8323), and the command lines of both programs. This crate re-exports the
+//! public names of three crates:
 //!
-//! - `coap_request` has targets, requests and plans: `Target`, `Method`, `Extras`, `ClientPlan`, `ServerPlan`.
-//! - `coap_command_line` makes a plan of arguments: `client_words`, `server_words`, `WordsFault`.
-//! - `coap_client_engine` has the connection and its run: `Client`, `Event`, `run_client`, and the theorems of `laws`.
+//! - `coap_request`: targets, requests and plans (`Target`, `Method`, `Extras`, `ClientPlan`, `ServerPlan`).
+//! - `coap_command_line`: parsers of command lines (`client_words`, `server_words`, `WordsFault`).
+//! - `coap_client_engine`: the connection and its run (`Client`, `Event`, `run_client`), and the theorems in `laws`.
 //!
 //! This crate contains no function. A program that embeds a client imports these names from here, as `coap_client_main`
-//! does. `coap_server` imports from the first two crates, so that it does not wait for the proof of the client. Continue
-//! with `coap_client_engine/src/client.rt`.
+//! does. `coap_server` imports from the first two crates, so that its build does not wait for the proof of the client.
+//! Continue with `coap_client_engine/src/client.rt`.
 #![tactic(auto)]
 
 pub use coap_client_engine::{Client, ClientFault, Event, Taken, run_client};

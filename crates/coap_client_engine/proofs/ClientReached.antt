@@ -1,4 +1,4 @@
--- What holds of a client after any accepted calls, and what one call more leaves of it.
+-- Properties of a client after accepted calls, and the state of the client after one more call.
 use Rattle.std.proofs.Common.{◌≡◌, ℕ, ◌≤◌, Bool, true, false, cond, List, [], ◌∷◌, ◌++◌, length, map, take, Some, None, Result, Ok, Err, refl, sym, ap, subst, ◌∙◌, arith}
 use Rattle.coap_client_engine.specs.Prelude.{nat_le, Message, message_of, StreamFault, OfFrame, Format, Stream, frame_then}
 use Rattle.coap_client_engine.specs.Prelude.{fault_bytes, FormatFault, Framing, Finding, Nothing, AFrame, AFault, framing}
@@ -26,7 +26,7 @@ limits_if : (does : Bool) (h k : History) → k.limits ≡ h.limits → (cond do
 limits_if true h k e = e
 limits_if false h k e = refl
 
--- a step leaves the limits
+-- A step keeps the limits.
 pub step_limits : (h : History) (s : ClientStep) → (client.step h s).limits ≡ h.limits
 unfolding client.step
 step_limits h (Handles m) = limits_if (takes_messages h.phase) h _ refl
@@ -42,7 +42,7 @@ unfolding after_steps
 steps_limits h [] = refl
 steps_limits h (s ∷ ss) = steps_limits (client.step h s) ss ∙ step_limits h s
 
--- the limits are those of the client
+-- The limits in the history are those of the client.
 pub limits_same : (limits : LimitValues) (tokens : ℕ) (calls : List ClientCall) → (client_after limits tokens calls).limits ≡ limits
 unfolding client_after
 limits_same limits tokens calls = steps_limits (new_history Client limits tokens) (client.steps_of limits.max_message calls)
@@ -51,7 +51,7 @@ phase_if : (does : Bool) (h k : History) → k.phase ≡ h.phase → (cond does 
 phase_if true h k e = e
 phase_if false h k e = refl
 
--- what is asked leaves how the connection stands
+-- Sending a request, a cancellation or a Ping keeps the phase.
 pub asking_phase : (h : History) (m : Message) (e : OutstandingValue) → (after_asking h m e).phase ≡ h.phase
 asking_phase h m e = phase_if _ h _ refl
 
@@ -62,14 +62,14 @@ over_if : (h k : History) (takes : Bool) → takes_messages h.phase ≡ takes �
 over_if h k true e over = over
 over_if h k false e over = e
 
--- a fault and the end of the input end it
+-- After a fault or the end of the input, no message is accepted.
 pub reject_over : (h : History) (fault : Reject) → takes_messages (after h (call.Reject fault)).phase ≡ false
 reject_over h fault = over_if h _ (takes_messages h.phase) refl refl
 
 pub end_over : (h : History) (cut : Bool) → takes_messages (after h (call.End cut)).phase ≡ false
 end_over h cut = over_if h _ (takes_messages h.phase) refl refl
 
--- where no message is taken, nothing is kept
+-- If no message is accepted, no bytes are buffered.
 kept_none : (h : History) (rest : List ℕ) → takes_messages h.phase ≡ false → kept_after h rest ≡ []
 kept_none h rest e = rw e refl
 
@@ -80,13 +80,13 @@ nil_if : (does : Bool) → ◌≡◌ {A = List ℕ} (cond does [] []) []
 nil_if true = refl
 nil_if false = refl
 
--- ---- what is found
+-- ---- the result of the framer
 
 abbrev steps_read : Result Message FormatFault → List ClientStep
 steps_read (Ok m) = Handles m ∷ []
 steps_read (Err e) = Faults Format ∷ []
 
--- the steps of bytes of which this is found
+-- The steps of bytes, by what the framer found in them.
 abbrev pub steps_found : Finding → List ClientStep
 steps_found Nothing = []
 steps_found (AFrame frame) = steps_read (message_of frame)
@@ -104,15 +104,15 @@ added_steps kept bytes Nothing = refl
 added_steps kept bytes (AFrame frame) = read_added frame (message_of frame)
 added_steps kept bytes (AFault fault) = refl
 
--- a client whose connection has this history, and which keeps these bytes
+-- The client with a given history of its connection and given buffered bytes.
 abbrev client_shown : History → List ℕ → ClientValue
 client_shown h kept = record { frame = kept; link = link_of h }
 
--- what is left of a history that went on, with this rest
+-- The client after a history and with a given rest of its input.
 abbrev left : History → List ℕ → ClientValue
 left h rest = record { frame = kept_after h rest; link = link_of h }
 
--- what a taking is, where these steps and this stream were added to a history
+-- The result of a `take`, given the steps and the stream that its bytes add to a history.
 record IsTaken (h : History) (taken : Taking) (n : ℕ) (ss : List ClientStep) (added : Stream) : Type 0 where
   count : taken.count ≡ n
   event : taken.event ≡ event_by h ss
@@ -170,14 +170,14 @@ module _ (h : History) (is : IsHistory h) (live : takes_messages h.phase ≡ tru
   taken_found f (AFrame frame) all = taken_read f.taken frame (message_of frame)
   taken_found f (AFault fault) all = taken_fault f.taken (OfFrame fault) (fault_bytes (kept ++ bytes))
 
--- ---- what accepted calls lead to
+-- ---- the state after accepted calls
 
--- the history is one, and where messages are taken, the stream has no fault
+-- The history satisfies its invariant. If messages are accepted, the stream has no fault.
 pub record CallsReach (limits : LimitValues) (tokens : ℕ) (calls : List ClientCall) : Type 0 where
   pub is_history : IsHistory (client_after limits tokens calls)
   pub live : takes_messages (client_after limits tokens calls).phase ≡ true → (stream_in limits.max_message calls).fault ≡ None
 
--- the client after calls
+-- The client after calls.
 pub after_of : (limits : LimitValues) (tokens : ℕ) (calls : List ClientCall) → client_of limits tokens calls ≡ left (client_after limits tokens calls) (stream_in limits.max_message calls).rest
 unfolding client_of
 after_of limits tokens calls = refl
@@ -186,7 +186,7 @@ module _ (limits : LimitValues) (tokens : ℕ) (calls : List ClientCall) where
   abbrev max_taken : ℕ
   max_taken = limits.max_message
 
-  -- the history and the stream so far
+  -- The history and the stream before the call.
   abbrev h : History
   h = client_after limits tokens calls
 
@@ -219,7 +219,7 @@ module _ (limits : LimitValues) (tokens : ℕ) (calls : List ClientCall) where
   after_take bytes = calls ++ Took bytes ∷ []
 
   module _ (before : CallsReach limits tokens calls) where
-    -- no byte
+    -- No byte is accepted.
     none_reached : CallsReach limits tokens (after_take [])
     none_reached =
         let now = client_same limits tokens calls (Took []) (empty_take_steps max_taken calls) in
@@ -228,7 +228,7 @@ module _ (limits : LimitValues) (tokens : ℕ) (calls : List ClientCall) where
           live = λ takes. ap (λ (u : Stream). u.fault) (empty_take_stream max_taken calls) ∙ before.live (subst (λ (g : History). takes_messages g.phase ≡ true) now takes);
         }
 
-    -- the bytes taken of a piece, where any are
+    -- At least one byte of a slice is accepted.
     module _ (piece : List ℕ) (does : handles h ≡ true) where
       abbrev found_of_piece : Framing
       found_of_piece = framing limits.max_message calls_stream.rest piece
@@ -293,7 +293,7 @@ module _ (limits : LimitValues) (tokens : ℕ) (calls : List ClientCall) where
           takes_is taken
           ∙ front_whole max_taken calls_stream.rest piece (stream_rest_unfinished max_taken calls stream_has_no_fault)
 
-  -- what is taken of a piece and told is what the definitions say, and what is left is the client after it
+  -- The definitions give the accepted bytes and the event, and the remaining state is the client after the call.
   pub record IsTakenAndTold (piece bytes : List ℕ) : Type 0 where
     pub count : (taking (client_of limits tokens calls) piece).count ≡ takes limits tokens calls piece
     pub event : (taking (client_of limits tokens calls) piece).event ≡ event_of limits tokens calls (Took bytes)
@@ -309,7 +309,7 @@ module _ (limits : LimitValues) (tokens : ℕ) (calls : List ClientCall) where
     accepted = front_is_accepted before piece does;
   }
 
-  -- nothing is taken where there is no room or no message is taken
+  -- No byte is accepted if there is no room or no message is accepted.
   takes_nothing : (piece : List ℕ) → handles h ≡ false → takes limits tokens calls piece ≡ 0
   unfolding takes
   takes_nothing piece not = ap (λ (b : Bool). cond b (framing max_taken calls_stream.rest piece).taken 0) not
@@ -346,7 +346,7 @@ module _ (limits : LimitValues) (tokens : ℕ) (calls : List ClientCall) where
   pub takes_and_tells : (before : CallsReach limits tokens calls) (piece : List ℕ) → IsTakenAndTold piece (take (takes limits tokens calls piece) piece)
   takes_and_tells before piece = told_if before piece (handles h) refl
 
-  -- ---- one call more is reached
+  -- ---- the state after one more call
 
   take_is_reached : (bytes : List ℕ) (does : Bool) → handles h ≡ does → CallsReach limits tokens calls → takes limits tokens calls bytes ≡ length bytes → CallsReach limits tokens (after_take bytes)
   take_is_reached bytes true e before all =
@@ -384,7 +384,7 @@ no_call_reached limits tokens = record {
   live = λ takes. ap (λ (u : Stream). u.fault) (stream_first limits.max_message);
 }
 
--- what accepted calls lead to
+-- The state after any accepted calls.
 pub accepted_reach : (limits : LimitValues) (tokens : ℕ) (calls : List ClientCall) → AreAccepted limits tokens calls → CallsReach limits tokens calls
 accepted_reach limits tokens calls all = by_calls limits tokens (CallsReach limits tokens) (no_call_reached limits tokens) (λ before c accepted last reached. call_reached limits tokens before c reached last) calls all
 
@@ -397,7 +397,7 @@ module _ (limits : LimitValues) (tokens : ℕ) (calls : List ClientCall) (before
   abbrev rest_so_far : List ℕ
   rest_so_far = (stream_in limits.max_message calls).rest
 
-  -- a call that makes one step, takes no byte, and leaves how the connection stands
+  -- A call that makes one step, accepts no byte and keeps the phase.
   same_left : (c : ClientCall) (s : ClientStep) (k : History) (l : LinkValue) → steps_by limits.max_message calls c ≡ s ∷ [] → taken_by c ≡ [] → client.step now s ≡ k → k.phase ≡ now.phase → l ≡ link_of k
       → record (client_of limits tokens calls) { link = l } ≡ client_of limits tokens (calls ++ c ∷ [])
   same_left c s k l one none makes same is =
@@ -436,7 +436,7 @@ module _ (limits : LimitValues) (tokens : ℕ) (calls : List ClientCall) (before
       same_left (Wrote n) (Writes n) _ _ refl refl refl refl
       (shows (client_of limits tokens calls).link _ (call.Written n) few refl now (record { is_history = before.is_history; same = client_link })).same
 
-  -- where no message is taken any more, the end of the input changes nothing
+  -- If no message is accepted, the end of the input changes nothing.
   ended_if : (takes : Bool) → takes_messages now.phase ≡ takes → link_after (link_of now) (call.End (is_cut (cond takes rest_so_far []))) ≡ link_after (link_of now) (call.End (is_cut rest_so_far))
   ended_if true e = refl
   ended_if false e = stays (is_cut []) ∙ sym (stays (is_cut rest_so_far))

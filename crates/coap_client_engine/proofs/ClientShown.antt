@@ -1,4 +1,4 @@
--- What the clauses of each call of a client say of its value shows the call: what a client holds after calls is what they leave.
+-- If the clauses of a call hold for the value of a client, `ClientShows` holds for the client after the call.
 use Rattle.std.proofs.Common.{◌≡◌, ℕ, ◌≤◌, Bool, true, false, cond, List, [], ◌∷◌, ◌++◌, length, take, Option, Some, None, Result, Ok, Err, refl, sym, ap, subst, ◌∙◌}
 use Rattle.coap_client_engine.specs.Prelude.{IfOk, OnOk, Message, RefusedBy, else_refusal, new_refusal, asking_refusal}
 use Rattle.coap_client_engine.specs.Prelude.{observation_refusal, cancel_refusal, next_token, with_token, TooBig}
@@ -14,7 +14,7 @@ use Rattle.coap_conn.proofs.LinkLemmas.{new_shown}
 use Rattle.coap_client_engine.proofs.ClientSteps.{stream_first, client_first, accepted_no_call, accepted_with_call}
 use Rattle.coap_client_engine.proofs.ClientReached.{limits_same, CallsReach, accepted_reach, after_of, client_link, IsTakenAndTold, takes_and_tells, sent_left, cancelled_left, pinged_left, wrote_left, ended_left}
 
--- a client that is what accepted calls leave shows them
+-- `ClientShows` holds for the client after accepted calls.
 shows_client_of : (limits : LimitValues) (tokens : ℕ) (calls : List ClientCall) (v : ClientValue) → v ≡ client_of limits tokens calls → AreAccepted limits tokens calls → ClientShows v tokens calls
 shows_client_of limits tokens calls v is all =
     let same : v.link.limits ≡ limits = ap (λ (u : ClientValue). u.link.limits) (is ∙ after_of limits tokens calls) ∙ limits_same limits tokens calls in
@@ -36,9 +36,9 @@ pub opened_shown : {F : Type 0} (r : Result ClientValue F) (limits : LimitValues
 opened_shown (Ok c) limits tokens is = shows_client_of limits tokens [] c (is ∙ client_opened limits tokens) (accepted_no_call limits tokens)
 opened_shown (Err e) limits tokens is = tt
 
--- ---- one call more
+-- ---- one more call
 
--- a client that showed calls: what they lead to, and its link
+-- The state after the calls of a client for which `ClientShows` holds, and its link.
 module _ (v : ClientValue) (tokens : ℕ) (calls : List ClientCall) (shows : ClientShows v tokens calls) where
   abbrev limits : LimitValues
   limits = v.link.limits
@@ -49,7 +49,7 @@ module _ (v : ClientValue) (tokens : ℕ) (calls : List ClientCall) (shows : Cli
   link_is : v.link ≡ link_of (client_after v.link.limits tokens calls)
   link_is = ap (λ (u : ClientValue). u.link) shows.same ∙ client_link v.link.limits tokens calls before
 
-  -- where a call is accepted, and makes this of the client after the calls before it
+  -- An accepted call, given its effect on the client after the calls before it.
   call_is_shown : (c : ClientCall) (f : ClientValue → ClientValue) → IsAccepted v.link.limits tokens calls c → f (client_of v.link.limits tokens calls) ≡ client_of v.link.limits tokens (calls ++ c ∷ []) → (new : ClientValue) → new ≡ f v → ClientShows new tokens (calls ++ c ∷ [])
   call_is_shown c f last left new is = shows_client_of v.link.limits tokens (calls ++ c ∷ []) new (is ∙ ap f shows.same ∙ left) (accepted_with_call v.link.limits tokens calls c shows.accepted last)
 
@@ -85,7 +85,7 @@ module _ (v : ClientValue) (tokens : ℕ) (calls : List ClientCall) (shows : Cli
   unfolding IsAccepted
   ended_on new is = call_is_shown Ended client_ended tt (ended_left v.link.limits tokens calls before) new is
 
-  -- what a take says of a piece
+  -- The result of a `take` is the one that the definitions give.
   piece_is_told : (piece : List ℕ) → IsTakenAndTold v.link.limits tokens calls piece (take (takes v.link.limits tokens calls piece) piece)
   piece_is_told piece = takes_and_tells v.link.limits tokens calls before piece
 
@@ -119,7 +119,7 @@ pub pinged_shown : {T : Type 0} (r : Result T RequestFault) (v new : ClientValue
 pinged_shown (Ok x) v new custody none is = λ tokens calls shows. pinged_on v tokens calls shows custody none new is
 pinged_shown (Err e) v new custody none is = tt
 
--- the same of the parts of a client: the bytes that it keeps, and its link before and after
+-- The same for the parts of a client: the bytes that it buffers, and its link before and after the call.
 abbrev client_of_parts : List ℕ → LinkValue → ClientValue
 client_of_parts frame link = record { frame = frame; link = link }
 
@@ -147,7 +147,7 @@ pinged_here (Ok x) v frame link new custody view none is =
     (on_parts (λ u. client_pinged u custody) v frame link new view (ap (client_of_parts frame) is))
 pinged_here (Err e) v frame link new custody view none is = tt
 
--- a message that was made is the one that is meant, and is not too long
+-- A message that was built is the one of the definition, and nothing in it is too long.
 made_is_meant : (long : Bool) (m meant : Message) → ◌≡◌ {A = Option Message} (Some m) (cond long None (Some meant)) → (long ≡ false) × (m ≡ meant)
 made_is_meant true m meant is = absurd cc
 made_is_meant false m meant is = let same : m ≡ meant = cc in (refl, same)
@@ -188,14 +188,14 @@ ended_shown v new is tokens calls shows = ended_on v tokens calls shows new is
 
 -- ---- take
 
--- so many bytes are taken
+-- The number of accepted bytes.
 pub took_takes : (v : ClientValue) (piece : List ℕ) (n : ℕ) → n ≡ (taking v piece).count → (tokens : ℕ) (calls : List ClientCall) → ClientShows v tokens calls → n ≡ takes v.link.limits tokens calls piece
 took_takes v piece n count tokens calls shows = takes_on v tokens calls shows piece n count
 
--- this is told
+-- The event.
 pub took_told : (v : ClientValue) (piece : List ℕ) (n : ℕ) (e : Option EventValue) → n ≡ (taking v piece).count → e ≡ (taking v piece).event → (tokens : ℕ) (calls : List ClientCall) → ClientShows v tokens calls → e ≡ event_of v.link.limits tokens calls (Took (take n piece))
 took_told v piece n e count is tokens calls shows = told_on v tokens calls shows piece n e count is
 
--- and this is left
+-- The client after the call.
 pub took_shown : (v : ClientValue) (piece : List ℕ) (n : ℕ) → n ≡ (taking v piece).count → (tokens : ℕ) (calls : List ClientCall) → ClientShows v tokens calls → ClientShows (taking v piece).client tokens (calls ++ Took (take n piece) ∷ [])
 took_shown v piece n count tokens calls shows = took_on v tokens calls shows piece n count

@@ -1,4 +1,4 @@
--- Calls one behind the other: their bytes, their steps, the connection after them, and which calls are accepted.
+-- Lists of calls: their bytes, their steps, the connection after them, and which calls are accepted.
 use Rattle.std.proofs.Common.{◌≡◌, ℕ, List, [], ◌∷◌, ◌++◌, length, map, Option, Some, None, refl, sym, ap, subst, ◌∙◌, append_assoc}
 use Rattle.coap_client_engine.specs.Prelude.{flat_map, Message, Unfinished, beginning, StreamFault, Stream, split, behind}
 use Rattle.coap_client_engine.specs.Prelude.{gone_on, split_on, framing, LimitValues, History, new_history, Client}
@@ -14,36 +14,36 @@ use Rattle.coap_frame.proofs.FrontLaws.{added_by, added_whole}
 
 -- ---- bytes
 
--- one call more
+-- The bytes of one more call.
 pub taken_with_call : (calls : List ClientCall) (c : ClientCall) → flat_map taken_by (calls ++ c ∷ []) ≡ flat_map taken_by calls ++ taken_by c
 taken_with_call calls c = flat_map-append taken_by calls (c ∷ []) ∙ ap (λ (t : List ℕ). flat_map taken_by calls ++ t) (append-nil (taken_by c))
 
--- a call with no bytes leaves the stream
+-- A call without bytes keeps the stream.
 pub stream_stays : (M : ℕ) (calls : List ClientCall) (c : ClientCall) → taken_by c ≡ [] → stream_in M (calls ++ c ∷ []) ≡ stream_in M calls
 stream_stays M calls c none = ap (split M) (taken_with_call calls c ∙ ap (λ (t : List ℕ). flat_map taken_by calls ++ t) none ∙ append-nil (flat_map taken_by calls))
 
--- taken bytes go on with it
+-- Accepted bytes continue the stream.
 pub stream_goes_on : (M : ℕ) (calls : List ClientCall) (bytes : List ℕ) → stream_in M (calls ++ Took bytes ∷ []) ≡ split_on M (stream_in M calls) bytes
 stream_goes_on M calls bytes = ap (split M) (taken_with_call calls (Took bytes)) ∙ split_goes_on M (flat_map taken_by calls) bytes
 
--- at first there is nothing of it
+-- The stream is empty before the first call.
 pub stream_first : (M : ℕ) → stream_in M [] ≡ record { messages = []; rest = []; fault = None }
 stream_first M = split_unfinished M [] (unfinished_empty M)
 
--- the rest of a stream with no fault is unfinished
+-- The rest of a stream without a fault is unfinished.
 pub stream_rest_unfinished : (M : ℕ) (calls : List ClientCall) → (stream_in M calls).fault ≡ None → beginning M (stream_in M calls).rest ≡ Unfinished
 stream_rest_unfinished M calls none = split_rest M (flat_map taken_by calls) none
 
 -- ---- steps
 
--- steps one after the other
+-- The effect of two lists of steps in turn.
 pub client_steps_then : (h : History) (ss ts : List ClientStep)
     → after_steps h (ss ++ ts) ≡ after_steps (after_steps h ss) ts
 unfolding after_steps
 client_steps_then h [] ts = refl
 client_steps_then h (s ∷ ss) ts = client_steps_then (client.step h s) ss ts
 
--- the steps of calls one after the other
+-- The steps of two lists of calls in turn.
 pub call_steps_behind_more : (M : ℕ) (a calls more : List ClientCall) → steps_behind M a (calls ++ more) ≡ steps_behind M a calls ++ steps_behind M (a ++ calls) more
 unfolding steps_behind
 call_steps_behind_more M a [] more = ap (λ (b : List ClientCall). steps_behind M b more) (sym (append-nil a))
@@ -58,7 +58,7 @@ steps_with_call M calls c = call_steps_behind_more M [] calls (c ∷ []) ∙ ap 
 
 -- ---- the connection
 
--- at first, and after one call more
+-- The history before the first call, and after one more call.
 pub client_first : (limits : LimitValues) (tokens : ℕ) → client_after limits tokens [] ≡ new_history Client limits tokens
 unfolding client_after steps_of steps_behind after_steps
 client_first limits tokens = refl
@@ -69,7 +69,7 @@ client_more limits tokens calls c =
     ap (after_steps (new_history Client limits tokens)) (steps_with_call limits.max_message calls c)
     ∙ client_steps_then (new_history Client limits tokens) (steps_of limits.max_message calls) (steps_by limits.max_message calls c)
 
--- the same where it is known which steps the call makes: none, or one
+-- The history after a call that makes no step, or one step.
 pub client_same : (limits : LimitValues) (tokens : ℕ) (calls : List ClientCall) (c : ClientCall) → steps_by limits.max_message calls c ≡ [] → client_after limits tokens (calls ++ c ∷ []) ≡ client_after limits tokens calls
 unfolding after_steps
 client_same limits tokens calls c none = client_more limits tokens calls c ∙ ap (after_steps (client_after limits tokens calls)) none
@@ -78,7 +78,7 @@ pub client_step : (limits : LimitValues) (tokens : ℕ) (calls : List ClientCall
 unfolding after_steps
 client_step limits tokens calls c s one = client_more limits tokens calls c ∙ ap (after_steps (client_after limits tokens calls)) one
 
--- ---- what is accepted
+-- ---- accepted calls
 
 accepted_behind_calls : (limits : LimitValues) (tokens : ℕ) (a calls : List ClientCall) (c : ClientCall) → AreAcceptedBehind limits tokens a calls → IsAccepted limits tokens (a ++ calls) c → AreAcceptedBehind limits tokens a (calls ++ c ∷ [])
 unfolding AreAcceptedBehind
@@ -86,16 +86,16 @@ accepted_behind_calls limits tokens a [] c before last = (subst (λ (b : List Cl
 accepted_behind_calls limits tokens a (d ∷ calls) c before last =
     (before.0, accepted_behind_calls limits tokens (a ++ d ∷ []) calls c before.1 (subst (λ (b : List ClientCall). IsAccepted limits tokens b c) (sym (append_assoc a (d ∷ []) calls)) last))
 
--- nothing is accepted
+-- The empty list of calls is accepted.
 pub accepted_no_call : (limits : LimitValues) (tokens : ℕ) → AreAccepted limits tokens []
 unfolding AreAcceptedBehind
 accepted_no_call limits tokens = tt
 
--- one call more
+-- One more accepted call.
 pub accepted_with_call : (limits : LimitValues) (tokens : ℕ) (calls : List ClientCall) (c : ClientCall) → AreAccepted limits tokens calls → IsAccepted limits tokens calls c → AreAccepted limits tokens (calls ++ c ∷ [])
 accepted_with_call limits tokens calls c before last = accepted_behind_calls limits tokens [] calls c before last
 
--- what holds at first, and behind each call that is accepted, holds of all lists of accepted calls
+-- Induction over accepted calls.
 by_calls_behind : (limits : LimitValues) (tokens : ℕ) (P : List ClientCall → Type 0) → ((calls : List ClientCall) (c : ClientCall) → AreAccepted limits tokens calls → IsAccepted limits tokens calls c → P calls → P (calls ++ c ∷ []))
     → (a calls : List ClientCall) → AreAccepted limits tokens a → P a → AreAcceptedBehind limits tokens a calls → P (a ++ calls)
 unfolding AreAcceptedBehind
@@ -107,14 +107,14 @@ pub by_calls : (limits : LimitValues) (tokens : ℕ) (P : List ClientCall → Ty
     → (calls : List ClientCall) → AreAccepted limits tokens calls → P calls
 by_calls limits tokens P first go calls all = by_calls_behind limits tokens P go [] calls (accepted_no_call limits tokens) first all
 
--- ---- what a take adds
+-- ---- the stream and the steps of a take
 
--- the steps of a take, and the stream after it: those of what is added behind the stream before it
+-- The steps of a `take` and the stream after it, given the stream that its bytes add.
 pub record AddsTo (M : ℕ) (calls : List ClientCall) (bytes : List ℕ) (added : Stream) : Type 0 where
   pub steps : steps_by M calls (Took bytes) ≡ map Handles added.messages ++ new_fault None added.fault
   pub stream : stream_in M (calls ++ Took bytes ∷ []) ≡ behind (stream_in M calls).messages added
 
--- behind a stream with no fault
+-- The added steps, if the stream before has no fault.
 steps_beyond_added : (before after added : Stream) → before.fault ≡ None → after ≡ behind before.messages added → beyond before after ≡ map Handles added.messages ++ new_fault None added.fault
 steps_beyond_added before after added none is =
     ap (beyond before) is
@@ -131,14 +131,14 @@ take_adds M calls bytes added none is =
     in
     record { steps = steps_beyond_added (stream_in M calls) (stream_in M (calls ++ Took bytes ∷ [])) added none after; stream = after }
 
--- bytes that are taken whole behind a stream with no fault add what is found of them
+-- Bytes that are accepted in full add what the framer finds in them, if the stream has no fault.
 pub adds_whole : (M : ℕ) (calls : List ClientCall) (bytes : List ℕ) → (stream_in M calls).fault ≡ None → (framing M (stream_in M calls).rest bytes).taken ≡ length bytes
     → AddsTo M calls bytes (added_by (stream_in M calls).rest bytes (framing M (stream_in M calls).rest bytes).finding)
 adds_whole M calls bytes none all = take_adds M calls bytes _ none (added_whole M (stream_in M calls).rest bytes (stream_rest_unfinished M calls none) all)
 
 -- ---- no bytes
 
--- no byte makes no step and leaves the stream, with a fault or without
+-- The empty slice makes no step and keeps the stream, with or without a fault.
 pub nothing_beyond_itself : (s : Stream) (fault : Option StreamFault) → s.fault ≡ fault → beyond s s ≡ []
 nothing_beyond_itself s None e = rw (drop-length s.messages) (rw e refl)
 nothing_beyond_itself s (Some fault) e = rw (drop-length s.messages) (rw e refl)

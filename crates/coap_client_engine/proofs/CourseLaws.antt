@@ -1,5 +1,5 @@
--- What holds of every course of a client's run: what was taken is a front of what the wire gave, and what was written a front of what
--- was queued.
+-- Properties of every trace of a run. The accepted bytes are a prefix of the input, and the written bytes are a prefix
+-- of the queued bytes.
 use Rattle.std.proofs.Common.{◌≡◌, ◌+◌, ◌≤◌, ℕ, Bool, true, false, cond, List, [], ◌∷◌, ◌++◌, length, map, take, drop, Option, Some, None, refl, sym, ap, subst, ◌∙◌, append_assoc}
 use Rattle.coap_client_engine.specs.Prelude.{flat_map, Message, spelling, StreamFault, Stream, LimitValues, takes_messages}
 use Rattle.coap_client_engine.specs.Prelude.{History, IsHistory, bytes_of, Got, Bytes, Later, End, Failed, bytes_passed}
@@ -19,12 +19,12 @@ use Rattle.coap_client_engine.proofs.FitLaws.{step_grows}
 use Rattle.coap_client_engine.proofs.StandLemmas.{front_length}
 use Rattle.coap_conn.proofs.GrowLaws.{grows_then, grows_self, Grows}
 
--- ---- what was taken
+-- ---- accepted bytes
 
 abbrev taken_all : List ClientCall → List ℕ
 taken_all calls = flat_map taken_by calls
 
--- a call that takes no bytes
+-- A call that accepts no bytes.
 taken_none : (calls : List ClientCall) (c : ClientCall) → taken_by c ≡ []
     → taken_all (calls ++ c ∷ []) ≡ taken_all calls
 taken_none calls c none =
@@ -42,7 +42,7 @@ written_taken calls Later = ap taken_all (append-nil calls)
 written_taken calls End = ap taken_all (append-nil calls)
 written_taken calls Failed = ap taken_all (append-nil calls)
 
--- a front and what is behind it
+-- A prefix and the bytes after it.
 front_then : (n : ℕ) (xs bytes : List ℕ) → bytes ≡ take n xs → bytes ++ drop (length bytes) xs ≡ xs
 front_then n xs bytes is =
     let whole : bytes ++ drop n xs ≡ xs = ap (λ (b : List ℕ). b ++ drop n xs) is ∙ take-append-drop n xs in
@@ -63,7 +63,7 @@ given_same calls more given rest is same = is ∙ ap (λ (t : List ℕ). t ++ re
 given_read : (calls : List ClientCall) (given rest bytes : List ℕ) → given ≡ taken_all calls ++ rest → rest ≡ [] → given ++ bytes ≡ taken_all calls ++ bytes
 given_read calls given rest bytes is none = ap (λ (t : List ℕ). t ++ bytes) (is ∙ ap (λ (t : List ℕ). taken_all calls ++ t) none ∙ append-nil (taken_all calls))
 
--- what was taken, and what is left, is what the wire gave
+-- The accepted bytes and those left to process are the bytes that the wire gave.
 pub course_taken : (plan : ClientPlan) (c : Course) → IsCourse plan c → given_in c ≡ taken_in c ++ rest_in c
 course_taken plan (Begins moment) is = refl
 course_taken plan (Turns before moment) is = course_taken plan before is.0
@@ -84,14 +84,14 @@ course_taken plan (Rests before) is = course_taken plan before is.0
 course_taken plan (course.Writes before got) is =
     given_same (calls_in before) (calls_in before ++ calls_written got) (given_in before) (rest_in before) (course_taken plan before is.0) (written_taken (calls_in before) got)
 
--- ---- what was written
+-- ---- written bytes
 
--- nothing more was written, and more may be queued
+-- A conditional change that writes nothing, but may queue messages.
 written_if : (does : Bool) (h k : History) → k.written ≡ h.written → (cond does k h).written ≡ h.written
 written_if true h k is = is
 written_if false h k is = refl
 
--- a step that writes nothing
+-- A step that writes nothing.
 abbrev IsQuietStep : ClientStep → Type 0
 IsQuietStep (Handles m) = Unit {0}
 IsQuietStep (Faults fault) = Unit {0}
@@ -125,7 +125,7 @@ unfolding after_steps
 messages_quiet h [] before after = fault_quiet h before after
 messages_quiet h (m ∷ ms) before after = grows_then h (step h (Handles m)) _ (step_quiet h (Handles m) tt) (messages_quiet (step h (Handles m)) ms before after)
 
--- a call that writes nothing
+-- A call that writes nothing.
 abbrev IsQuietCall : ClientCall → Type 0
 IsQuietCall (Took bytes) = Unit {0}
 IsQuietCall (Sent method target extras) = Unit {0}
@@ -149,7 +149,7 @@ call_steps h calls Ended quiet = step_quiet h _ tt
 abbrev led_to : List ClientCall → History
 led_to calls = client_after default_limits 0 calls
 
--- what of the messages queued was written
+-- The queued bytes that were written.
 abbrev sent_bytes : History → List ℕ
 sent_bytes h = take h.written (bytes_of h.queued)
 
@@ -163,7 +163,7 @@ sent_grown h k is grows =
     ∙ ap (λ (bs : List ℕ). take h.written bs) (flat_map-append spelling h.queued grows.more)
     ∙ take-append-le h.written (bytes_of h.queued) (bytes_of grows.more) is
 
--- calls that are accepted begin with calls that are
+-- A prefix of accepted calls is accepted.
 accepted_front : (limits : LimitValues) (tokens : ℕ) (earlier calls more : List ClientCall) → AreAcceptedBehind limits tokens earlier (calls ++ more) → AreAcceptedBehind limits tokens earlier calls
 unfolding AreAcceptedBehind
 accepted_front limits tokens earlier [] more all = tt
@@ -188,7 +188,7 @@ read_sent calls Later all = no_call_sent calls
 read_sent calls End all = quiet_sent calls Ended tt all
 read_sent calls Failed all = no_call_sent calls
 
--- a longer front
+-- A longer prefix in two parts.
 front_in_parts : (n m : ℕ) (xs : List ℕ) → n ≤ length xs → take (n + m) xs ≡ take n xs ++ take m (drop n xs)
 front_in_parts n m xs few =
     let front : length (take n xs) ≡ n = front_length n xs few in
@@ -206,7 +206,7 @@ wrote_sent calls n all =
     ap sent_bytes (wrote_history calls n)
     ∙ front_in_parts (led_to calls).written n (bytes_of (led_to calls).queued) (history_of calls (accepted_before calls (Wrote n ∷ []) all))
 
--- what waits is what is queued behind that
+-- The bytes still to be written are the queued bytes after those already written.
 waits_behind : (calls : List ClientCall) → (client_of default_limits 0 calls).link.waiting ≡ drop (led_to calls).written (bytes_of (led_to calls).queued)
 unfolding client_of
 waits_behind calls = refl
@@ -241,7 +241,7 @@ course_sent plan (Rests before) is all = course_sent plan before is.0 all
 course_sent plan (course.Writes before got) is all =
     ap (λ (w : List ℕ). w ++ bytes_passed (waiting_in before) got) (course_sent plan before is.0 (accepted_before (calls_in before) (calls_written got) all)) ∙ sym (written_sent (calls_in before) got all)
 
--- what was written, and what waits, is what was queued
+-- The written bytes and those still to be written are the queued bytes.
 pub course_queued : (plan : ClientPlan) (c : Course) → IsCourse plan c → AreAccepted default_limits 0 (calls_in c) → bytes_of (history_in c).queued ≡ written_in c ++ waiting_in c
 course_queued plan c is all =
     sym (take-append-drop (history_in c).written (bytes_of (history_in c).queued))

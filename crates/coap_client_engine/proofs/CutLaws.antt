@@ -1,5 +1,4 @@
--- Where pieces are cut does not matter: a piece, and its two parts one after the other, make the same steps and leave the same
--- client.
+-- Segmentation is irrelevant: an input slice and its two parts in turn make the same steps and leave the same client.
 use Rattle.std.proofs.Common.{◌≡◌, ℕ, List, [], ◌∷◌, ◌++◌, map, Option, Some, None, refl, sym, ap, subst, ◌∙◌, append_assoc}
 use Rattle.coap_client_engine.specs.Prelude.{flat_map, Message, StreamFault, Stream, split, behind, gone_on, split_on}
 use Rattle.coap_client_engine.specs.Prelude.{Client, LimitValues, History, new_history, link_of, ClientValue, is_cut}
@@ -11,9 +10,9 @@ use Rattle.std.proofs.lemmas.List.Concat.{flat_map-append}
 use Rattle.std.proofs.Math.Seq.{drop-append_seam}
 use Rattle.coap_client_engine.proofs.ClientSteps.{stream_goes_on, call_steps_behind_more, nothing_beyond_itself}
 
--- ---- only the bytes that were taken matter
+-- ---- only the accepted bytes matter
 
--- two lists of calls took the same bytes
+-- Two lists of calls accepted the same bytes.
 abbrev TookAlike : List ClientCall → List ClientCall → Type 0
 TookAlike calls others = flat_map taken_by calls ≡ flat_map taken_by others
 
@@ -42,16 +41,16 @@ later_steps_alike M calls others (c ∷ later) alike =
     (call_steps_alike M calls others c alike)
     ∙ ap (λ (ss : List ClientStep). steps_by M others c ++ ss) (later_steps_alike M (calls ++ c ∷ []) (others ++ c ∷ []) later (alike_then calls others (c ∷ []) alike))
 
--- ---- a stream gone on in two parts
+-- ---- a stream continued in two parts
 
--- what is beyond a stream with no fault in one that goes on from it with this
+-- The steps of a stream that continues one without a fault.
 beyond_more : (before others : Stream) → before.fault ≡ None
     → beyond before (behind before.messages others) ≡ map Handles others.messages ++ new_fault None others.fault
 beyond_more before others none =
     ap (λ (ms : List Message). map Handles ms ++ new_fault before.fault others.fault) (drop-append_seam before.messages others.messages)
     ∙ ap (λ (f : Option StreamFault). map Handles others.messages ++ new_fault f others.fault) none
 
--- a stream with no fault, gone on with s and then with t
+-- The steps of a stream without a fault that `s` and then `t` continue.
 beyond_gone_on : (before s t : Stream) (fault : Option StreamFault) → before.fault ≡ None → s.fault ≡ fault
     → beyond before (gone_on (behind before.messages s) fault t) ≡ beyond before (behind before.messages s) ++ beyond (behind before.messages s) (gone_on (behind before.messages s) fault t)
 beyond_gone_on before s t None none is =
@@ -67,7 +66,7 @@ beyond_gone_on before s t (Some fault) none is =
     let after : Stream = behind before.messages s in
     sym (ap (λ (ss : List ClientStep). beyond before after ++ ss) (nothing_beyond_itself after after.fault refl) ∙ append-nil (beyond before after))
 
--- the same of any stream, gone on with one piece and then with another
+-- The steps of any stream that two slices continue in turn.
 beyond_two_pieces : (M : ℕ) (before : Stream) (fault : Option StreamFault) (one other : List ℕ) → before.fault ≡ fault
     → beyond before (split_on M (split_on M before one) other) ≡ beyond before (split_on M before one) ++ beyond (split_on M before one) (split_on M (split_on M before one) other)
 beyond_two_pieces M before None one other none =
@@ -81,7 +80,7 @@ beyond_two_pieces M before (Some fault) one other is =
     (sym (ap (λ (ss : List ClientStep). ss ++ beyond before (split_on M before other))
     (nothing_beyond_itself before before.fault refl)))
 
--- ---- a piece in two parts
+-- ---- a slice in two parts
 
 taken_twice : (calls : List ClientCall) (one other : List ℕ)
     → TookAlike (calls ++ Took (one ++ other) ∷ []) ((calls ++ Took one ∷ []) ++ Took other ∷ [])
@@ -91,7 +90,7 @@ taken_twice calls one other =
     ∙ sym (flat_map-append taken_by calls (Took one ∷ Took other ∷ []))
     ∙ ap (flat_map taken_by) (sym (append_assoc calls (Took one ∷ []) (Took other ∷ [])))
 
--- the steps of a piece are those of its parts
+-- The steps of a slice are those of its parts.
 piece_steps_by_parts : (M : ℕ) (calls : List ClientCall) (one other : List ℕ)
     → steps_by M calls (Took (one ++ other)) ≡ steps_by M calls (Took one) ++ steps_by M (calls ++ Took one ∷ []) (Took other)
 unfolding steps_by
@@ -106,7 +105,7 @@ piece_steps_by_parts M calls one other =
     ap (λ (s : Stream). beyond before s ++ beyond s (stream_in M ((calls ++ Took one ∷ []) ++ Took other ∷ []))) half
     ∙ ap (λ (s : Stream). beyond before (split_on M before one) ++ beyond (split_on M before one) s) both)
 
--- ---- the law
+-- ---- the theorem
 
 pub cut_call_steps : (M : ℕ) (earlier later : List ClientCall) (one other : List ℕ)
     → steps_of M (earlier ++ Took (one ++ other) ∷ later) ≡ steps_of M (earlier ++ Took one ∷ Took other ∷ later)
@@ -120,7 +119,7 @@ cut_call_steps M earlier later one other =
     ∙ append_assoc (steps_by M earlier (Took one)) (steps_by M half (Took other)) (steps_behind M (half ++ Took other ∷ []) later))
     ∙ sym (call_steps_behind_more M [] earlier (Took one ∷ Took other ∷ later))
 
--- the client is told by the steps and by the bytes taken
+-- The client, as a function of the steps and the accepted bytes.
 abbrev client_by : LimitValues → ℕ → List ClientStep → List ℕ → ClientValue
 client_by limits tokens ss bytes =
     let h : History = after_steps (new_history Client limits tokens) ss in

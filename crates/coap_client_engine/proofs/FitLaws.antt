@@ -1,5 +1,4 @@
--- What a step queues stands behind what was queued, and is at most as great as the greatest message that may be sent at that
--- moment.
+-- A step appends to the queued messages, and each message fits the size limit at that time.
 use Rattle.std.proofs.Common.{◌≡◌, ℕ, Bool, true, false, cond, List, [], ◌∷◌, ◌++◌, refl, sym, ◌∙◌}
 use Rattle.coap_client_engine.specs.Prelude.{◌+◌, is_none, Message, takes_messages, reject_of, reject_reason, AllFit}
 use Rattle.coap_client_engine.specs.Prelude.{OutstandingValue, Ping, with_cancelled, asking_refusal, cancel_refusal}
@@ -12,14 +11,14 @@ use Rattle.coap_conn.specs.Calls as call
 use Rattle.coap_conn.proofs.AskingLaws.{none_where}
 use Rattle.coap_conn.proofs.HistoryLaws.{reaction_fits, stopped_fits, asked_fits, cancelled_fits}
 
--- more is queued, and it fits
+-- More messages are queued, and they fit.
 abbrev GrowsFit : History → History → Type 0
 GrowsFit h k = (more : List Message) × (k.queued ≡ h.queued ++ more) × AllFit (limit_now h) more
 
 grows_none : (h k : History) → k.queued ≡ h.queued → GrowsFit h k
 grows_none h k same = ([], same ∙ sym (append-nil h.queued), tt)
 
--- an effect where a test says so
+-- A conditional effect.
 effect_grows_fit : (h : History) (e : Effect) (does : Bool) → AllFit (limit_now h) e.queued → GrowsFit h (cond does (with_effect h e) h)
 effect_grows_fit h e true fit = (e.queued, refl, fit)
 effect_grows_fit h e false fit = grows_none h h refl
@@ -29,7 +28,7 @@ heard_grows : (h : History) (m : Message) (takes : Bool)
 heard_grows h m true = ((react (standing_now h) m).effect.queued, refl, reaction_fits h m)
 heard_grows h m false = grows_none h h refl
 
--- a message where a test says so
+-- A conditional message.
 sent_grows : (h : History) (m : Message) (outstanding : List OutstandingValue) (tokens : ℕ) (does : Bool)
     → (does ≡ true → AllFit (limit_now h) (m ∷ []))
     → GrowsFit h (cond does (record h { queued = h.queued ++ m ∷ []; outstanding = outstanding; tokens = tokens }) h)
@@ -47,7 +46,7 @@ cancelled_grows h token m =
     sent_grows h sent (with_cancelled token h.outstanding) h.tokens (is_none (cancel_refusal (asking_now h) token sent))
     (λ may. cancelled_fits h token sent (none_where (cancel_refusal (asking_now h) token sent) may))
 
--- each step only adds to what is queued, and what it adds fits
+-- Each step only appends to the queued messages, and the added messages fit.
 pub step_grows : (h : History) (s : ClientStep)
     → (more : List Message) × ((step h s).queued ≡ h.queued ++ more) × AllFit (limit_now h) more
 unfolding step

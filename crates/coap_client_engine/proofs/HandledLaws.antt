@@ -1,4 +1,4 @@
--- The messages handled are exactly those that the bytes taken spell, and their fault stops the connection.
+-- The processed messages are exactly those that the accepted bytes encode, and malformed bytes stop the connection.
 use Rattle.std.proofs.Common.{◌≡◌, ℕ, Bool, true, false, cond, List, [], ◌∷◌, ◌++◌, length, Some, None, Result, Ok, Err, refl, sym, ap, subst, ◌∙◌}
 use Rattle.coap_client_engine.specs.Prelude.{◌≤◌, nat_le, is_none, Message, message_of, FormatFault, StreamFault, OfFrame}
 use Rattle.coap_client_engine.specs.Prelude.{Format, Stream, frame_then, Finding, Nothing, AFrame, AFault, Framing, framing}
@@ -18,15 +18,15 @@ use Rattle.coap_wire.proofs.NumberLaws.{none_or_some}
 use Rattle.coap_client_engine.proofs.ClientSteps.{stream_stays, stream_first, client_first, client_same, client_step, by_calls, AddsTo, adds_whole, empty_take_steps}
 use Rattle.coap_client_engine.proofs.ClientReached.{accepted_reach}
 
--- ---- what accepted bytes make
+-- ---- the steps of accepted bytes
 
--- where messages are handled, they are taken, and the greatest one has room
+-- If messages are processed, they are accepted, and a message of maximum size has room.
 pub handling_has_room : (h : History) → handles h ≡ true → (takes_messages h.phase ≡ true) × (h.limits.max_sent ≤ free_in (link_of h))
 handling_has_room h does =
     let parts = and_parts (takes_messages h.phase) (nat_le h.limits.max_sent (free_in (link_of h))) does in
     (parts.0, leb-true h.limits.max_sent (free_in (link_of h)) parts.1)
 
--- The steps of taken bytes that are accepted: none, or the one of the message or of the fault that they end.
+-- The steps of accepted bytes: none, or that of the message or of the fault that they complete.
 pub data TakeMakes (M : ℕ) (calls : List ClientCall) (bytes : List ℕ) (h : History) : Type 0 where
   NoStep : steps_by M calls (Took bytes) ≡ [] → (stream_in M (calls ++ Took bytes ∷ [])).messages ≡ (stream_in M calls).messages
       → (stream_in M (calls ++ Took bytes ∷ [])).fault ≡ (stream_in M calls).fault → TakeMakes M calls bytes h
@@ -36,7 +36,7 @@ pub data TakeMakes (M : ℕ) (calls : List ClientCall) (bytes : List ℕ) (h : H
       → AddsTo M calls bytes (record { messages = []; rest = rest; fault = Some fault }) → TakeMakes M calls bytes h
 
 module _ (M : ℕ) (calls : List ClientCall) (bytes : List ℕ) (h : History) where
-  -- what is found of the bytes behind those kept of an unfinished frame
+  -- The framer's result for the bytes, after the buffered bytes of an unfinished frame.
   abbrev found_of_bytes : Framing
   found_of_bytes = framing M (stream_in M calls).rest bytes
 
@@ -65,7 +65,7 @@ module _ (M : ℕ) (calls : List ClientCall) (bytes : List ℕ) (h : History) wh
       found_makes none does found_of_bytes.finding (adds_whole M calls bytes none all)
   took_makes live false does all = none_makes (nil_from_length bytes (sym all))
 
--- all of the bytes are taken
+-- All of the bytes are accepted.
 pub take_makes : (limits : LimitValues) (tokens : ℕ) (calls : List ClientCall) (bytes : List ℕ)
     → AreAccepted limits tokens calls → IsAccepted limits tokens calls (Took bytes)
     → TakeMakes limits.max_message calls bytes (client_after limits tokens calls)
@@ -74,9 +74,9 @@ take_makes limits tokens calls bytes accepted all =
     let h : History = client_after limits tokens calls in
     took_makes limits.max_message calls bytes h (accepted_reach limits tokens calls accepted).live (handles h) refl all
 
--- ---- what is no message and no fault
+-- ---- steps that are neither a message nor a fault
 
--- no message was handled in between, and a stop stays
+-- No message was processed in between, and a stopped connection stays stopped.
 record Rests (h k : History) : Type 0 where
   handled : k.handled ≡ h.handled
   stopped : (why : Reason) → h.phase ≡ Stopped why → k.phase ≡ Stopped why
@@ -84,12 +84,12 @@ record Rests (h k : History) : Type 0 where
 rests_by_itself : (h : History) → Rests h h
 rests_by_itself h = record { handled = refl; stopped = λ why is. is }
 
--- the same history, where something else was queued or is outstanding, or more was written
+-- A conditional change that keeps the processed messages and the phase.
 rests_if : (h k : History) (does : Bool) → k.handled ≡ h.handled → k.phase ≡ h.phase → Rests h (cond does k h)
 rests_if h k true handled phase = record { handled = handled; stopped = λ why is. phase ∙ is }
 rests_if h k false handled phase = rests_by_itself h
 
--- a connection that takes messages has not stopped
+-- A connection that accepts messages has not stopped.
 stop_rests : (h : History) (why : Reason) (takes : Bool) → takes_messages h.phase ≡ takes
     → Rests h (cond takes (with_effect h (stop (standing_now h) why [])) h)
 stop_rests h why true is = record { handled = refl; stopped = λ other at. absurd (both_ways _ (ap takes_messages at) is) }
@@ -104,7 +104,7 @@ asked_rests h m e = rests_if h _ (is_none (asking_refusal (asking_now h) m)) ref
 cancel_rests : (h : History) (token : List ℕ) (m : Message) → Rests h (after h (call.Cancel token m))
 cancel_rests h token m = rests_if h _ (is_none (cancel_refusal (asking_now h) token (with_token m token))) refl refl
 
--- ---- what a connection handled is what its bytes spell
+-- ---- the processed messages are those that the bytes encode
 
 record AgreesWith (u : Stream) (h : History) : Type 0 where
   handled : h.handled ≡ u.messages
@@ -156,7 +156,7 @@ module _ (limits : LimitValues) (tokens : ℕ) where
     abbrev history_now : History
     history_now = client_after limits tokens calls
 
-    -- a call that takes no byte and makes this step
+    -- A call that accepts no byte and makes this step.
     bare_call_agrees : (c : ClientCall) (s : ClientStep) → taken_by c ≡ []
         → steps_by limits.max_message calls c ≡ s ∷ []
         → Rests history_now (step history_now s) → AgreesAfter (calls ++ c ∷ [])
@@ -207,7 +207,7 @@ pub handled_spelled : (limits : LimitValues) (tokens : ℕ) (calls : List Client
     → (client_after limits tokens calls).handled ≡ (stream_in limits.max_message calls).messages
 handled_spelled limits tokens calls accepted = (agrees limits tokens calls accepted).handled
 
--- a fault that they have stops the connection
+-- A fault in the bytes stops the connection.
 pub fault_stops : (limits : LimitValues) (tokens : ℕ) (calls : List ClientCall) (fault : StreamFault)
     → AreAccepted limits tokens calls → (stream_in limits.max_message calls).fault ≡ Some fault
     → (client_after limits tokens calls).phase ≡ Stopped (reject_reason (reject_of fault))

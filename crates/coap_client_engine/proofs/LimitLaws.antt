@@ -1,5 +1,5 @@
--- The limits of a client hold: after any calls of what is held and outstanding, and after accepted calls of the bytes that wait
--- and of those that are kept of an unfinished frame.
+-- The limits of a client hold: for pending and outstanding entries after any calls, for queued and buffered bytes after
+-- accepted calls.
 use Rattle.std.proofs.Common.{◌≡◌, ℕ, ◌+◌, ◌<◌, ◌≤◌, Bool, true, false, cond, List, [], ◌∷◌, ◌++◌, length, drop, refl, sym, ap, subst, ◌∙◌, arith}
 use Rattle.coap_client_engine.specs.Prelude.{is_none, Message, spelling, Client, Reason, LimitValues, AreInRange}
 use Rattle.coap_client_engine.specs.Prelude.{takes_messages, abort_of, reject_of, reject_reason, AllFit, fit}
@@ -25,9 +25,9 @@ use Rattle.coap_client_engine.proofs.HandledLaws.{TakeMakes, NoStep, OneMessage,
 use Rattle.coap_conn.proofs.ReactionLaws.{abort_one, react_so}
 use Rattle.coap_conn.proofs.WaitingLaws.{one_small, limit_within, queued_waits, kept_small_by}
 
--- ---- what a message does
+-- ---- the effect of a message
 
--- it queues one message at most, and where nothing is held, nothing is held after it
+-- An effect queues at most one message, and keeps an empty pending list empty.
 record IsSparing (s : Standing) (e : Effect) : Type 0 where
   one : length e.queued ≤ 1
   none : s.held ≡ [] → e.held ≡ []
@@ -41,9 +41,9 @@ react_sparing s m = react_so s m (IsSparing s) (record {
   keeps = λ ping custody some. record { one = omega arith; none = λ e. absurd (omega (arith, some, ap (λ (held : List HeldValue). length held) e)) };
 })
 
--- ---- what is held and outstanding
+-- ---- pending and outstanding entries
 
--- the limits are these, nothing is held, and no more is outstanding than may be
+-- The limits are the given ones, no entry is pending, and no more entries are outstanding than the limit.
 record KeepsLimits (limits : LimitValues) (h : History) : Type 0 where
   same : h.limits ≡ limits
   none : h.held ≡ []
@@ -106,20 +106,20 @@ pub few_outstanding : (limits : LimitValues) (tokens : ℕ) (calls : List Client
     → length (client_after limits tokens calls).outstanding ≤ limits.outstanding
 few_outstanding limits tokens calls = (calls_keep_limits limits tokens calls).few
 
--- ---- how many bytes wait
+-- ---- the number of queued bytes
 
--- the bytes that wait
+-- The number of bytes still to be written.
 abbrev bytes_wait : History → ℕ
 bytes_wait h = length (waiting_of h)
 
--- where a test says so
+-- A conditional change.
 wait_if : (most : ℕ) (h k : History) (does : Bool) → bytes_wait h ≤ most → (does ≡ true → bytes_wait k ≤ most) → bytes_wait (cond does k h) ≤ most
 wait_if most h k true few then = then refl
 wait_if most h k false few then = few
 
--- a history in which no more waits than these limits allow
+-- A history in which the queue limit holds.
 module _ (limits : LimitValues) (h : History) (same : h.limits ≡ limits) (is : IsHistory h) (few : length (waiting_of h) ≤ limits.queue) where
-  -- what is of the right size has room
+  -- A message whose size was checked has room.
   room_by_size : (m : Message) → length (spelling m) ≤ (asking_now h).free
       → length (drop h.written (bytes_of (h.queued ++ m ∷ []))) ≤ limits.queue
   room_by_size m room =
@@ -144,7 +144,7 @@ module _ (limits : LimitValues) (h : History) (same : h.limits ≡ limits) (is :
       wait_if limits.queue h (with_effect h (stop (standing_now h) (end_reason cut) [])) (takes_messages h.phase) few
       (λ takes. omega (arith, few, queued_waits h [] is))
 
-  -- where messages are handled, one has room
+  -- If messages are processed, one message has room.
   module _ (does : handles h ≡ true) where
     one_waits : (ms : List Message) → length ms ≤ 1 → AllFit (limit_now h) ms
         → length (drop h.written (bytes_of (h.queued ++ ms))) ≤ limits.queue
@@ -173,7 +173,7 @@ module _ (limits : LimitValues) (h : History) (same : h.limits ≡ limits) (is :
 -- ---- after accepted calls
 
 module _ (limits : LimitValues) (tokens : ℕ) where
-  -- no more waits after them than the queue holds
+  -- The queue limit holds after the calls.
   abbrev FewWait : List ClientCall → Type 0
   FewWait calls = length (waiting_of (client_after limits tokens calls)) ≤ limits.queue
 
@@ -232,9 +232,9 @@ few_wait limits tokens calls ranges accepted =
     by_calls limits tokens (λ cs. length (waiting_of (client_after limits tokens cs)) ≤ limits.queue) (none_wait limits tokens ranges)
     (λ cs c all last before. call_waits limits tokens cs all before c last) calls accepted
 
--- ---- the bytes that are kept of an unfinished frame
+-- ---- buffered bytes of an unfinished frame
 
--- fewer than the greatest message taken has
+-- The buffer holds fewer bytes than a message of maximum size.
 pub few_kept : (limits : LimitValues) (tokens : ℕ) (calls : List ClientCall) → AreInRange limits
     → AreAccepted limits tokens calls → length (client_of limits tokens calls).frame < limits.max_message
 unfolding client_of

@@ -1,4 +1,4 @@
--- What each step of a client's run adds to its course.
+-- The event that each step of a client's run adds to its trace.
 use Rattle.std.proofs.Common.{◌≡◌, ◌≢◌, ◌+◌, ◌<◌, ◌≤◌, ◌⊎◌, ℕ, max, Bool, true, false, cond, List, [], ◌∷◌, ◌++◌, length, take, drop, Option, Some, None, Result, Ok, Err, refl, sym, ap, subst, ◌∙◌, inl, inr, arith}
 use Rattle.coap_client_engine.specs.Prelude.{◌==◌, IfOk, OnOk, option_map, nat_lt, ◌&&◌, ◌||◌, next_token, LimitValues}
 use Rattle.coap_client_engine.specs.Prelude.{Phase, Waiting, Open, Releasing, RequestFault, NotOpen, TooMany, TooBig}
@@ -33,7 +33,7 @@ use Rattle.coap_client_engine.proofs.TakenLemmas.{client_takes_some, cancelled_t
 use Rattle.coap_client_engine.proofs.StandLemmas.{bytes_stay, bytes_same, front_length, taking_limits, sent_limits, cancelled_limits, read_limits, read_shown, asked_shown, given_up_shown, send_tells_none, cancel_tells_none}
 use Rattle.coap_request.proofs.TargetLemmas.{false_is_true}
 
--- ---- small facts
+-- ---- small lemmas
 
 ask_same : {T : Type 0} (p : Phase) (token : Option T) (f : T → List ℕ) → is_to_ask p (option_map f token) ≡ is_to_ask p token
 ask_same Waiting token f = refl
@@ -103,7 +103,7 @@ or_then_some : (next : Option ℕ) (got : Got) (why : Reason) → Some why ≡ s
 or_then_some None got why is = refl
 or_then_some (Some status) got why is = absurd (some_is_none is)
 
--- it may rest where all is done, and give up where it is late
+-- The run may rest if everything is done, and give up if it has waited long enough.
 rests_stand : {plan : ClientPlan} {start now : Seen} {r : Run} {c : Course} → Stands plan start now r c → IsDone plan c → Stands plan start now r (Rests c)
 rests_stand stands done = record {
   follows = (stands.follows, done);
@@ -132,29 +132,29 @@ given_up_stand stands goes waited = record {
   told = record { given = stands.told.given; written = stands.told.written; answers = stands.told.answers; moments = stands.told.moments; out = stands.told.out; err = stands.told.err };
 }
 
--- its client is that of the course
+-- The client is the one of the trace.
 client_stands : {plan : ClientPlan} {start now : Seen} {r : Run} {c : Course} → Stands plan start now r c → r.client ≡ client_in c
 client_stands {plan} {start} {now} {r} {c} stands = stands.shows.same ∙ ap (λ (l : LimitValues). client_of l 0 (calls_in c)) stands.limits
 
--- ---- a run that stands where a course led it
+-- ---- a run that agrees with a trace
 
 module _ (plan : ClientPlan) (start now : Seen) (r : Run) (c : Course) (stands : Stands plan start now r c) where
-  -- its client is that of the course
+  -- The client is the one of the trace.
   client_of_course : r.client ≡ client_in c
   client_of_course = client_stands stands
 
-  -- and accepted its calls
+  -- The client accepted all calls.
   accepted_all : AreAccepted default_limits 0 (calls_in c)
   accepted_all = subst (λ (l : LimitValues). AreAccepted l 0 (calls_in c)) stands.limits stands.shows.accepted
 
-  -- whether it is to ask
+  -- Code and trace agree on whether the request must be sent.
   asks_same : is_to_ask r.client.link.phase r.token ≡ is_to_ask (phase_in c) (token_in c)
   asks_same =
       sym (ask_same r.client.link.phase r.token (λ t. t.items))
       ∙ ap (λ (v : ClientValue). is_to_ask v.link.phase (token_of r)) client_of_course
       ∙ ap (λ (t : Option (List ℕ)). is_to_ask (phase_in c) t) stands.token
 
-  -- ---- what may be taken
+  -- ---- whether more input can be processed
 
   taken_by : ((length r.rest == 0) ≡ true) ⊎ ((is_to_ask r.client.link.phase r.token ≡ true) ⊎ (client_takes r.client ≡ false)) → IsTakenUp c
   taken_by (inl none) = inl (sym stands.rest ∙ rest_is_empty r.rest none)
@@ -185,7 +185,7 @@ module _ (plan : ClientPlan) (start now : Seen) (r : Run) (c : Course) (stands :
     abbrev taken_of_rest : List ℕ
     taken_of_rest = take (taking r.client r.rest).count r.rest
 
-    -- what it tells
+    -- The event of the call.
     event_is : (taking r.client r.rest).event ≡ event_in c (Took taken_of_rest)
     event_is =
         took_told r.client r.rest (taking r.client r.rest).count (taking r.client r.rest).event refl refl 0 (calls_in c) stands.shows
@@ -227,7 +227,7 @@ module _ (plan : ClientPlan) (start now : Seen) (r : Run) (c : Course) (stands :
     pub took_status : status_in (Calls c (Took taken_of_rest)) ≡ status_told (taking r.client r.rest).event
     took_status = ap status_told (sym event_is)
 
-    -- a run that a message ended
+    -- The event ended the run.
     pub took_last : has_looked c ≡ true → (status : ℕ) → Some status ≡ status_told (taking r.client r.rest).event
         → LeadsOn plan start (seen now.given now.written now.answers now.moments o e) r' (IsAsked (turns_in c)) (Some status)
     took_last looked status is = record {
@@ -241,7 +241,7 @@ module _ (plan : ClientPlan) (start now : Seen) (r : Run) (c : Course) (stands :
 
   module _ (r' : Run) (e : Option (List ℕ)) (goes : status_in c ≡ None)
       (rest : r'.rest ≡ r.rest) (started : r'.started ≡ r.started) (moment : r'.moment ≡ r.moment) (first : r'.first ≡ r.first) (cancelled : r'.cancelled ≡ r.cancelled) where
-    -- nothing came of it
+    -- Nothing was sent or refused.
     same_stands : r'.client ≡ r.client → token_of r' ≡ token_of r → AddsBytes now.err e [] → Stands plan start (seen now.given now.written now.answers now.moments now.out e) r' c
     same_stands client token err = record {
       follows = stands.follows;
@@ -263,7 +263,7 @@ module _ (plan : ClientPlan) (start now : Seen) (r : Run) (c : Course) (stands :
       };
     }
 
-    -- it was refused
+    -- The request was refused.
     refused_stands : (fault : RequestFault) → IsRefused plan c fault → r'.client ≡ r.client → token_of r' ≡ token_of r → AddsBytes now.err e (refusal_text (Some fault))
         → Stands plan start (seen now.given now.written now.answers now.moments now.out e) r' (Refuses c fault)
     refused_stands fault why client token err = record {
@@ -286,7 +286,7 @@ module _ (plan : ClientPlan) (start now : Seen) (r : Run) (c : Course) (stands :
       };
     }
 
-    -- the request was sent
+    -- The request was sent.
     sent_stands : is_to_ask r.client.link.phase r.token ≡ true → send_refusal r.client.link plan.method plan.target (planned_extras plan) ≡ None
         → r'.client ≡ client_sent r.client plan.method plan.target (planned_extras plan) → token_of r' ≡ Some (next_token r.client.link.tokens) → AddsBytes now.err e []
         → Stands plan start (seen now.given now.written now.answers now.moments now.out e) r' (Calls c (Sent plan.method plan.target (planned_extras plan)))
@@ -312,7 +312,7 @@ module _ (plan : ClientPlan) (start now : Seen) (r : Run) (c : Course) (stands :
           };
         }
 
-    -- what comes of asking
+    -- The result of an attempt to send the request.
     abbrev After : Option ℕ → Type 0
     After next = LeadsOn plan start (seen now.given now.written now.answers now.moments now.out e) r' (IsAsked (turns_in c)) next
 
@@ -352,7 +352,7 @@ module _ (plan : ClientPlan) (start now : Seen) (r : Run) (c : Course) (stands :
         asked_by looked (is_to_ask r.client.link.phase r.token) refl client
         (token ∙ ap (λ (asks : Bool). cond asks (unless_refused (send_refusal r.client.link plan.method plan.target (planned_extras plan)) (Some (next_token r.client.link.tokens)) (token_of r)) (token_of r)) (ask_same r.client.link.phase r.token (λ t. t.items))) err
 
-    -- the same of what is answered
+    -- The same for the returned value.
     pub asked_next : has_looked c ≡ true → r'.client ≡ client_asking r.client r.token plan → token_of r' ≡ token_asking r.client (token_of r) plan
         → AddsBytes now.err e (refusal_text (asking_refusal r.client r.token plan)) → (next : Option ℕ) → next ≡ ended_by (asking_refusal r.client r.token plan) → After next
     asked_next looked client token err next is = subst After (sym is) (asked_on looked client token err)
@@ -444,15 +444,15 @@ module _ (plan : ClientPlan) (start now : Seen) (r : Run) (c : Course) (stands :
       holds = record { turns = refl; between = λ still. tt; written = λ may. absurd may };
     }
 
-    -- the run goes on, or ends as it did
+    -- The run continues, or ends with the status that it had.
     pub write_leads_on : (next : Option ℕ) → status_in c ≡ next → None ≡ stop_written next got → AddsBytes now.err e [] → LeadsOn plan start (seen given written answers now.moments now.out e) r' (IsFlushed (turns_in c)) next
     write_leads_on next ends is err = subst (LeadsOn plan start (seen given written answers now.moments now.out e) r' (IsFlushed (turns_in c))) (or_then_none next) (wrote_leads next ends None is err)
 
-    -- the wire ended it
+    -- A failed write ended the run.
     pub wrote_last : (next : Option ℕ) → status_in c ≡ next → (why : Reason) → Some why ≡ stop_written next got → AddsBytes now.err e (stop_text (Some why)) → LeadsOn plan start (seen given written answers now.moments now.out e) r' (IsFlushed (turns_in c)) (Some 3)
     wrote_last next ends why is err = subst (LeadsOn plan start (seen given written answers now.moments now.out e) r' (IsFlushed (turns_in c))) (or_then_some next got why is) (wrote_leads next ends (Some why) is err)
 
-  -- ---- what is due by the moment
+  -- ---- deadlines
 
   module _ (r' : Run) (e : Option (List ℕ)) (goes : status_in c ≡ None) (looked : has_looked c ≡ true) (taken : IsTakenUp c) (asked : IsAskedWhereDue c)
       (rest : r'.rest ≡ r.rest) (token : r'.token ≡ r.token) (started : r'.started ≡ r.started) (moment : r'.moment ≡ r.moment) (first : r'.first ≡ r.first) where
@@ -462,7 +462,7 @@ module _ (plan : ClientPlan) (start now : Seen) (r : Run) (c : Course) (stands :
     tokens_same : token_of r' ≡ token_of r
     tokens_same = token_kept r r' token
 
-    -- the run has done nothing more, and goes on
+    -- Nothing was due, and the run continues.
     done_nothing : IsCancelledWhereDue plan c → is_overdue plan c ≡ false → r'.client ≡ r.client → r'.cancelled ≡ r.cancelled → AddsBytes now.err e [] → Due None
     done_nothing cancels early client cancelled err =
         let here = same_stands r' e goes rest started moment first cancelled client tokens_same err in
@@ -473,7 +473,7 @@ module _ (plan : ClientPlan) (start now : Seen) (r : Run) (c : Course) (stands :
           holds = record { turns = refl; rests = λ still. tt; writes = tt };
         }
 
-    -- it has waited, or not long enough
+    -- The run has waited long enough, or not yet.
     waited_by : (since : ℕ) → since_in c ≡ Some since → is_cancel_due plan c ≡ false → r'.client ≡ r.client → r'.cancelled ≡ r.cancelled → AddsBytes now.err e []
         → (passed : Bool) → has_passed r.moment since plan.wait ≡ passed → Due (cond passed (Some 4) None)
     waited_by since is not client cancelled err true passed =
@@ -498,7 +498,7 @@ module _ (plan : ClientPlan) (start now : Seen) (r : Run) (c : Course) (stands :
     waited : (since : ℕ) → since_in c ≡ Some since → is_cancel_due plan c ≡ false → r'.client ≡ r.client → r'.cancelled ≡ r.cancelled → AddsBytes now.err e [] → Due (late r.moment since plan.wait)
     waited since is not client cancelled err = waited_by since is not client cancelled err (has_passed r.moment since plan.wait) refl
 
-    -- the observation was cancelled
+    -- The observation was cancelled.
     cancelled_stands : (held : List ℕ) → is_cancel_due plan c ≡ true → token_of r ≡ Some held → value.cancelling_refusal r.client.link held plan.target (planned_extras plan) ≡ None
         → r'.client ≡ client_cancelled r.client held plan.target (planned_extras plan) → r'.cancelled ≡ Some r.moment → AddsBytes now.err e []
         → Stands plan start (seen now.given now.written now.answers now.moments now.out e) r' (Calls c (Cancelled held plan.target (planned_extras plan)))
@@ -524,7 +524,7 @@ module _ (plan : ClientPlan) (start now : Seen) (r : Run) (c : Course) (stands :
           };
         }
 
-    -- behind that all is taken that may be, as before it
+    -- After the cancellation, no more input can be processed, as before it.
     cancelled_taken : (held : List ℕ) → Stands plan start (seen now.given now.written now.answers now.moments now.out e) r' (Calls c (Cancelled held plan.target (planned_extras plan)))
         → token_of r ≡ Some held → r'.client ≡ client_cancelled r.client held plan.target (planned_extras plan) → IsTakenUp c → IsTakenUp (Calls c (Cancelled held plan.target (planned_extras plan)))
     cancelled_taken held here has client (inl none) = inl none
@@ -540,7 +540,7 @@ module _ (plan : ClientPlan) (start now : Seen) (r : Run) (c : Course) (stands :
       holds = record { turns = refl; rests = λ still. absurd (some_is_none (sym three ∙ still)); writes = tt };
     }
 
-    -- its cancellation was refused
+    -- The cancellation was refused.
     refused_by : (fault : RequestFault) → IsRefused plan c fault → is_overdue plan c ≡ false → r'.client ≡ r.client → r'.cancelled ≡ r.cancelled → AddsBytes now.err e (refusal_text (Some fault)) → Due (ended_by (Some fault))
     refused_by NoRoom why early client cancelled err = record {
       course = Rests (Refuses c NoRoom);
@@ -622,25 +622,25 @@ module _ (plan : ClientPlan) (start now : Seen) (r : Run) (c : Course) (stands :
         watched_by r.cancelled r.first refl refl client
         (when ∙ ap (λ (k : Option ℕ). cond (is_to_cancel r.cancelled r.first r.moment plan.observe) k r.cancelled) (cancelled_same r.token (λ t. t.items) (cancelling_refusal r.client (token_of r) plan) r.moment r.cancelled)) err
 
--- ---- what parts of a turn answer
+-- ---- results of the parts of an iteration
 
--- an answer that is this next one, where it is one, leads on as this does
+-- A result that equals `next`, if it is no error, has the property of `next`.
 pub answers_so : {A : Type 0} (P : Option ℕ → Type 0) (next : Option ℕ) (result : Result (Option ℕ) WriteFailed) → IfOk result (λ n. n ≡ next) → OnOk result A → (A → P next) → IfOk result P
 answers_so P next (Ok n) is told leads = subst P (sym is) (leads told)
 answers_so P next (Err e) is told leads = tt
 
--- of as many turns
+-- Equal numbers of iterations.
 pub as_many : {plan : ClientPlan} {start now : Seen} {r : Run} {next : Option ℕ} (Q : ℕ → Course → Type 0) (n m : ℕ) → n ≡ m → LeadsOn plan start now r (Q n) next → LeadsOn plan start now r (Q m) next
 as_many {plan} {start} {now} {r} {next} Q n m same led = subst (λ (k : ℕ). LeadsOn plan start now r (Q k) next) same led
 
--- a run that has ended stands so behind each part
+-- A run that has ended satisfies the conditions after each later part.
 pub ended_asked : {plan : ClientPlan} {start now : Seen} {r : Run} {turns : ℕ} {status : ℕ} → LeadsOn plan start now r (IsAsked turns) (Some status) → LeadsOn plan start now r (IsFinished turns) (Some status)
 ended_asked led = record { course = led.course; stands = led.stands; ends = led.ends; holds = record { turns = led.holds.turns; rests = λ still. absurd (some_is_none (sym led.ends ∙ still)); writes = led.holds.writes (λ none. some_is_none (sym led.ends ∙ none)) } }
 
 pub ended_heard : {plan : ClientPlan} {start now : Seen} {r : Run} {turns : ℕ} {status : ℕ} → LeadsOn plan start now r (IsHeard turns) (Some status) → LeadsOn plan start now r (IsFlushed turns) (Some status)
 ended_heard led = record { course = led.course; stands = led.stands; ends = led.ends; holds = record { turns = led.holds.turns; between = λ still. absurd (some_is_none (sym led.ends ∙ still)); written = λ may. absurd (led.holds.early may) } }
 
--- an answer that ends the run, of a part behind which it had not ended
+-- A result that ends the run, of a part before which the run had not ended.
 pub asked_then : {plan : ClientPlan} {start now : Seen} {r : Run} (n m : ℕ) (next : Option ℕ) (status : ℕ) → n ≡ m → next ≡ Some status → LeadsOn plan start now r (IsAsked n) next → LeadsOn plan start now r (IsFinished m) (Some status)
 asked_then {plan} {start} {now} {r} n m next status same is led = ended_asked (as_many IsAsked n m same (subst (LeadsOn plan start now r (IsAsked n)) is led))
 
@@ -651,22 +651,22 @@ pub finished_after_taking : {plan : ClientPlan} {start now : Seen} {r : Run} (n 
 finished_after_taking {plan} {start} {now} {r} n m next status same is led =
     as_many IsFinished n m same (record { course = led.course; stands = led.stands; ends = led.ends ∙ is; holds = record { turns = led.holds.turns; rests = λ still. absurd (some_is_none (sym is ∙ sym led.ends ∙ still)); writes = led.holds.writes (λ none. some_is_none (sym is ∙ sym led.ends ∙ none)) } })
 
--- a run that ended as it asked
+-- A run that ended when it sent its request.
 pub ended_taken : {plan : ClientPlan} {start now : Seen} {r : Run} {n status : ℕ} → LeadsOn plan start now r (IsAsked n) (Some status) → LeadsOn plan start now r (IsTaken n) (Some status)
 ended_taken led = record { course = led.course; stands = led.stands; ends = led.ends; holds = record { turns = led.holds.turns; looked = led.holds.looked; asked = led.holds.asked; taken = λ still. absurd (some_is_none (sym led.ends ∙ still)); writes = led.holds.writes } }
 
--- a run of which all is taken that may be
+-- A run that can process no more input.
 pub all_that_may_is_taken : (plan : ClientPlan) (start now : Seen) (r : Run) (n : ℕ) (led : LeadsOn plan start now r (IsAsked n) None) → may_take r.client r.rest r.token ≡ false → LeadsOn plan start now r (IsTaken n) None
 all_that_may_is_taken plan start now r n led shut = record { course = led.course; stands = led.stands; ends = led.ends; holds = record { turns = led.holds.turns; looked = led.holds.looked; asked = led.holds.asked; taken = λ still. taken_up plan start now r led.course led.stands shut; writes = led.holds.writes } }
 
 pub all_gone : (plan : ClientPlan) (start now : Seen) (r : Run) (n : ℕ) (led : LeadsOn plan start now r (IsAsked n) None) → length r.rest ≡ 0 → LeadsOn plan start now r (IsTaken n) None
 all_gone plan start now r n led none = record { course = led.course; stands = led.stands; ends = led.ends; holds = record { turns = led.holds.turns; looked = led.holds.looked; asked = led.holds.asked; taken = λ still. inl (sym led.stands.rest ∙ nil_from_length r.rest none); writes = led.holds.writes } }
 
--- less is left behind each take
+-- Less input is left after each `take`.
 pub fewer_left : (counted initial count : ℕ) (rest taken asked : List ℕ) → counted + length rest ≤ initial → 1 ≤ count → count ≤ length rest → taken ≡ drop count rest → asked ≡ taken → (counted + 1) + length asked ≤ initial
 fewer_left counted initial count rest taken asked few some within is same = omega (arith, length-drop count rest, ap (λ (xs : List ℕ). length xs) (same ∙ is))
 
--- what is due by the moment, behind all that was asked and taken
+-- The deadlines, after the request was sent and the input processed.
 module _ (plan : ClientPlan) (start now : Seen) (r : Run) (n : ℕ) (next : Option ℕ) (led : LeadsOn plan start now r (IsTaken n) next) (r' : Run) (e : Option (List ℕ)) (goes : next ≡ None)
     (rest : r'.rest ≡ r.rest) (token : r'.token ≡ r.token) (started : r'.started ≡ r.started) (moment : r'.moment ≡ r.moment) (first : r'.first ≡ r.first) where
   pub watched_so : r'.client ≡ cond (is_to_cancel r.cancelled r.first r.moment plan.observe) (client_cancelling r.client (token_of r) plan) r.client
@@ -677,7 +677,7 @@ module _ (plan : ClientPlan) (start now : Seen) (r : Run) (n : ℕ) (next : Opti
       as_many IsFinished (turns_in led.course) n led.holds.turns
       (watched_on plan start now r led.course led.stands r' e (led.ends ∙ goes) led.holds.looked (led.holds.taken (led.ends ∙ goes)) (led.holds.asked (led.ends ∙ goes)) rest token started moment first client when err)
 
--- a take behind what was asked and taken, and what is asked behind that
+-- A `take` after the request was sent, and the next attempt to send it.
 module _ (plan : ClientPlan) (start now : Seen) (r : Run) (n : ℕ) (led : LeadsOn plan start now r (IsAsked n) None) (r' : Run) (o e : Option (List ℕ))
     (may : may_take r.client r.rest r.token ≡ true)
     (within : (taking r.client r.rest).count ≤ length r.rest)
@@ -708,7 +708,7 @@ module _ (plan : ClientPlan) (start now : Seen) (r : Run) (n : ℕ) (led : Leads
       as_many IsAsked (turns_in led.course) n led.holds.turns
       (asked_next plan start seen_then r' c stands r'' e' on rest' started' moment' first' cancelled' led.holds.looked client' token' err' answer is)
 
--- ---- the beginning, a turn, and the end
+-- ---- the start, an iteration, and the end
 
 module _ (plan : ClientPlan) (r : Run) (given written out err told moments : Option (List ℕ)) (answers : Option (List Got)) (moment : ℕ)
     (client : r.client ≡ value.new_client default_limits 0) (shows : ClientShows r.client 0 []) (rest : r.rest ≡ []) (token : r.token ≡ None)
@@ -760,7 +760,7 @@ module _ (plan : ClientPlan) (start now : Seen) (r : Run) (c : Course) (stands :
     };
   }
 
--- how many turns there were
+-- The number of iterations.
 pub few_turns : (turns before counted : ℕ) → turns ≡ before + 1 → before ≡ counted → counted < most_turns → turns ≤ most_turns
 few_turns turns before counted one same more = omega arith
 

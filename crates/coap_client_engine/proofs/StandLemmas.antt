@@ -1,4 +1,4 @@
--- What devices tell of a run, and what calls leave of its client.
+-- The records of the devices of a run, and the state of its client after calls.
 use Rattle.std.proofs.Common.{◌≡◌, ℕ, ◌≤◌, Bool, true, false, cond, List, [], ◌∷◌, ◌++◌, length, take, Option, None, Result, Ok, refl, sym, ap, subst, ◌∙◌, arith}
 use Rattle.std.proofs.lemmas.List.{append-nil, length-take}
 use Rattle.coap_client_engine.specs.Prelude.{framing, LimitValues, LinkValue, RequestFault, Got, Bytes, Later, End, Failed}
@@ -10,21 +10,21 @@ use Rattle.coap_client_engine.proofs.TakingLemmas.{limits_found}
 use Rattle.coap_client_engine.proofs.ClientShown.{sent_shown, cancelled_shown, ended_shown}
 use Rattle.coap_conn.proofs.LinkLemmas.{stays_so, end_sizes}
 
--- ---- what is told
+-- ---- records
 
--- nothing more is told
+-- No more bytes are recorded.
 pub bytes_stay : (a b c : Option (List ℕ)) (xs : List ℕ) → AddsBytes a b xs → AddsBytes b c [] → AddsBytes a c xs
 bytes_stay a b c xs p q = subst (AddsBytes a c) (append-nil xs) (bytes_then a b c xs [] p q)
 
--- the same, where what is told is none
+-- The same with an empty list of bytes.
 pub bytes_same : (a b : Option (List ℕ)) (xs ys : List ℕ) → AddsBytes a b xs → ys ≡ [] → AddsBytes a b (xs ++ ys)
 bytes_same a b xs ys p none = subst (AddsBytes a b) (sym (ap (λ (t : List ℕ). xs ++ t) none ∙ append-nil xs)) p
 
--- a front has its length
+-- A prefix has its length.
 pub front_length : (n : ℕ) (xs : List ℕ) → n ≤ length xs → length (take n xs) ≡ n
 front_length n xs few = simp length-take (omega arith)
 
--- ---- limits stay
+-- ---- the limits are kept
 
 limits_taken : (does : Bool) (w : ClientValue) (t : Taking) → t.client.link.limits ≡ w.link.limits → (cond does t (record { count = 0; client = w; event = None })).client.link.limits ≡ w.link.limits
 limits_taken true w t e = e
@@ -46,9 +46,9 @@ read_limits v Later = refl
 read_limits v End = ap (λ (both : LimitValues × ℕ). both.0) (end_sizes v.link _)
 read_limits v Failed = refl
 
--- ---- calls that are shown
+-- ---- `ClientShows`
 
--- no call more
+-- No more calls.
 shown_none : (v new : ClientValue) (calls : List ClientCall) → new ≡ v → ClientShows v 0 calls → ClientShows new 0 (calls ++ [])
 shown_none v new calls is shows = subst (λ (cs : List ClientCall). ClientShows new 0 cs) (sym (append-nil calls)) (subst (λ (w : ClientValue). ClientShows w 0 calls) (sym is) shows)
 
@@ -70,7 +70,7 @@ given_up_shown v new token target extras calls none is shows =
     let done : Result ℕ RequestFault = Ok 0 in
     cancelled_shown done v new token target extras none is 0 calls shows
 
--- ---- of what nothing is told
+-- ---- calls without an event
 
 pub send_tells_none : (calls : List ClientCall) (method : Method) (target : TargetValue) (extras : ExtrasValue) (limits : LimitValues) → event_of limits 0 calls (Sent method target extras) ≡ None
 unfolding event_of steps_by

@@ -1,4 +1,5 @@
--- What a client takes of a piece and tells of it: the token of an answer is its message's, and a frame that was given is found again.
+-- The event of a `take`: the token of a response is that of its message, and the frame is found again for its second
+-- parse.
 use Rattle.std.proofs.Common.{◌≡◌, ℕ, Bool, true, false, cond, List, [], ◌∷◌, ◌++◌, length, take, Option, Some, None, refl, sym, ap, subst, ◌∙◌}
 use Rattle.coap_client_engine.specs.Prelude.{◌&&◌, find, nat_lt, ◌==◌, if◌then◌else◌, list_any, Message, Beginning}
 use Rattle.coap_client_engine.specs.Prelude.{Unfinished, Whole, Faulty, beginning, FramerValue, IsFramer, AFrame}
@@ -17,9 +18,9 @@ use Rattle.coap_frame.proofs.GivenLaws.{frame_taken}
 use Rattle.coap_conn.specs.declared.phase.Reply.TheVariants.{Whole as WholeReply, Stopped}
 use Rattle.coap_conn.specs.Verdicts as verdict
 
--- ---- whose token is told
+-- ---- the token of the event
 
--- the token that is told is this message's
+-- The token in the verdict is that of the message.
 abbrev pub IsOf : Message → VerdictValue → Type 0
 IsOf m verdict.Opened = Unit {0}
 IsOf m verdict.Done = Unit {0}
@@ -70,7 +71,7 @@ module _ (s : Standing) (m : Message) where
   of_response : IsOf m (response_reaction s m).verdict
   of_response = of_answered (find (is_asked m.token) s.outstanding)
 
-  -- the last of the messages of an open connection, and those before it
+  -- The last two cases of an open connection: a request and a response.
   abbrev method_or : Reaction
   method_or = if is_method m.code then request_reaction s m s.role else response_reaction s m
 
@@ -104,7 +105,7 @@ module _ (s : Standing) (m : Message) where
   of_open : IsOf m (open_reaction s m).verdict
   of_open = of_if (minds_critical_options m.code && has_critical_option m) (aborts s BadSignalOption) ping_or tt of_ping_or
 
-  -- the same of one that waits or is open
+  -- The cases of a connection that is waiting or open.
   abbrev open_or : Reaction
   open_or = if is_waiting s.phase then aborts s CsmExpected else open_reaction s m
 
@@ -147,7 +148,7 @@ answer_token s m token last is = sym (subst (IsOf m) (sym is) (verdict_is_of s m
 pub pong_token : (s : Standing) (m : Message) (token : List ℕ) (custody : Bool) → verdict.Pong token custody ≡ (react s m).verdict → m.token ≡ token
 pong_token s m token custody is = sym (subst (IsOf m) (sym is) (verdict_is_of s m))
 
--- ---- the frame that was given
+-- ---- the frame of the message
 
 back_split : (kept frame piece : List ℕ) → frame ≡ kept ++ piece → frame_back (split_frame kept frame) piece ≡ frame
 back_split [] frame piece is = sym is
@@ -161,7 +162,7 @@ back_at kept piece frame (Whole found rest) n e is =
     ap (λ (f : List ℕ). frame_back (split_frame kept f) (take n piece)) same ∙ back_split kept frame (take n piece) is
 back_at kept piece frame (Faulty fault) n e is = absurd cc
 
--- it is the split one, or else the bytes taken
+-- The frame is the split one, or the accepted bytes.
 pub frame_is_back : (v : FramerValue) (piece frame : List ℕ) → IsFramer v → (framing_of v piece).finding ≡ AFrame frame → frame_back (framer_after v piece).spent (take (framing_of v piece).taken piece) ≡ frame
 unfolding framing
 frame_is_back v piece frame is e = back_at v.kept piece frame (beginning v.max (v.kept ++ piece)) (framing_of v piece).taken e (frame_taken v.max v.kept piece frame is.unfinished e)

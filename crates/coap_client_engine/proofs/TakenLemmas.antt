@@ -1,4 +1,4 @@
--- What a client's run takes of what it read: something, as long as it may, until nothing is left.
+-- A client's run makes progress: each `take` accepts at least one byte, until no input is left.
 use Rattle.std.proofs.Common.{◌≡◌, ◌+◌, ◌-◌, ◌≤◌, ◌<◌, ◌⊎◌, ℕ, Bool, true, false, cond, List, ◌++◌, length, refl, sym, ap, subst, ◌∙◌, inl, inr, arith}
 use Rattle.coap_client_engine.specs.Prelude.{nat_le, ◌&&◌, framing, History, link_of, LinkValue, free_in, OutstandingValue}
 use Rattle.coap_client_engine.specs.Prelude.{takes_messages, ClientValue, client_takes, client_cancelled, ClientCall}
@@ -10,7 +10,7 @@ use Rattle.coap_client_engine.proofs.ClientSteps.{stream_rest_unfinished}
 use Rattle.coap_client_engine.proofs.ClientReached.{accepted_reach}
 use Rattle.coap_frame.proofs.FrontLaws.{some_in_front}
 
--- ---- something is taken of what is not empty
+-- ---- at least one byte is accepted
 
 module _ (calls : List ClientCall) where
   abbrev history_so_far : History
@@ -24,7 +24,7 @@ module _ (calls : List ClientCall) where
   unfolding takes
   takes_where piece does = ap (λ (b : Bool). cond b (framing default_limits.max_message (stream_in default_limits.max_message calls).rest piece).taken 0) does
 
-  -- a client that takes bytes takes one at least
+  -- A client that accepts bytes accepts at least one.
   pub client_takes_some : (piece : List ℕ) → AreAccepted default_limits 0 calls → client_takes (client_of default_limits 0 calls) ≡ true → 0 < length piece → 1 ≤ takes default_limits 0 calls piece
   client_takes_some piece accepted does some =
       let handling : handles history_so_far ≡ true = sym takes_same ∙ does in
@@ -33,7 +33,7 @@ module _ (calls : List ClientCall) where
       subst (λ (n : ℕ). 1 ≤ n) (sym (takes_where piece handling))
       (some_in_front default_limits.max_message (stream_in default_limits.max_message calls).rest piece unfinished some)
 
--- ---- a client that takes nothing takes nothing behind a cancellation
+-- ---- a client that accepts no bytes accepts none after a cancellation
 
 less_room : (takes : Bool) (most queue waiting more : ℕ) → (takes && nat_le most (queue - waiting)) ≡ false → (takes && nat_le most (queue - (waiting + more))) ≡ false
 less_room false most queue waiting more is = refl
@@ -51,7 +51,7 @@ cancelled_if false frame bytes l outstanding is = is
 pub cancelled_takes : (v : ClientValue) (token : List ℕ) (target : TargetValue) (extras : ExtrasValue) → client_takes v ≡ false → client_takes (client_cancelled v token target extras) ≡ false
 cancelled_takes v token target extras is = cancelled_if _ v.frame _ v.link _ is
 
--- ---- whether more may be taken
+-- ---- whether more input can be processed
 
 pub may_parts : (empty asks takes : Bool) → cond empty false (cond asks false takes) ≡ true → (empty ≡ false) × (asks ≡ false) × (takes ≡ true)
 may_parts true asks takes is = absurd cc

@@ -1,4 +1,4 @@
--- What a client's framer and link do with a piece is what the definition of taking says.
+-- The framer and the link of a client treat an input slice as the definition `taking` says.
 use Rattle.std.proofs.Common.{◌≡◌, ℕ, Bool, true, false, cond, List, [], ◌++◌, take, Option, None, Result, Ok, Err, refl, sym, ap, subst, ◌∙◌}
 use Rattle.coap_client_engine.specs.Prelude.{Message, message_of, Beginning, Unfinished, Whole, Faulty, beginning}
 use Rattle.coap_client_engine.specs.Prelude.{FormatFault, FrameFault, FramerValue, IsFramer, Framing, Finding, Nothing}
@@ -14,10 +14,10 @@ use Rattle.coap_client_engine.specs.declared.client.Heard.TheVariants as heard
 use Rattle.coap_client_engine.proofs.TakeLemmas.{frame_is_back}
 use Rattle.coap_conn.proofs.LinkLemmas.{stays_so}
 
--- ---- what is told of a piece
+-- ---- the event of a slice
 
 module _ (v : FramerValue) (l : LinkValue) (piece : List ℕ) where
-  -- what is told where this was found
+  -- The event, by what the framer found.
   abbrev told_of_finding : Finding → Option EventValue
   told_of_finding found = (taking_found (record { frame = v.kept; link = l }) (framing_of v piece) found).event
 
@@ -30,21 +30,21 @@ module _ (v : FramerValue) (l : LinkValue) (piece : List ℕ) where
   pub told_fault : (h : Heard) (read : Result Message FormatFault) (fault : FrameFault) → (framing_of v piece).finding ≡ AFault fault → h ≡ heard.Stopped (reject_reason (reject_of_frame fault)) → heard_value h read ≡ (taking_framed v l piece).event
   told_fault h read fault is e = told_as h read (AFault fault) is (ap (λ (k : Heard). heard_value k read) e)
 
-  -- what is told of a frame of which this is read
+  -- The event of a frame, by the result of parsing it.
   abbrev told_read : Result Message FormatFault → Option EventValue
   told_read read = (taking_read (record { frame = v.kept; link = l }) (framing_of v piece).taken read).event
 
   pub told_bad : (h : Heard) (read : Result Message FormatFault) (frame : List ℕ) (bad : FormatFault) → (framing_of v piece).finding ≡ AFrame frame → message_of frame ≡ Err bad → h ≡ heard.Stopped (reject_reason reject.Format) → heard_value h read ≡ (taking_framed v l piece).event
   told_bad h read frame bad is reads e = told_as h read (AFrame frame) is (ap (λ (k : Heard). heard_value k read) e ∙ ap told_read (sym reads))
 
-  -- the message is read of the frame that is given back
+  -- The message is the one in the frame that `frame_back` returns.
   pub told_message : (h : Heard) (frame : List ℕ) (m : Message) → IsFramer v → (framing_of v piece).finding ≡ AFrame frame → message_of frame ≡ Ok m → heard_value h (Ok m) ≡ event_told m (react (standing_in l) m).verdict
       → heard_value h (message_of (frame_back (framer_after v piece).spent (take (framing_of v piece).taken piece))) ≡ (taking_framed v l piece).event
   told_message h frame m framer is reads e =
       ap (λ (f : List ℕ). heard_value h (message_of f)) (frame_is_back v piece frame framer is)
       ∙ ap (heard_value h) reads ∙ e ∙ ap told_read (sym reads) ∙ ap told_of_finding (sym is)
 
-  -- ---- what is kept, and the limits
+  -- ---- buffered bytes and limits
 
   count_of_read : (read : Result Message FormatFault) (n : ℕ) → n ≡ (taking_read (record { frame = v.kept; link = l }) n read).count
   count_of_read (Ok m) n = refl
@@ -55,7 +55,7 @@ module _ (v : FramerValue) (l : LinkValue) (piece : List ℕ) where
   count_by (AFrame frame) = count_of_read (message_of frame) (framing_of v piece).taken
   count_by (AFault fault) = refl
 
-  -- as many bytes are taken as the framer takes
+  -- The client accepts the bytes that the framer accepts.
   pub framed_count : (framing_of v piece).taken ≡ (taking_framed v l piece).count
   framed_count = count_by (framing_of v piece).finding
 
@@ -81,10 +81,10 @@ limits_found w f Nothing = refl
 limits_found w f (AFrame frame) = limits_read w f.taken (message_of frame)
 limits_found w f (AFault fault) = stays_so (λ (l : LinkValue). l.limits) (takes_messages w.link.phase) w.link _ refl
 
--- the end of the input leaves the limits
+-- The end of the input keeps the limits.
 -- ---- the client
 
--- a client stays one where its framer and its limits stay what they were
+-- The invariant of a client is kept if the framer and the limits keep theirs.
 pub is_still : (i : Inside) (framer : FramerValue) (link : LinkValue) → IsClient i → framer.max ≡ i.framer.max → IsFramer framer → link.limits ≡ i.link.limits → IsClient (record { framer = framer; link = link })
 is_still i framer link is same framed limits = record {
   ranges = subst AreInRange (sym limits) is.ranges;
@@ -93,13 +93,13 @@ is_still i framer link is same framed limits = record {
 }
 
 module _ (i : Inside) (v : ClientValue) (piece : List ℕ) (is : IsClient i) (view : client_value i ≡ v) where
-  -- nothing is taken
+  -- No byte is accepted.
   pub takes_none : client_takes v ≡ false → taking v piece ≡ record { count = 0; client = v; event = None }
   unfolding taking
   takes_none not =
       ap (λ (b : Bool). cond b (taking_found v (framing v.link.limits.max_message v.frame piece) (framing v.link.limits.max_message v.frame piece).finding) (record { count = 0; client = v; event = None })) not
 
-  -- what the framer and the link take
+  -- The framer and the link accept the bytes.
   pub takes_framed : client_takes v ≡ true → taking v piece ≡ taking_framed i.framer i.link piece
   unfolding taking
   takes_framed does =
@@ -108,13 +108,13 @@ module _ (i : Inside) (v : ClientValue) (piece : List ℕ) (is : IsClient i) (vi
       ∙ ap (λ (M : ℕ). taking_found (client_value i) (framing M i.framer.kept piece) (framing M i.framer.kept piece).finding) (sym is.greatest)
 
   module _ (framer : FramerValue) (link : LinkValue) (framed : framer ≡ framer_after i.framer piece) (handled : link ≡ (taking_framed i.framer i.link piece).client.link) where
-    -- the client is one afterwards
+    -- The invariant of the client holds after the call.
     pub took_is : IsClient (record { framer = framer; link = link })
     took_is =
         is_still i framer link is (ap (λ (f : FramerValue). f.max) framed) (subst IsFramer (sym framed) (framing_is_framer i.framer piece is.framer))
         (ap (λ (l : LinkValue). l.limits) handled ∙ limits_found (record { frame = i.framer.kept; link = i.link }) (framing_of i.framer piece) (framing_of i.framer piece).finding)
 
-    -- and is the one that the definition says
+    -- The client is the one that the definition gives.
     pub took_client : client_takes v ≡ true → record { frame = framer.kept; link = link } ≡ (taking v piece).client
     took_client does =
         ap (λ (f : FramerValue). record { frame = f.kept; link = link }) framed

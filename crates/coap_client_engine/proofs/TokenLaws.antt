@@ -1,4 +1,4 @@
--- A token is given once: each is that of a number which no call before it was given.
+-- Each token is given once: its number is larger than those of all calls before it.
 use Rattle.std.proofs.Common.{◌≡◌, ℕ, ◌+◌, ◌<◌, ◌≤◌, Bool, true, false, cond, List, [], ◌∷◌, ◌++◌, Option, Some, None, refl, sym, ap, subst, ◌∙◌, arith}
 use Rattle.coap_client_engine.specs.Prelude.{◌≢◌, is_none, AllByRecursion, Message, RequestFault, TooBig, takes_messages}
 use Rattle.coap_client_engine.specs.Prelude.{reject_of, reject_reason, LimitValues, OutstandingValue, Ping, else_refusal}
@@ -16,7 +16,7 @@ use Rattle.coap_client_engine.proofs.ClientSteps.{client_more, client_step}
 
 -- ---- the number of the last token
 
--- no step takes it back
+-- No step decreases the number.
 if_more : (h k : History) (does : Bool) → h.tokens ≤ k.tokens → h.tokens ≤ (cond does k h).tokens
 if_more h k true more = more
 if_more h k false more = omega arith
@@ -51,9 +51,9 @@ call_tokens limits tokens earlier c =
       ap (λ (h : History). h.tokens) (client_more limits tokens earlier c),
     )
 
--- ---- a call that gives one
+-- ---- a call that gives a token
 
--- what is not refused has the number behind the last one
+-- A request that is not refused uses the next number.
 asked_counts_token : (h : History) (m : Message) (e : OutstandingValue) → asking_refusal (asking_now h) m ≡ None
     → (after_asking h m e).tokens ≡ h.tokens + 1
 asked_counts_token h m e may =
@@ -63,7 +63,7 @@ refused_so : (o : Option RequestFault) → else_refusal o (Some TooBig) ≡ None
 refused_so None e = cc
 refused_so (Some fault) e = cc
 
--- what is sent is refused neither for its extras nor as a message
+-- A request that is sent is refused neither for its extras nor as a message.
 sent_asked : (h : History) (method : Method) (target : TargetValue) (extras : ExtrasValue)
     → send_refusal (link_of h) method target extras ≡ None
     → asking_refusal (asking_now h) (with_token (request_of method target extras) (next_token h.tokens)) ≡ None
@@ -71,7 +71,7 @@ sent_asked h method target extras =
     cond_both (is_too_long extras) _ _ (λ (r : Option RequestFault). r ≡ None → asking_refusal (asking_now h) (with_token (request_of method target extras) (next_token h.tokens)) ≡ None)
     (λ long e. absurd (refused_so (new_refusal (asking_now h)) e)) (λ short e. e)
 
--- the history goes on with one token more, where one was left
+-- The history continues with the next number, if one was left.
 record UsesToken (h k : History) : Type 0 where
   next : k.tokens ≡ h.tokens + 1
   left : h.tokens < 18446744073709551615
@@ -100,14 +100,14 @@ pinged_gives limits tokens earlier custody accepted =
 
 -- ---- tokens of later numbers
 
--- the token of a number behind n, of which one is left
+-- A token that encodes a 64-bit number larger than `n`.
 record IsLater (n : ℕ) (token : List ℕ) : Type 0 where
   number : ℕ
   is : token ≡ next_token number
   later : n ≤ number
   small : number < 18446744073709551615
 
--- all are, and no two are the same
+-- All tokens are later than `n`, and no two are equal.
 abbrev AreNew : ℕ → List (List ℕ) → Type 0
 AreNew n ts = AllByRecursion (IsLater n) ts × AreDifferent ts
 
@@ -116,14 +116,14 @@ all_earlier n k [] h each = tt
 all_earlier n k (t ∷ ts) h each =
     (record { number = each.0.number; is = each.0.is; later = omega (arith, h, each.0.later); small = each.0.small }, all_earlier n k ts h each.1)
 
--- they are other tokens than that of a number before them
+-- The tokens differ from that of an earlier number.
 all_other : (n : ℕ) (ts : List (List ℕ)) → n < 18446744073709551615 → AllByRecursion (IsLater (n + 1)) ts
     → AllByRecursion (λ other. next_token n ≢ other) ts
 all_other n [] small each = tt
 all_other n (t ∷ ts) small each =
     (λ same. omega (arith, each.0.later, tokens_differ n each.0.number small each.0.small (same ∙ each.0.is)), all_other n ts small each.1)
 
--- a call that gives none leaves them new, and one that gives the next token too
+-- Tokens that are new after a call are also new before it, together with the token that the call gives.
 none_new : (h k : History) (ts : List (List ℕ)) → h.tokens ≤ k.tokens → AreNew k.tokens ts → AreNew h.tokens ([] ++ ts)
 none_new h k ts more are = (all_earlier h.tokens k.tokens ts more are.0, are.1)
 
@@ -135,7 +135,7 @@ one_new h k ts gives are =
       (all_other h.tokens ts gives.left behind, are.1),
     )
 
--- ---- the law
+-- ---- the theorem
 
 module _ (limits : LimitValues) (tokens : ℕ) (earlier : List ClientCall) where
   abbrev after_one : ClientCall → History

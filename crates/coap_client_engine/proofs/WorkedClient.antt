@@ -1,4 +1,4 @@
--- What a client tells, sends and has outstanding in a short life, worked out from its calls.
+-- Computed examples of a client: its events, its queued bytes and its outstanding requests after short lists of calls.
 use Rattle.std.proofs.Common.{◌≡◌, ℕ, true, false, List, [], ◌∷◌, ◌++◌, Option, Some, None, refl, arith}
 use Rattle.coap_client_engine.specs.Prelude.{codes, Message, is_recognised, known_behind, first_critical_behind}
 use Rattle.coap_client_engine.specs.Prelude.{RequestFault, LimitValues, announced, OutstandingValue, Request, Observation}
@@ -16,15 +16,15 @@ use Rattle.coap_client_engine.specs.ClientValues as value
 use Rattle.coap_text.proofs.HexDigits.{hex}
 use Rattle.coap_frame.proofs.Computed.{bytes_computed}
 
--- ---- what is computed with: to unfold one of these is to unfold all that its line names
+-- ---- groups of definitions: to unfold one of these is to unfold all that its line names
 
 unfoldable calls_computed : Unit {0}
 unfolding announced react live_reaction is_notification kind_of is_recognised known_behind first_critical_behind new_refusal asking_refusal observation_refusal cancel_refusal host_sent observe_sent own_options insert_option with_extra request_of cancel_of has_long_extra is_too_long steps_by steps_behind steps_of step after_steps client_after takes event_of
 calls_computed = tt
 
--- ---- what is looked at
+-- ---- the computed values
 
--- the least limits, with one that may be outstanding
+-- Small limits, with room for one outstanding request.
 abbrev least_limits : LimitValues
 least_limits = record { max_message = 1152; max_sent = 1152; queue = 2304; pending = 0; observers = 0; outstanding = 1 }
 
@@ -32,12 +32,12 @@ abbrev events_told_behind : List ClientCall → List ClientCall → List (Option
 events_told_behind earlier [] = []
 events_told_behind earlier (c ∷ cs) = event_of least_limits 0 earlier c ∷ events_told_behind (earlier ++ c ∷ []) cs
 
--- what each of these calls tells
+-- The events of the calls.
 unfoldable events_told : List ClientCall → List (Option EventValue)
 unfolding bytes_computed calls_computed
 events_told calls = events_told_behind [] calls
 
--- what waits after these calls, and what is outstanding
+-- The queued bytes and the outstanding requests after the calls.
 unfoldable waits : List ClientCall → List ℕ
 unfolding bytes_computed calls_computed
 waits calls = waiting_of (client_after least_limits 0 calls)
@@ -46,7 +46,7 @@ unfoldable outstanding : List ClientCall → List OutstandingValue
 unfolding bytes_computed calls_computed
 outstanding calls = (client_after least_limits 0 calls).outstanding
 
--- the root of an address, with nothing else
+-- The root resource of an address.
 abbrev root_target : TargetValue
 root_target = record { host = codes "127.0.0.1"; is_address = true; port = 5683; segments = []; arguments = [] }
 
@@ -56,7 +56,7 @@ no_extras = record { observe = false; plain = false; content_format = None; acce
 abbrev observing : ExtrasValue
 observing = record no_extras { observe = true }
 
--- why a GET of it is not sent after these calls, and why the observation with a token is not cancelled
+-- The error of a GET of that resource after the calls, and the error of a cancellation.
 unfoldable refusal_after : List ClientCall → Option RequestFault
 unfolding bytes_computed calls_computed
 refusal_after calls = send_refusal (link_of (client_after least_limits 0 calls)) Get root_target no_extras
@@ -66,13 +66,13 @@ unfolding bytes_computed calls_computed
 cancel_refusal_after calls token =
     cancelling_refusal (link_of (client_after least_limits 0 calls)) token root_target observing
 
--- a response with this code, token and nothing else
+-- A response with a code and a token, without options and payload.
 abbrev empty_response : ℕ → List ℕ → Message
 empty_response code token = record { code = code; token = token; options = []; payload = [] }
 
--- ---- a life
+-- ---- the calls of a connection
 
--- our Capabilities and Settings were written
+-- The client's CSM was written.
 abbrev drained_calls : List ClientCall
 drained_calls = Wrote 7 ∷ []
 
@@ -80,7 +80,7 @@ all_drained : waits drained_calls ≡ []
 unfolding waits
 all_drained = refl
 
--- nothing is sent before the peer's Capabilities and Settings
+-- No request is sent before the peer's CSM.
 unsent_before_opening : refusal_after drained_calls ≡ Some fault.NotOpen
 unfolding refusal_after
 unsent_before_opening = refl
@@ -92,7 +92,7 @@ is_ready : events_told opened_calls ≡ None ∷ Some value.Ready ∷ []
 unfolding events_told
 is_ready = refl
 
--- the first token is 1
+-- The first token is 1.
 abbrev asked_calls : List ClientCall
 asked_calls = opened_calls ++ Sent Get root_target no_extras ∷ []
 
@@ -108,7 +108,7 @@ no_second : refusal_after asked_calls ≡ Some fault.TooMany
 unfolding refusal_after
 no_second = refl
 
--- a response to another token is to nothing, and the request stays
+-- A response with another token matches nothing, and the request stays outstanding.
 abbrev strange_calls : List ClientCall
 strange_calls = asked_calls ++ Took (hex "014509") ∷ []
 
@@ -120,7 +120,7 @@ still_outstanding : outstanding strange_calls ≡ Request (hex "01") ∷ []
 unfolding outstanding
 still_outstanding = refl
 
--- the response ends it, also where it comes in two pieces
+-- The response ends the request, also if it arrives in two parts.
 abbrev answered_calls : List ClientCall
 answered_calls = strange_calls ++ Took (hex "0145") ∷ Took (hex "01") ∷ []
 
@@ -141,7 +141,7 @@ observe_sent_first : waits observed_calls ≡ hex "11010160"
 unfolding waits
 observe_sent_first = refl
 
--- a notification leaves it
+-- A notification keeps the observation outstanding.
 abbrev notified_calls : List ClientCall
 notified_calls = observed_calls ++ Took (hex "11450160") ∷ []
 
@@ -153,7 +153,7 @@ observation_stays : outstanding notified_calls ≡ Observation (hex "01") false 
 unfolding outstanding
 observation_stays = refl
 
--- one with a critical option that is not recognised ends it, and is no message to the caller
+-- A notification with an unrecognised critical option ends the observation, and the caller does not get the message.
 abbrev declined_calls : List ClientCall
 declined_calls = notified_calls ++ Took (hex "2145016030") ∷ []
 
@@ -165,7 +165,7 @@ is_ended : outstanding declined_calls ≡ []
 unfolding outstanding
 is_ended = refl
 
--- it is cancelled once, and stays until its last response
+-- An observation is cancelled once, and stays outstanding until its last response.
 abbrev cancelled_calls : List ClientCall
 cancelled_calls = notified_calls ++ Cancelled (hex "01") root_target observing ∷ []
 
@@ -185,7 +185,7 @@ last_response : events_told (cancelled_calls ++ Took (hex "014501") ∷ []) ≡ 
 unfolding events_told
 last_response = refl
 
--- ---- Pings, and the end
+-- ---- Pings, and the end of the connection
 
 abbrev pinged_calls : List ClientCall
 pinged_calls = opened_calls ++ Pinged true ∷ []
@@ -194,7 +194,7 @@ ping_sent : waits pinged_calls ≡ hex "11e20120"
 unfolding waits
 ping_sent = refl
 
--- the second of two messages in one piece is not taken with the first
+-- If one slice holds two messages, a `take` accepts only the first.
 pong_taken_alone : takes least_limits 0 pinged_calls (hex "11e3012000e5") ≡ 4
 unfolding events_told
 pong_taken_alone = refl
@@ -214,22 +214,22 @@ nothing_outstanding : outstanding aborted_calls ≡ []
 unfolding outstanding
 nothing_outstanding = refl
 
--- nothing is taken then
+-- After an Abort, no byte is accepted.
 nothing_taken_after_abort : takes least_limits 0 aborted_calls (hex "00e1") ≡ 0
 unfolding events_told
 nothing_taken_after_abort = refl
 
--- a fault in the bytes is a stop too, told at its byte
+-- An error in the bytes stops the connection too, and is reported at its byte.
 is_fault : events_told (pinged_calls ++ Took (hex "0f") ∷ []) ≡ None ∷ Some value.Ready ∷ None ∷ Some (value.Stopped reason.TokenLength) ∷ []
 unfolding events_told
 is_fault = refl
 
--- a response with a token of 13 bytes answers nothing
+-- A response with a token of 13 bytes matches nothing.
 long_token_is_stranger : events_told (asked_calls ++ Took (hex "0d450011111111111111111111111111") ∷ []) ≡ None ∷ Some value.Ready ∷ None ∷ Some value.Stranger ∷ []
 unfolding events_told
 long_token_is_stranger = refl
 
--- the calls that a client accepts
+-- The calls are accepted.
 all_accepted : AreAccepted least_limits 0 answered_calls
 unfolding events_told IsAccepted AreAcceptedBehind
 all_accepted = (omega arith, (refl, (refl, (refl, (refl, (refl, tt))))))

@@ -1,11 +1,11 @@
--- Words for the laws of clients.
+-- Defined by this project: definitions that the theorems over clients use.
 use Rattle.std.specs.Prelude.{◌≢◌, ℕ, List, [], ◌∷◌, ◌++◌}
 use Rattle.std.specs.List.{AllByRecursion}
 use Rattle.coap_conn.specs.Asking.{next_token}
 use Rattle.coap_conn.specs.Limits.{LimitValues}
 use Rattle.coap_client_engine.specs.ClientWorld.{ClientCall, Took, Sent, Cancelled, Pinged, Wrote, Ended, client_after}
 
--- the token that a call gives behind others
+-- The token that a call gives after the calls `earlier`, in a list of at most one token.
 abbrev pub token_given : LimitValues → ℕ → List ClientCall → ClientCall → List (List ℕ)
 token_given limits tokens earlier (Took bytes) = []
 token_given limits tokens earlier (Sent method target extras) = next_token (client_after limits tokens earlier).tokens ∷ []
@@ -14,15 +14,16 @@ token_given limits tokens earlier (Pinged custody) = next_token (client_after li
 token_given limits tokens earlier (Wrote n) = []
 token_given limits tokens earlier Ended = []
 
+-- The tokens that calls give after the calls `earlier`, in order.
 abbrev pub tokens_behind : LimitValues → ℕ → List ClientCall → List ClientCall → List (List ℕ)
 tokens_behind limits tokens earlier [] = []
 tokens_behind limits tokens earlier (c ∷ cs) = token_given limits tokens earlier c ++ tokens_behind limits tokens (earlier ++ c ∷ []) cs
 
--- the tokens that calls give, in order
+-- The tokens that a list of calls gives, in order.
 abbrev pub tokens_given : LimitValues → ℕ → List ClientCall → List (List ℕ)
 tokens_given limits tokens calls = tokens_behind limits tokens [] calls
 
--- no two are the same
+-- Says that no two tokens of a list are equal.
 abbrev pub AreDifferent : List (List ℕ) → Type 0
 AreDifferent [] = Unit {0}
 AreDifferent (t ∷ ts) = AllByRecursion (λ other. t ≢ other) ts × AreDifferent ts

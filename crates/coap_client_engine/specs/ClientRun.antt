@@ -1,4 +1,5 @@
--- What a run of a client promises: the course that it took, by what its devices tell (our definition).
+-- Defined by this project: the contract of a run of a client, which relates a trace (`Course`) to the records of its
+-- devices.
 use Rattle.std.specs.Prelude.{◌≡◌, ◌≢◌, ◌≤◌, ℕ, true, ◌⊎◌, List, ◌++◌, Option, Some, None, Result, option_map, IfOk}
 use Rattle.coap_conn.specs.LinkValue.{bytes_of}
 use Rattle.coap_io.specs.declared.wire.Got.{Got}
@@ -11,10 +12,10 @@ use Rattle.coap_request.specs.declared.plan.ClientPlan.{ClientPlan}
 use Rattle.coap_client_engine.specs.declared.run.state.Run.{Run}
 use Rattle.coap_conn.specs.Limits.{default_limits}
 
--- ---- what the devices of a run tell
+-- ---- the records of the devices
 
--- Of its wire the bytes that were read and written, and what its calls came to; of its clock the moments; of its outlets what was
--- written. What a device does not tell is not there.
+-- The records of the devices of a run. The wire records the bytes read, the bytes written and the results of its calls.
+-- The clock records times, and the outlets record the bytes written. A field is `None` if its device records nothing.
 pub record Seen : Type 0 where
   pub given : Option (List ℕ)
   pub written : Option (List ℕ)
@@ -23,11 +24,12 @@ pub record Seen : Type 0 where
   pub out : Option (List ℕ)
   pub err : Option (List ℕ)
 
+-- The records of the devices, field by field.
 abbrev pub seen : (given written : Option (List ℕ)) (answers : Option (List Got)) (moments out err : Option (List ℕ)) → Seen
 seen given written answers moments out err =
     record { given = given; written = written; answers = answers; moments = moments; out = out; err = err }
 
--- From one moment to another they tell exactly what happens in a course.
+-- Says that between `start` and `now` the devices recorded exactly the events of a trace.
 pub record IsTold (plan : ClientPlan) (start now : Seen) (course : Course) : Type 0 where
   pub given : AddsBytes start.given now.given (given_in course)
   pub written : AddsBytes start.written now.written (written_in course)
@@ -36,23 +38,24 @@ pub record IsTold (plan : ClientPlan) (start now : Seen) (course : Course) : Typ
   pub out : AddsBytes start.out now.out (output_in plan course)
   pub err : AddsBytes start.err now.err (errors_in course)
 
--- ---- what a run promises
+-- ---- the contract of a run
 
--- there are a million million turns at the most
+-- The maximum number of iterations.
 abbrev pub most_turns : ℕ
 most_turns = 1000000000000
 
--- it ended with this status, and what waits was written then, as far as one write could, unless a read ended it
+-- Says that the run ended with this status, and that queued bytes were then written as far as one write could. After a
+-- read that ends the run there is no write.
 abbrev pub IsEnded : Course → ℕ → Type 0
 IsEnded course status = (status_in course ≡ Some status) × HasWritten course
 
--- every turn was taken to its end, and none ended the run
+-- Says that the run made all iterations to their end, that none of them ended it, and that the status is 4.
 abbrev pub IsOutOfTurns : Course → ℕ → Type 0
 IsOutOfTurns course status = (status_in course ≡ None) × IsBetween course × (turns_in course ≡ most_turns) × (status ≡ 4)
 
--- A run ends with a status: it took a course, of calls that its client accepts; what was taken is a front of what the wire gave, and
--- what was written a front of what was queued; the devices tell exactly this; and the status is that with which the course ends, or 4
--- where each turn was taken.
+-- The contract of a run that returns an exit status. There is a trace of calls that the client accepts. The accepted
+-- bytes are a prefix of the bytes that the wire gave, and the written bytes are a prefix of the queued bytes. The
+-- devices recorded exactly this trace. The status is the one that ends the trace, or 4 if all iterations were made.
 pub record IsClientRun (plan : ClientPlan) (start now : Seen) (status : ℕ) : Type 0 where
   pub course : Course
   pub follows : IsCourse plan course
@@ -63,18 +66,19 @@ pub record IsClientRun (plan : ClientPlan) (start now : Seen) (status : ℕ) : T
   pub turns : turns_in course ≤ most_turns
   pub ends : IsEnded course status ⊎ IsOutOfTurns course status
 
--- A run that memory is refused to has not begun: its clock told the moment, and the other devices nothing.
+-- The contract of a run for which allocation fails: the clock recorded one time, and the other devices recorded
+-- nothing.
 pub record IsUnbegun (plan : ClientPlan) (start now : Seen) : Type 0 where
   pub moment : ℕ
   pub told : IsTold plan start now (Begins moment)
 
--- ---- how far a run has come
+-- ---- the state during a run
 
--- the token of its request, once it was sent
+-- The token of the request, after it was sent.
 abbrev pub token_of : Run → Option (List ℕ)
 token_of run = option_map (λ t. t.items) run.token
 
--- it stands where a course has led it, and the devices told that course
+-- Says that the state of a run is the one to which a trace leads, and that the devices recorded this trace.
 pub record Stands (plan : ClientPlan) (start now : Seen) (run : Run) (course : Course) : Type 0 where
   pub follows : IsCourse plan course
   pub shows : ClientShows run.client 0 (calls_in course)
@@ -87,36 +91,39 @@ pub record Stands (plan : ClientPlan) (start now : Seen) (run : Run) (course : C
   pub cancelled : run.cancelled ≡ cancelled_in course
   pub told : IsTold plan start now course
 
--- a part of a turn leads it on, to a course of which this holds; the run ends with the status that it answers, where it answers one
+-- Says that a part of an iteration leads to a trace for which `P` holds. `next` is the exit status after that trace, or
+-- `None` if the run continues.
 pub record LeadsOn (plan : ClientPlan) (start now : Seen) (run : Run) (P : Course → Type 0) (next : Option ℕ) : Type 0 where
   pub course : Course
   pub stands : Stands plan start now run course
   pub ends : status_in course ≡ next
   pub holds : P course
 
--- the wire was looked at
+-- Says that the wire was read in this iteration, or that input was left when the iteration began.
 abbrev pub HasLooked : Course → Type 0
 HasLooked course = has_looked course ≡ true
 
--- the wire was looked at, and the request sent where it may be
+-- Says that the wire was read if no input was left, and that no request remains to be sent, except a refused one.
 pub record IsReady (course : Course) : Type 0 where
   pub looked : HasLooked course
   pub asked : IsAskedWhereDue course
 
--- behind the reading part: so many turns have begun, and the wire was looked at, where the run goes on; nothing is to be written yet
+-- The state after the read, with the number of iterations that began. The wire was read if no input was left, unless
+-- the run has ended. No write may follow yet.
 pub record IsHeard (began : ℕ) (course : Course) : Type 0 where
   pub turns : turns_in course ≡ began
   pub looked : status_in course ≡ None → HasLooked course
   pub early : MayWrite course → ⊥
 
--- behind the request
+-- The state after the attempt to send the request. If the run continues, no request remains to be sent, except a
+-- refused one.
 pub record IsAsked (began : ℕ) (course : Course) : Type 0 where
   pub turns : turns_in course ≡ began
   pub looked : HasLooked course
   pub asked : status_in course ≡ None → IsAskedWhereDue course
   pub writes : status_in course ≢ None → MayWrite course
 
--- behind what was taken
+-- The state after the input was processed. If the run continues, no more input can be processed now.
 pub record IsTaken (began : ℕ) (course : Course) : Type 0 where
   pub turns : turns_in course ≡ began
   pub looked : HasLooked course
@@ -124,41 +131,45 @@ pub record IsTaken (began : ℕ) (course : Course) : Type 0 where
   pub taken : status_in course ≡ None → IsTakenUp course
   pub writes : status_in course ≢ None → MayWrite course
 
--- behind all but the write
+-- The state after everything but the write. If the run continues, nothing else is left in the iteration.
 pub record IsFinished (began : ℕ) (course : Course) : Type 0 where
   pub turns : turns_in course ≡ began
   pub rests : status_in course ≡ None → IsResting course
   pub writes : MayWrite course
 
--- behind the write
+-- The state after the write. If the run continues, the next iteration may begin.
 pub record IsFlushed (began : ℕ) (course : Course) : Type 0 where
   pub turns : turns_in course ≡ began
   pub between : status_in course ≡ None → IsBetween course
   pub written : HasWritten course
 
--- ---- what its parts promise
+-- ---- the contracts of the parts of a run
 
--- what devices tell, with these outlets; with this wire and this place for errors; and with this wire and these outlets
+-- The records of the devices with other records of the outlets.
 abbrev pub with_outlets : (out err : Option (List ℕ)) → Seen → Seen
 with_outlets out err now = seen now.given now.written now.answers now.moments out err
 
+-- The records of the devices with other records of the wire and of the outlet for reports.
 abbrev pub with_wire : (given written : Option (List ℕ)) (answers : Option (List Got)) (err : Option (List ℕ)) → Seen → Seen
 with_wire given written answers err now = seen given written answers now.moments now.out err
 
+-- The records of the devices with other records of the wire and of both outlets.
 abbrev pub with_all : (given written : Option (List ℕ)) (answers : Option (List Got)) (out err : Option (List ℕ)) → Seen → Seen
 with_all given written answers out err now = seen given written answers now.moments out err
 
--- A part of a turn leads a run on which goes on, and stands where a course of which this holds led it.
+-- The contract of a part of an iteration. If the run has not ended and its trace satisfies `P`, the part leads to a
+-- trace that satisfies `Q`.
 abbrev pub Leads : (old new : Seen → Seen) (P : Course → Type 0) (Q : ℕ → Course → Type 0) → ClientPlan → (before after : Run) → Result (Option ℕ) WriteFailed → Type 0
 Leads old new P Q plan before after result =
     (start now : Seen) (course : Course) → Stands plan start (old now) before course → status_in course ≡ None → P course
     → IfOk result (LeadsOn plan start (new now) after (Q (turns_in course)))
 
--- whatever the plan
+-- The contract of a part of an iteration that holds for every plan.
 abbrev pub LeadsAll : (old new : Seen → Seen) (P : Course → Type 0) (Q : ℕ → Course → Type 0) → (before after : Run) → Result (Option ℕ) WriteFailed → Type 0
 LeadsAll old new P Q before after result = (plan : ClientPlan) → Leads old new P Q plan before after result
 
--- A write leads on a run that stands where a course led it which ends with this status, or where it goes on has done all else.
+-- The contract of a write. The trace before it ends the run with the status `next`, or everything else in the iteration
+-- was done.
 abbrev pub Flushes : (old new : Seen → Seen) → (before after : Run) → Option ℕ → Result (Option ℕ) WriteFailed → Type 0
 Flushes old new before after next result =
     (plan : ClientPlan) (start now : Seen) (course : Course) → Stands plan start (old now) before course → status_in course ≡ next → MayWrite course → (status_in course ≡ None → IsResting course)

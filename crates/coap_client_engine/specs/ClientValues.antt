@@ -1,4 +1,4 @@
--- A client's connection as the code holds it, and what its calls do to it.
+-- Defined by this project: the state of a client, and the effect of each call on that state.
 use Rattle.std.specs.Prelude.{ℕ, Bool, true, false, ◌&&◌, List, [], length, Option, Some, None, Result, Ok, Err, nat_le, nat_lt, if◌then◌else◌}
 use Rattle.coap_wire.specs.Message.{Message}
 use Rattle.coap_wire.specs.Reading.{message_of}
@@ -26,28 +26,30 @@ use Rattle.coap_request.specs.declared.request.Method.{Method}
 use Rattle.coap_request.specs.Targets.{TargetValue}
 use Rattle.coap_request.specs.Requests.{ExtrasValue, request_of, cancel_of, is_too_long, has_long_extra}
 
--- the bytes of the unfinished frame, and the link
+-- The state of a client: the bytes of an unfinished frame, and the link.
 pub record ClientValue : Type 0 where
   pub frame : List ℕ
   pub link : LinkValue
 
--- the greatest message that it takes
+-- The size of the largest message that the client accepts, in bytes.
 abbrev pub client_max : ClientValue → ℕ
 client_max v = v.link.limits.max_message
 
--- a new client, on which our Capabilities and Settings wait; the first token is that of the number behind this one
+-- A new client, whose Capabilities and Settings Message (CSM) is queued. The first token encodes the number after
+-- `tokens`.
 abbrev pub new_client : LimitValues → ℕ → ClientValue
 new_client limits tokens = record { frame = []; link = new_link Client limits tokens }
 
--- there is room for the greatest message sent, and messages are taken
+-- True if the client accepts bytes: the phase accepts messages, and the queue has room for a message of maximum size.
 abbrev pub client_takes : ClientValue → Bool
 client_takes v = takes_messages v.link.phase && nat_le v.link.limits.max_sent (free_in v.link)
 
--- ---- what a message is to the caller
+-- ---- events
 
--- What the caller is told: the peer's first Capabilities and Settings; the last response to a request, or one behind which others
--- come, as a message; a response that has a critical option which is not recognised, by its token and that option's number; a Pong;
--- a response or Pong to nothing that is outstanding; a stop, or the peer's Release.
+-- The event that a `take` reports. `Ready` is the peer's first CSM. `Response` is the last response to a request or an
+-- observation, and `Notification` is a response that more may follow. `Rejected` is a response with a critical option
+-- that is not recognised, given by its token and the number of that option. `Stranger` is a response or Pong that
+-- matches nothing outstanding. `Stopped` is a stop of the connection, or its release by the peer.
 pub data EventValue : Type 0 where
   Ready : EventValue
   Response : (m : Message) → EventValue
@@ -57,12 +59,13 @@ pub data EventValue : Type 0 where
   Stranger : EventValue
   Stopped : (why : Reason) → EventValue
 
--- a response with a critical option that is not recognised is rejected (RFC 7252 section 5.4.1)
+-- The event of a response. If a critical option is not recognised, the response is rejected (RFC 7252 section 5.4.1).
 abbrev pub answer_told : Message → List ℕ → Bool → Option ℕ → EventValue
 answer_told m token last (Some number) = Rejected token number
 answer_told m token true None = Response m
 answer_told m token false None = Notification m
 
+-- The event of a message, by the verdict of the link.
 abbrev pub event_told : Message → VerdictValue → Option EventValue
 event_told m verdict.Opened = Some Ready
 event_told m verdict.Done = None
@@ -72,36 +75,38 @@ event_told m (verdict.Pong token custody) = Some (Pong token custody)
 event_told m verdict.Stranger = Some Stranger
 event_told m (verdict.Stopped why) = Some (Stopped why)
 
--- ---- the front of a piece
+-- ---- take
 
--- how many bytes of a piece are taken, the client after it, and what the caller is told
+-- The result of a `take`: the number of accepted bytes, the client after it, and the event.
 pub record Taking : Type 0 where
   pub count : ℕ
   pub client : ClientValue
   pub event : Option EventValue
 
--- the bytes behind the messages have a fault
+-- The result of a `take` of malformed bytes: the connection stops with the reason of the error.
 abbrev pub taking_rejected : ClientValue → ℕ → Reject → Taking
 taking_rejected v count fault = record { count = count; client = record { frame = []; link = link_after v.link (call.Reject fault) }; event = Some (Stopped (reject_reason fault)) }
 
+-- The result of a `take` that completes a frame, by the result of parsing that frame.
 abbrev pub taking_read : ClientValue → ℕ → Result Message FormatFault → Taking
 taking_read v count (Ok m) = record { count = count; client = record { frame = []; link = link_after v.link (call.Handle m) }; event = event_told m (react (standing_in v.link) m).verdict }
 taking_read v count (Err e) = taking_rejected v count reject.Format
 
+-- The result of a `take`, by what the framer found in the bytes: nothing, a frame or an error.
 abbrev pub taking_found : ClientValue → Framing → Finding → Taking
 taking_found v f Nothing = record { count = f.taken; client = record v { frame = f.kept }; event = None }
 taking_found v f (AFault fault) = taking_rejected v f.taken (reject_of (OfFrame fault))
 taking_found v f (AFrame frame) = taking_read v f.taken (message_of frame)
 
--- nothing is taken where there is no room, or where no message is taken any more
+-- The result of a `take` of `piece`. No byte is accepted if `client_takes` is false.
 unfoldable pub taking : ClientValue → List ℕ → Taking
 taking v piece =
     if client_takes v then taking_found v (framing (client_max v) v.frame piece) (framing (client_max v) v.frame piece).finding
     else record { count = 0; client = v; event = None }
 
--- ---- all else
+-- ---- the other calls
 
--- bytes of a frame are kept
+-- True if bytes of an unfinished frame are buffered.
 abbrev pub is_cut : List ℕ → Bool
 is_cut rest = nat_lt 0 (length rest)
 
@@ -120,19 +125,21 @@ client_cancelled v token target extras = record v { link = link_after v.link (ca
 abbrev pub client_pinged : ClientValue → Bool → ClientValue
 client_pinged v custody = record v { link = link_after v.link (call.Ping custody) }
 
--- ---- why nothing is asked
+-- ---- refusals
 
--- a request is too great where its extras are, whatever the peer takes
+-- The error of a refused request. If no earlier check fails, extras that are too long give `TooBig`, whatever size the
+-- peer accepts.
 abbrev pub send_refusal : LinkValue → Method → TargetValue → ExtrasValue → Option RequestFault
 send_refusal l method target extras =
     if is_too_long extras then else_refusal (new_refusal (asking_in l)) (Some TooBig)
     else asking_refusal (asking_in l) (with_token (request_of method target extras) (next_token l.tokens))
 
--- the message that cancels has no payload
+-- The error of a refused cancellation. The payload of the extras does not count, because a cancellation has none.
 abbrev pub cancelling_refusal : LinkValue → List ℕ → TargetValue → ExtrasValue → Option RequestFault
 cancelling_refusal l token target extras =
     if has_long_extra extras then else_refusal (observation_refusal (asking_in l) token) (Some TooBig)
     else cancel_refusal (asking_in l) token (with_token (cancel_of target extras) token)
 
+-- The error of a refused Ping.
 abbrev pub ping_refusal : LinkValue → Bool → Option RequestFault
 ping_refusal l custody = asking_refusal (asking_in l) (ping_with custody (next_token l.tokens))

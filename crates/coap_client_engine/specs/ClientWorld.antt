@@ -1,4 +1,4 @@
--- What a client's calls were handed and accepted, the steps that this makes, and the history of its connection after it.
+-- Defined by this project: the client model. Accepted calls give steps, and steps give the history of the connection.
 use Rattle.std.specs.Prelude.{◌≡◌, ℕ, ◌≤◌, Bool, ◌&&◌, List, [], ◌∷◌, ◌++◌, length, map, drop, Option, Some, None, nat_le, if◌then◌else◌}
 use Rattle.std.specs.List.{flat_map}
 use Rattle.coap_wire.specs.Message.{Message}
@@ -17,7 +17,7 @@ use Rattle.coap_request.specs.Targets.{TargetValue}
 use Rattle.coap_request.specs.Requests.{ExtrasValue, request_of, cancel_of}
 use Rattle.coap_client_engine.specs.ClientValues.{ClientValue, EventValue, Stopped, event_told, is_cut, send_refusal, cancelling_refusal, ping_refusal}
 
--- a call that was accepted, with what it took; a refused call is none
+-- An accepted call with its arguments. A refused call is not recorded.
 pub data ClientCall : Type 0 where
   Took : (bytes : List ℕ) → ClientCall
   Sent : (method : Method) (target : TargetValue) (extras : ExtrasValue) → ClientCall
@@ -26,7 +26,8 @@ pub data ClientCall : Type 0 where
   Wrote : (n : ℕ) → ClientCall
   Ended : ClientCall
 
--- what happens to the connection, with nothing of what bytes spell or of where they are cut
+-- An effect of a call on the connection. Steps contain messages, not bytes, so they do not depend on the encoding or
+-- segmentation of the input.
 pub data ClientStep : Type 0 where
   Handles : (m : Message) → ClientStep
   Faults : (fault : StreamFault) → ClientStep
@@ -38,6 +39,7 @@ pub data ClientStep : Type 0 where
 
 -- ---- steps
 
+-- The bytes that a call accepts from the input.
 abbrev pub taken_by : ClientCall → List ℕ
 taken_by (Took bytes) = bytes
 taken_by (Sent method target extras) = []
@@ -46,21 +48,22 @@ taken_by (Pinged custody) = []
 taken_by (Wrote n) = []
 taken_by Ended = []
 
--- what all bytes taken spell, where messages of at most M bytes are taken
+-- The messages, rest and fault of all bytes that the calls accepted, for messages of at most `M` bytes.
 abbrev pub stream_in : ℕ → List ClientCall → Stream
 stream_in M calls = split M (flat_map taken_by calls)
 
--- a fault that was not there before
+-- The step of a fault that was not present before.
 abbrev pub new_fault : Option StreamFault → Option StreamFault → List ClientStep
 new_fault before None = []
 new_fault None (Some fault) = Faults fault ∷ []
 new_fault (Some old) (Some fault) = []
 
--- the messages and the fault of a stream beyond those of what it goes on from
+-- The steps of a stream that continues another one: its messages and its fault, without those of the stream `before`.
 abbrev pub beyond : Stream → Stream → List ClientStep
 beyond before after = map Handles (drop (length before.messages) after.messages) ++ new_fault before.fault after.fault
 
--- the steps of a call behind others: taken bytes make those whose last byte is among them
+-- The steps of a call after the calls `earlier`. Accepted bytes give the messages and the fault whose last byte is
+-- among them.
 unfoldable pub steps_by : ℕ → List ClientCall → ClientCall → List ClientStep
 steps_by M earlier (Took bytes) = beyond (stream_in M earlier) (stream_in M (earlier ++ Took bytes ∷ []))
 steps_by M earlier (Sent method target extras) = Requests (request_of method target extras) extras.observe ∷ []
@@ -69,16 +72,18 @@ steps_by M earlier (Pinged custody) = Pings custody ∷ []
 steps_by M earlier (Wrote n) = Writes n ∷ []
 steps_by M earlier Ended = Ends (is_cut (stream_in M earlier).rest) ∷ []
 
+-- The steps of calls after the calls `earlier`.
 unfoldable pub steps_behind : ℕ → List ClientCall → List ClientCall → List ClientStep
 steps_behind M earlier [] = []
 steps_behind M earlier (c ∷ cs) = steps_by M earlier c ++ steps_behind M (earlier ++ c ∷ []) cs
 
--- the steps of calls
+-- The steps of a list of calls.
 unfoldable pub steps_of : ℕ → List ClientCall → List ClientStep
 steps_of M calls = steps_behind M [] calls
 
 -- ---- the connection
 
+-- The history of the connection after one more step.
 unfoldable pub step : History → ClientStep → History
 step h (Handles m) = after h (call.Handle m)
 step h (Faults fault) = after h (call.Reject (reject_of fault))
@@ -88,29 +93,31 @@ step h (Pings custody) = after h (call.Ping custody)
 step h (Writes n) = after h (call.Written n)
 step h (Ends cut) = after h (call.End cut)
 
+-- The history of the connection after more steps.
 unfoldable pub after_steps : History → List ClientStep → History
 after_steps h [] = h
 after_steps h (s ∷ ss) = after_steps (step h s) ss
 
--- the history of the connection after calls, where the number of the last token given was this one at first
+-- The history of the connection after a list of calls. The first token encodes the number after `tokens`.
 unfoldable pub client_after : LimitValues → ℕ → List ClientCall → History
 client_after limits tokens calls = after_steps (new_history Client limits tokens) (steps_of limits.max_message calls)
 
--- ---- what a call takes of a piece
+-- ---- the number of accepted bytes
 
--- there is room for the greatest message sent, and messages are taken
+-- True if the connection accepts messages, and its queue has room for a message of maximum size.
 abbrev pub handles : History → Bool
 handles h = takes_messages h.phase && nat_le h.limits.max_sent (free_in (link_of h))
 
--- how many bytes of a piece are taken after calls: none where there is no room or no message is taken; else, behind what is left of the
--- bytes so far, up to the end of a message, to the byte of a fault, or all of the piece
+-- The number of bytes of `piece` that the client accepts after the calls. The count is 0 if `handles` is false.
+-- Otherwise `piece` continues the unfinished rest of the earlier bytes. The client accepts bytes up to the end of a
+-- message, up to the byte that reveals an error, or all of `piece`.
 unfoldable pub takes : LimitValues → ℕ → List ClientCall → List ℕ → ℕ
 takes limits tokens calls piece =
     if handles (client_after limits tokens calls) then (framing limits.max_message (stream_in limits.max_message calls).rest piece).taken else 0
 
--- ---- what the caller is told
+-- ---- events
 
--- of the message handled, or of the stop
+-- The event of a list of steps: that of its first step, if this is a processed message or a fault.
 abbrev pub event_by : History → List ClientStep → Option EventValue
 event_by h [] = None
 event_by h (Handles m ∷ more) = event_told m (react (standing_now h) m).verdict
@@ -121,13 +128,14 @@ event_by h (Pings custody ∷ more) = None
 event_by h (Writes n ∷ more) = None
 event_by h (Ends cut ∷ more) = None
 
+-- The event of a call after the calls `earlier`.
 unfoldable pub event_of : LimitValues → ℕ → List ClientCall → ClientCall → Option EventValue
 event_of limits tokens earlier call = event_by (client_after limits tokens earlier) (steps_by limits.max_message earlier call)
 
--- ---- what calls accept
+-- ---- accepted calls
 
--- A call that a client accepts which stands so, with what it takes: all bytes of what it takes of them; what is not refused; no more
--- bytes written than wait.
+-- Says that a client accepts a call after the calls `earlier`. A `take` accepts all bytes that the call records. A
+-- request, cancellation or Ping is not refused. No more bytes are written than are queued.
 unfoldable pub IsAccepted : LimitValues → ℕ → List ClientCall → ClientCall → Type 0
 IsAccepted limits tokens earlier (Took bytes) = takes limits tokens earlier bytes ≡ length bytes
 IsAccepted limits tokens earlier (Sent method target extras) = send_refusal (link_of (client_after limits tokens earlier)) method target extras ≡ None
@@ -136,26 +144,27 @@ IsAccepted limits tokens earlier (Pinged custody) = ping_refusal (link_of (clien
 IsAccepted limits tokens earlier (Wrote n) = n ≤ length (waiting_of (client_after limits tokens earlier))
 IsAccepted limits tokens earlier Ended = Unit {0}
 
--- each, behind those before it
+-- Says that each call is accepted after the calls before it.
 unfoldable pub AreAcceptedBehind : LimitValues → ℕ → List ClientCall → List ClientCall → Type 0
 AreAcceptedBehind limits tokens earlier [] = Unit {0}
 AreAcceptedBehind limits tokens earlier (c ∷ cs) = IsAccepted limits tokens earlier c × AreAcceptedBehind limits tokens (earlier ++ c ∷ []) cs
 
+-- Says that a new client accepts all calls of a list.
 abbrev pub AreAccepted : LimitValues → ℕ → List ClientCall → Type 0
 AreAccepted limits tokens calls = AreAcceptedBehind limits tokens [] calls
 
--- ---- which client shows calls
+-- ---- the client after calls
 
--- the bytes kept of an unfinished frame: what is left of the bytes so far, where messages are taken
+-- The buffered bytes of an unfinished frame: the rest of the stream if messages are accepted, otherwise none.
 abbrev pub kept_after : History → List ℕ → List ℕ
 kept_after h rest = if takes_messages h.phase then rest else []
 
--- the client after calls
+-- The client after a list of calls.
 unfoldable pub client_of : LimitValues → ℕ → List ClientCall → ClientValue
 client_of limits tokens calls =
     record { frame = kept_after (client_after limits tokens calls) (stream_in limits.max_message calls).rest; link = link_of (client_after limits tokens calls) }
 
--- a client shows its connection after calls: it accepted them, and all that it holds is what they leave
+-- Says that a client accepted the calls, and that its state is the one to which they lead.
 pub record ClientShows (v : ClientValue) (tokens : ℕ) (calls : List ClientCall) : Type 0 where
   pub accepted : AreAccepted v.link.limits tokens calls
   pub same : v ≡ client_of v.link.limits tokens calls

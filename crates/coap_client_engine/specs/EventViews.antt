@@ -1,4 +1,4 @@
--- How the code's client and what it tells are seen in contracts.
+-- Defined by this project: the values by which contracts see the types `Client`, `Event` and `Taken`.
 use Rattle.std.specs.Prelude.{◌≡◌, ℕ, Bool, List, Option, Some, None, Result, Ok, Err}
 use Rattle.coap_wire.specs.Message.{Message}
 use Rattle.coap_wire.specs.Reading.{message_of}
@@ -16,10 +16,11 @@ use Rattle.coap_client_engine.specs.declared.client.Heard.TheVariants as heard
 use Rattle.coap_client_engine.specs.declared.client.Taken.{Taken}
 use Rattle.coap_client_engine.specs.declared.client.Client.TheInside.{Inside}
 
+-- The state of a client: the bytes that its framer buffers, and its link.
 abbrev pub client_value : Inside → ClientValue
 client_value c = record { frame = c.framer.kept; link = c.link }
 
--- the framer takes the messages that the limits name; a client holds nothing
+-- The invariant of a client: its limits are in range, and its framer accepts messages of at most `max_message` bytes.
 pub record IsClient (c : Inside) : Type 0 where
   pub ranges : AreInRange c.link.limits
   pub greatest : c.framer.max ≡ c.link.limits.max_message
@@ -28,7 +29,7 @@ pub record IsClient (c : Inside) : Type 0 where
 abbrev pub is_client : Inside → Type 0
 is_client c = IsClient c
 
--- what is told, without where it lies in memory
+-- The value of an event, without its place in memory.
 abbrev pub event_value : Event → EventValue
 event_value Ready = value.Ready
 event_value (Response m) = value.Response m
@@ -38,17 +39,19 @@ event_value (Pong token custody) = value.Pong token custody
 event_value Stranger = value.Stranger
 event_value (Stopped why) = value.Stopped why
 
--- ---- the same, where the frame of the message is kept
+-- ---- events of a frame that is parsed again
 
+-- The event of a response, by the result of parsing its frame.
 abbrev pub answer_read : Result Message FormatFault → Bool → Option EventValue
 answer_read (Ok m) last = Some (answer_told m m.token last (first_critical m.options))
 answer_read (Err e) last = None
 
+-- The event of a Pong, by the result of parsing its frame.
 abbrev pub pong_read : Result Message FormatFault → Bool → Option EventValue
 pong_read (Ok m) custody = Some (value.Pong m.token custody)
 pong_read (Err e) custody = None
 
--- what was heard, where this is read of the frame
+-- The event for a kind of event, by the result of parsing the frame.
 abbrev pub heard_value : Heard → Result Message FormatFault → Option EventValue
 heard_value heard.Nothing read = None
 heard_value heard.Ready read = Some value.Ready
@@ -57,11 +60,12 @@ heard_value (heard.Pong custody) read = pong_read read custody
 heard_value heard.Stranger read = Some value.Stranger
 heard_value (heard.Stopped why) read = Some (value.Stopped why)
 
--- what is told of what was taken
+-- The event in the result of a `take`.
 abbrev pub taken_event : Taken → Option EventValue
 taken_event t = heard_value t.heard (message_of t.frame.now)
 
--- ---- what a framer and a link take of a piece, where the client takes anything
+-- ---- the result of a framer and a link, if the client accepts bytes
 
+-- The result of a `take` of `piece` by the framer `f` and the link `l`.
 abbrev pub taking_framed : FramerValue → LinkValue → List ℕ → Taking
 taking_framed f l piece = taking_found (record { frame = f.kept; link = l }) (framing_of f piece) (framing_of f piece).finding

@@ -1,4 +1,5 @@
--- The course of a client's run: what happens in it, in order, and which courses there are (our definition).
+-- Defined by this project: the trace of a client's run, which lists its events in order, and the rules that a trace
+-- follows.
 use Rattle.std.specs.Prelude.{◌≡◌, ◌≢◌, ◌+◌, ℕ, max, nat_lt, Bool, true, false, ◌&&◌, ◌⊎◌, List, [], ◌∷◌, ◌++◌, length, take, drop, Option, Some, None}
 use Rattle.std.specs.List.{flat_map}
 use Rattle.coap_conn.specs.Asking.{next_token}
@@ -15,28 +16,28 @@ use Rattle.coap_client_engine.specs.RunTexts.{stop_line}
 use Rattle.coap_client_engine.specs.RunSteps.{has_passed, is_to_ask, is_to_cancel, planned_extras, asking_refusal, cancelling_refusal, ended_by, refusal_text, status_told, first_told, output_told, errors_told, stop_behind, stop_written, calls_read, calls_written}
 use Rattle.coap_request.specs.declared.plan.ClientPlan.{ClientPlan}
 
--- what happens in a run, each behind all that happened before it
+-- A trace of a run. Each event follows the trace `before` it.
 pub data Course : Type 0 where
-  -- it begins, at the moment that the clock tells
+  -- The run begins, and the clock gives this time.
   Begins : (moment : ℕ) → Course
-  -- a turn begins, and the clock tells this moment
+  -- An iteration begins, and the clock gives this time.
   Turns : (before : Course) (moment : ℕ) → Course
-  -- a read of the wire comes to this, and gives these bytes
+  -- A read of the wire has this result, and gives these bytes.
   Reads : (before : Course) (got : Got) (bytes : List ℕ) → Course
-  -- the client accepts a call
+  -- The client accepts a call.
   Calls : (before : Course) (call : ClientCall) → Course
-  -- the client refuses the request, or its cancellation
+  -- The client refuses the request or its cancellation.
   Refuses : (before : Course) (fault : RequestFault) → Course
-  -- the run has waited long enough
+  -- The run has waited long enough, and gives up.
   GivesUp : (before : Course) → Course
-  -- nothing more is to be done in this turn, but to write what waits
+  -- Nothing more is to be done in this iteration, except to write queued bytes.
   Rests : (before : Course) → Course
-  -- a write of all that waits comes to this
+  -- A write of queued bytes has this result.
   Writes : (before : Course) (got : Got) → Course
 
 -- ---- the client
 
--- the calls that it accepted
+-- The calls that the client accepted.
 abbrev pub calls_in : Course → List ClientCall
 calls_in (Begins moment) = []
 calls_in (Turns before moment) = calls_in before
@@ -47,25 +48,27 @@ calls_in (GivesUp before) = calls_in before
 calls_in (Rests before) = calls_in before
 calls_in (Writes before got) = calls_in before ++ calls_written got
 
--- the client, whose tokens count from 0
+-- The client after the trace. It has the default limits, and its first token encodes the number 1.
 abbrev pub client_in : Course → ClientValue
 client_in course = client_of default_limits 0 (calls_in course)
 
+-- The history of the connection after the trace.
 abbrev pub history_in : Course → History
 history_in course = client_after default_limits 0 (calls_in course)
 
+-- The phase of the connection after the trace.
 abbrev pub phase_in : Course → Phase
 phase_in course = (client_in course).link.phase
 
--- the bytes that wait to be written
+-- The bytes queued for writing.
 abbrev pub waiting_in : Course → List ℕ
 waiting_in course = (client_in course).link.waiting
 
--- what is told of a call
+-- The event of a call after the trace.
 abbrev pub event_in : Course → ClientCall → Option EventValue
 event_in course call = event_of default_limits 0 (calls_in course) call
 
--- the token of the request, once it was sent
+-- The token of the request after a call.
 abbrev pub token_by : ClientCall → ClientValue → Option (List ℕ) → Option (List ℕ)
 token_by (Took bytes) client before = before
 token_by (Sent method target extras) client before = Some (next_token client.link.tokens)
@@ -74,6 +77,7 @@ token_by (Pinged custody) client before = before
 token_by (Wrote n) client before = before
 token_by Ended client before = before
 
+-- The token of the request, after it was sent.
 abbrev pub token_in : Course → Option (List ℕ)
 token_in (Begins moment) = None
 token_in (Turns before moment) = token_in before
@@ -84,9 +88,9 @@ token_in (GivesUp before) = token_in before
 token_in (Rests before) = token_in before
 token_in (Writes before got) = token_in before
 
--- ---- moments
+-- ---- times
 
--- the moments that the clock told
+-- The times that the clock gave.
 abbrev pub moments_in : Course → List ℕ
 moments_in (Begins moment) = moment ∷ []
 moments_in (Turns before moment) = moments_in before ++ moment ∷ []
@@ -97,7 +101,7 @@ moments_in (GivesUp before) = moments_in before
 moments_in (Rests before) = moments_in before
 moments_in (Writes before got) = moments_in before
 
--- how many turns began
+-- The number of iterations that began.
 abbrev pub turns_in : Course → ℕ
 turns_in (Begins moment) = 0
 turns_in (Turns before moment) = turns_in before + 1
@@ -108,7 +112,7 @@ turns_in (GivesUp before) = turns_in before
 turns_in (Rests before) = turns_in before
 turns_in (Writes before got) = turns_in before
 
--- the moment of the turn; a clock that went back stands still
+-- The time of the last iteration. If the clock goes back, the time stays the same.
 abbrev pub moment_in : Course → ℕ
 moment_in (Begins moment) = moment
 moment_in (Turns before moment) = max (moment_in before) moment
@@ -119,7 +123,7 @@ moment_in (GivesUp before) = moment_in before
 moment_in (Rests before) = moment_in before
 moment_in (Writes before got) = moment_in before
 
--- the moment at which it began
+-- The time at which the run began.
 abbrev pub started_in : Course → ℕ
 started_in (Begins moment) = moment
 started_in (Turns before moment) = started_in before
@@ -130,7 +134,7 @@ started_in (GivesUp before) = started_in before
 started_in (Rests before) = started_in before
 started_in (Writes before got) = started_in before
 
--- the moment of the first notification
+-- The time of the first notification.
 abbrev pub first_in : Course → Option ℕ
 first_in (Begins moment) = None
 first_in (Turns before moment) = first_in before
@@ -141,7 +145,7 @@ first_in (GivesUp before) = first_in before
 first_in (Rests before) = first_in before
 first_in (Writes before got) = first_in before
 
--- the moment at which the observation was cancelled
+-- The time at which the observation was cancelled, after a call.
 abbrev pub cancelled_by : ClientCall → ℕ → Option ℕ → Option ℕ
 cancelled_by (Took bytes) moment before = before
 cancelled_by (Sent method target extras) moment before = before
@@ -150,6 +154,7 @@ cancelled_by (Pinged custody) moment before = before
 cancelled_by (Wrote n) moment before = before
 cancelled_by Ended moment before = before
 
+-- The time at which the observation was cancelled.
 abbrev pub cancelled_in : Course → Option ℕ
 cancelled_in (Begins moment) = None
 cancelled_in (Turns before moment) = cancelled_in before
@@ -160,38 +165,42 @@ cancelled_in (GivesUp before) = cancelled_in before
 cancelled_in (Rests before) = cancelled_in before
 cancelled_in (Writes before got) = cancelled_in before
 
--- the moment since which it waits: since its start for its first response, since the cancellation for its last one
+-- The time since which the run waits for a response: its start until the first notification, or the cancellation after
+-- it was sent. In between, there is none.
 abbrev pub waits_since : (cancelled first : Option ℕ) → ℕ → Option ℕ
 waits_since (Some cancelled) first started = Some cancelled
 waits_since None (Some first) started = None
 waits_since None None started = Some started
 
+-- The time since which the run waits, after the trace.
 abbrev pub since_in : Course → Option ℕ
 since_in course = waits_since (cancelled_in course) (first_in course) (started_in course)
 
--- it has waited long enough
+-- True if the run has waited for `wait` seconds.
 abbrev pub is_late_since : Option ℕ → ℕ → ℕ → Bool
 is_late_since None moment wait = false
 is_late_since (Some since) moment wait = has_passed moment since wait
 
+-- True if the run has waited for a response as long as the plan allows.
 abbrev pub is_late : ClientPlan → Course → Bool
 is_late plan course = is_late_since (since_in course) (moment_in course) plan.wait
 
--- and that was so before this turn did anything: it began to wait at an earlier moment
+-- True if the run has waited for `wait` seconds, and began to wait before the current time.
 abbrev pub is_overdue_since : Option ℕ → ℕ → ℕ → Bool
 is_overdue_since None moment wait = false
 is_overdue_since (Some since) moment wait = nat_lt since moment && has_passed moment since wait
 
+-- True if the run has waited as long as the plan allows, and began to wait before the current time.
 abbrev pub is_overdue : ClientPlan → Course → Bool
 is_overdue plan course = is_overdue_since (since_in course) (moment_in course) plan.wait
 
--- the observation is to be cancelled
+-- True if the observation must be cancelled.
 abbrev pub is_cancel_due : ClientPlan → Course → Bool
 is_cancel_due plan course = is_to_cancel (cancelled_in course) (first_in course) (moment_in course) plan.observe
 
 -- ---- the wire
 
--- what its calls came to
+-- The results of its reads and writes.
 abbrev pub answers_in : Course → List Got
 answers_in (Begins moment) = []
 answers_in (Turns before moment) = answers_in before
@@ -202,11 +211,11 @@ answers_in (GivesUp before) = answers_in before
 answers_in (Rests before) = answers_in before
 answers_in (Writes before got) = answers_in before ++ got ∷ []
 
--- the bytes that the client took
+-- The bytes that the client accepted.
 abbrev pub taken_in : Course → List ℕ
 taken_in course = flat_map taken_by (calls_in course)
 
--- the bytes that its reads gave
+-- The bytes that the reads gave.
 abbrev pub given_in : Course → List ℕ
 given_in (Begins moment) = []
 given_in (Turns before moment) = given_in before
@@ -217,7 +226,7 @@ given_in (GivesUp before) = given_in before
 given_in (Rests before) = given_in before
 given_in (Writes before got) = given_in before
 
--- those of them that are not taken
+-- The bytes that are left to process after a call.
 abbrev pub rest_by : ClientCall → List ℕ → List ℕ
 rest_by (Took bytes) rest = drop (length bytes) rest
 rest_by (Sent method target extras) rest = rest
@@ -226,6 +235,7 @@ rest_by (Pinged custody) rest = rest
 rest_by (Wrote n) rest = rest
 rest_by Ended rest = rest
 
+-- The bytes that were read and are left to process.
 abbrev pub rest_in : Course → List ℕ
 rest_in (Begins moment) = []
 rest_in (Turns before moment) = rest_in before
@@ -236,7 +246,7 @@ rest_in (GivesUp before) = rest_in before
 rest_in (Rests before) = rest_in before
 rest_in (Writes before got) = rest_in before
 
--- the bytes that its writes took
+-- The bytes that the writes accepted.
 abbrev pub written_in : Course → List ℕ
 written_in (Begins moment) = []
 written_in (Turns before moment) = written_in before
@@ -247,27 +257,29 @@ written_in (GivesUp before) = written_in before
 written_in (Rests before) = written_in before
 written_in (Writes before got) = written_in before ++ bytes_passed (waiting_in before) got
 
--- ---- what is told, and how it ends
+-- ---- the exit status and the output
 
--- why a read ends the run: the input ended, or the wire failed
+-- The reason if a read ends the run: the input has ended, or the wire has failed.
 abbrev pub stop_read : Course → Got → List ℕ → Option Reason
 stop_read before got bytes = stop_behind (phase_in (Reads before got bytes)) got
 
+-- The exit status if the connection stops for a reason.
 abbrev pub status_stopped : Option Reason → Option ℕ
 status_stopped None = None
 status_stopped (Some why) = Some 3
 
+-- The line for a stopped connection, if there is a reason.
 abbrev pub stop_text : Option Reason → List ℕ
 stop_text None = []
 stop_text (Some why) = stop_line why
 
--- the status of what came first, or else of what came then
+-- The first exit status if there is one, otherwise the other one.
 abbrev pub or_then : (first other : Option ℕ) → Option ℕ
 or_then None other = other
 or_then (Some status) other = Some status
 
--- The status with which it ends, where it does: by what is told of a message, by a wire that is at its end or failed, by a refusal, or
--- since it has waited long enough.
+-- The exit status, if the run has ended. The run ends by an event, a wire that has ended or failed, a refusal, or a
+-- wait that is too long.
 abbrev pub status_in : Course → Option ℕ
 status_in (Begins moment) = None
 status_in (Turns before moment) = status_in before
@@ -278,7 +290,7 @@ status_in (GivesUp before) = Some 4
 status_in (Rests before) = status_in before
 status_in (Writes before got) = or_then (status_in before) (status_stopped (stop_written (status_in before) got))
 
--- what goes to the place for payloads
+-- The bytes that the run wrote to the outlet for payloads.
 abbrev pub output_in : ClientPlan → Course → List ℕ
 output_in plan (Begins moment) = []
 output_in plan (Turns before moment) = output_in plan before
@@ -289,7 +301,7 @@ output_in plan (GivesUp before) = output_in plan before
 output_in plan (Rests before) = output_in plan before
 output_in plan (Writes before got) = output_in plan before
 
--- what goes to the place for everything else
+-- The bytes that the run wrote to the outlet for reports.
 abbrev pub errors_in : Course → List ℕ
 errors_in (Begins moment) = []
 errors_in (Turns before moment) = errors_in before
@@ -300,9 +312,9 @@ errors_in (GivesUp before) = errors_in before
 errors_in (Rests before) = errors_in before
 errors_in (Writes before got) = errors_in before ++ stop_text (stop_written (status_in before) got)
 
--- ---- which courses there are
+-- ---- the rules of a trace
 
--- the wire was read in this turn, or something was left to take as it began
+-- True if the wire was read in this iteration, or input was left when the iteration began.
 abbrev pub has_looked : Course → Bool
 has_looked (Begins moment) = false
 has_looked (Turns before moment) = nat_lt 0 (length (rest_in before))
@@ -313,7 +325,7 @@ has_looked (GivesUp before) = has_looked before
 has_looked (Rests before) = has_looked before
 has_looked (Writes before got) = has_looked before
 
--- a turn has just begun, and nothing has happened in it
+-- Says that an iteration has just begun, and that nothing has happened in it.
 abbrev pub IsFresh : Course → Type 0
 IsFresh (Begins moment) = ⊥
 IsFresh (Turns before moment) = Unit {0}
@@ -324,7 +336,7 @@ IsFresh (GivesUp before) = ⊥
 IsFresh (Rests before) = ⊥
 IsFresh (Writes before got) = ⊥
 
--- the client refused something in this turn
+-- True if the client refused a call in this iteration.
 abbrev pub has_refused : Course → Bool
 has_refused (Begins moment) = false
 has_refused (Turns before moment) = false
@@ -335,8 +347,9 @@ has_refused (GivesUp before) = has_refused before
 has_refused (Rests before) = has_refused before
 has_refused (Writes before got) = has_refused before
 
--- A call that a run makes: it takes what it may of what was read, though nothing before a request that is to be sent; it sends the
--- request of the plan, where it is to be sent, and cancels it, where that is due.
+-- Says that a run makes this call after the trace `before`. The run processes as much input as the client accepts, but
+-- not before a request that must be sent. The run sends the request of the plan if it must be sent, and cancels its
+-- observation when that is due.
 abbrev pub IsPlanned : ClientPlan → Course → ClientCall → Type 0
 IsPlanned plan before (Took bytes) =
     (is_to_ask (phase_in before) (token_in before) ≡ false) × (bytes ≡ take (takes default_limits 0 (calls_in before) (rest_in before)) (rest_in before))
@@ -348,36 +361,38 @@ IsPlanned plan before (Pinged custody) = ⊥
 IsPlanned plan before (Wrote n) = ⊥
 IsPlanned plan before Ended = ⊥
 
--- the request is refused, or its cancellation where that is due
+-- Says that the client refuses the request, or refuses its cancellation when that is due.
 abbrev pub IsRefused : ClientPlan → Course → RequestFault → Type 0
 IsRefused plan before fault =
     (asking_refusal (client_in before) (token_in before) plan ≡ Some fault)
     ⊎ ((is_cancel_due plan before ≡ true) × (cancelling_refusal (client_in before) (token_in before) plan ≡ Some fault))
 
--- the request was sent, where it may be, or was refused in this turn
+-- Says that no request remains to be sent, unless a call was refused in this iteration.
 abbrev pub IsAskedWhereDue : Course → Type 0
 IsAskedWhereDue before = is_to_ask (phase_in before) (token_in before) ≡ true → has_refused before ≡ true
 
--- the observation with this token was cancelled, where that is due, or its cancellation was refused in this turn
+-- Says that no observation remains to be cancelled, unless a call was refused in this iteration.
 abbrev pub IsCancelledWhereDue : ClientPlan → Course → Type 0
 IsCancelledWhereDue plan before =
     (token : List ℕ) → token_in before ≡ Some token → is_cancel_due plan before ≡ true → has_refused before ≡ true
 
--- all was taken that may be: nothing is left, or the request is to be sent first, or the client takes nothing
+-- Says that no more input can be processed: none is left, the request must be sent first, or the client accepts no
+-- bytes.
 abbrev pub IsTakenUp : Course → Type 0
 IsTakenUp before =
     (rest_in before ≡ []) ⊎ ((is_to_ask (phase_in before) (token_in before) ≡ true) ⊎ (client_takes (client_in before) ≡ false))
 
--- The run has waited long enough: it is late, and no answer is there that it might have taken, since the wire was read, where nothing was
--- left to take, and all was taken that may be; and the request was sent, where it may be.
+-- Says that the run has waited long enough. A response that has arrived would be known: the wire was read if no input
+-- was left, and no more input can be processed. No request remains to be sent, except a refused one.
 pub record HasWaited (plan : ClientPlan) (before : Course) : Type 0 where
   pub late : is_late plan before ≡ true
   pub looked : has_looked before ≡ true
   pub taken : IsTakenUp before
   pub asked : IsAskedWhereDue before
 
--- Nothing more is to be done in a turn: the run does not end, and has not waited for too long; the wire was read, where nothing was left
--- to take, and all was taken that may be; the request was sent, where it may be, and its observation cancelled, where that is due, or there was no room for that.
+-- Says that nothing more is to be done in an iteration. The run has not ended and is not overdue. The wire was read if
+-- no input was left, and no more input can be processed. No request or cancellation remains to be sent, except a
+-- refused one.
 pub record IsDone (plan : ClientPlan) (before : Course) : Type 0 where
   pub goes_on : status_in before ≡ None
   pub in_time : is_overdue plan before ≡ false
@@ -386,7 +401,7 @@ pub record IsDone (plan : ClientPlan) (before : Course) : Type 0 where
   pub asked : IsAskedWhereDue before
   pub cancelled : IsCancelledWhereDue plan before
 
--- this much was done
+-- Says that the last event is `Rests`, after which only a write is left in the iteration.
 abbrev pub IsResting : Course → Type 0
 IsResting (Begins moment) = ⊥
 IsResting (Turns before moment) = ⊥
@@ -397,7 +412,8 @@ IsResting (GivesUp before) = ⊥
 IsResting (Rests before) = Unit {0}
 IsResting (Writes before got) = ⊥
 
--- A turn begins at first, and behind one in which all was done, and a write of what waits was tried.
+-- Says that an iteration may begin: at the start, or after an iteration that has done everything. That includes one
+-- attempt to write, if bytes were queued.
 abbrev pub IsBetween : Course → Type 0
 IsBetween (Begins moment) = Unit {0}
 IsBetween (Turns before moment) = ⊥
@@ -408,7 +424,8 @@ IsBetween (GivesUp before) = ⊥
 IsBetween (Rests before) = waiting_in before ≡ []
 IsBetween (Writes before got) = Unit {0}
 
--- A write may stand behind this: behind what is done in a turn, or ends it, but not behind a read or another write.
+-- Says that the last event may be followed by a write. This is so for a call, a refusal, `GivesUp` and `Rests`, but not
+-- for a read or a write.
 abbrev pub MayWrite : Course → Type 0
 MayWrite (Begins moment) = ⊥
 MayWrite (Turns before moment) = ⊥
@@ -419,11 +436,12 @@ MayWrite (GivesUp before) = Unit {0}
 MayWrite (Rests before) = Unit {0}
 MayWrite (Writes before got) = ⊥
 
--- what waits was written, as far as one write could: where a write may stand, nothing waits
+-- Says that queued bytes were written as far as one write could: if a write may follow, no bytes are queued.
 abbrev pub HasWritten : Course → Type 0
 HasWritten course = MayWrite course → waiting_in course ≡ []
 
--- What happens in a run, one behind the other. Behind what ends it there is a write at the most, of what waits.
+-- Says that each event of a trace may follow the events before it. After the event that ends the run, there is at most
+-- one write.
 abbrev pub IsCourse : ClientPlan → Course → Type 0
 IsCourse plan (Begins moment) = Unit {0}
 IsCourse plan (Turns before moment) = IsCourse plan before × (status_in before ≡ None) × IsBetween before

@@ -1,4 +1,4 @@
--- What the steps of a client's run come to.
+-- Defined by this project: the results of the steps of a client's run.
 use Rattle.std.specs.Prelude.{ℕ, ◌-◌, ◌==◌, nat_le, Bool, true, false, List, [], ◌∷◌, length, Vec, Option, Some, None, is_some, unwrap_or, option_map, if◌then◌else◌}
 use Rattle.coap_wire.specs.Codes.{class_of}
 use Rattle.coap_wire.specs.Message.{CoapOption}
@@ -22,15 +22,16 @@ use Rattle.coap_request.specs.declared.plan.ClientPlan.{ClientPlan}
 use Rattle.coap_client_engine.specs.declared.run.state.Heard.{Heard}
 use Rattle.coap_client_engine.specs.declared.run.state.Heard.TheVariants.{Nothing, Notified, Ended}
 
--- so many seconds have passed since a moment; a clock that went back stands still
+-- True if at least `seconds` seconds have passed between `since` and `now`. If `now` is earlier than `since`, no time
+-- has passed.
 abbrev pub has_passed : ℕ → ℕ → ℕ → Bool
 has_passed now since seconds = nat_le seconds (now - since)
 
--- the status where a run has waited long enough
+-- The exit status of a run that has waited since `since`, if `wait` seconds have passed.
 abbrev pub late : ℕ → ℕ → ℕ → Option ℕ
 late now since wait = if has_passed now since wait then Some 4 else None
 
--- the request is sent as soon as the connection is open, and once
+-- True if the request must be sent: the connection is open, and the request was not sent before.
 abbrev pub is_to_ask : {T : Type 0} → Phase → Option T → Bool
 is_to_ask Waiting token = false
 is_to_ask Open None = true
@@ -38,16 +39,16 @@ is_to_ask Open (Some token) = false
 is_to_ask (Releasing reason) token = false
 is_to_ask (phase.Stopped reason) token = false
 
--- more of what was read may be taken: the client takes bytes, and the request is not to be sent first
+-- True if more input can be processed: input is left, no request must be sent first, and the client accepts bytes.
 abbrev pub may_take : {T : Type 0} → ClientValue → List ℕ → Option T → Bool
 may_take client rest token =
     if length rest == 0 then false else (if is_to_ask client.link.phase token then false else client_takes client)
 
--- an option as the plan has it
+-- The extra option of a plan.
 abbrev pub planned_option : {A : Type 0} → ℕ × Vec ℕ A → CoapOption
 planned_option o = record { number = o.0; value = o.1.items }
 
--- what a plan asks beside its method and its target
+-- The extras of the request that a plan describes.
 abbrev pub planned_extras : ClientPlan → ExtrasValue
 planned_extras plan = record {
   observe = is_some plan.observe;
@@ -58,56 +59,56 @@ planned_extras plan = record {
   payload = plan.payload.items;
 }
 
--- why the request is refused, where it is to be sent and is
+-- The error of the request, if it must be sent and is refused.
 abbrev pub asking_refusal : {T : Type 0} → ClientValue → Option T → ClientPlan → Option RequestFault
 asking_refusal client token plan = if is_to_ask client.link.phase token then send_refusal client.link plan.method plan.target (planned_extras plan) else None
 
--- what is so once a request is sent, and what was so before, where it is refused
+-- The value `sent` if nothing was refused, otherwise the value `before`.
 abbrev pub unless_refused : {A : Type 0} → Option RequestFault → A → A → A
 unless_refused None sent before = sent
 unless_refused (Some refusal) sent before = before
 
--- the client behind a request that is sent where it is to be
+-- The client after the request was sent. Nothing changes if the request must not be sent or is refused.
 abbrev pub client_asking : {T : Type 0} → ClientValue → Option T → ClientPlan → ClientValue
 client_asking client token plan =
     if is_to_ask client.link.phase token then
     unless_refused (send_refusal client.link plan.method plan.target (planned_extras plan)) (client_sent client plan.method plan.target (planned_extras plan)) client
     else client
 
--- the token behind it
+-- The token of the request after the request was sent, with the same exceptions.
 abbrev pub token_asking : ClientValue → Option (List ℕ) → ClientPlan → Option (List ℕ)
 token_asking client token plan =
     if is_to_ask client.link.phase token then
     unless_refused (send_refusal client.link plan.method plan.target (planned_extras plan)) (Some (next_token client.link.tokens)) token
     else token
 
--- why the observation is not cancelled, where its token is known and it is not
+-- The error of the cancellation, if the token is known and the cancellation is refused.
 abbrev pub cancelling_refusal : ClientValue → Option (List ℕ) → ClientPlan → Option RequestFault
 cancelling_refusal client None plan = None
 cancelling_refusal client (Some token) plan = value.cancelling_refusal client.link token plan.target (planned_extras plan)
 
--- the call that a read makes on the client: it is told that the input ended
+-- The calls of the client that a read leads to: at the end of the input, `Ended`.
 abbrev pub calls_read : Got → List ClientCall
 calls_read (Bytes n) = []
 calls_read Later = []
 calls_read End = Ended ∷ []
 calls_read Failed = []
 
--- the client behind a read
+-- The client after a read.
 abbrev pub client_read : ClientValue → Got → ClientValue
 client_read client (Bytes n) = client
 client_read client Later = client
 client_read client End = value.client_ended client
 client_read client Failed = client
 
--- why a read ends the run: the input ended, or the wire failed
+-- The reason if a read ends the run: the input has ended, or the wire has failed.
 abbrev pub stop_behind : Phase → Got → Option Reason
 stop_behind phase (Bytes n) = None
 stop_behind phase Later = None
 stop_behind phase End = stop_of phase
 stop_behind phase Failed = Some reason.Ended
 
--- why a write ends the run, where nothing else did
+-- The reason if a write ends the run: the wire failed, and the run had not ended before.
 abbrev pub stop_written : Option ℕ → Got → Option Reason
 stop_written None (Bytes n) = None
 stop_written None Later = None
@@ -115,38 +116,40 @@ stop_written None End = Some reason.Ended
 stop_written None Failed = Some reason.Ended
 stop_written (Some status) got = None
 
--- the calls that a write makes on the client
+-- The calls of the client that a write leads to.
 abbrev pub calls_written : Got → List ClientCall
 calls_written (Bytes n) = Wrote n ∷ []
 calls_written Later = []
 calls_written End = []
 calls_written Failed = []
 
--- the client behind a cancellation
+-- The client after the observation was cancelled. Nothing changes if the token is not known or the cancellation is
+-- refused.
 abbrev pub client_cancelling : ClientValue → Option (List ℕ) → ClientPlan → ClientValue
 client_cancelling client None plan = client
 client_cancelling client (Some token) plan = unless_refused (value.cancelling_refusal client.link token plan.target (planned_extras plan)) (value.client_cancelled client token plan.target (planned_extras plan)) client
 
--- the moment at which the observation was cancelled
+-- The time of the cancellation, after an attempt to cancel the observation at the time `moment`.
 abbrev pub cancelled_at : {T : Type 0} → Option T → Option RequestFault → ℕ → Option ℕ → Option ℕ
 cancelled_at None refusal moment before = before
 cancelled_at (Some token) None moment before = Some moment
 cancelled_at (Some token) (Some refusal) moment before = before
 
--- the seconds of the observation have passed since the first notification, and it is not cancelled (RFC 7641 section 3.6)
+-- True if the seconds of the observation have passed since the first notification, and it was not cancelled (RFC 7641
+-- section 3.6).
 abbrev pub is_to_cancel : Option ℕ → Option ℕ → ℕ → Option ℕ → Bool
 is_to_cancel (Some cancelled) first moment observe = false
 is_to_cancel None None moment observe = false
 is_to_cancel None (Some first) moment observe = has_passed moment first (unwrap_or observe 0)
 
--- the status by the moment: it waits for its first response from its start, and for its last one from the cancellation, which may be
--- refused
+-- The exit status that the deadlines give. The run waits for its first response from its start, and for its last one
+-- from the cancellation. If the cancellation is refused, the status is `refused`.
 abbrev pub watched : Option ℕ → Option ℕ → ℕ → ℕ → ClientPlan → Option ℕ → Option ℕ
 watched (Some cancelled) first started moment plan refused = late moment cancelled plan.wait
 watched None None started moment plan refused = late moment started plan.wait
 watched None (Some first) started moment plan refused = if is_to_cancel None (Some first) moment plan.observe then refused else None
 
--- the status behind a refusal; where the queue has no room, the run tries again
+-- The exit status after a refusal: 3, or none if the queue has no room, because the run then tries again.
 abbrev pub ended_by : Option RequestFault → Option ℕ
 ended_by None = None
 ended_by (Some NotOpen) = Some 3
@@ -156,7 +159,7 @@ ended_by (Some NoRoom) = None
 ended_by (Some TokensSpent) = Some 3
 ended_by (Some NoSuchToken) = Some 3
 
--- what is told of a refusal
+-- The text that the run writes for a refusal.
 abbrev pub refusal_text : Option RequestFault → List ℕ
 refusal_text None = []
 refusal_text (Some NotOpen) = fault_line NotOpen
@@ -166,11 +169,11 @@ refusal_text (Some NoRoom) = []
 refusal_text (Some TokensSpent) = fault_line TokensSpent
 refusal_text (Some NoSuchToken) = fault_line NoSuchToken
 
--- the status behind a last response: 0 where it is 2.xx
+-- The exit status after a last response: 0 if its code is 2.xx, otherwise 2.
 abbrev pub response_status : ℕ → ℕ
 response_status code = if class_of code == 2 then 0 else 2
 
--- what comes of what is told
+-- The effect of an event on the run.
 abbrev pub heard_of : EventValue → Heard
 heard_of Ready = Nothing
 heard_of (Response m) = Ended (response_status m.code)
@@ -180,7 +183,7 @@ heard_of (Pong token custody) = Nothing
 heard_of Stranger = Nothing
 heard_of (Stopped reason) = Ended 3
 
--- what goes to the place for payloads
+-- The bytes that the run writes to the outlet for payloads.
 abbrev pub output_of : EventValue → Bool → List ℕ
 output_of Ready newline = []
 output_of (Response m) newline = if class_of m.code == 2 then payload_text m.payload newline else []
@@ -190,7 +193,7 @@ output_of (Pong token custody) newline = []
 output_of Stranger newline = []
 output_of (Stopped reason) newline = []
 
--- what goes to the place for everything else
+-- The bytes that the run writes to the outlet for reports.
 abbrev pub errors_of : EventValue → List ℕ
 errors_of Ready = []
 errors_of (Response m) = if class_of m.code == 2 then [] else response_line m.code m.payload
@@ -200,20 +203,20 @@ errors_of (Pong token custody) = []
 errors_of Stranger = []
 errors_of (Stopped reason) = stop_line reason
 
--- the status that ends the run
+-- The exit status, if the effect ends the run.
 abbrev pub status_heard : Heard → Option ℕ
 status_heard Nothing = None
 status_heard Notified = None
 status_heard (Ended status) = Some status
 
--- the moment of the first notification
+-- The time of the first notification, after an effect at the time `moment`.
 abbrev pub first_heard : Heard → Option ℕ → ℕ → Option ℕ
 first_heard Nothing first moment = first
 first_heard Notified None moment = Some moment
 first_heard Notified (Some first) moment = Some first
 first_heard (Ended status) first moment = first
 
--- ---- the same of bytes that were taken, of which something is told or nothing
+-- ---- the same for accepted bytes, which have an event or none
 
 abbrev pub status_told : Option EventValue → Option ℕ
 status_told None = None

@@ -1,4 +1,4 @@
-//! A client of one connection.
+//! Engine of one client connection: `Client`, the result `Taken` of its `take`, and the `Event` in that result.
 
 ghost use Rattle.std.specs.Prelude.{◌≡◌, ◌≤◌, Ok, length, take, option_map, ◌++◌, ◌∷◌, ⊤, ℕ, List, [], IfOk, OnOk};
 ghost use Rattle.std.specs.Prelude.{OnErr};
@@ -23,37 +23,38 @@ use coap_wire::{MessageRef, Token, TokenRef, parse};
 use std::alloc::{AllocError, Global};
 use std::marker::Model;
 
-/// What a `take` tells its caller.
+/// Event of a connection, as returned by `Taken::event`.
 #[derive(Drop)]
 pub enum Event<'a> {
-    /// The peer's first Capabilities and Settings: requests can be sent (RFC 8323 section 5.3).
+    /// First Capabilities and Settings Message (CSM) of the peer. From now on requests can be sent (RFC 8323 section
+    /// 5.3).
     Ready,
-    /// The last response to a request or an observation.
+    /// Last response to a request or to an observation.
     Response(MessageRef<'a>),
-    /// A response to an observation, behind which others come (RFC 7641 section 4.2).
+    /// Response to an observation. More responses may follow (RFC 7641 section 4.2).
     Notification(MessageRef<'a>),
-    /// A response to a request or an observation, which is ended by it, with a critical option that is not recognised
-    /// (RFC 7252 section 5.4.1).
+    /// Response with a critical option that is not recognised (RFC 7252 section 5.4.1). The request or observation has
+    /// ended.
     Rejected {
-        /// The request's token, where it lies in the response.
+        /// Token of the request, borrowed from the response.
         token: TokenRef<'a>,
-        /// The number of the first such option.
+        /// Number of the first such option.
         number: u16,
     },
-    /// The Pong to a Ping (RFC 8323 section 5.4).
+    /// Pong to a Ping (RFC 8323 section 5.4).
     Pong {
-        /// The Ping's token, where it lies in the Pong.
+        /// Token of the Ping, borrowed from the Pong.
         token: TokenRef<'a>,
-        /// Whether it has Custody.
+        /// Presence of the Custody option in the Pong.
         custody: bool,
     },
-    /// A response or a Pong to nothing that is outstanding. It is ignored.
+    /// Response or Pong that matches nothing outstanding. The client ignores the message.
     Stranger,
-    /// The connection stopped, or its peer released it.
+    /// Stop of the connection, or its release by the peer, with the reason.
     Stopped(Reason),
 }
 
-/// What came of the bytes taken, apart from the message.
+/// Kind of the event of a `take`. `Taken::event` parses the message again from the frame.
 #[derive(Clone, Copy)]
 enum Heard {
     Nothing,
@@ -64,17 +65,17 @@ enum Heard {
     Stopped(Reason),
 }
 
-/// What was taken of a piece, and what is to be told of it.
+/// Result of `Client::take`: the number of accepted bytes, and the event of the message in them.
 #[derive(Clone, Copy)]
 pub struct Taken<'a> {
-    /// How many bytes.
+    /// Number of bytes accepted from the start of the input slice.
     pub bytes: usize,
     heard: Heard,
     frame: &'a [u8],
 }
 
 impl<'a> Taken<'a> {
-    /// What came of the bytes, `None` where nothing is to be told.
+    /// Returns the event of the accepted bytes, or `None` if there is nothing to report.
     pub fn event(&self) -> Option<Event<'a>>
         ensures { option_map event_value result ≡ taken_event self.now }
     {
@@ -89,8 +90,10 @@ impl<'a> Taken<'a> {
     }
 }
 
-/// A client: its framer and its link. Contracts see a `ClientValue`, and which calls it shows. `Client` does not
-/// prevent two registrations for one resource, which RFC 7641 section 3.1 forbids.
+/// Engine of one client connection: a framer and a link. Contracts see it as a `ClientValue`, and `ClientShows` relates
+/// it to the calls so far.
+///
+/// `Client` does not prevent two registrations for one resource, which RFC 7641 section 3.1 forbids.
 #[derive(Drop)]
 pub struct Client {
     framer: Framer,
@@ -110,12 +113,13 @@ impl Model for Client {
 }
 
 impl Client {
-    /// A new client with these limits, on which our Capabilities and Settings wait. All its room is reserved here. The
-    /// first token that it gives is that of the number behind `tokens_from`.
+    /// Creates a client with these limits, and queues its Capabilities and Settings Message (CSM).
+    ///
+    /// All memory of the client is reserved here. The first token is the encoding of the number after `tokens_from`.
     ///
     /// # Errors
     ///
-    /// Where the room is refused.
+    /// - `AllocError`: allocation failed.
     pub fn open(alloc: Global, limits: Limits, tokens_from: u64) -> Result<Client, AllocError>
         ensures new { IfOk result (λ c. c ≡ new_client limits tokens_from) }
         ensures shows { IfOk result (λ c. ClientShows c tokens_from []) }
@@ -126,13 +130,21 @@ impl Client {
         })
     }
 
-    /// Sends a request to a target under a new token, and answers that token. It is outstanding until its last
-    /// response, and with `observe` it is an observation (RFC 7252 section 5.3.1, RFC 7641 section 3.1).
+    /// Queues a request to a target under a new token, and returns the token.
+    ///
+    /// The request is outstanding until its last response (RFC 7252 section 5.3.1). If `extras.observe` is set, the
+    /// request is an observation (RFC 7641 section 3.1). If the call fails, nothing changes.
     ///
     /// # Errors
     ///
-    /// As `Link::request`. `TooBig` also where the extra option is longer than 1,034 bytes or the payload longer than
-    /// 1,048,576.
+    /// The first that applies:
+    ///
+    /// - `NotOpen`: the connection is not open.
+    /// - `TooMany`: the limit of outstanding requests, observations and Pings is reached.
+    /// - `TokensSpent`: all tokens have been used.
+    /// - `TooBig`: the message exceeds the limit of the peer or the local limit, the extra option 1,034 bytes, or the
+    ///   payload 1,048,576 bytes.
+    /// - `NoRoom`: the queue has too few free bytes.
     pub fn send<'x>(
         &mut self,
         method: Method,
@@ -157,12 +169,19 @@ impl Client {
         }
     }
 
-    /// Cancels an observation: sends the GET of the same target and extras with its token and Observe 1 (RFC 7641
-    /// section 3.6). It stays outstanding until its last response.
+    /// Cancels an observation: queues a GET with its token and Observe 1 (RFC 7641 section 3.6).
+    ///
+    /// The caller passes the target and the extras of the observation. The observation stays outstanding until its last
+    /// response. If the call fails, nothing changes.
     ///
     /// # Errors
     ///
-    /// As `Link::cancel`. `TooBig` also where the extra option is longer than 1,034 bytes.
+    /// The first that applies:
+    ///
+    /// - `NotOpen`: the connection is not open.
+    /// - `NoSuchToken`: no observation with this token is outstanding, or it was cancelled before.
+    /// - `TooBig`: the message exceeds the limit of the peer or the local limit, or the extra option 1,034 bytes.
+    /// - `NoRoom`: the queue has too few free bytes.
     pub fn cancel<'x>(
         &mut self,
         token: &Token,
@@ -189,11 +208,19 @@ impl Client {
         }
     }
 
-    /// Sends a Ping, with Custody or not, under a new token, and answers that token (RFC 8323 section 5.4).
+    /// Queues a Ping under a new token, and returns the token (RFC 8323 section 5.4).
+    ///
+    /// If `custody` is set, the Ping has the Custody option. If the call fails, nothing changes.
     ///
     /// # Errors
     ///
-    /// As `Link::ping`. Nothing has changed then.
+    /// The first that applies:
+    ///
+    /// - `NotOpen`: the connection is not open.
+    /// - `TooMany`: the limit of outstanding requests, observations and Pings is reached.
+    /// - `TokensSpent`: all tokens have been used.
+    /// - `TooBig`: the Ping exceeds the limit of the peer or the local limit.
+    /// - `NoRoom`: the queue has too few free bytes.
     pub fn ping(&mut self, custody: bool) -> Result<Token, RequestFault>
         ensures answer { RefusedBy result (ping_refusal self.old.link custody) }
         ensures token { IfOk result (λ t. t.items ≡ next_token self.old.link.tokens) }
@@ -205,17 +232,19 @@ impl Client {
         self.link.ping(custody)
     }
 
-    /// Takes bytes of what came: up to the end of the first message, to the byte of a fault, or all of them; none where
-    /// there is no room in the queue for the greatest message sent, or where no message is taken any more. The caller
-    /// offers the others again.
+    /// Accepts received bytes: up to the end of the first message, up to the byte that reveals an error, or all of
+    /// them.
+    ///
+    /// No byte is accepted if the queue has no room for a message of maximum size, or after the connection was stopped
+    /// or released. The caller offers the remaining bytes again.
     pub fn take<'a>(&'a mut self, piece: &'a [u8]) -> Taken<'a>
         ensures* writes_back { sem 𝓛 (follows_so the_row the_row self.entry.ghost_name none (λ _ _. ⊤)
             (λ c. c ≡ (taking self.old piece.now).client)) }
         ensures count { result.bytes ≡ (taking self.old piece.now).count }
         ensures within { result.bytes ≤ length piece.now }
         ensures event { taken_event result ≡ (taking self.old piece.now).event }
-        // For all calls that it showed: what it takes and tells is what the definition says, and then it shows these
-        // bytes too.
+        // For all calls that lead to the old client, `takes` and `event_of` give the result. These calls and the
+        // accepted bytes lead to the new client.
         ensures takes { (tokens : ℕ) (calls : List ClientCall) → ClientShows self.old tokens calls →
             result.bytes ≡ takes self.old.link.limits tokens calls piece.now }
         ensures told { (tokens : ℕ) (calls : List ClientCall) → ClientShows self.old tokens calls →
@@ -238,7 +267,7 @@ impl Client {
         }
     }
 
-    /// All bytes that wait to be written.
+    /// Returns all bytes queued for writing, in one slice. This may move bytes within the queue.
     pub fn front<'a>(&'a mut self) -> &'a [u8]
         ensures* unchanged { sem 𝓛 (follows_so the_row the_row self.entry.ghost_name none (λ _ _. ⊤)
             (λ c. c ≡ self.old)) }
@@ -247,15 +276,19 @@ impl Client {
         self.link.front()
     }
 
-    /// Returns the bytes queued for writing in the two slices that they occupy: the first ones, and those after them.
-    /// Unlike `front`, it moves no bytes.
+    /// Returns the bytes queued for writing as two slices: the first bytes, and those after them. Unlike `front`, this
+    /// moves no bytes.
     pub fn parts(&self) -> (&[u8], &[u8])
         ensures { result.0.now ++ result.1.now ≡ self.now.link.waiting }
     {
         self.link.parts()
     }
 
-    /// The first so many bytes were written, and wait no more.
+    /// Removes the first `count` bytes from the queue, after the caller has written them.
+    ///
+    /// # Preconditions
+    ///
+    /// At least `count` bytes are queued.
     pub fn written(&mut self, count: usize)
         requires { count ≤ length self.old.link.waiting }
         ensures after { self.new ≡ client_written self.old count }
@@ -265,8 +298,10 @@ impl Client {
         self.link.written(count);
     }
 
-    /// The input ended, within a message where bytes of one are kept. Nothing changes where no message is taken any
-    /// more.
+    /// Stops the connection at the end of the input. The reason is `Cut` if bytes of an unfinished message are
+    /// buffered, and otherwise `Ended`.
+    ///
+    /// Nothing changes if the connection was already stopped or released.
     pub fn ended(&mut self)
         ensures after { self.new ≡ client_ended self.old }
         ensures shows { (tokens : ℕ) (calls : List ClientCall) → ClientShows self.old tokens calls →
@@ -276,7 +311,7 @@ impl Client {
         self.framer.clear();
     }
 
-    /// How many requests, observations and Pings are outstanding.
+    /// Returns the number of outstanding requests, observations and Pings.
     pub fn outstanding(&self) -> usize
         ensures count { result ≡ length self.now.link.outstanding }
         ensures within { length self.now.link.outstanding ≤ self.now.link.limits.outstanding }
@@ -284,21 +319,22 @@ impl Client {
         self.link.outstanding()
     }
 
-    /// How the connection stands.
+    /// Returns the phase of the connection.
     pub fn phase(&self) -> Phase
         ensures { result ≡ self.now.link.phase }
     {
         self.link.phase()
     }
 
-    /// How many bytes wait to be written.
+    /// Returns the number of bytes queued for writing.
     pub fn waiting(&self) -> usize
         ensures { result ≡ length self.now.link.waiting }
     {
         self.link.waiting()
     }
 
-    /// Whether it takes bytes: there is room for the greatest message sent, and nothing has ended the connection.
+    /// Returns `true` if the client accepts bytes. The queue must have room for a message of maximum size, and the
+    /// connection must not be stopped or released.
     pub(crate) fn takes(&self) -> bool
         ensures { result ≡ client_takes self.now }
     {
@@ -306,8 +342,10 @@ impl Client {
     }
 }
 
-/// Takes bytes of a piece, and handles the message that they end; answers how many, and what is to be told. There must
-/// be room for the greatest message sent, and messages must be taken.
+/// Accepts bytes of a slice and processes the message that they complete. Returns their number and the kind of the
+/// event.
+///
+/// The queue must have room for a message of maximum size, and the phase must be `Waiting` or `Open`.
 fn take_in(framer: &mut Framer, link: &mut Link, piece: &[u8]) -> (usize, Heard)
     requires framer { IsFramer framer.old }
     requires ready { IsReady link.old }
@@ -331,15 +369,16 @@ fn take_in(framer: &mut Framer, link: &mut Link, piece: &[u8]) -> (usize, Heard)
     (framed.taken, heard)
 }
 
-/// The frame that a framer just gave: the split one, or the bytes taken where it lay whole in them.
+/// Returns the frame that the framer gave last: its buffered copy if the frame was split, otherwise the accepted bytes.
 fn frame_given<'a>(split: &'a [u8], taken: &'a [u8]) -> &'a [u8]
     ensures { result.now ≡ frame_back split.now taken.now }
 {
     if split.is_empty() { taken } else { split }
 }
 
-/// Handles a message, and answers what is to be told of it. There must be room for the greatest message sent, and
-/// messages must be taken.
+/// Processes a message, and returns the kind of its event.
+///
+/// The queue must have room for a message of maximum size, and the phase must be `Waiting` or `Open`.
 fn hear(link: &mut Link, message: &MessageRef) -> Heard
     requires ready { IsReady link.old }
     requires live { IsLive link.old.phase }
@@ -358,7 +397,7 @@ fn hear(link: &mut Link, message: &MessageRef) -> Heard
     }
 }
 
-/// The bytes behind the messages have a fault: the connection stops. The conditions are those of `hear`.
+/// Queues the Abort for malformed input and stops the connection. The preconditions are those of `hear`.
 fn reject(link: &mut Link, fault: Reject) -> Heard
     requires ready { IsReady link.old }
     requires live { IsLive link.old.phase }
@@ -369,7 +408,7 @@ fn reject(link: &mut Link, fault: Reject) -> Heard
     Heard::Stopped(Reason::from(fault))
 }
 
-/// What is told of the response in a frame.
+/// Returns the event of the response in a frame, or `None` if the frame is malformed.
 fn answer_in<'a>(frame: &'a [u8], last: bool) -> Option<Event<'a>>
     ensures { option_map event_value result ≡ answer_read (message_of frame.now) last }
 {
@@ -379,7 +418,7 @@ fn answer_in<'a>(frame: &'a [u8], last: bool) -> Option<Event<'a>>
     }
 }
 
-/// What is told of a response.
+/// Returns the event of a response: `Rejected` if a critical option is not recognised.
 fn answer<'a>(message: MessageRef<'a>, last: bool) -> Event<'a>
     ensures { event_value result
         ≡ answer_told message.entry message.entry.token last (first_critical message.entry.options) }
@@ -397,7 +436,7 @@ fn answer<'a>(message: MessageRef<'a>, last: bool) -> Event<'a>
     }
 }
 
-/// What is told of the Pong in a frame.
+/// Returns the event of the Pong in a frame, or `None` if the frame is malformed.
 fn pong_in<'a>(frame: &'a [u8], custody: bool) -> Option<Event<'a>>
     ensures { option_map event_value result ≡ pong_read (message_of frame.now) custody }
 {

@@ -1,4 +1,4 @@
-//! What holds of every client, each as the contract of a function that does nothing.
+//! Theorems over all clients, each as the contract of a function that does nothing.
 
 ghost use Rattle.std.specs.Prelude.{◌≡◌, ℕ, ◌≤◌, ◌<◌, List, [], ◌∷◌, ◌++◌, length, None, Some};
 ghost use Rattle.coap_client_engine.specs.Prelude.{AllFit, History, limit_now, waiting_of, LimitValues, AreInRange};
@@ -7,8 +7,10 @@ ghost use Rattle.coap_client_engine.specs.Prelude.{ClientStep, AreAccepted, Took
 ghost use Rattle.coap_client_engine.specs.Prelude.{steps_of, step, stream_in, AreDifferent, tokens_given};
 ghost use Rattle.coap_conn.specs.declared.phase.Phase.TheVariants.{Stopped};
 
-/// After all calls that a client accepts, no limit is passed: kept input, waiting bytes, and what is outstanding; and
-/// nothing is held.
+/// States that no limit is exceeded after any calls that a client accepts.
+///
+/// The limits are those of buffered input, of queued bytes, and of the number of outstanding requests. The pending list
+/// of a client is always empty.
 pub fn limits_are_kept()
     ensures kept { (limits : LimitValues) (tokens : ℕ) (calls : List ClientCall) → AreInRange limits →
         AreAccepted limits tokens calls → length (client_of limits tokens calls).frame < limits.max_message }
@@ -20,8 +22,9 @@ pub fn limits_are_kept()
         (client_after limits tokens calls).held ≡ [] }
 {}
 
-/// The messages handled are exactly those that the bytes taken spell, and their fault stops the connection (RFC 8323
-/// section 3.2).
+/// States that the processed messages are exactly those that the accepted bytes encode.
+///
+/// If the accepted bytes are malformed, the connection stops with the reason of that error (RFC 8323 section 3.2).
 pub fn messages_are_those_spelled()
     ensures messages { (limits : LimitValues) (tokens : ℕ) (calls : List ClientCall) → AreInRange limits →
         AreAccepted limits tokens calls →
@@ -31,20 +34,21 @@ pub fn messages_are_those_spelled()
         (client_after limits tokens calls).phase ≡ Stopped (reject_reason (reject_of fault)) }
 {}
 
-/// A token is given once in the life of a connection, to a request or to a Ping (RFC 7252 section 5.3.1).
+/// States that a connection gives each token once, to a request or to a Ping (RFC 7252 section 5.3.1).
 pub fn tokens_are_given_once()
     ensures { (limits : LimitValues) (tokens : ℕ) (calls : List ClientCall) → AreAccepted limits tokens calls →
         AreDifferent (tokens_given limits tokens calls) }
 {}
 
-/// What each step queues is at most as great as the peer takes at that moment, and as our greatest message.
+/// States that every message that a step queues fits the limit of the peer and the local limit at that time.
 pub fn what_is_queued_fits()
     ensures { (h : History) (s : ClientStep) →
         (more : List Message) × ((step h s).queued ≡ h.queued ++ more) × AllFit (limit_now h) more }
 {}
 
-/// Cuts do not matter: a piece makes the same steps and leaves the same client as its two parts, whatever is before and
-/// behind.
+/// States that segmentation is irrelevant: an input slice and its two parts in turn make the same steps.
+///
+/// They also leave the same client, for any calls before and after them.
 pub fn cuts_do_not_matter()
     ensures steps { (M : ℕ) (earlier later : List ClientCall) (one other : List ℕ) →
         steps_of M (earlier ++ Took (one ++ other) ∷ later) ≡ steps_of M (earlier ++ Took one ∷ Took other ∷ later) }

@@ -1,4 +1,4 @@
-//! Runs a client over one wire, as a command line asks.
+//! Runs a client over one transport connection, as a plan says.
 
 ghost use Rattle.std.specs.Prelude.{◌≡◌, ◌||◌, false, is_err, IfOk, IfSome};
 ghost use Rattle.coap_client_engine.specs.Prelude.{is_output_fault, IfMemory, IsStatus, IsFresh, IsClientRun};
@@ -17,22 +17,33 @@ pub use state::ClientFault;
 use state::{LATE, Next, Run};
 use std::alloc::Global;
 
-/// The turns of a run, at most.
+/// Maximum number of iterations of a run.
 const TURNS: u64 = 1_000_000_000_000;
 
-/// Runs a client over one wire: sends the request of the plan as the peer's Capabilities and Settings have come, writes
-/// the payloads of 2.xx responses to `out` and everything else that is to be told to `err`, and answers the exit status
-/// of the program: 0 where the last response was 2.xx, 2 where it was another one or was rejected for a critical
-/// option, 3 where the connection stopped or the request could not be sent, 4 where no answer came in time. An
-/// observation is cancelled once its seconds have passed. There are 1,000,000,000,000 turns at most; past them it
-/// answers 4. If a message, an error or the time ends the run, its last iteration still writes.
+/// Runs a client over one transport connection, and returns the exit status of the program.
 ///
-/// The devices of the programs record nothing; `run_told` in `coap_tests` has the clause `run` for devices that do. The
-/// order of calls across devices is in no clause.
+/// The request of the plan is sent after the peer's Capabilities and Settings Message (CSM) has arrived. The run writes
+/// the payloads of 2.xx responses to `out`, and all other reports to `err`. An observation is cancelled after the
+/// seconds that the plan gives, counted from the first notification. The status is:
+///
+/// - 0: the last response was 2.xx.
+/// - 2: the last response was not 2.xx, or it had a critical option that is not recognised.
+/// - 3: the connection stopped, or the request could not be sent.
+/// - 4: no response arrived in time, or the run had 1,000,000,000,000 iterations.
+///
+/// If a message, a failed request or the time ends the run, its last iteration still tries to write the queued bytes.
+///
+/// The devices of the programs record nothing. `run_told` in `coap_tests` has the clause `run` for devices that record.
+/// No clause gives the order of calls across devices.
 ///
 /// # Errors
 ///
-/// `Output` where an outlet failed, `Memory` where the client's room is refused.
+/// - `Output`: an outlet failed.
+/// - `Memory`: allocation of the client's memory failed.
+///
+/// # Preconditions
+///
+/// Neither outlet has failed before.
 pub fn run_client<W: Wire, C: Clock, O: Outlet, E: Outlet>(
     alloc: Global,
     wire: &mut W,
@@ -43,18 +54,18 @@ pub fn run_client<W: Wire, C: Clock, O: Outlet, E: Outlet>(
 ) -> Result<u8, ClientFault>
     requires out_works { O.is_failed out.old ≡ false }
     requires err_works { E.is_failed err.old ≡ false }
-    // It took a course that its devices told, and the status is that with which the course ends.
+    // A trace of the run agrees with the records of its devices, and ends with the returned status.
     ensures run { IfOk result (IsClientRun plan.now (seen (W.given wire.old) (W.written wire.old) (W.answers wire.old)
         (C.moments clock.old) (O.written out.old) (E.written err.old))
         (seen (W.given wire.new) (W.written wire.new) (W.answers wire.new) (C.moments clock.new) (O.written out.new)
         (E.written err.new))) }
     ensures status { IfOk result IsStatus }
-    // Memory is answered before anything is read, written or told.
+    // If allocation fails, nothing was read or written before.
     ensures memory { IfMemory result (IsUnbegun plan.now
         (seen (W.given wire.old) (W.written wire.old) (W.answers wire.old) (C.moments clock.old) (O.written out.old)
         (E.written err.old)) (seen (W.given wire.new) (W.written wire.new) (W.answers wire.new) (C.moments clock.new)
         (O.written out.new) (E.written err.new))) }
-    // Output is answered exactly where an outlet failed.
+    // `Output` is returned if and only if an outlet failed.
     ensures output { (O.is_failed out.new || E.is_failed err.new) ≡ is_output_fault result }
 {
     let Ok(mut run) = Run::open(alloc, clock.now()) else {
@@ -70,8 +81,10 @@ pub fn run_client<W: Wire, C: Clock, O: Outlet, E: Outlet>(
 }
 
 impl Run {
-    /// One turn: a read where nothing is left to take, what comes of it and of the moment, and a write of what waits,
-    /// also where the run then ends.
+    /// Runs one iteration: reads if no input is left, processes the input, checks the deadlines, and writes queued
+    /// bytes.
+    ///
+    /// The write also happens if the iteration ends the run, except if the read ends it.
     fn turn<W: Wire, O: Outlet, E: Outlet>(
         &mut self,
         wire: &mut W,
@@ -94,7 +107,8 @@ impl Run {
         self.flush(wire, err, next)
     }
 
-    /// Sends the request where an earlier turn had no room for it, takes what was read, and then looks at the moment.
+    /// Sends the request if an earlier iteration had no room for it, processes the input, and then checks the
+    /// deadlines.
     fn go_on<O: Outlet, E: Outlet>(&mut self, out: &mut O, err: &mut E, plan: &ClientPlan) -> Next
         requires out_works { O.is_failed out.old ≡ false }
         requires err_works { E.is_failed err.old ≡ false }

@@ -1,4 +1,4 @@
-//! The lines that a run of the client writes.
+//! Lines and payloads that a run of the client writes.
 
 ghost use Rattle.std.specs.Prelude.{◌≡◌, false, is_err, OnOk};
 ghost use Rattle.coap_client_engine.specs.Prelude.{AddsBytes};
@@ -9,7 +9,7 @@ use coap_io::{Outlet, WriteFailed, write_all};
 use coap_wire::{Code, MessageRef};
 use itoa::Buffer;
 
-/// Writes a word, a space, a number and a newline.
+/// Writes a text, a number and a newline.
 fn say_number<E: Outlet>(err: &mut E, words: &str, number: u64) -> Result<(), WriteFailed>
     requires { E.is_failed err.old ≡ false }
     ensures ok { OnOk result (AddsBytes (E.written err.old) (E.written err.new) (text.number_line words.now number)) }
@@ -20,7 +20,7 @@ fn say_number<E: Outlet>(err: &mut E, words: &str, number: u64) -> Result<(), Wr
     write_all(err, b"\n")
 }
 
-/// Tells why the connection stopped.
+/// Writes the line for a stopped connection, with the number of the reason.
 pub(crate) fn say_stop<E: Outlet>(err: &mut E, reason: Reason) -> Result<(), WriteFailed>
     requires { E.is_failed err.old ≡ false }
     ensures ok { OnOk result (AddsBytes (E.written err.old) (E.written err.new) (text.stop_line reason)) }
@@ -29,7 +29,7 @@ pub(crate) fn say_stop<E: Outlet>(err: &mut E, reason: Reason) -> Result<(), Wri
     say_number(err, "stopped ", reason.number() as u64)
 }
 
-/// Tells why a request was refused.
+/// Writes the line for a failed request, with the number of the error.
 pub(crate) fn say_fault<E: Outlet>(err: &mut E, fault: RequestFault) -> Result<(), WriteFailed>
     requires { E.is_failed err.old ≡ false }
     ensures ok { OnOk result (AddsBytes (E.written err.old) (E.written err.new) (text.fault_line fault)) }
@@ -38,7 +38,7 @@ pub(crate) fn say_fault<E: Outlet>(err: &mut E, fault: RequestFault) -> Result<(
     say_number(err, "request fault ", fault as u64)
 }
 
-/// Tells the number of a critical option that is not recognised.
+/// Writes the line for a critical option that is not recognised, with its number.
 pub(crate) fn say_option<E: Outlet>(err: &mut E, number: u16) -> Result<(), WriteFailed>
     requires { E.is_failed err.old ≡ false }
     ensures ok { OnOk result (AddsBytes (E.written err.old) (E.written err.new) (text.option_line number)) }
@@ -47,7 +47,7 @@ pub(crate) fn say_option<E: Outlet>(err: &mut E, number: u16) -> Result<(), Writ
     say_number(err, "bad option ", number as u64)
 }
 
-/// Tells a response by its code, as in `4.04`, and by its payload, where it has one.
+/// Writes the line for a response: its code, such as `4.04`, and its payload if it has one.
 pub(crate) fn say_response<E: Outlet>(err: &mut E, response: &MessageRef) -> Result<(), WriteFailed>
     requires { E.is_failed err.old ≡ false }
     ensures ok { OnOk result (AddsBytes (E.written err.old) (E.written err.new)
@@ -63,7 +63,7 @@ pub(crate) fn say_response<E: Outlet>(err: &mut E, response: &MessageRef) -> Res
     write_all(err, b"\n")
 }
 
-/// Writes a payload that is not empty, and a newline behind it where one is asked for.
+/// Writes a payload, followed by a newline if `newline` is set. An empty payload writes nothing.
 pub(crate) fn write_payload<O: Outlet>(
     out: &mut O,
     payload: &[u8],
@@ -84,7 +84,7 @@ pub(crate) fn write_payload<O: Outlet>(
     Ok(())
 }
 
-/// The class, a dot, and the detail in two digits (RFC 7252 section 3).
+/// Returns the text of a code: the class, a dot, and the detail in two digits (RFC 7252 section 3).
 fn code_text(code: Code) -> [u8; 4]
     ensures { result ≡ text.code_text code }
 {

@@ -1,7 +1,7 @@
 //! The program `coap-client`: one request over a reliable transport (RFC 8323).
 //!
-//! Its words are those of `coap_client::client_words`. It reads the payload that `-f` names, connects to the host of
-//! the URI, opens the file that `-o` names, and then runs `coap_client::run_client`.
+//! The arguments are those of `coap_client::client_words`. The program reads the payload file of `-f`, connects to the
+//! host of the URI, opens the response file of `-o`, and then runs `coap_client::run_client`.
 #![tactic(auto)]
 
 ghost use Rattle.std.specs.Prelude.{◌≡◌, ◌≤◌, IfSome, IfNone};
@@ -18,12 +18,12 @@ use std::process::ExitCode;
 use std::rt::{Env, Files};
 use std::{fs, io, str, time};
 
-/// The program, by its name.
+/// Name of the program, for its messages.
 const PROGRAM: Program = Program {
     name: "coap-client",
 };
 
-/// Tells what is wrong with a file, and answers the status.
+/// Reports an error with a file, and returns the exit status.
 fn tell_trouble(rt: &impl Eprint, trouble: Trouble, name: &str) -> u8
     ensures { result ≤ 4 }
 {
@@ -35,8 +35,7 @@ fn tell_trouble(rt: &impl Eprint, trouble: Trouble, name: &str) -> u8
     }
 }
 
-/// Tells why there is no connection, and what hindered the one to the last address that was tried, and answers the
-/// status.
+/// Reports a failed connection, with the error for the last address that was tried, and returns the exit status.
 fn tell_unconnected(rt: &impl Eprint, fault: ConnectFault) -> u8
     ensures { result ≡ 3 }
 {
@@ -47,7 +46,7 @@ fn tell_unconnected(rt: &impl Eprint, fault: ConnectFault) -> u8
     }
 }
 
-/// Opens the file of this name for responses, with nothing in it.
+/// Creates the file for responses, or truncates it if it exists.
 fn create<R: Files>(rt: &R, name: &str) -> Result<R::File, Trouble> {
     match fs::create(rt, name) {
         Ok(file) => Ok(file),
@@ -55,7 +54,7 @@ fn create<R: Files>(rt: &R, name: &str) -> Result<R::File, Trouble> {
     }
 }
 
-/// The host and the port of a target. No host has a name that is not UTF-8.
+/// Returns the host and the port of a target, or `None` if the host is not UTF-8.
 fn place_of(target: &Target) -> Option<(&str, u16)>
     ensures none { IfNone result (¬ (IsUtf8 target.now.host)) }
     ensures place { IfSome result (λ place. (place.0.now ≡ target.now.host) × (place.1 ≡ target.now.port)) }
@@ -66,7 +65,7 @@ fn place_of(target: &Target) -> Option<(&str, u16)>
     }
 }
 
-/// Connects to the host of a plan's target, in so many seconds as the plan waits for a response.
+/// Connects to the host of the target, within the time that the plan allows for a response.
 fn connect<'a, R: Net + time::Clock + AllocGlobal>(
     rt: &'a R,
     plan: &ClientPlan,
@@ -77,7 +76,7 @@ fn connect<'a, R: Net + time::Clock + AllocGlobal>(
     }
 }
 
-/// Runs a client over a connection, with these writers for payloads and for lines, and answers the status.
+/// Runs a client over a connection, with writers for payloads and for reports, and returns the exit status.
 fn converse<R: Eprint + Net + time::Clock + AllocGlobal>(
     rt: &R,
     mut line: Line<'_, R>,
@@ -96,8 +95,10 @@ fn converse<R: Eprint + Net + time::Clock + AllocGlobal>(
     }
 }
 
-/// Does what a plan says, with this writer for lines, and answers the status: reads the payload's file, connects, and
-/// opens the file for responses, so that this one is left as it is where there is no connection.
+/// Runs a plan, with a writer for reports, and returns the exit status.
+///
+/// The payload file is read first, then the client connects, and then the file for responses is opened. This file is
+/// therefore unchanged if there is no connection.
 fn run(
     rt: &(impl Input + Print + Eprint + Files + Net + time::Clock + AllocGlobal),
     err: impl Write + Drop,
@@ -124,7 +125,7 @@ fn run(
     }
 }
 
-/// Does what the program's words say, and returns the status.
+/// Parses the arguments, runs the plan, and returns the exit status.
 fn start(
     rt: &(impl Input + Print + Eprint + Env + Files + Net + time::Clock + AllocGlobal),
     err: impl Write + Drop,

@@ -1,4 +1,4 @@
--- From what `clap` found in the words to what they ask for.
+-- From the options that `clap` found to the plan.
 use Rattle.std.proofs.Common.{◌≡◌, ◌∙◌, List, [], ◌∷◌, Result, sym, ap, refl, subst}
 use Rattle.coap_command_line.specs.Prelude.{App, Kinds, Row, Text, fault_of, matches_of, WordsFaultValue, IsTurnedDown}
 use Rattle.coap_command_line.specs.Prelude.{TellsClientPlan, TellsServerPlan, client_app, client_plan_in, client_plan_of}
@@ -10,7 +10,7 @@ use Rattle.coap_command_line.specs.declared.words.WordsFault.TheVariants as faul
 nothing_refused : {A : Type 0} (kinds : Kinds) (answer : Result A WordsFaultValue) → kinds ≡ [] → unless_refused kinds answer ≡ answer
 nothing_refused kinds answer e = rw e refl
 
--- what is read of the rows of words that `clap` takes
+-- The result for arguments that `clap` accepts.
 read_of_shape : {A : Type 0} (app shape : App) (words : List Text) (rows : List Row) (read : List Row → Result A WordsFaultValue) → app ≡ shape
     → fault_of app words ≡ [] → rows ≡ matches_of app words → read rows ≡ unless_refused (fault_of shape words) (read (matches_of shape words))
 read_of_shape app shape words rows read is taken found =

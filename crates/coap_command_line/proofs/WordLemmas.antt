@@ -1,4 +1,4 @@
--- What `clap` hands out, and the texts of addresses.
+-- Lemmas on the results of `clap`, and on the texts of addresses.
 use Rattle.std.proofs.Common.{◌≡◌, ◌∙◌, ℕ, List, [], ◌∷◌, length, Option, Some, None, Result, Ok, Err, sym, ap, refl, subst, option_map, true, append-nil, ne_eqb, arith, lit≤}
 use Rattle.coap_command_line.specs.Prelude.{result_ok, ipv4_octets, ipv6_segments, IsColonHex, IsDotted, IsIpText, Parses}
 use Rattle.coap_command_line.specs.Prelude.{Read, read_ipv4, read_ipv6, whole_value, IpAddr, App, Rule, Text, first_of}
@@ -11,17 +11,17 @@ use Rattle.clap.proofs.WalkLemmas.{first_value-rows}
 use Rattle.std.proofs.lemmas.Str.Pattern.{IsSplitOnceResult, split_once_first, split_parts}
 use Rattle.clap.proofs.CutLemmas.{list_any-Lacks, list_any-at}
 
--- the text that a parse kept for an option is that of its row
+-- The text that `clap` keeps for an option is that of its row.
 pub first_text : (f : Found) (name : Text) (said : Option Text) → said ≡ first_value f name → said ≡ first_of name (rows_of f)
 first_text f name said e = e ∙ first_value-rows f name
 
--- one more option makes one more rule
+-- Another option adds another rule.
 pub shape_with_rule : (before after shape : App) (rule : Rule) → after ≡ with_rule before rule → before ≡ shape → after ≡ with_rule shape rule
 shape_with_rule before after shape rule e h = e ∙ ap (λ (a : App). with_rule a rule) h
 
 -- ---- addresses
 
--- a value that was read, and the text behind it
+-- A value that was parsed, and the remaining text.
 abbrev read_with_rest : {A : Type 0} → A → List ℕ → Read A
 read_with_rest value rest = Some (value, rest)
 
@@ -55,7 +55,7 @@ v4_none text none = whole_none (read_ipv4 text) (λ octets e. none octets (v4_re
 v6_none : (text : List ℕ) → ((segments : List ℕ) → IsColonHex text segments → ⊥) → whole_value (read_ipv6 text) ≡ None
 v6_none text none = whole_none (read_ipv6 text) (λ segments e. none segments (v6_read text segments e))
 
--- std's parser reads the addresses of `address_of`
+-- The parser of the standard library accepts the addresses of `address_of`.
 pub address_read : {E : Type 0} (text : List ℕ) (answer : Result IpAddr E) → Parses IsIpText text answer → result_ok answer ≡ address_of text
 unfolding address_of
 address_read text (Ok (ip.V4 a)) h = rw (v4_found text (ipv4_octets a) h) refl
@@ -64,9 +64,9 @@ address_read text (Ok (ip.V6 a)) h =
 address_read text (Err e) none =
     rw (v4_none text (λ octets dotted. none (ip.V4 (record { octets = octets })) dotted), v6_none text (λ segments groups. none (ip.V6 (record { segments = segments })) groups)) refl
 
--- ---- one more option
+-- ---- the extra option
 
--- std's parts of a text at its first comma
+-- The parts of a text at its first comma, as the standard library gives them.
 pub comma_parts : (text : List ℕ) (parts : Option (Bor (List ℕ) × Bor (List ℕ))) → IsSplitOnceResult 44 text parts
     → AreHalves text (option_map (λ x. (x.0.now, x.1.now)) parts)
 comma_parts text None h = list_any-Lacks 44 text (split_parts 44 text None h (lit≤ tt))

@@ -1,4 +1,4 @@
--- Worked values of the definitions: words of a command line, and what they ask for.
+-- Computed examples of the definitions: the arguments of a command line, and their plan.
 use Rattle.std.proofs.Common.{true, false, Some, None, ◌≡◌, [], ◌∷◌, Ok, Err, refl}
 use Rattle.coap_command_line.specs.Prelude.{codes, read_ipv4, read_ipv6, read_number, read_octet, read_segment}
 use Rattle.coap_command_line.specs.Prelude.{read_segments, limits_of, decimal_value, hex_value, fault_of, matches_of}

@@ -1,5 +1,5 @@
--- The plan that the arguments of `coap-client` ask for (project-defined). `-e` or `-f` with GET or DELETE
--- sends a payload, although these methods define none (RFC 7252 section 5.5).
+-- Defined by this project: the plan for the arguments of `coap-client`. `-e` or `-f` with GET or DELETE sends a
+-- payload, although these methods define none (RFC 7252 section 5.5).
 use Rattle.std.specs.Prelude.{◌≡◌, ◌∷◌, [], ◌==◌, ◌&&◌, ◌||◌, ℕ, Bool, true, false, not, List, drop, length, nat_eq, nat_le, Option, Some, None, is_some, option_map, unwrap_or, Result, Ok, Err, codes, bytes_eq, if◌then◌else◌}
 use Rattle.std.specs.List.{after_first, before_first, list_any, starts_with}
 use Rattle.clap.specs.Simple.{new_shape}
@@ -15,9 +15,8 @@ use Rattle.coap_command_line.specs.declared.words.client.RequestValues.{RequestV
 
 -- ---- the plan
 
--- the target, the method, the seconds of an observation, the seconds to wait, whether no Uri-Host is sent, whether a newline
--- follows each payload, Content-Format, Accept, one more option, the payload of the command line, and the names of the file
--- that the payload is read from and of the one that responses go to
+-- The settings of a run of the client. `observe` and `wait` are in seconds. `plain` omits Uri-Host, and `newline` adds
+-- a newline to each payload. `input` is the file of the payload, and `output` is the file for responses.
 pub record ClientPlanValue : Type 0 where
   pub target : TargetValue
   pub method : Method
@@ -34,13 +33,13 @@ pub record ClientPlanValue : Type 0 where
 
 -- ---- the options
 
--- the URI is the one word that is no option, and has to be there
+-- The URI is the only argument that is no option. The URI is required.
 abbrev pub uri_rule : Rule
 uri_rule = record (new_rule (codes "URI")) { required = true }
 
--- the command as `clap` is given it: flat, with one text or none to an option, a version, and no word for the program's own name.
--- `clap` adds `-h` and `--help`, and for the version `-V` and `--version`; a use of these is a refusal of its own, by the kind
--- DisplayHelp or DisplayVersion
+-- The command as `clap` gets it: without subcommands, with options of one value or none, with a version, and without
+-- the program's name. `clap` adds `-h` and `--help`, and `-V` and `--version` for the version. If one of these is used,
+-- `clap` rejects the arguments with the kind DisplayHelp or DisplayVersion.
 abbrev pub client_app : App
 client_app = record {
   top = record (new_shape (codes "coap-client")) {
@@ -53,9 +52,9 @@ client_app = record {
   subs = [];
 }
 
--- ---- their texts
+-- ---- values of options
 
--- the method of a name
+-- The method with this name.
 unfoldable pub method_named : Text → Option Method
 method_named text =
     if bytes_eq text (codes "get") then Some Get
@@ -64,7 +63,7 @@ method_named text =
     else if bytes_eq text (codes "delete") then Some Delete
     else None
 
--- the number of a content format, by its full name (RFC 7252 section 12.3)
+-- The number of the content format with this full name (RFC 7252 section 12.3).
 unfoldable pub format_named : Text → Option ℕ
 format_named text =
     if bytes_eq text (codes "text/plain") then Some 0
@@ -76,19 +75,21 @@ format_named text =
     else if bytes_eq text (codes "application/cbor") then Some 60
     else None
 
+-- The content format if there is one, otherwise the number in the text.
 abbrev pub or_number : Option ℕ → Text → Option ℕ
 or_number (Some format) text = Some format
 or_number None text = number_within 0 65535 text
 
--- a content format, by its full name or its number
+-- The content format with this full name or number.
 unfoldable pub format_of : Text → Option ℕ
 format_of text = or_number (format_named text) text
 
--- the value of one more option: the text itself, or behind `0x` the bytes of pairs of hexadecimal digits
+-- The value of the extra option: the bytes of the hexadecimal digits after `0x`, or the text itself if there is no
+-- `0x`.
 unfoldable pub option_bytes : Text → Option Text
 option_bytes text = if starts_with nat_eq text (codes "0x") then hex_value (drop 2 text) else Some text
 
--- at most 1,034 bytes
+-- The value, if it has at most 1,034 bytes.
 abbrev pub short_enough : Option Text → Option Text
 short_enough None = None
 short_enough (Some bytes) = if nat_le (length bytes) 1034 then Some bytes else None
@@ -96,28 +97,29 @@ short_enough (Some bytes) = if nat_le (length bytes) 1034 then Some bytes else N
 abbrev pub is_comma : ℕ → Bool
 is_comma byte = byte == 44
 
--- the parts before and behind the first comma, where there is one
+-- Says that these are the parts of a text before and after its first comma. A text without a comma has no parts.
 abbrev pub AreHalves : Text → Option (Text × Text) → Type 0
 AreHalves text None = list_any is_comma text ≡ false
 AreHalves text (Some x) = (list_any is_comma text ≡ true) × (x.0 ≡ before_first is_comma text) × (x.1 ≡ after_first is_comma text)
 
+-- The extra option, if both its number and its value are valid.
 abbrev pub numbered : Option ℕ → Option Text → Option (ℕ × Text)
 numbered (Some number) (Some bytes) = Some (number, bytes)
 numbered _ _ = None
 
--- one more option: a number, a comma, and its value
+-- The extra option in a text: a number, a comma, and its value.
 unfoldable pub extra_of : Text → Option (ℕ × Text)
 extra_of text =
     if list_any is_comma text
     then numbered (number_within 0 65535 (before_first is_comma text)) (short_enough (option_bytes (after_first is_comma text)))
     else None
 
--- what an option means that need not be there
+-- The value of an option that may be absent.
 abbrev pub perhaps : {A : Type 0} → (Text → Option A) → Text → Option (Option A)
 perhaps read text = option_map (λ value. Some value) (read text)
 
--- the values of all options but the last one whose text may mean nothing, or the name of the first one whose text means
--- nothing, in the order of the program's usage line
+-- The values of the options whose text can be invalid, except `-O`, or the name of the first option with an invalid
+-- text. The order is that of the usage line.
 unfoldable pub request_said : List Row → Result RequestValues Text
 request_said rows = do
   method ← option_value (codes "-m") method_named Get rows
@@ -127,30 +129,32 @@ request_said rows = do
   wait ← option_value (codes "-B") (number_within 1 4294967295) 90 rows
   Ok (record { method = method; content_format = content_format; accept = accept; observe = observe; wait = wait })
 
--- that last one: one more option of the message
+-- The extra option of the message, or the name `-O` if its text is invalid.
 abbrev pub extra_said : List Row → Result (Option (ℕ × Text)) Text
 extra_said rows = option_value (codes "-O") (perhaps extra_of) None rows
 
--- the URI, which `clap` sees to
+-- The URI, whose presence `clap` checks.
 unfoldable pub uri_said : List Row → Text
 uri_said rows = unwrap_or (first_of (codes "URI") rows) []
 
--- the payload of the command line, percent-decoded
+-- The payload of `-e`, percent-decoded.
 unfoldable pub payload_said : List Row → Text
 payload_said rows = percent_decode (unwrap_or (first_of (codes "-e") rows) [])
 
--- ---- the answer
+-- ---- the plan for the arguments
 
 abbrev pub is_get : Method → Bool
 is_get Get = true
 is_get other = false
 
--- a payload from the command line and from a file, or an observation by another method than GET (RFC 7641 section 2)
+-- True if two options exclude each other. `-e` and `-f` both give a payload, and `-s` needs the method GET (RFC 7641
+-- section 2).
 unfoldable pub clashes : List Row → RequestValues → Bool
 clashes rows values =
     (is_some (first_of (codes "-e") rows) && is_some (first_of (codes "-f") rows))
     || (is_some values.observe && not (is_get values.method))
 
+-- The plan with these values.
 abbrev pub client_plan : TargetValue → RequestValues → Option (ℕ × Text) → List Row → ClientPlanValue
 client_plan target values extra rows = record {
   target = target;
@@ -167,17 +171,17 @@ client_plan target values extra rows = record {
   output = first_of (codes "-o") rows;
 }
 
--- a target, or its refusal as that of the words
+-- The target, or its error as an error of the command line.
 abbrev pub aimed : Result TargetValue TargetFault → Result TargetValue WordsFaultValue
 aimed (Ok target) = Ok target
 aimed (Err fault) = Err (Target fault)
 
--- values, or the name of an option as the refusal of the words
+-- The values, or the name of an option as an error of the command line.
 abbrev pub spoken : {A : Type 0} → Result A Text → Result A WordsFaultValue
 spoken (Ok values) = Ok values
 spoken (Err name) = Err (Value name)
 
--- the plan of the texts that `clap` hands out, or why there is none
+-- The plan for the options that `clap` found, or the error.
 unfoldable pub client_plan_in : List Row → Result ClientPlanValue WordsFaultValue
 client_plan_in rows = do
   target ← aimed (target_of (uri_said rows))
@@ -185,7 +189,7 @@ client_plan_in rows = do
   extra ← spoken (extra_said rows)
   if clashes rows values then Err Clash else Ok (client_plan target values extra rows)
 
--- the plan of these words, or why they are refused: by `clap`, for their target, for the text of an option, for two options
--- together, in this order
+-- The plan for the arguments, or the first error that applies. The order is: `clap`, the target, the text of an option,
+-- two options together.
 unfoldable pub client_plan_of : List Text → Result ClientPlanValue WordsFaultValue
 client_plan_of words = unless_refused (fault_of client_app words) (client_plan_in (matches_of client_app words))

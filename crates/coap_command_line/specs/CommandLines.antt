@@ -1,5 +1,5 @@
--- What the words of a command line come to, whatever the program (our definition). The crate `clap` finds the options and
--- their texts; what the texts mean stands here.
+-- Defined by this project: the parts of a command line that both programs share. The crate `clap` finds the options and
+-- their texts, and this file defines the values of the texts.
 use Rattle.std.specs.Prelude.{◌∷◌, [], ℕ, Bool, true, false, List, drop, Option, Some, None, Result, Ok, Err, slice_get, codes, bytes_eq, if◌then◌else◌}
 use Rattle.std.specs.Borrow.{Bor}
 use Rattle.std.specs.Option.{option_map_or}
@@ -12,62 +12,63 @@ use Rattle.coap_request.specs.declared.target.TargetFault.{TargetFault}
 
 -- ---- refusals
 
--- why words are refused: by `clap`, with one of these kinds; for their target; for the text of the option with this name; or
--- since two options exclude each other
+-- The error of a command line. For `Usage`, `clap` rejects the arguments with one of these kinds. For `Target`, the URI
+-- is no target. For `Value`, the text of the option with this name is invalid. For `Clash`, two options exclude each
+-- other.
 pub data WordsFaultValue : Type 0 where
   Usage : (kinds : Kinds) → WordsFaultValue
   Target : (fault : TargetFault) → WordsFaultValue
   Value : (name : Text) → WordsFaultValue
   Clash : WordsFaultValue
 
--- words that `clap` refuses are refused so; else the answer
+-- The result `answer`, unless `clap` rejects the arguments.
 abbrev pub unless_refused : {A : Type 0} → Kinds → Result A WordsFaultValue → Result A WordsFaultValue
 unless_refused [] answer = answer
 unless_refused (kind ∷ kinds) answer = Err (Usage (kind ∷ kinds))
 
--- ---- options, each known by its name as it is written in a command line, with its hyphens
+-- ---- options, by their names as written in a command line, with hyphens
 
--- a command with a version and without options of its own, whose words are those behind the program's name
+-- A command with a version and no options of its own. Its arguments do not include the program's name.
 abbrev pub bare_app : Text → App
 bare_app name = record { top = record (new_shape name) { has_version = true; no_binary_name = true }; subs = [] }
 
--- the option of one letter, which takes one text
+-- A short option with a value.
 abbrev pub letter_option : Text → Rule
 letter_option name = record (new_rule name) { short = slice_get name 1; value_names = 1 }
 
--- the option of a word, which takes one text
+-- A long option with a value.
 abbrev pub word_option : Text → Rule
 word_option name = record (new_rule name) { long = Some (drop 2 name); value_names = 1 }
 
--- the option of one letter that takes no text
+-- A short option without a value.
 abbrev pub letter_flag : Text → Rule
 letter_flag name = record (new_rule name) { short = slice_get name 1; action = Some SetTrue }
 
--- the option of a word that takes no text
+-- A long option without a value.
 abbrev pub word_flag : Text → Rule
 word_flag name = record (new_rule name) { long = Some (drop 2 name); action = Some SetTrue }
 
--- an option that takes no text was used: `clap` keeps the word `true` for it
+-- True if an option without a value is given, for which `clap` keeps the text `true`.
 unfoldable pub is_used : Text → List Row → Bool
 is_used name rows = option_map_or (λ text. bytes_eq text (codes "true")) (first_of name rows) false
 
--- ---- the texts of options
+-- ---- values of options
 
--- what the text of an option means, where there is one, and else the value of an option that is not used
+-- The value of the text of an option, or the value `unused` if the option is not given.
 abbrev pub meaning : {A : Type 0} → (Text → Option A) → A → Option Text → Option A
 meaning read unused None = Some unused
 meaning read unused (Some text) = read text
 
--- the value, or the name of the option that has none
+-- The value, or the name of the option if there is no value.
 abbrev pub value_or_name : {A : Type 0} → Text → Option A → Result A Text
 value_or_name name None = Err name
 value_or_name name (Some value) = Ok value
 
--- the value of an option, or its name where its text means nothing
+-- The value of an option, or its name if its text is invalid.
 abbrev pub option_value : {A : Type 0} → Text → (Text → Option A) → A → List Row → Result A Text
 option_value name read unused rows = value_or_name name (meaning read unused (first_of name rows))
 
--- the second answer, where the first one is a value
+-- The next result, or the error of the first one.
 infixl 10 ◌>>=◌
 abbrev pub ◌>>=◌ : {A B E : Type 0} → Result A E → (A → Result B E) → Result B E
 Ok value >>= next = next value
@@ -75,17 +76,18 @@ Err name >>= next = Err name
 
 -- ---- numbers
 
+-- The number, if it is between the bounds.
 abbrev pub bounded : ℕ → ℕ → Option ℕ → Option ℕ
 bounded low high None = None
 bounded low high (Some n) = if is_within low n high then Some n else None
 
--- a decimal number of 1 to 20 digits between these bounds, themselves included
+-- The number in a text of 1 to 20 decimal digits, if it is between the bounds. The bounds are included.
 unfoldable pub number_within : ℕ → ℕ → Text → Option ℕ
 number_within low high text = bounded low high (decimal_value text)
 
--- ---- how the code's answers are seen
+-- ---- results of the code
 
--- a value, or a name as text
+-- The value, or the bytes of the name.
 abbrev pub named : {A : Type 0} → Result A (Bor Text) → Result A Text
 named (Ok value) = Ok value
 named (Err name) = Err name.now

@@ -1,4 +1,4 @@
--- How the plans of the command lines, and their faults, are seen.
+-- Defined by this project: the values of the plans and errors of the code.
 use Rattle.std.specs.Prelude.{◌≡◌, ⊤, ℕ, Bool, true, false, List, Vec, Option, option_map, Result, Ok, Err, string_bytes}
 use Rattle.std.specs.Borrow.{Bor}
 use Rattle.clap.specs.Words.{IsAmong, Kinds, Text, kind_of}
@@ -16,11 +16,13 @@ use Rattle.coap_request.specs.declared.plan.ServerPlan.{ServerPlan}
 use Rattle.coap_command_line.specs.declared.words.WordsFault.{WordsFault}
 use Rattle.coap_command_line.specs.declared.words.WordsFault.TheVariants as faults
 
+-- The value of a mode.
 abbrev pub mode_value : Mode → ModeValue
 mode_value (modes.Listen address port) = mode.Listen address port
 mode_value modes.Stdio = mode.Stdio
 mode_value (modes.Script name) = mode.Script (string_bytes name)
 
+-- The value of a plan of the server.
 abbrev pub server_value : ServerPlan → ServerPlanValue
 server_value plan = record {
   mode = mode_value plan.mode;
@@ -30,15 +32,16 @@ server_value plan = record {
   turns = plan.turns;
 }
 
--- the number and the value of one more option
+-- The number and the value of the extra option.
 abbrev pub extra_value : {A : Type 0} → ℕ × Vec ℕ A → ℕ × Text
 extra_value extra = (extra.0, extra.1.items)
 
--- one more option, where there is one, or a name as text
+-- The extra option if there is one, or the bytes of the name.
 abbrev pub extra_named : {A : Type 0} → Result (Option (ℕ × Vec ℕ A)) (Bor Text) → Result (Option (ℕ × Text)) Text
 extra_named (Ok extra) = Ok (option_map extra_value extra)
 extra_named (Err name) = Err name.now
 
+-- The value of a plan of the client.
 abbrev pub client_value : ClientPlan → ClientPlanValue
 client_value plan = record {
   target = plan.target;
@@ -55,6 +58,7 @@ client_value plan = record {
   output = option_map string_bytes plan.output;
 }
 
+-- The number of an error.
 abbrev pub words_fault_number : WordsFault → ℕ
 words_fault_number (faults.Usage error) = 1
 words_fault_number (faults.Target refusal) = 2
@@ -62,18 +66,19 @@ words_fault_number (faults.Value name) = 3
 words_fault_number faults.Clash = 4
 words_fault_number faults.Memory = 5
 
--- `clap`'s refusal is no mistake of the user's: its text was asked for, the help or the version
+-- True if `clap` reports a text that the user asked for: the help or the version.
 abbrev pub is_asked_for : ErrorKind → Bool
 is_asked_for kind.DisplayHelp = true
 is_asked_for kind.DisplayVersion = true
 is_asked_for other = false
 
+-- True if the error of a command line is a request for help or for the version.
 abbrev pub is_help_or_version : WordsFault → Bool
 is_help_or_version (faults.Usage error) = is_asked_for (kind_of error)
 is_help_or_version other = false
 
--- an answer is refused for this; `clap`'s own refusal is of one of the kinds that it has; where memory was refused, nothing is
--- known
+-- Says that a result is this error. An error of `clap` is of one of the kinds in the result. Nothing is known if
+-- allocation failed.
 abbrev pub IsRefused : {A : Type 0} → Result A WordsFaultValue → WordsFault → Type 0
 IsRefused answer (faults.Usage error) = (kinds : Kinds) × (answer ≡ Err (fault.Usage kinds)) × IsAmong (kind_of error) kinds
 IsRefused answer (faults.Target refusal) = answer ≡ Err (fault.Target refusal)
@@ -81,26 +86,26 @@ IsRefused answer (faults.Value name) = answer ≡ Err (fault.Value name.now)
 IsRefused answer faults.Clash = answer ≡ Err fault.Clash
 IsRefused answer faults.Memory = ⊤
 
--- `clap`'s refusal is of one of these kinds; where memory was refused, nothing is known
+-- Says that an error of `clap` is of one of these kinds. Nothing is known if allocation failed.
 abbrev pub IsTurnedDown : Kinds → WordsFault → Type 0
 IsTurnedDown kinds (faults.Usage error) = IsAmong (kind_of error) kinds
 IsTurnedDown kinds faults.Memory = ⊤
 IsTurnedDown kinds other = ⊥
 
--- a plan is this answer, or it is refused for what the answer says
+-- Says that a plan or an error of the code is the expected result `answer`.
 abbrev pub TellsServerPlan : Result ServerPlanValue WordsFaultValue → Result ServerPlan WordsFault → Type 0
 TellsServerPlan answer (Ok plan) = answer ≡ Ok (server_value plan)
 TellsServerPlan answer (Err refusal) = IsRefused answer refusal
 
--- what was made of words is what they ask for
+-- Says that a plan or an error of the code is the one for these arguments.
 abbrev pub IsServerPlan : List Text → Result ServerPlan WordsFault → Type 0
 IsServerPlan words answer = TellsServerPlan (server_plan_of words) answer
 
--- a plan is this answer, or it is refused for what the answer says
+-- Says that a plan or an error of the code is the expected result `answer`.
 abbrev pub TellsClientPlan : Result ClientPlanValue WordsFaultValue → Result ClientPlan WordsFault → Type 0
 TellsClientPlan answer (Ok plan) = answer ≡ Ok (client_value plan)
 TellsClientPlan answer (Err refusal) = IsRefused answer refusal
 
--- what was made of words is what they ask for
+-- Says that a plan or an error of the code is the one for these arguments.
 abbrev pub IsClientPlan : List Text → Result ClientPlan WordsFault → Type 0
 IsClientPlan words answer = TellsClientPlan (client_plan_of words) answer

@@ -1,4 +1,4 @@
--- What the contracts and the proofs of the crate name, passed on from one place. Declares nothing.
+-- Re-exports the definitions that the contracts and proofs of this crate use. The file defines nothing.
 
 -- ---- std and the kit's crates
 pub use Rattle.clap.specs.Words.{first_of, found_of, rows_of, app_of, fault_of, is_simple, is_simple_and_free}

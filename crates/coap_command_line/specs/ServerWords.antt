@@ -1,4 +1,4 @@
--- What the words behind the name of the program `coap-server` ask for (our definition).
+-- Defined by this project: the plan for the arguments of `coap-server`.
 use Rattle.std.specs.Prelude.{◌∷◌, [], ℕ, Bool, true, false, List, Option, Some, None, Result, Ok, Err, codes}
 use Rattle.std.specs.Net.Reader.{read_ipv4, read_ipv6, whole_value}
 use Rattle.std.specs.declared.net.ip_addr.IpAddr.{IpAddr}
@@ -13,12 +13,14 @@ use Rattle.coap_wire.specs.declared.sizes.TheConstants.{LARGEST_QUEUE, DEFAULT_Q
 
 -- ---- the plan
 
--- what the server does: it listens at an address and a port, serves standard input and output, or runs the script of a name
+-- The mode of the server: it listens at an address and a port, serves standard input and output, or runs the script
+-- with a name.
 pub data ModeValue : Type 0 where
   Listen : (address : IpAddr) (port : ℕ) → ModeValue
   Stdio : ModeValue
   Script : (name : Text) → ModeValue
 
+-- The settings of a run of the server.
 pub record ServerPlanValue : Type 0 where
   pub mode : ModeValue
   pub limits : LimitValues
@@ -28,9 +30,9 @@ pub record ServerPlanValue : Type 0 where
 
 -- ---- the options
 
--- the command as `clap` is given it: flat, with one text or none to an option, a version, and no word for the program's own name.
--- `clap` adds `-h` and `--help`, and for the version `-V` and `--version`; a use of these is a refusal of its own, by the kind
--- DisplayHelp or DisplayVersion
+-- The command as `clap` gets it: without subcommands, with options of one value or none, with a version, and without
+-- the program's name. `clap` adds `-h` and `--help`, and `-V` and `--version` for the version. If one of these is used,
+-- `clap` rejects the arguments with the kind DisplayHelp or DisplayVersion.
 abbrev pub server_app : App
 server_app = record {
   top = record (new_shape (codes "coap-server")) {
@@ -45,24 +47,25 @@ server_app = record {
   subs = [];
 }
 
--- ---- their texts
+-- ---- values of options
 
--- the address, where there is one
+-- The IPv4 or IPv6 address, if there is one.
 abbrev pub either_address : Option (List ℕ) → Option (List ℕ) → Option IpAddr
 either_address (Some octets) _ = Some (ip.V4 (record { octets = octets }))
 either_address None (Some segments) = Some (ip.V6 (record { segments = segments }))
 either_address None None = None
 
--- the numeric address that a text writes: four decimal numbers with dots, or an IPv6 address (RFC 4291 section 2.2), as std
--- reads them
+-- The address in a text: four decimal numbers separated by dots, or an IPv6 address (RFC 4291 section 2.2). The
+-- standard library parses both.
 unfoldable pub address_of : Text → Option IpAddr
 address_of text = either_address (whole_value (read_ipv4 text)) (whole_value (read_ipv6 text))
 
--- 0.0.0.0
+-- The address 0.0.0.0, at which the server listens by default.
 abbrev pub every_address : IpAddr
 every_address = ip.V4 (record { octets = 0 ∷ 0 ∷ 0 ∷ 0 ∷ [] })
 
--- the limits of each connection: bytes of a message taken and of one sent, bytes of the queue, held answers, observers
+-- The limits of each connection: bytes of an accepted message, of a sent message and of the queue, numbers of pending
+-- entries and observers.
 unfoldable pub limits_said : List Row → Result LimitValues Text
 limits_said rows = do
   message ← option_value (codes "--max-message") (number_within BASE_MESSAGE_SIZE LARGEST_MESSAGE) LARGEST_SENT_MESSAGE rows
@@ -72,8 +75,8 @@ limits_said rows = do
   observers ← option_value (codes "--observers") (number_within 0 256) 16 rows
   Ok (limits_of message sent queue pending observers 16)
 
--- the values of all options but the two that choose a mode, or the name of the first one whose text means nothing or is out of
--- its range, in the order of the program's usage line
+-- The values of all options except those that choose a mode, or the name of the first option with an invalid text. The
+-- order is that of the usage line.
 unfoldable pub values_said : List Row → Result ServerValues Text
 values_said rows = do
   address ← option_value (codes "-A") address_of every_address rows
@@ -84,28 +87,32 @@ values_said rows = do
   turns ← option_value (codes "--turns") (number_within 1 1000000000000) 1000000000000 rows
   Ok (record { address = address; port = port; dynamic_max = dynamic_max; limits = limits; connections = connections; turns = turns })
 
--- ---- the answer
+-- ---- the plan for the arguments
 
--- standard input and output, the script of a name, or else the address and the port; the first two exclude each other
+-- The mode: standard input and output, the script with a name, or otherwise the address and the port. The first two
+-- exclude each other.
 abbrev pub mode_of : Bool → Option Text → IpAddr → ℕ → Option ModeValue
 mode_of true None address port = Some Stdio
 mode_of false (Some name) address port = Some (Script name)
 mode_of false None address port = Some (Listen address port)
 mode_of true (Some name) address port = None
 
+-- The plan with a mode, or `Clash` if there is no mode.
 abbrev pub with_mode : ServerValues → Option ModeValue → Result ServerPlanValue WordsFaultValue
 with_mode values None = Err Clash
 with_mode values (Some mode) =
     Ok (record { mode = mode; limits = values.limits; connections = values.connections; dynamic_max = values.dynamic_max; turns = values.turns })
 
+-- The plan with a mode, or the error of the values.
 abbrev pub planned : Bool → Option Text → Result ServerValues Text → Result ServerPlanValue WordsFaultValue
 planned stdio script (Err name) = Err (Value name)
 planned stdio script (Ok values) = with_mode values (mode_of stdio script values.address values.port)
 
--- the plan of the texts that `clap` hands out, or why there is none
+-- The plan for the options that `clap` found, or the error.
 unfoldable pub server_plan_in : List Row → Result ServerPlanValue WordsFaultValue
 server_plan_in rows = planned (is_used (codes "--stdio") rows) (first_of (codes "--script") rows) (values_said rows)
 
--- the plan of these words, or why they are refused: by `clap`, for the text of an option, for two options together, in this order
+-- The plan for the arguments, or the first error that applies. The order is: `clap`, the text of an option, two options
+-- together.
 unfoldable pub server_plan_of : List Text → Result ServerPlanValue WordsFaultValue
 server_plan_of words = unless_refused (fault_of server_app words) (server_plan_in (matches_of server_app words))

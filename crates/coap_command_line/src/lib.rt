@@ -1,15 +1,14 @@
-//! The command lines of `coap-server` and `coap-client`: from arguments to a plan.
+//! Command lines of `coap-server` and `coap-client`: from arguments to a plan.
 //!
-//! - `server_words` and `client_words` return the plan that the arguments of a program ask for. The crate `clap` finds
-//!   the options in them; this crate says which options there are and what their texts mean.
-//! - `WordsFault` is the reason if there is no plan: unknown or missing options, no target, a value out of range, two
-//!   options that exclude each other, or no memory. A request for `--help` or `--version` is reported by it too.
+//! - `server_words` and `client_words` parse the arguments of a program and return its plan. The crate `clap` finds the
+//!   options in the arguments. This crate defines the options and parses their values.
+//! - `WordsFault` is the error if there is no plan. A request for `--help` or `--version` is reported in this way too.
 //!
-//! The contracts name the definitions of `specs/CommandLines.antt`, `specs/ServerWords.antt` and
+//! The contracts use the definitions of `specs/CommandLines.antt`, `specs/ServerWords.antt` and
 //! `specs/ClientWords.antt`.
 //!
 //! This crate opens no file and runs nothing. Plans, targets and methods are types of `coap_request`. The crate
-//! `coap_program` has what else both programs need, such as exit statuses. Continue with `words.rt`.
+//! `coap_program` has everything else that both programs need, such as exit statuses. Continue with `words.rt`.
 #![tactic(auto)]
 
 mod words;

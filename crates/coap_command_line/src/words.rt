@@ -1,4 +1,4 @@
-//! The command lines of the programs.
+//! Parsers of the command lines of both programs.
 
 ghost use Rattle.std.specs.Prelude.{map, ◌≡◌};
 ghost use Rattle.coap_command_line.specs.Prelude.{IsClientPlan, IsServerPlan, is_help_or_version, words_fault_number};
@@ -19,30 +19,30 @@ use std::alloc::Global;
 use std::convert::AsStr;
 use thiserror::Error;
 
-/// Why the words of a command line are refused. Its `Display` is the line for the user, without the program's name.
+/// Error of a command line. Its `Display` is the line for the user, without the program's name.
 #[derive(Debug, Drop, Error)]
 pub enum WordsFault {
-    /// The command line has words that the program does not know, lacks some, or asks for help or for the version.
-    /// `clap`'s error tells the kind, and its `Display` is the text for the user.
+    /// Unknown or missing arguments, or a request for help or for the version. The error of `clap` gives the kind, and
+    /// its `Display` is the text for the user.
     #[error("{0}")]
     Usage(UsageError),
-    /// The URI names no target.
+    /// URI that is no target.
     #[error("bad target {}", *.0 as u8)]
     Target(TargetFault),
-    /// The text of the option with this name means nothing, or is out of its range: of the first such option, in the
-    /// order of the program's usage line.
+    /// Invalid value of the option with this name: malformed or out of range. If there are several, this is the first
+    /// one in the order of the usage line.
     #[error("bad value for {0}")]
     Value(&'static str),
-    /// Two options exclude each other.
+    /// Two options that exclude each other.
     #[error("options exclude each other")]
     Clash,
-    /// Memory was refused.
+    /// Failure of an allocation.
     #[error("no memory")]
     Memory,
 }
 
 impl WordsFault {
-    /// Its number, 1 to 5.
+    /// Returns the number of the error, 1 to 5.
     pub const fn number(&self) -> u8
         ensures { result ≡ words_fault_number self.now }
     {
@@ -55,8 +55,8 @@ impl WordsFault {
         }
     }
 
-    /// Whether the words ask for help or for the version, which is no mistake: the text of `Display` belongs on
-    /// standard output then.
+    /// Returns `true` if the arguments ask for help or for the version. This is no mistake, and the text of `Display`
+    /// belongs on standard output.
     pub fn is_help_or_version(&self) -> bool
         ensures { result ≡ is_help_or_version self.now }
     {
@@ -70,13 +70,16 @@ impl WordsFault {
     }
 }
 
-/// What the words of `coap-server` behind the program's name ask for.
+/// Parses the arguments of `coap-server`, without the program's name, and returns the plan.
 ///
 /// # Errors
 ///
-/// `Usage` where `clap` refuses the words; else `Value` where the text of an option means nothing or is out of its
-/// range, of the first such option in the order of the usage line; else `Clash` for `--stdio` with `--script`; and
-/// `Memory` wherever memory is refused.
+/// The first that applies, except that `Memory` can come before any other:
+///
+/// - `Usage`: `clap` rejects the arguments, or they ask for help or for the version.
+/// - `Value`: the value of an option is malformed or out of range.
+/// - `Clash`: both `--stdio` and `--script` are given.
+/// - `Memory`: allocation failed.
 pub fn server_words<'a, S: AsStr>(alloc: Global, words: &'a [S]) -> Result<ServerPlan, WordsFault>
     ensures { IsServerPlan (map S.text words.entry.now) result }
 {
@@ -90,13 +93,17 @@ pub fn server_words<'a, S: AsStr>(alloc: Global, words: &'a [S]) -> Result<Serve
     server_plan(alloc, &matches)
 }
 
-/// What the words of `coap-client` behind the program's name ask for.
+/// Parses the arguments of `coap-client`, without the program's name, and returns the plan.
 ///
 /// # Errors
 ///
-/// `Usage` where `clap` refuses the words; else `Target` where the URI names no target; else `Value` where the text of
-/// an option means nothing, of the first such option in the order of the usage line; else `Clash` for `-e` with `-f`,
-/// and for `-s` with another method than GET; and `Memory` wherever memory is refused.
+/// The first that applies, except that `Memory` can come before any other:
+///
+/// - `Usage`: `clap` rejects the arguments, or they ask for help or for the version.
+/// - `Target`: the URI is no target.
+/// - `Value`: the value of an option is malformed or out of range.
+/// - `Clash`: both `-e` and `-f` are given, or `-s` with another method than GET.
+/// - `Memory`: allocation failed.
 pub fn client_words<'a, S: AsStr>(alloc: Global, words: &'a [S]) -> Result<ClientPlan, WordsFault>
     ensures { IsClientPlan (map S.text words.entry.now) result }
 {

@@ -1,4 +1,4 @@
--- The options of a request.
+-- Lemmas on the options of a request.
 use Rattle.std.proofs.Common.{◌≡◌, ℕ, zero, suc, ◌+◌, ◌<◌, ◌≤◌, Bool, true, false, cond, ltb, List, [], ◌∷◌, ◌++◌, length, get_or, take, drop, Vec, Option, Some, None, refl, sym, ap, subst, ◌∙◌, append_assoc, arith}
 use Rattle.coap_request.specs.Prelude.{unwrap_or, not, nat_lt, if◌then◌else◌, Bor, AllByRecursion, position_or_len}
 use Rattle.coap_request.specs.Prelude.{OptionRef, CoapOption, Message, AreOrdered, last_number, HasOptionForm}
@@ -13,7 +13,7 @@ use Rattle.coap_wire.proofs.OptionLists.{last_number-push, ordered-push, forms-p
 use Rattle.coap_wire.specs.OptionNumbers as numbers
 use Rattle.coap_wire.specs.Codes as codes
 
--- ---- one option more at the end
+-- ---- an option appended
 
 pub row_pushed : (number : ℕ) (os new : List CoapOption) (value : List ℕ) → new ≡ os ++ record { number = number; value = value } ∷ [] → IsRow number os → number ≤ 65535 → length value ≤ 1034 → IsRow number new
 row_pushed number os new value is row small short =
@@ -24,20 +24,20 @@ row_pushed number os new value is row small short =
       each = forms-push os o row.each (small, omega (arith, short));
     })
 
--- the same, as the code keeps it
+-- The same for the options of the code.
 pub row_of_pushed : (number : ℕ) (os : List OptionRef) (value : Bor (List ℕ)) (new : List OptionRef) → new ≡ os ++ record { number = number; value = value } ∷ [] → IsRow number (coap_options os) → number ≤ 65535 → length value.now ≤ 1034 → IsRow number (coap_options new)
 row_of_pushed number os value new is row small short =
     row_pushed number (coap_options os) (coap_options new) value.now (ap coap_options is ∙ map_push coap_option os (record { number = number; value = value })) row small short
 
--- a part of a target is short
+-- A part of a target is short.
 pub short_part : {A : Type 0} (parts : List (Vec ℕ A)) (i : ℕ) (d : Vec ℕ A) → AllByRecursion IsShort (byte_lists parts) → i < length parts → length (get_or parts i d).items ≤ 255
 short_part [] i d each within = absurd (omega arith)
 short_part (part ∷ parts) zero d each within = each.0
 short_part (part ∷ parts) (suc i) d each within = short_part parts i d each.1 (omega arith)
 
--- ---- one option more between the others
+-- ---- an option inserted
 
--- the first place that an option with a greater number stands at
+-- The first position of an option with a larger number.
 abbrev pub place_for : ℕ → List OptionRef → ℕ
 place_for number os = position_or_len (λ o. ltb number o.number) os
 
@@ -103,7 +103,7 @@ place_of_search : (t : Bool) (place count given : ℕ) → ltb place count ≡ t
 place_of_search true place count given is le answer = answer
 place_of_search false place count given is le answer = omega (arith, ltb-false place count is, le, answer)
 
--- the place that is found
+-- The position that the search found.
 pub place_found : (number : ℕ) (os : List OptionRef) (found : Option ℕ) (place : ℕ) → found ≡ cond (ltb (place_for number os) (length os)) (Some (place_for number os)) None → place ≡ unwrap_or found (length os) → place ≡ place_for number os
 place_found number os found place is answer =
     place_of_search (ltb (place_for number os) (length os)) (place_for number os) (length os) place refl (place_within number os) (answer ∙ ap (λ (f : Option ℕ). unwrap_or f (length os)) is)
@@ -113,7 +113,7 @@ is_inserted os new number place value is new_is =
     let r : OptionRef = record { number = number; value = value } in
     ap coap_options new_is ∙ ap (λ (k : ℕ). coap_options (take k os ++ r ∷ drop k os)) is ∙ inserted r os
 
--- ---- what is not too long
+-- ---- values that are not too long
 
 pub not_too_long : (e : ExtrasValue) → is_too_long e ≡ false → (has_long_extra e ≡ false) × (length e.payload ≤ 1048576)
 unfolding is_too_long
@@ -127,12 +127,12 @@ pub short_extra : (e : ExtrasValue) (extra : CoapOption) → e.extra ≡ Some ex
 unfolding has_long_extra
 short_extra e extra is short = short_option e.extra extra is short
 
--- ---- the options one after the other
+-- ---- the options in order
 
 lists_in_order : (a b c d e f : List CoapOption) → (((((([] ++ a) ++ b) ++ c) ++ d) ++ e) ++ f) ≡ a ++ (b ++ (c ++ (d ++ (e ++ f))))
 lists_in_order a b c d e f = simp append_assoc
 
--- the parts of a request's own options
+-- The parts of a request's own options.
 pub record AreParts (t : TargetValue) (e : ExtrasValue) (name format accepted : Option (List ℕ)) (segments arguments : List (List ℕ)) : Type 0 where
   pub host : name ≡ host_sent t e
   pub path : segments ≡ t.segments
@@ -150,7 +150,7 @@ own_added t e host observe format accepted segments arguments are =
 
 -- ---- the whole message
 
--- a payload that is not too long is taken
+-- A payload that is not too long is accepted.
 pub payload_taken : (payload : List ℕ) (why : BuildFault) → length payload ≤ 1048576 → payload_refusal payload ≡ Some why → ⊥
 payload_taken payload why fits refused = taken_by (nat_lt 1048576 (length payload)) payload why refl fits refused
   where

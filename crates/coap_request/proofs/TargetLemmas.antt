@@ -1,4 +1,4 @@
--- What the parts of a URI name.
+-- Lemmas on the decoded parts of a URI.
 use Rattle.std.proofs.Common.{◌≡◌, ℕ, ◌+◌, ◌-◌, ◌<◌, ◌≤◌, Bool, true, false, cond, ◌==◌, ◌||◌, List, [], ◌∷◌, ◌++◌, length, take, drop, map, codes, decimal, flat_map, Vec, Option, Some, None, Result, Ok, Err, refl, sym, ap, subst, ◌∙◌, ⊎_elim, append-nil, length-append, length-drop, take_at, arith, lit≤}
 use Rattle.coap_request.specs.Prelude.{is_some, is_ok, not, nat_le, nat_lt, slice_index, slice_range, unwrap_or}
 use Rattle.coap_request.specs.Prelude.{MatchOption, Bor, list_any, AllByRecursion, to_ascii_lowercase, Ipv4Addr}
@@ -18,7 +18,7 @@ use Rattle.coap_request.specs.declared.target.TargetFault.TheVariants as fault
 
 -- ---- four decimal numbers
 
--- what is written so is read so
+-- A text in dotted form is parsed.
 pub dotted_is_read : (text octets : List ℕ) → IsDotted text octets → is_dotted text ≡ true
 dotted_is_read text octets spelled =
     ap (λ read. is_some (whole_value read)) (ap read_ipv4 (sym (append-nil text)) ∙ read_ipv4_complete text octets [] spelled (lit≤ tt))
@@ -26,7 +26,7 @@ dotted_is_read text octets spelled =
 pub false_is_true : false ≡ true → ⊥
 false_is_true e = cc e
 
--- what is read so is written so
+-- A text that is parsed is in dotted form.
 pub read_is_dotted : (text : List ℕ) → is_dotted text ≡ true → (octets : List ℕ) × IsDotted text octets
 read_is_dotted text read =
     ⊎_elim
@@ -46,7 +46,7 @@ not_dotted text never =
     (λ no. no)
     (cases_Bool (is_dotted text))
 
--- what std's parser answers
+-- The result of the parser of the standard library.
 pub parsed_is_dotted : {E : Type 0} (text : List ℕ) (ok : Bool) (r : Result Ipv4Addr E) → Parses IsIpv4Text text r → ok ≡ is_ok r → ok ≡ is_dotted text
 parsed_is_dotted text ok (Ok a) spelled is = is ∙ sym (dotted_is_read text a.octets spelled)
 parsed_is_dotted text ok (Err e) never is = is ∙ sym (not_dotted text never)
@@ -64,38 +64,38 @@ domain_text (Domain t) = domain_named t.now
 domain_text (Ipv4 a) = []
 domain_text (Ipv6 a) = []
 
--- a host without brackets
+-- A host without brackets.
 pub domain_host : (host : Host (Bor (List ℕ))) (text : Bor (List ℕ)) → host ≡ Domain text → domain_named text.now ≡ host_named (borrowed_host host)
 unfolding host_named domain_named domain_text
 domain_host (Domain text) other is = ap domain_text (sym is)
 domain_host (Ipv4 a) other is = cc is
 domain_host (Ipv6 a) other is = cc is
 
--- an IPv4 address
+-- An IPv4 address.
 pub ipv4_host : (host : Host (Bor (List ℕ))) (address : Ipv4Addr) (text : List ℕ) → host ≡ Ipv4 address → text ≡ host_text (borrowed_host host) → text ≡ host_named (borrowed_host host)
 unfolding host_named
 ipv4_host (Domain t) address text is same = cc is
 ipv4_host (Ipv4 a) address text is same = same
 ipv4_host (Ipv6 a) address text is same = cc is
 
--- the brackets round an IPv6 address are two bytes
+-- The brackets around an IPv6 address are two bytes.
 in_brackets : (inner : List ℕ) → slice_range (91 ∷ (inner ++ 93 ∷ [])) 1 (length (91 ∷ (inner ++ 93 ∷ [])) - 1) ≡ inner
 in_brackets inner = take_at inner (93 ∷ []) _ (omega (arith, length-append inner (93 ∷ [])))
 
--- an IPv6 address
+-- An IPv6 address.
 pub ipv6_host : (host : Host (Bor (List ℕ))) (address : Ipv6Addr) (text : List ℕ) → host ≡ Ipv6 address → text ≡ host_text (borrowed_host host) → slice_range text 1 (length text - 1) ≡ host_named (borrowed_host host)
 unfolding host_named
 ipv6_host (Domain t) address text is same = cc is
 ipv6_host (Ipv4 a) address text is same = cc is
 ipv6_host (Ipv6 a) address text is same = ap (λ (t : List ℕ). slice_range t 1 (length t - 1)) same ∙ in_brackets (hex_groups_text a.segments)
 
--- ---- what is kept
+-- ---- the invariant of a target
 
 one_at_least : (t : Bool) (x y : ℕ) (xs ys : List ℕ) → 0 < length (cond t (x ∷ xs) (y ∷ ys))
 one_at_least true x y xs ys = omega arith
 one_at_least false x y xs ys = omega arith
 
--- a text with a byte does not decode to nothing
+-- A text that is not empty decodes to a text that is not empty.
 some_decoded : (text : List ℕ) → 0 < length text → 0 < length (percent_decode text)
 unfolding percent_decode
 some_decoded [] some = absurd (omega (arith, some))
@@ -103,7 +103,7 @@ some_decoded (b ∷ []) some = omega arith
 some_decoded (b ∷ c ∷ []) some = omega arith
 some_decoded (b ∷ high ∷ low ∷ rest) some = one_at_least (is_escape b high low) _ _ _ _
 
--- an IPv6 address is not written as nothing
+-- The text of an IPv6 address is not empty.
 
 at_most_3 : (a b c : Bool) → cond a 0 (cond b 1 (cond c 2 3)) ≤ 3
 at_most_3 true b c = omega arith
@@ -122,7 +122,7 @@ some_groups : (segments : List ℕ) → 0 < length segments → 0 < length (grou
 some_groups [] some = absurd (omega (arith, some))
 some_groups (s ∷ rest) some = omega (arith, some_hex s, length-append (hex s) (flat_map (λ t. codes ":" ++ hex t) rest))
 
--- more behind it, and before it
+-- More bytes after a text, and before it.
 some_before : (some behind : List ℕ) → 0 < length some → 0 < length (some ++ behind)
 some_before some behind least = omega (arith, least, length-append some behind)
 
@@ -141,7 +141,7 @@ some_ipv6 segments some =
     let back = groups_text (drop (run.0 + run.1) segments) in
     either_some (nat_lt 1 run.1) ((front ++ codes "::") ++ back) (groups_text segments) (some_before (front ++ codes "::") back (some_behind front (codes "::") (omega arith))) (some_groups segments some)
 
--- nor an IPv4 address
+-- The text of an IPv4 address is not empty.
 some_ipv4 : (octets : List ℕ) → 0 < length (ipv4_text octets)
 some_ipv4 octets =
     let a = decimal (slice_index octets 0) ++ codes "." in
@@ -153,14 +153,14 @@ some_domain : (t : Bool) (text : List ℕ) → 0 < length text → 0 < length (c
 some_domain true text some = some
 some_domain false text some = omega (arith, length-map (percent_decode text) to_ascii_lowercase, some_decoded text some)
 
--- a host that is not empty does not decode to nothing
+-- A host that is not empty decodes to one that is not empty.
 some_named : (kind : SchemeType) (host : Host (List ℕ)) → not (is_empty_host host) ≡ true → IsHostOf kind host → 0 < length (host_named host)
 unfolding host_named domain_named
 some_named kind (Domain text) some valid = some_domain (is_dotted text) text (grind (arith, nat_tests))
 some_named kind (Ipv4 address) some valid = some_ipv4 address.octets
 some_named kind (Ipv6 address) some valid = some_ipv6 address.segments (omega (arith, valid.0))
 
--- what the crate `url` keeps to
+-- The invariant of the crate `url`.
 host_is_valid : (kind : SchemeType) (host : Option (Host (List ℕ))) → MatchOption host (is_special kind ≡ false) (IsHostOf kind) → not (is_empty_host (unwrap_or host (Domain []))) ≡ true → IsHostOf kind (unwrap_or host (Domain []))
 host_is_valid kind None valid some = cc some
 host_is_valid kind (Some host) valid some = valid
@@ -173,7 +173,7 @@ second_test_holds a true x y rest e = refl
 second_test_holds true false x y rest e = cc e
 second_test_holds false false x y rest e = cc e
 
--- a URI that is not refused for its form has a host
+-- A URI without an error of form has a host.
 pub form_has_host : (url : Parts) → form_refusal url ≡ None → has_host url ≡ true
 unfolding form_refusal
 form_has_host url none = second_test_holds _ _ _ _ _ none
@@ -182,7 +182,7 @@ pub all_short : (parts : List (List ℕ)) → list_any is_long parts ≡ false �
 all_short [] none = tt
 all_short (part ∷ parts) none = (ltb-false 255 (length part) (or_parts _ _ none).0, all_short parts (or_parts _ _ none).1)
 
--- ---- why there is no target, and what there is
+-- ---- the target or the error
 
 size_of_long : (t : TargetValue) → has_long_part t ≡ true → size_refusal t ≡ Some fault.PartTooLong
 unfolding size_refusal
@@ -213,7 +213,7 @@ is_named url t form same short few =
     ∙ ap (λ r. unless r (Ok (value_named url))) (size_of_few (value_named url) (ap has_long_part (sym same) ∙ short) (ap has_many_parts (sym same) ∙ few))
     ∙ ap Ok (sym same)
 
--- what is not refused keeps to what a target keeps to
+-- Parts without an error satisfy the invariant of a target.
 pub named_is_target : (t : TargetValue) → has_long_part t ≡ false → has_many_parts t ≡ false → 0 < length t.host → IsTarget t
 named_is_target t short few some =
     let parts = or_parts _ _ short in

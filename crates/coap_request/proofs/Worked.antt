@@ -1,4 +1,4 @@
--- Worked values of the definitions, on literal texts.
+-- Computed examples of the definitions, for literal texts.
 use Rattle.std.proofs.Common.{◌≡◌, ℕ, ◌++◌, false, true, List, [], ◌∷◌, codes, replicate, refl, Option, Some, None, Ok, Err}
 use Rattle.coap_request.specs.Prelude.{option_map, result_ok, percent_decode, spelling, bytes_of_uint, Method, Get}
 use Rattle.coap_request.specs.Prelude.{Put, target_of, target_in, form_refusal, size_refusal, value_named}
@@ -8,18 +8,18 @@ use Rattle.coap_request.specs.Prelude.{own_options, with_extra, insert_option, i
 use Rattle.url.proofs.OnLiterals.{url_on_literals}
 use Rattle.coap_request.specs.declared.target.TargetFault.TheVariants as fault
 
--- a request that says nothing beside its method and its target
+-- A request without any extras.
 abbrev defaults : ExtrasValue
 defaults = record { observe = false; plain = false; content_format = None; accept = None; extra = None; payload = [] }
 
 abbrev plain : ExtrasValue
 plain = record defaults { plain = true }
 
--- the bytes of the request for a text, with the token 1
+-- The bytes of the request for a text, with the token 1.
 abbrev request_bytes : Method → ExtrasValue → List ℕ → Option (List ℕ)
 request_bytes method e text = option_map (λ t. spelling (record (request_of method t e) { token = 1 ∷ [] })) (result_ok (target_of text))
 
--- the bytes of the GET that ends the observation of a text's target, with the token 1
+-- The bytes of the GET that cancels the observation of a text's target, with the token 1.
 abbrev end_bytes : ExtrasValue → List ℕ → Option (List ℕ)
 end_bytes e text = option_map (λ t. spelling (record (cancel_of t e) { token = 1 ∷ [] })) (result_ok (target_of text))
 
@@ -29,7 +29,7 @@ address_in_brackets : target_of (codes "coap+tcp://[::1]:5700/a%2Fb?x&y") ≡ Ok
 unfolding url_on_literals target_in form_refusal size_refusal value_named names_address host_named domain_named segments_named arguments_named decoded_parts percent_decode
 address_in_brackets = refl
 
--- an address as the crate `url` writes it
+-- The crate `url` writes the address in its own form.
 brackets_in_upper_case : target_of (codes "coap+tcp://[2001:DB8:0::1]") ≡ Ok (record { host = codes "2001:db8::1"; is_address = true; port = 5683; segments = []; arguments = [] })
 unfolding url_on_literals target_in form_refusal size_refusal value_named names_address host_named domain_named segments_named arguments_named decoded_parts percent_decode
 brackets_in_upper_case = refl
@@ -42,7 +42,7 @@ greatest_address : target_of (codes "coap+tcp://255.255.255.255") ≡ Ok (record
 unfolding url_on_literals target_in form_refusal size_refusal value_named names_address host_named domain_named segments_named arguments_named decoded_parts percent_decode
 greatest_address = refl
 
--- no address, so these are names
+-- Hosts that look like an address but are names.
 number_above_255 : target_of (codes "coap+tcp://256.0.0.1") ≡ Ok (record { host = codes "256.0.0.1"; is_address = false; port = 5683; segments = []; arguments = [] })
 unfolding url_on_literals target_in form_refusal size_refusal value_named names_address host_named domain_named segments_named arguments_named decoded_parts percent_decode
 number_above_255 = refl
@@ -59,12 +59,12 @@ five_numbers : target_of (codes "coap+tcp://1.2.3.4.5") ≡ Ok (record { host = 
 unfolding url_on_literals target_in form_refusal size_refusal value_named names_address host_named domain_named segments_named arguments_named decoded_parts percent_decode
 five_numbers = refl
 
--- the test for an address comes before the escapes are decoded
+-- Addresses are recognised before escapes are decoded.
 escaped_digit : target_of (codes "coap+tcp://%31.0.0.1") ≡ Ok (record { host = codes "1.0.0.1"; is_address = false; port = 5683; segments = []; arguments = [] })
 unfolding url_on_literals target_in form_refusal size_refusal value_named names_address host_named domain_named segments_named arguments_named decoded_parts percent_decode
 escaped_digit = refl
 
--- a host in lower case, a path as it is
+-- A host gets lower case, and a path stays as it is.
 upper_case_host : target_of (codes "coap+tcp://EXAMPLE.org/A") ≡ Ok (record { host = codes "example.org"; is_address = false; port = 5683; segments = codes "A" ∷ []; arguments = [] })
 unfolding url_on_literals target_in form_refusal size_refusal value_named names_address host_named domain_named segments_named arguments_named decoded_parts percent_decode
 upper_case_host = refl
@@ -97,7 +97,7 @@ empty_path : target_of (codes "coap+tcp://h") ≡ Ok (record { host = codes "h";
 unfolding url_on_literals target_in form_refusal size_refusal value_named names_address host_named domain_named segments_named arguments_named decoded_parts percent_decode
 empty_path = refl
 
--- a lone question mark has one empty argument
+-- A lone question mark has one empty argument.
 empty_path_and_query : target_of (codes "coap+tcp://h?") ≡ Ok (record { host = codes "h"; is_address = false; port = 5683; segments = []; arguments = [] ∷ [] })
 unfolding url_on_literals target_in form_refusal size_refusal value_named names_address host_named domain_named segments_named arguments_named decoded_parts percent_decode
 empty_path_and_query = refl
@@ -110,7 +110,7 @@ slash_at_the_end : target_of (codes "coap+tcp://h/a/") ≡ Ok (record { host = c
 unfolding url_on_literals target_in form_refusal size_refusal value_named names_address host_named domain_named segments_named arguments_named decoded_parts percent_decode
 slash_at_the_end = refl
 
--- the crate `url` resolves dots
+-- The crate `url` resolves dots.
 dots_resolved : target_of (codes "coap+tcp://h/a/../b/./c") ≡ Ok (record { host = codes "h"; is_address = false; port = 5683; segments = codes "b" ∷ codes "c" ∷ []; arguments = [] })
 unfolding url_on_literals target_in form_refusal size_refusal value_named names_address host_named domain_named segments_named arguments_named decoded_parts percent_decode
 dots_resolved = refl
@@ -119,7 +119,7 @@ escaped_slash : target_of (codes "coap+tcp://h/a%2fb/c") ≡ Ok (record { host =
 unfolding url_on_literals target_in form_refusal size_refusal value_named names_address host_named domain_named segments_named arguments_named decoded_parts percent_decode
 escaped_slash = refl
 
--- an escape that is cut stays as it is written
+-- An incomplete escape stays as written.
 cut_escapes : target_of (codes "coap+tcp://h/%4/%/%zz?%4&%") ≡ Ok (record { host = codes "h"; is_address = false; port = 5683; segments = codes "%4" ∷ codes "%" ∷ codes "%zz" ∷ []; arguments = codes "%4" ∷ codes "%" ∷ [] })
 unfolding url_on_literals target_in form_refusal size_refusal value_named names_address host_named domain_named segments_named arguments_named decoded_parts percent_decode
 cut_escapes = refl
@@ -132,12 +132,12 @@ escaped_ampersand : target_of (codes "coap+tcp://h/?a%26b=c") ≡ Ok (record { h
 unfolding url_on_literals target_in form_refusal size_refusal value_named names_address host_named domain_named segments_named arguments_named decoded_parts percent_decode
 escaped_ampersand = refl
 
--- the crate `url` drops spaces round the text, and escapes those inside
+-- The crate `url` drops spaces around the text, and escapes those inside.
 space_around : target_of (codes "  coap+tcp://h/a b ") ≡ Ok (record { host = codes "h"; is_address = false; port = 5683; segments = codes "a b" ∷ []; arguments = [] })
 unfolding url_on_literals target_in form_refusal size_refusal value_named names_address host_named domain_named segments_named arguments_named decoded_parts percent_decode
 space_around = refl
 
--- ---- what is refused
+-- ---- refused texts
 
 no_url : target_of (codes "a b") ≡ Err fault.Url
 unfolding url_on_literals target_in form_refusal size_refusal value_named names_address host_named domain_named segments_named arguments_named decoded_parts percent_decode
@@ -167,7 +167,7 @@ other_scheme : target_of (codes "coap://h/") ≡ Err fault.Scheme
 unfolding url_on_literals target_in form_refusal size_refusal value_named names_address host_named domain_named segments_named arguments_named decoded_parts percent_decode
 other_scheme = refl
 
--- the first reason is told
+-- The first error is returned.
 other_scheme_first : target_of (codes "coaps+tcp:x#f") ≡ Err fault.Scheme
 unfolding url_on_literals target_in form_refusal size_refusal value_named names_address host_named domain_named segments_named arguments_named decoded_parts percent_decode
 other_scheme_first = refl
@@ -188,7 +188,7 @@ password : target_of (codes "coap+tcp://:p@h/#f") ≡ Err fault.UserInfo
 unfolding url_on_literals target_in form_refusal size_refusal value_named names_address host_named domain_named segments_named arguments_named decoded_parts percent_decode
 password = refl
 
--- an empty user name is none
+-- An empty user name counts as none.
 empty_user : target_of (codes "coap+tcp://@h/") ≡ Ok (record { host = codes "h"; is_address = false; port = 5683; segments = []; arguments = [] })
 unfolding url_on_literals target_in form_refusal size_refusal value_named names_address host_named domain_named segments_named arguments_named decoded_parts percent_decode
 empty_user = refl
@@ -243,7 +243,7 @@ greatest_segment = refl
 
 -- ---- requests
 
--- a GET with Uri-Path and two Uri-Query, and no Uri-Port
+-- A GET with Uri-Path and two Uri-Query, without Uri-Port.
 get_in_brackets : request_bytes Get plain (codes "coap+tcp://[::1]:5700/a%2Fb?x&y") ≡ Some (0x81 ∷ 0x01 ∷ 0x01 ∷ 0xb3 ∷ 0x61 ∷ 0x2f ∷ 0x62 ∷ 0x41 ∷ 0x78 ∷ 0x01 ∷ 0x79 ∷ [])
 unfolding url_on_literals target_in form_refusal size_refusal value_named names_address host_named domain_named segments_named arguments_named decoded_parts percent_decode request_of cancel_of host_sent observe_sent own_options with_extra insert_option bytes_of_uint spelling
 get_in_brackets = refl
@@ -252,7 +252,7 @@ address_has_no_host : request_bytes Get defaults (codes "coap+tcp://[::1]:5700/a
 unfolding url_on_literals target_in form_refusal size_refusal value_named names_address host_named domain_named segments_named arguments_named decoded_parts percent_decode request_of cancel_of host_sent observe_sent own_options with_extra insert_option bytes_of_uint spelling
 address_has_no_host = refl
 
--- a name is sent as Uri-Host, unless it is to be left out
+-- A name is sent as Uri-Host, unless the extras omit it.
 localhost : request_bytes Get defaults (codes "coap+tcp://localhost/") ≡ Some (0xa1 ∷ 0x01 ∷ 0x01 ∷ 0x39 ∷ 0x6c ∷ 0x6f ∷ 0x63 ∷ 0x61 ∷ 0x6c ∷ 0x68 ∷ 0x6f ∷ 0x73 ∷ 0x74 ∷ [])
 unfolding url_on_literals target_in form_refusal size_refusal value_named names_address host_named domain_named segments_named arguments_named decoded_parts percent_decode request_of cancel_of host_sent observe_sent own_options with_extra insert_option bytes_of_uint spelling
 localhost = refl
@@ -261,7 +261,7 @@ plain_localhost : request_bytes Get plain (codes "coap+tcp://localhost/") ≡ So
 unfolding url_on_literals target_in form_refusal size_refusal value_named names_address host_named domain_named segments_named arguments_named decoded_parts percent_decode request_of cancel_of host_sent observe_sent own_options with_extra insert_option bytes_of_uint spelling
 plain_localhost = refl
 
--- a PUT with Content-Format 0, one more option and a payload
+-- A PUT with Content-Format 0, an extra option and a payload.
 put_of_all : request_bytes Put (record defaults { content_format = Some 0; extra = Some (record { number = 2048; value = 1 ∷ 2 ∷ [] }); payload = codes "a b" }) (codes "coap+tcp://127.0.0.1/x") ≡ Some (0xc1 ∷ 0x03 ∷ 0x01 ∷ 0xb1 ∷ 0x78 ∷ 0x10 ∷ 0xe2 ∷ 0x06 ∷ 0xe7 ∷ 0x01 ∷ 0x02 ∷ 0xff ∷ 0x61 ∷ 0x20 ∷ 0x62 ∷ [])
 unfolding url_on_literals target_in form_refusal size_refusal value_named names_address host_named domain_named segments_named arguments_named decoded_parts percent_decode request_of cancel_of host_sent observe_sent own_options with_extra insert_option bytes_of_uint spelling
 put_of_all = refl
@@ -278,12 +278,12 @@ cancelled_again : end_bytes defaults (codes "coap+tcp://127.0.0.1/") ≡ Some (0
 unfolding url_on_literals target_in form_refusal size_refusal value_named names_address host_named domain_named segments_named arguments_named decoded_parts percent_decode request_of cancel_of host_sent observe_sent own_options with_extra insert_option bytes_of_uint spelling
 cancelled_again = refl
 
--- the numbers of formats in as few bytes as possible
+-- The numbers of content formats have their shortest encoding.
 formats_sent : request_bytes Get (record defaults { content_format = Some 50; accept = Some 65535 }) (codes "coap+tcp://h/?q") ≡ Some (0x91 ∷ 0x01 ∷ 0x01 ∷ 0x31 ∷ 0x68 ∷ 0x91 ∷ 0x32 ∷ 0x31 ∷ 0x71 ∷ 0x22 ∷ 0xff ∷ 0xff ∷ [])
 unfolding url_on_literals target_in form_refusal size_refusal value_named names_address host_named domain_named segments_named arguments_named decoded_parts percent_decode request_of cancel_of host_sent observe_sent own_options with_extra insert_option bytes_of_uint spelling
 formats_sent = refl
 
--- one more option before all others, between them, and behind those with its number
+-- An extra option before all others, between them, and after those with its number.
 extra_first : request_bytes Get (record defaults { extra = Some (record { number = 1; value = [] }) }) (codes "coap+tcp://h/p") ≡ Some (0x51 ∷ 0x01 ∷ 0x01 ∷ 0x10 ∷ 0x21 ∷ 0x68 ∷ 0x81 ∷ 0x70 ∷ [])
 unfolding url_on_literals target_in form_refusal size_refusal value_named names_address host_named domain_named segments_named arguments_named decoded_parts percent_decode request_of cancel_of host_sent observe_sent own_options with_extra insert_option bytes_of_uint spelling
 extra_first = refl
@@ -296,7 +296,7 @@ extra_behind : request_bytes Get (record defaults { accept = Some 0; extra = Som
 unfolding url_on_literals target_in form_refusal size_refusal value_named names_address host_named domain_named segments_named arguments_named decoded_parts percent_decode request_of cancel_of host_sent observe_sent own_options with_extra insert_option bytes_of_uint spelling
 extra_behind = refl
 
--- ---- what is too long
+-- ---- values that are too long
 
 extra_of_1034 : is_too_long (record defaults { extra = Some (record { number = 1; value = replicate 1034 0 }) }) ≡ false
 unfolding is_too_long has_long_extra

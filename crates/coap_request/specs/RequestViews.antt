@@ -1,4 +1,4 @@
--- How the extras of a request, its formats and its options are kept.
+-- Defined by this project: the values of the extras, the formats and the options of a request.
 use Rattle.std.specs.Prelude.{◌≡◌, ℕ, ◌≤◌, List, option_map}
 use Rattle.std.specs.Borrow.{Bor}
 use Rattle.std.specs.List.{AllByRecursion}
@@ -8,10 +8,11 @@ use Rattle.coap_request.specs.Requests.{ExtrasValue, uint_sent}
 use Rattle.coap_request.specs.declared.request.Extras.{Extras}
 use Rattle.coap_request.specs.declared.request.Formats.{Formats}
 
--- an option as the caller gives it
+-- The value of an option that the caller gives.
 abbrev pub given_option : ℕ × Bor (List ℕ) → CoapOption
 given_option o = record { number = o.0; value = o.1.now }
 
+-- The value of the extras.
 abbrev pub extras_value : Extras → ExtrasValue
 extras_value e = record {
   observe = e.observe;
@@ -22,12 +23,12 @@ extras_value e = record {
   payload = e.payload.now;
 }
 
--- the bytes of the formats of these extras
+-- Says that `f` holds the encoded content formats of these extras.
 pub record AreFormatsOf (e : ExtrasValue) (f : Formats) : Type 0 where
   pub content_format : option_map (λ bytes. bytes.items) f.content_format ≡ uint_sent e.content_format
   pub accept : option_map (λ bytes. bytes.items) f.accept ≡ uint_sent e.accept
 
--- options that a message can have, in order, none with a number above this one
+-- Says that options are valid and in order, and that none has a number above `number`.
 pub record IsRow (number : ℕ) (os : List CoapOption) : Type 0 where
   pub ordered : AreOrdered 0 os
   pub last : last_number 0 os ≤ number

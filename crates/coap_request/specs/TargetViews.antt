@@ -1,15 +1,15 @@
--- How a target is kept.
+-- Defined by this project: the value of a target, and the invariant of the type `Target`.
 use Rattle.std.specs.Prelude.{ℕ, ◌<◌, ◌≤◌, List, length, map, Vec}
 use Rattle.std.specs.List.{AllByRecursion}
 use Rattle.coap_request.specs.Targets.{TargetValue}
 use Rattle.coap_request.specs.declared.target.Named.{Named}
 use Rattle.coap_request.specs.declared.target.Target.TheInside.{Inside}
 
--- the bytes of each of these vectors
+-- The bytes of each vector of a list.
 abbrev pub byte_lists : {A : Type 0} → List (Vec ℕ A) → List (List ℕ)
 byte_lists parts = map (λ part. part.items) parts
 
--- what is kept of a URI
+-- The value of the decoded parts of a URI.
 abbrev pub named_value : Named → TargetValue
 named_value n = record {
   host = n.host.items;
@@ -19,14 +19,15 @@ named_value n = record {
   arguments = byte_lists n.arguments.items;
 }
 
+-- The value of a target.
 abbrev pub target_value : Inside → TargetValue
 target_value t = named_value t.named
 
--- a value of at most 255 bytes (RFC 7252 section 5.10)
+-- Says that a part has at most 255 bytes (RFC 7252 section 5.10).
 abbrev pub IsShort : List ℕ → Type 0
 IsShort part = length part ≤ 255
 
--- what a target keeps to; a host has a byte at least (RFC 7252 section 5.10.1)
+-- The invariant of a target: its sizes are in range, and the host has at least one byte (RFC 7252 section 5.10.1).
 pub record IsTarget (t : TargetValue) : Type 0 where
   pub host : IsShort t.host
   pub some_host : 0 < length t.host

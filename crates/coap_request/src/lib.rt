@@ -1,12 +1,11 @@
-//! Requests as the user of a command line thinks of them: the target of a URI, and the message that asks for it.
+//! Requests as a command line describes them: the target of a URI, and the message of a request for that target.
 //!
-//! - `Target` is what a URI of the scheme `coap+tcp` names: host, port, path and query.
-//! - `Method` and `Extras` are what a request says beside its target.
+//! - `Target` holds the parts of a URI of the scheme `coap+tcp`: host, port, path and query.
+//! - `Method` and `Extras` hold everything else that a request says.
 //! - `request_message` and `cancellation_message` build the messages, without a token. `formats_of` encodes the content
 //!   formats, which the messages borrow.
-//! - `ClientPlan` and `ServerPlan` are the plans of `coap-client` and `coap-server`: what their command lines ask for.
-//!
-//! The contracts name the definitions of `specs/Targets.antt` and `specs/Requests.antt`.
+//! - `ClientPlan` and `ServerPlan` hold the settings of `coap-client` and `coap-server` that a command line gives.
+//! The contracts use the definitions of `specs/Targets.antt` and `specs/Requests.antt`.
 //!
 //! This crate reads no command line and sends nothing. The crate `coap_command_line` makes a plan of the arguments of a
 //! program, and `coap_client_engine` sends the messages and gives them tokens. Continue with `target.rt`.

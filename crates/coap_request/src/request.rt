@@ -1,4 +1,4 @@
-//! The message of a request for a target.
+//! Messages of a request for a target, and of the cancellation of an observation.
 
 ghost use Rattle.std.specs.Prelude.{◌≡◌, ◌≤◌, ◌<◌, ◌+◌, ◌++◌, false, [], ◌∷◌, Some, None, length, option_map};
 ghost use Rattle.std.specs.Prelude.{option_copied, IfSome, if◌then◌else◌};
@@ -12,42 +12,43 @@ use arrayvec::ArrayVec;
 use coap_wire::option_numbers::{ACCEPT, CONTENT_FORMAT, OBSERVE, URI_HOST, URI_PATH, URI_QUERY};
 use coap_wire::{Builder, Code, LARGEST_MESSAGE, OptionRef, TokenRef, UintBytes, uint_bytes};
 
-/// The most options of a request: Uri-Host, Observe, 16 Uri-Path, Content-Format, 16 Uri-Query, Accept and one more.
+/// Maximum number of options of a request: Uri-Host, Observe, 16 Uri-Path, Content-Format, 16 Uri-Query, Accept and an
+/// extra one.
 const MAX_OPTIONS: usize = 37;
 
-/// The greatest length of the one more option.
+/// Maximum length of the extra option, in bytes.
 const MAX_EXTRA: usize = 1_034;
 
-/// The value 1 of Observe, by which an observation is cancelled (RFC 7641 section 3.6).
+/// Value 1 of Observe, which cancels an observation (RFC 7641 section 3.6).
 const DEREGISTER: &[u8] = &[1];
 
-/// The method of a request (RFC 7252 section 5.8).
+/// Method of a request (RFC 7252 section 5.8).
 #[derive(Clone, Copy, Debug, PartialEq, Eq)]
 pub enum Method {
-    /// GET: the representation is asked for.
+    /// GET, which asks for a representation.
     Get,
-    /// PUT: the payload is stored under the path.
+    /// PUT, which stores the payload under the path.
     Put,
-    /// POST: the payload is handed to the resource.
+    /// POST, which hands the payload to the resource.
     Post,
-    /// DELETE: the resource is removed.
+    /// DELETE, which removes the resource.
     Delete,
 }
 
-/// What a request says beside its method and its target.
+/// Properties of a request besides its method and its target.
 #[derive(Clone, Copy)]
 pub struct Extras<'a> {
-    /// Whether the target is observed (RFC 7641 section 3.1).
+    /// Registration as an observer of the target (RFC 7641 section 3.1).
     pub observe: bool,
-    /// Whether Uri-Host is left out, whatever the host is.
+    /// Omission of Uri-Host, whatever the host is.
     pub plain: bool,
-    /// The Content-Format of the payload (RFC 7252 section 5.10.3).
+    /// Content-Format of the payload (RFC 7252 section 5.10.3).
     pub content_format: Option<u16>,
-    /// The Content-Format that is asked for (RFC 7252 section 5.10.4).
+    /// Content-Format in the Accept option (RFC 7252 section 5.10.4).
     pub accept: Option<u16>,
-    /// One more option: its number and its value, of which at most 1,034 bytes are sent.
+    /// Number and value of an extra option. A value of more than 1,034 bytes is never sent.
     pub option: Option<(u16, &'a [u8])>,
-    /// The payload, of which at most 1,048,576 bytes are sent; none is an empty one.
+    /// Payload, empty if there is none. A payload of more than 1,048,576 bytes is never sent.
     pub payload: &'a [u8],
 }
 
@@ -58,10 +59,10 @@ pub struct Formats {
     accept: Option<UintBytes>,
 }
 
-/// The options of a request, in order.
+/// Options of a request, in the order of their numbers.
 type Row<'a> = ArrayVec<OptionRef<'a>, MAX_OPTIONS>;
 
-/// Returns the encoded content formats of these extras. The messages of a request and of its cancellation borrow them.
+/// Returns the encoded content formats of the extras. The messages of a request and of its cancellation borrow them.
 pub fn formats_of(extras: &Extras) -> Formats
     ensures { AreFormatsOf (extras_value extras.now) result }
 {
@@ -71,8 +72,13 @@ pub fn formats_of(extras: &Extras) -> Formats
     }
 }
 
-/// Returns the request with this method for this target, without a token. Returns `None` if and only if the extra option
-/// has more than 1,034 bytes or the payload more than 1,048,576.
+/// Returns the request with a method, a target and extras, without a token.
+///
+/// Returns `None` if and only if the extra option has more than 1,034 bytes or the payload more than 1,048,576.
+///
+/// # Preconditions
+///
+/// `formats` is the result of `formats_of` for these extras.
 pub fn request_message<'a>(
     method: Method,
     target: &'a Target,
@@ -95,9 +101,14 @@ pub fn request_message<'a>(
     Some(request)
 }
 
-/// Returns the GET that cancels the observation of this target, without a token (RFC 7641 section 3.6). Target and extras
-/// are those of the observation; Observe is 1, and there is no payload. Returns `None` if and only if the extra option
-/// has more than 1,034 bytes.
+/// Returns the GET that cancels the observation of a target, without a token (RFC 7641 section 3.6).
+///
+/// The caller passes the target and the extras of the observation. Observe is 1, and there is no payload. Returns
+/// `None` if and only if the extra option has more than 1,034 bytes.
+///
+/// # Preconditions
+///
+/// `formats` is the result of `formats_of` for these extras.
 pub fn cancellation_message<'a>(
     target: &'a Target,
     extras: &Extras<'a>,
@@ -115,7 +126,7 @@ pub fn cancellation_message<'a>(
     Some(built(Code::GET, options.as_slice()))
 }
 
-/// The code of a method (RFC 7252 section 5.8).
+/// Returns the code of a method (RFC 7252 section 5.8).
 fn code_of(method: Method) -> Code
     ensures { result ≡ spec.code_of_method method }
 {
@@ -127,7 +138,7 @@ fn code_of(method: Method) -> Code
     }
 }
 
-/// The fewest bytes of a number, where there is one (RFC 7252 section 3.2).
+/// Returns the shortest encoding of a number, if there is one (RFC 7252 section 3.2).
 fn number_bytes(number: Option<u16>) -> Option<UintBytes>
     ensures { option_map (λ bytes. bytes.items) result ≡ spec.uint_sent number }
 {
@@ -137,7 +148,7 @@ fn number_bytes(number: Option<u16>) -> Option<UintBytes>
     }
 }
 
-/// Whether the one more option is too long.
+/// Returns `true` if the extra option is too long.
 #[tactic(auto, unfolding(crate::specs::Requests::has_long_extra))]
 fn has_long_extra(extras: &Extras) -> bool
     ensures { result ≡ spec.has_long_extra (extras_value extras.now) }
@@ -148,7 +159,7 @@ fn has_long_extra(extras: &Extras) -> bool
     }
 }
 
-/// Whether the one more option or the payload is too long.
+/// Returns `true` if the extra option or the payload is too long.
 #[tactic(auto, unfolding(crate::specs::Requests::is_too_long))]
 fn is_too_long(extras: &Extras) -> bool
     ensures { result ≡ spec.is_too_long (extras_value extras.now) }
@@ -156,7 +167,7 @@ fn is_too_long(extras: &Extras) -> bool
     has_long_extra(extras) || extras.payload.len() > LARGEST_MESSAGE
 }
 
-/// The host, where it is sent as Uri-Host (RFC 7252 section 6.4).
+/// Returns the value of Uri-Host, if the option is sent (RFC 7252 section 6.4).
 #[tactic(auto, unfolding(crate::specs::Requests::host_sent))]
 fn host_sent<'a>(target: &'a Target, extras: &Extras) -> Option<&'a [u8]>
     ensures value { option_copied result ≡ spec.host_sent target.now (extras_value extras.now) }
@@ -169,7 +180,7 @@ fn host_sent<'a>(target: &'a Target, extras: &Extras) -> Option<&'a [u8]>
     }
 }
 
-/// The empty value of Observe, where the target is observed (RFC 7641 section 2).
+/// Returns the empty value of Observe if the target is to be observed (RFC 7641 section 2).
 #[tactic(auto, unfolding(crate::specs::Requests::observe_sent))]
 fn observe_sent(extras: &Extras) -> Option<&'static [u8]>
     ensures value { option_copied result ≡ spec.observe_sent (extras_value extras.now) }
@@ -178,7 +189,7 @@ fn observe_sent(extras: &Extras) -> Option<&'static [u8]>
     if extras.observe { Some(&[]) } else { None }
 }
 
-/// The bytes, where there are some.
+/// Returns the bytes of an optional encoded number.
 fn bytes_in(bytes: &Option<UintBytes>) -> Option<&[u8]>
     ensures value { option_copied result ≡ option_map (λ b. b.items) bytes.now }
     ensures short { IfSome result (λ b. length b.now ≤ 8) }
@@ -189,7 +200,7 @@ fn bytes_in(bytes: &Option<UintBytes>) -> Option<&[u8]>
     }
 }
 
-/// Adds an option for which there is room.
+/// Appends an option. The list must not be full.
 fn push<'a>(options: &mut Row<'a>, number: u16, value: &'a [u8])
     requires row { IsRow number (coap_options options.old.items) }
     requires short { length value.now ≤ 1034 }
@@ -202,7 +213,7 @@ fn push<'a>(options: &mut Row<'a>, number: u16, value: &'a [u8])
     options.push(OptionRef { number, value });
 }
 
-/// Adds an option where there is a value.
+/// Appends an option if there is a value. The list must not be full.
 fn push_one<'a>(options: &mut Row<'a>, number: u16, value: Option<&'a [u8]>)
     requires row { IsRow number (coap_options options.old.items) }
     requires short { IfSome value (λ v. length v.now ≤ 1034) }
@@ -217,7 +228,7 @@ fn push_one<'a>(options: &mut Row<'a>, number: u16, value: Option<&'a [u8]>)
     }
 }
 
-/// Adds an option for each value.
+/// Appends an option for each value.
 fn push_each<'a>(options: &mut Row<'a>, number: u16, values: &'a [Vec<u8>])
     requires row { IsRow number (coap_options options.old.items) }
     requires short { AllByRecursion IsShort (byte_lists values.now) }
@@ -232,7 +243,7 @@ fn push_each<'a>(options: &mut Row<'a>, number: u16, values: &'a [Vec<u8>])
     }
 }
 
-/// Uri-Host, Observe, Uri-Path, Content-Format, Uri-Query and Accept, in the order of their numbers.
+/// Returns Uri-Host, Observe, Uri-Path, Content-Format, Uri-Query and Accept, in the order of their numbers.
 fn own_options<'a>(
     target: &'a Target,
     extras: &Extras,
@@ -260,7 +271,7 @@ fn own_options<'a>(
     options
 }
 
-/// Adds one more option behind those with its number or a lower one.
+/// Inserts the extra option after those with its number or a lower one.
 fn insert<'a>(options: &mut Row<'a>, number: u16, value: &'a [u8])
     requires row { IsRow 17 (coap_options options.old.items) }
     requires short { length value.now ≤ 1034 }
@@ -277,7 +288,7 @@ fn insert<'a>(options: &mut Row<'a>, number: u16, value: &'a [u8])
     options.insert(place, OptionRef { number, value });
 }
 
-/// The options of a request, with the one more option.
+/// Returns the options of a request, including the extra option.
 #[tactic(auto, unfolding(crate::specs::Requests::with_extra))]
 fn all_options<'a>(
     target: &'a Target,
@@ -301,7 +312,7 @@ fn all_options<'a>(
     options
 }
 
-/// Adds an option to a message that takes it.
+/// Appends an option to a message that has room for it and no option with a higher number.
 fn add<'a>(message: &mut Builder<'a>, number: u16, value: &'a [u8])
     requires order { last_number 0 message.old.options ≤ number }
     requires few { length message.old.options < 40 }
@@ -313,7 +324,7 @@ fn add<'a>(message: &mut Builder<'a>, number: u16, value: &'a [u8])
     };
 }
 
-/// The message with this code and these options, with no token and no payload.
+/// Returns the message with this code and these options, without token and payload.
 fn built<'a>(code: Code, options: &[OptionRef<'a>]) -> Builder<'a>
     requires row { IsRow 65535 (coap_options options.now) }
     requires few { length options.now ≤ 37 }

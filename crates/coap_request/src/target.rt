@@ -1,4 +1,4 @@
-//! What a URI of the scheme coap+tcp names.
+//! Target of a request: the parts of a URI of the scheme `coap+tcp`.
 
 ghost use Rattle.std.specs.Prelude.{◌≡◌, ◌<◌, true, length, option_copied, IfOk};
 ghost use Rattle.coap_request.specs.Prelude.{list_any, borrowed_host, host_text, parse_url, has_host, host_or_empty};
@@ -15,44 +15,45 @@ use std::net::Ipv4Addr;
 use thiserror::Error;
 use url::{Host, ParseError, Url};
 
-/// The scheme of CoAP over TCP (RFC 8323 section 8.1).
+/// Scheme of CoAP over TCP (RFC 8323 section 8.1).
 const SCHEME: &str = "coap+tcp";
 
-/// The port of that scheme (RFC 8323 section 8.1).
+/// Default port of that scheme (RFC 8323 section 8.1).
 const DEFAULT_PORT: u16 = 5_683;
 
-/// The most bytes of a host, a segment or an argument (RFC 7252 section 5.10).
+/// Maximum number of bytes of a host, a segment or an argument (RFC 7252 section 5.10).
 const MAX_PART: usize = 255;
 
-/// The most segments, and the most arguments.
+/// Maximum number of segments, and of arguments.
 const MAX_PARTS: usize = 16;
 
-/// Why a text names no target: the first reason in this order. The discriminants are the faults' numbers.
+/// Reason why a text is no target: the first that applies, in this order. The discriminants are the numbers of the
+/// errors.
 #[derive(Clone, Copy, Debug, PartialEq, Eq, Error)]
 pub enum TargetFault {
-    /// The text is no absolute URL, as the crate `url` reads it.
+    /// Text that is no absolute URL for the crate `url`.
     #[error("no absolute URL")]
     Url = 1,
-    /// The scheme is not `coap+tcp`.
-    #[error("the scheme is not coap+tcp")]
+    /// Scheme other than `coap+tcp`.
+    #[error("scheme other than coap+tcp")]
     Scheme = 2,
-    /// There is no host, or an empty one.
+    /// Missing or empty host.
     #[error("no host")]
     NoHost = 3,
-    /// There is a user name or a password.
-    #[error("a user name or a password")]
+    /// User name or password in the URI.
+    #[error("user name or password in the URI")]
     UserInfo = 4,
-    /// There is a fragment, even an empty one (RFC 7252 section 6.4).
-    #[error("a fragment")]
+    /// Fragment in the URI, even an empty one (RFC 7252 section 6.4).
+    #[error("fragment in the URI")]
     Fragment = 5,
-    /// The host, a segment or an argument has more than 255 bytes once it is decoded.
-    #[error("a host, a segment or an argument of more than 255 bytes")]
+    /// Host, segment or argument of more than 255 bytes after decoding.
+    #[error("host, segment or argument of more than 255 bytes")]
     PartTooLong = 6,
-    /// There are more than 16 segments or more than 16 arguments.
+    /// More than 16 segments, or more than 16 arguments.
     #[error("more than 16 segments or arguments")]
     TooManyParts = 7,
-    /// Memory was refused, or the URL came to 4 GB, which the crate `url` has no room for. It comes wherever that
-    /// happens.
+    /// Failure of an allocation, or a URL of 4 GB, which the crate `url` does not support. This error can come before
+    /// any other.
     #[error("no memory")]
     Memory = 8,
 }
@@ -81,23 +82,23 @@ impl From<AllocError> for TargetFault {
     }
 }
 
-/// What the parts of a URI name, before its size is judged.
+/// Decoded parts of a URI, before their sizes are checked.
 #[derive(Drop)]
 struct Named {
-    /// The host as it is connected to and sent.
+    /// Host name or address, as used to connect and in Uri-Host.
     host: Vec<u8>,
-    /// Whether the host is an address.
+    /// Kind of the host: `true` for an address, `false` for a name.
     is_address: bool,
-    /// The TCP port.
+    /// TCP port.
     port: u16,
-    /// The segments of the path, decoded.
+    /// Segments of the path, decoded.
     segments: Vec<Vec<u8>>,
-    /// The arguments of the query, decoded.
+    /// Arguments of the query, decoded.
     arguments: Vec<Vec<u8>>,
 }
 
-/// What a URI of the scheme coap+tcp names (RFC 8323 section 8.1): a host, a port, and the parts of the path and of the
-/// query. Contracts see these parts by name.
+/// Target of a request: the host, the port, and the parts of the path and the query of a `coap+tcp` URI (RFC 8323
+/// section 8.1). Contracts refer to these parts by name.
 #[derive(Drop)]
 pub struct Target {
     named: Named,
@@ -116,14 +117,23 @@ impl Model for Target {
 }
 
 impl Target {
-    /// The target that a text names. The text is an absolute URL as the crate `url` reads it: the scheme is `coap+tcp`,
-    /// the port is 5683 where there is none, an empty path and `/` have no segment, each argument stands between two
-    /// `&`, and a lone `?` has one empty argument (RFC 7252 section 6.4). Escapes are decoded, and a cut one stays as
-    /// it is written.
+    /// Parses a URI of the scheme `coap+tcp`. The text must be an absolute URL for the crate `url`.
+    ///
+    /// The default port is 5683. An empty path and `/` have no segment. A `&` separates two arguments, and a lone `?`
+    /// has one empty argument (RFC 7252 section 6.4). Escapes are decoded, and an incomplete escape stays as written.
     ///
     /// # Errors
     ///
-    /// The first that holds in the order of the numbers of `TargetFault`; `Memory` wherever memory is refused.
+    /// The first that applies, except that `Memory` can come before any other:
+    ///
+    /// - `Url`: the text is no absolute URL.
+    /// - `Scheme`: the scheme is not `coap+tcp`.
+    /// - `NoHost`: the host is missing or empty.
+    /// - `UserInfo`: the URI has a user name or a password.
+    /// - `Fragment`: the URI has a fragment.
+    /// - `PartTooLong`: the host, a segment or an argument has more than 255 bytes after decoding.
+    /// - `TooManyParts`: the URI has more than 16 segments or more than 16 arguments.
+    /// - `Memory`: allocation failed, or the URL has 4 GB.
     pub fn read(alloc: Global, text: &str) -> Result<Target, TargetFault>
         ensures { GivesUnlessMemory result (target_of text.now) }
     {
@@ -133,8 +143,10 @@ impl Target {
         }
     }
 
-    /// The host, as it is connected to and as Uri-Host has it: 1 to 255 bytes. An IPv6 address stands without its
-    /// brackets. Another host has its escapes decoded and its ASCII letters in lower case (RFC 7252 section 6.4).
+    /// Returns the host, as used to connect and in Uri-Host: 1 to 255 bytes.
+    ///
+    /// An IPv6 address has no brackets. A name has its escapes decoded and its ASCII letters in lower case (RFC 7252
+    /// section 6.4).
     pub fn host(&self) -> &[u8]
         ensures value { result.now ≡ self.now.host }
         ensures kept { IsTarget self.now }
@@ -142,22 +154,24 @@ impl Target {
         self.named.host.as_slice()
     }
 
-    /// Whether the host is an address: it stood in brackets, or is of four decimal numbers up to 255, without leading
-    /// zeros, with dots between them. An address is not sent as Uri-Host (RFC 7252 section 6.4).
+    /// Returns `true` if the host is an address, which is not sent as Uri-Host (RFC 7252 section 6.4).
+    ///
+    /// An address is in brackets in the URI, or consists of four decimal numbers up to 255 without leading zeros,
+    /// separated by dots.
     pub fn is_address(&self) -> bool
         ensures { result ≡ self.now.is_address }
     {
         self.named.is_address
     }
 
-    /// The TCP port.
+    /// Returns the TCP port.
     pub fn port(&self) -> u16
         ensures { result ≡ self.now.port }
     {
         self.named.port
     }
 
-    /// The segments of the path, decoded: at most 16, each of at most 255 bytes.
+    /// Returns the segments of the path, decoded: at most 16, each of at most 255 bytes.
     pub fn segments(&self) -> &[Vec<u8>]
         ensures value { byte_lists result.now ≡ self.now.segments }
         ensures kept { IsTarget self.now }
@@ -165,7 +179,7 @@ impl Target {
         self.named.segments.as_slice()
     }
 
-    /// The arguments of the query, decoded: at most 16, each of at most 255 bytes.
+    /// Returns the arguments of the query, decoded: at most 16, each of at most 255 bytes.
     pub fn arguments(&self) -> &[Vec<u8>]
         ensures value { byte_lists result.now ≡ self.now.arguments }
         ensures kept { IsTarget self.now }
@@ -174,7 +188,7 @@ impl Target {
     }
 }
 
-/// What it means for a target that the crate `url` refuses a text.
+/// Returns the error for an error of the crate `url`.
 fn url_fault(fault: ParseError) -> TargetFault
     ensures { spec.MeansUnlessRoom fault result }
 {
@@ -185,7 +199,7 @@ fn url_fault(fault: ParseError) -> TargetFault
     }
 }
 
-/// The target that the parts of a URI name.
+/// Returns the target of a parsed URI.
 #[tactic(auto, using(crate::proofs::TargetLemmas::form_has_host), unfolding(crate::specs::Targets::target_in))]
 fn target_in(alloc: Global, url: &Url) -> Result<Target, TargetFault>
     ensures { spec.GivesUnlessMemory result (spec.target_in url.now) }
@@ -203,7 +217,7 @@ fn target_in(alloc: Global, url: &Url) -> Result<Target, TargetFault>
     Ok(Target { named })
 }
 
-/// Why the parts of a URI, before they are decoded, name no target.
+/// Returns the error of a parsed URI that can be found before its parts are decoded.
 #[tactic(auto, unfolding(crate::specs::Targets::form_refusal))]
 fn form_fault(url: &Url) -> Option<TargetFault>
     ensures { result ≡ spec.form_refusal url.now }
@@ -223,7 +237,7 @@ fn form_fault(url: &Url) -> Option<TargetFault>
     None
 }
 
-/// What the parts of a URI with a host name. The host has a byte at least.
+/// Returns the decoded parts of a URI with a host. The resulting host has at least one byte.
 #[tactic(auto, unfolding(crate::specs::Targets::value_named))]
 fn named_by(alloc: Global, url: &Url) -> Result<Named, AllocError>
     requires { has_host url.now ≡ true }
@@ -240,7 +254,7 @@ fn named_by(alloc: Global, url: &Url) -> Result<Named, AllocError>
     })
 }
 
-/// The host of a URI that has one.
+/// Returns the host of a URI that has one.
 fn host_in(url: &Url) -> Host<&str>
     requires { has_host url.now ≡ true }
     ensures { borrowed_host result ≡ host_or_empty url.now }
@@ -251,14 +265,14 @@ fn host_in(url: &Url) -> Host<&str>
     host
 }
 
-/// Whether the text is that of an IPv4 address: four decimal numbers with dots between them.
+/// Returns `true` if the text is an IPv4 address: four decimal numbers separated by dots.
 fn is_dotted(text: &str) -> bool
     ensures { result ≡ spec.is_dotted text.now }
 {
     text.parse::<Ipv4Addr>().is_ok()
 }
 
-/// Whether the host is an address.
+/// Returns `true` if the host is an address.
 #[tactic(auto, unfolding(crate::specs::Targets::names_address))]
 fn names_address(host: &Host<&str>) -> bool
     ensures { result ≡ spec.names_address (borrowed_host host.now) }
@@ -270,7 +284,7 @@ fn names_address(host: &Host<&str>) -> bool
     }
 }
 
-/// The text of the host of a URI that has one, with brackets round an IPv6 address.
+/// Returns the text of the host of a URI that has one, with brackets around an IPv6 address.
 fn written_host(url: &Url) -> &str
     requires { has_host url.now ≡ true }
     ensures { result.now ≡ host_text (host_or_empty url.now) }
@@ -281,11 +295,7 @@ fn written_host(url: &Url) -> &str
     text
 }
 
-/// The host as it is connected to and sent.
-///
-/// # Errors
-///
-/// Where memory is refused for it.
+/// Returns the host as used to connect and in Uri-Host.
 fn host_bytes(alloc: Global, url: &Url, host: &Host<&str>) -> Result<Vec<u8>, AllocError>
     requires some { has_host url.now ≡ true }
     requires same { borrowed_host host.now ≡ host_or_empty url.now }
@@ -299,12 +309,7 @@ fn host_bytes(alloc: Global, url: &Url, host: &Host<&str>) -> Result<Vec<u8>, Al
     }
 }
 
-/// A host that stands without brackets: an address as it is written, or else decoded, with its ASCII letters in lower
-/// case.
-///
-/// # Errors
-///
-/// Where memory is refused for it.
+/// Decodes a host without brackets: an address stays as written, and a name gets its ASCII letters in lower case.
 #[tactic(auto, unfolding(crate::specs::Targets::domain_named))]
 fn domain_bytes(alloc: Global, text: &str) -> Result<Vec<u8>, AllocError>
     ensures { IfOk result (λ v. v.items ≡ spec.domain_named text.now) }
@@ -316,11 +321,7 @@ fn domain_bytes(alloc: Global, text: &str) -> Result<Vec<u8>, AllocError>
     bytes.to_ascii_lowercase(alloc)
 }
 
-/// The bytes with each escape replaced by its byte; any other `%` stays.
-///
-/// # Errors
-///
-/// Where memory is refused for them.
+/// Decodes each escape. Any other `%` stays as written.
 fn decoded(alloc: Global, bytes: &[u8]) -> Result<Vec<u8>, AllocError>
     ensures { IfOk result (λ v. v.items ≡ percent.percent_decode bytes.now) }
 {
@@ -329,11 +330,7 @@ fn decoded(alloc: Global, bytes: &[u8]) -> Result<Vec<u8>, AllocError>
     Ok(decoded)
 }
 
-/// The parts between the separators, each decoded.
-///
-/// # Errors
-///
-/// Where memory is refused for them.
+/// Splits bytes at a separator, and decodes each part.
 #[tactic(auto, unfolding(crate::specs::Targets::decoded_parts))]
 fn decoded_parts(alloc: Global, bytes: &[u8], separator: u8) -> Result<Vec<Vec<u8>>, AllocError>
     ensures { IfOk result (λ parts. byte_lists parts.items ≡ spec.decoded_parts separator bytes.now) }
@@ -348,11 +345,7 @@ fn decoded_parts(alloc: Global, bytes: &[u8], separator: u8) -> Result<Vec<Vec<u
     Ok(parts)
 }
 
-/// The segments of a path behind its first slash.
-///
-/// # Errors
-///
-/// Where memory is refused for them.
+/// Returns the segments of a path, which follow its first slash.
 #[tactic(auto, unfolding(crate::specs::Targets::segments_named))]
 fn segments_named(alloc: Global, path: &str) -> Result<Vec<Vec<u8>>, AllocError>
     ensures { IfOk result (λ parts. byte_lists parts.items ≡ spec.segments_named path.now) }
@@ -363,11 +356,7 @@ fn segments_named(alloc: Global, path: &str) -> Result<Vec<Vec<u8>>, AllocError>
     decoded_parts(alloc, &path.as_bytes()[1..], b'/')
 }
 
-/// The arguments of a query.
-///
-/// # Errors
-///
-/// Where memory is refused for them.
+/// Returns the arguments of a query.
 #[tactic(auto, unfolding(crate::specs::Targets::arguments_named))]
 fn arguments_named(alloc: Global, query: Option<&str>) -> Result<Vec<Vec<u8>>, AllocError>
     ensures { IfOk result (λ parts. byte_lists parts.items ≡ spec.arguments_named (option_copied query.entry)) }
@@ -378,21 +367,21 @@ fn arguments_named(alloc: Global, query: Option<&str>) -> Result<Vec<Vec<u8>>, A
     }
 }
 
-/// Whether one of the parts has more than 255 bytes.
+/// Returns `true` if a part has more than 255 bytes.
 fn any_long(parts: &[Vec<u8>]) -> bool
     ensures { result ≡ list_any spec.is_long (byte_lists parts.now) }
 {
     parts.iter().any(|part| part.len() > MAX_PART)
 }
 
-/// Whether the host, a segment or an argument has more than 255 bytes.
+/// Returns `true` if the host, a segment or an argument has more than 255 bytes.
 fn has_long_part(named: &Named) -> bool
     ensures { result ≡ spec.has_long_part (named_value named.now) }
 {
     named.host.len() > MAX_PART || any_long(&named.segments) || any_long(&named.arguments)
 }
 
-/// Whether there are more than 16 segments or more than 16 arguments.
+/// Returns `true` if there are more than 16 segments or more than 16 arguments.
 fn has_many_parts(named: &Named) -> bool
     ensures { result ≡ spec.has_many_parts (named_value named.now) }
 {

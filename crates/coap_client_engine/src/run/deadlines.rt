@@ -9,8 +9,10 @@ use coap_io::Outlet;
 use coap_request::ClientPlan;
 
 impl Run {
-    /// What is due by the moment: the observation is cancelled, or the run has waited long enough for its first or its
-    /// last response.
+    /// Checks the deadlines: cancels the observation if its seconds have passed, or ends the run if a response is
+    /// overdue.
+    ///
+    /// The run waits for its first response from its start, and for its last response from the cancellation.
     pub(super) fn watch<E: Outlet>(&mut self, err: &mut E, plan: &ClientPlan) -> Next
         requires { E.is_failed err.old ≡ false }
         ensures after { self.new.client
@@ -48,14 +50,14 @@ impl Run {
     }
 }
 
-/// Whether so many seconds have passed since a moment.
+/// Returns `true` if at least `seconds` seconds have passed between `since` and `now`.
 fn has_passed(now: u64, since: u64, seconds: u32) -> bool
     ensures { result ≡ spec.has_passed now since seconds }
 {
     now.saturating_sub(since) >= seconds as u64
 }
 
-/// The status of a run that waited since a moment, where it waited long enough.
+/// Returns the exit status of a run that has waited since `since`, if `wait` seconds have passed.
 fn late(now: u64, since: u64, wait: u32) -> Option<u8>
     ensures late { result ≡ spec.late now since wait }
     ensures status { IfSome result IsStatus }

@@ -1,4 +1,4 @@
-//! Input of a run: one read of the wire, and the messages in the bytes that were read.
+//! Input of a run: one read of the wire, and the processing of the bytes that were read.
 
 ghost use Rattle.std.specs.Prelude.{◌≡◌, ◌≤◌, ◌||◌, ◌∷◌, false, is_err, [], length, drop, IfOk, IfSome, OnOk};
 ghost use Rattle.coap_client_engine.specs.Prelude.{TellsMore, count_passed, AddsBytes, IsStatus, IsFresh, with_outlets};
@@ -13,7 +13,7 @@ use coap_io::{Got, Outlet, Wire};
 use coap_request::ClientPlan;
 
 impl Run {
-    /// Reads once, where nothing is left to take. The run ends where the input ends or the wire fails.
+    /// Reads once if no input is left to process. The run ends if the input has ended or the wire has failed.
     pub(super) fn listen<W: Wire, E: Outlet>(&mut self, wire: &mut W, err: &mut E) -> Next
         requires { E.is_failed err.old ≡ false }
         ensures runs { LeadsAll (with_wire (W.given wire.old) (W.written wire.old) (W.answers wire.old)
@@ -32,7 +32,7 @@ impl Run {
         }
     }
 
-    /// Reads once, in place of what was left to take, and tells the client where the input ended.
+    /// Reads once into the input buffer, whose old content is dropped. At the end of the input, calls `Client::ended`.
     fn read<W: Wire>(&mut self, wire: &mut W) -> Got
         ensures count { length self.new.rest ≡ count_passed result }
         ensures gave { AddsBytes (W.given wire.old) (W.given wire.new) self.new.rest }
@@ -54,7 +54,8 @@ impl Run {
         }
     }
 
-    /// Whether more of what was read may be taken: the client takes bytes, and the request is not to be sent first.
+    /// Returns `true` if more input can be processed: input is left, no request must be sent first, and the client
+    /// accepts bytes.
     fn may_take(&self) -> bool
         ensures { result ≡ spec.may_take self.now.client self.now.rest self.now.token }
     {
@@ -67,8 +68,9 @@ impl Run {
         self.client.takes()
     }
 
-    /// Takes what was read, message after message, as far as the client takes it. The request is sent before more is
-    /// taken.
+    /// Processes the input message by message, as long as the client accepts bytes.
+    ///
+    /// If the request must be sent, it is sent before more input is processed.
     pub(super) fn take_all<O: Outlet, E: Outlet>(
         &mut self,
         out: &mut O,
@@ -96,7 +98,7 @@ impl Run {
         Ok(None)
     }
 
-    /// Takes bytes of what was read, up to the end of a message.
+    /// Processes input up to the end of one message, and reports its event.
     fn take<O: Outlet, E: Outlet>(&mut self, out: &mut O, err: &mut E, newline: bool) -> Next
         requires out_works { O.is_failed out.old ≡ false }
         requires err_works { E.is_failed err.old ≡ false }
@@ -137,7 +139,7 @@ impl Run {
     }
 }
 
-/// Why a read ends the run: the input ended, or the wire failed.
+/// Returns the reason if a read ends the run: the input has ended, or the wire has failed.
 fn stop_behind(phase: Phase, got: Got) -> Option<Reason>
     ensures { result ≡ spec.stop_behind phase got }
 {

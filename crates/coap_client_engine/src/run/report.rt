@@ -1,4 +1,4 @@
-//! What a run reports: the payloads and lines that it writes, and the status that follows from them.
+//! Reports of a run: the payloads and lines that it writes, and the exit status that follows from them.
 
 ghost use Rattle.std.specs.Prelude.{◌≡◌, ◌||◌, false, is_err, Some, IfOk, IfSome, OnOk};
 ghost use Rattle.coap_client_engine.specs.Prelude.{AddsBytes, event_value, IsStatus, EndsWithStatus};
@@ -13,7 +13,7 @@ use coap_conn::{Reason, RequestFault};
 use coap_io::{Outlet, WriteFailed};
 use coap_wire::MessageRef;
 
-/// Tells what a message was, and answers what comes of it.
+/// Reports an event, and returns its effect on the run.
 pub(super) fn hear<O: Outlet, E: Outlet>(
     event: &Event,
     out: &mut O,
@@ -50,7 +50,7 @@ pub(super) fn hear<O: Outlet, E: Outlet>(
     }
 }
 
-/// Writes the payload of a last response that is 2.xx, or tells another one, and answers the status.
+/// Writes the payload of a last response that is 2.xx, or reports another one. Returns the exit status.
 fn answered<O: Outlet, E: Outlet>(
     response: &MessageRef,
     out: &mut O,
@@ -75,7 +75,7 @@ fn answered<O: Outlet, E: Outlet>(
     Ok(DECLINED)
 }
 
-/// Tells that a request was refused, which ends the run.
+/// Reports the error of a request, which ends the run.
 pub(super) fn refused<E: Outlet>(err: &mut E, fault: RequestFault) -> Next
     requires { E.is_failed err.old ≡ false }
     ensures told { OnOk result (AddsBytes (E.written err.old) (E.written err.new) (text.fault_line fault)) }
@@ -87,7 +87,7 @@ pub(super) fn refused<E: Outlet>(err: &mut E, fault: RequestFault) -> Next
     Ok(Some(BROKEN))
 }
 
-/// Tells that the connection stopped, which ends the run.
+/// Reports the stop of the connection, which ends the run.
 pub(super) fn stopped<E: Outlet>(err: &mut E, reason: Reason) -> Next
     requires { E.is_failed err.old ≡ false }
     ensures told { OnOk result (AddsBytes (E.written err.old) (E.written err.new) (text.stop_line reason)) }

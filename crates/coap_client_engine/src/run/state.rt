@@ -1,4 +1,4 @@
-//! The state of a run, and the results of its steps.
+//! State of a run, and the results of its steps.
 
 ghost use Rattle.std.specs.Prelude.{◌≡◌, None, [], IfOk};
 ghost use Rattle.coap_client_engine.specs.Prelude.{ClientShows, default_limits};
@@ -12,13 +12,13 @@ use coap_wire::Token;
 use std::alloc::{AllocError, Global};
 use thiserror::Error;
 
-/// Why a run ended without a status. The discriminants are the faults' numbers.
+/// Error that ends a run without an exit status. The discriminants are the numbers of the errors.
 #[derive(Clone, Copy, Debug, PartialEq, Eq, Error)]
 pub enum ClientFault {
-    /// An outlet failed.
+    /// Failure of an outlet.
     #[error("cannot write")]
     Output = 1,
-    /// Memory was refused.
+    /// Failure of an allocation.
     #[error("no memory")]
     Memory = 2,
 }
@@ -35,51 +35,51 @@ impl From<WriteFailed> for ClientFault {
     }
 }
 
-/// The status where the last response was 2.xx.
+/// Exit status if the last response was 2.xx.
 pub(super) const ANSWERED: u8 = 0;
 
-/// The status where the last response was another one, or was rejected.
+/// Exit status if the last response was not 2.xx, or had a critical option that is not recognised.
 pub(super) const DECLINED: u8 = 2;
 
-/// The status where the connection stopped, or the request could not be sent.
+/// Exit status if the connection stopped, or the request could not be sent.
 pub(super) const BROKEN: u8 = 3;
 
-/// The status where no answer came in time.
+/// Exit status if no response arrived in time.
 pub(super) const LATE: u8 = 4;
 
-/// What a step of a run comes to, where no outlet failed: the status with which the run ends, `None` where it goes on.
+/// Result of a step of a run, if no outlet failed: the exit status if the run ends, `None` if it continues.
 pub(super) type Next = Result<Option<u8>, WriteFailed>;
 
-/// What came of a message.
+/// Effect of an event on the run.
 pub(super) enum Heard {
-    /// Nothing that matters to the run.
+    /// No effect.
     Nothing,
-    /// A notification.
+    /// Arrival of a notification.
     Notified,
-    /// The run ends with this status.
+    /// End of the run with this exit status.
     Ended(u8),
 }
 
-/// A run.
+/// State of a run.
 #[derive(Drop)]
 pub(super) struct Run {
     pub(super) client: Client,
-    /// What was read and is not taken.
+    /// Bytes that were read and that the client has not accepted yet.
     pub(super) rest: Rest,
-    /// The token of the request, once it was sent.
+    /// Token of the request, after it was sent.
     pub(super) token: Option<Token>,
-    /// The moment at which the run began, in seconds.
+    /// Time at which the run began, in seconds.
     pub(super) started: u64,
-    /// The moment of this turn.
+    /// Time of the current iteration, in seconds. It never decreases.
     pub(super) moment: u64,
-    /// The moment of the first notification.
+    /// Time of the first notification, in seconds.
     pub(super) first: Option<u64>,
-    /// The moment at which the observation was cancelled.
+    /// Time at which the observation was cancelled, in seconds.
     pub(super) cancelled: Option<u64>,
 }
 
 impl Run {
-    /// A run that begins at this moment, with the limits that both programs have where nothing else is said.
+    /// Creates a run that begins at this time, with the limits that both programs use by default.
     pub(super) fn open(alloc: Global, started: u64) -> Result<Run, AllocError>
         ensures client { IfOk result (λ r. r.client ≡ value.new_client default_limits 0) }
         ensures shows { IfOk result (λ r. ClientShows r.client 0 []) }

@@ -13,7 +13,7 @@ use coap_io::{Got, Outlet, Wire};
 use coap_request::{ClientPlan, Extras};
 
 impl Run {
-    /// Whether the request is to be sent: the connection is open, and it was not sent.
+    /// Returns `true` if the request must be sent: the connection is open, and the request was not sent before.
     pub(super) fn is_to_ask(&self) -> bool
         ensures { result ≡ spec.is_to_ask self.now.client.link.phase self.now.token }
     {
@@ -23,7 +23,7 @@ impl Run {
         }
     }
 
-    /// Sends the request, where it is to be sent. Where the queue has no room, the next turn tries again.
+    /// Sends the request if it must be sent. If the queue has no room, a later call tries again.
     pub(super) fn ask<E: Outlet>(&mut self, err: &mut E, plan: &ClientPlan) -> Next
         requires { E.is_failed err.old ≡ false }
         ensures next { IfOk result (λ next. next ≡ spec.ended_by
@@ -55,7 +55,7 @@ impl Run {
         }
     }
 
-    /// Cancels the observation. Where the queue has no room, the next turn tries again.
+    /// Cancels the observation. If the queue has no room, the next iteration tries again.
     pub(super) fn cancel<E: Outlet>(&mut self, err: &mut E, plan: &ClientPlan) -> Next
         requires { E.is_failed err.old ≡ false }
         ensures next { IfOk result (λ next. next ≡ spec.ended_by
@@ -87,7 +87,7 @@ impl Run {
         }
     }
 
-    /// Writes once, where anything waits. The run ends where the wire fails, if nothing else ended it.
+    /// Writes once if any bytes are queued. If the wire fails, the run ends, unless it has already ended.
     pub(super) fn flush<W: Wire, E: Outlet>(
         &mut self,
         wire: &mut W,
@@ -112,7 +112,7 @@ impl Run {
         }
     }
 
-    /// Writes once a front of what waits, as far as the wire takes it.
+    /// Writes the first contiguous queued bytes once, and removes those that the wire accepted from the queue.
     fn write<W: Wire>(&mut self, wire: &mut W) -> Got
         ensures client { self.new.client ≡ value.client_written self.old.client (count_passed result) }
         ensures shows { (tokens : ℕ) (calls : List ClientCall) → ClientShows self.old.client tokens calls →
@@ -138,7 +138,7 @@ impl Run {
     }
 }
 
-/// Why a write ends the run, where nothing else did: the wire failed.
+/// Returns the reason if a write ends the run: the wire failed, and the run had not ended before.
 fn stop_written(next: Option<u8>, got: Got) -> Option<Reason>
     ensures { result ≡ spec.stop_written next got }
 {
@@ -153,7 +153,7 @@ fn stop_written(next: Option<u8>, got: Got) -> Option<Reason>
     }
 }
 
-/// What the plan asks beside its method and its target.
+/// Returns the properties of the request that the plan gives besides its method and target.
 fn extras_of<'a>(plan: &'a ClientPlan) -> Extras<'a>
     ensures { extras_value result ≡ spec.planned_extras plan.now }
 {

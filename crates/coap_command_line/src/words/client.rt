@@ -1,4 +1,4 @@
-//! The words of `coap-client`.
+//! Options of `coap-client`.
 
 ghost use Rattle.std.specs.Prelude.{◌≡◌, IfOk, MatchOption, None, Some, codes, false, option_map, string_bytes, true};
 ghost use Rattle.coap_command_line.specs.Prelude.{after_first, before_first, list_any, first_of, found_of, rows_of};
@@ -15,7 +15,7 @@ use coap_text::bytes_in;
 use percent_encoding::percent_decode;
 use std::alloc::{AllocError, Global};
 
-/// The method of a name.
+/// Returns the method with this name.
 #[tactic(auto, unfolding(crate::specs::ClientWords::method_named))]
 fn method_named(text: &str) -> Option<Method>
     ensures { result ≡ spec.method_named text.now }
@@ -33,11 +33,9 @@ fn method_named(text: &str) -> Option<Method>
     }
 }
 
-/// The method of the request, GET where none is said.
+/// Returns the method of the request, by default GET.
 ///
-/// # Errors
-///
-/// The option's name, where its text names no method.
+/// The error is the name of the option, if its text is no method.
 fn method(matches: &ArgMatches<'_>) -> Result<Method, &'static str>
     ensures { named result ≡ option_value (codes "-m") spec.method_named Get (rows_of (found_of matches.now)) }
 {
@@ -50,7 +48,7 @@ fn method(matches: &ArgMatches<'_>) -> Result<Method, &'static str>
     }
 }
 
-/// The number of a content format, by its full name.
+/// Returns the number of the content format with this full name.
 #[tactic(auto, unfolding(crate::specs::ClientWords::format_named))]
 fn format_named(text: &str) -> Option<u16>
     ensures { result ≡ spec.format_named text.now }
@@ -74,7 +72,7 @@ fn format_named(text: &str) -> Option<u16>
     }
 }
 
-/// A content format, by its full name or its number.
+/// Returns the content format with this full name or number.
 #[tactic(auto, unfolding(crate::specs::ClientWords::format_of))]
 fn format_in(text: &str) -> Option<u16>
     ensures { result ≡ spec.format_of text.now }
@@ -86,11 +84,9 @@ fn format_in(text: &str) -> Option<u16>
     Some(number as u16)
 }
 
-/// The content format of an option.
+/// Returns the content format of an option.
 ///
-/// # Errors
-///
-/// The option's name, where its text is no content format.
+/// The error is the name of the option, if its text is no content format.
 fn format(matches: &ArgMatches<'_>, name: &'static str) -> Result<Option<u16>, &'static str>
     ensures { named result ≡ option_value name.now (spec.perhaps spec.format_of) None (rows_of (found_of matches.now)) }
 {
@@ -103,11 +99,9 @@ fn format(matches: &ArgMatches<'_>, name: &'static str) -> Result<Option<u16>, &
     }
 }
 
-/// The seconds of an observation.
+/// Returns the duration of the observation in seconds.
 ///
-/// # Errors
-///
-/// The option's name, where its text is no number that fits in 32 bits.
+/// The error is the name of the option, if its text is no 32-bit number.
 fn observe(matches: &ArgMatches<'_>) -> Result<Option<u32>, &'static str>
     ensures { named result
         ≡ option_value (codes "-s") (spec.perhaps (number_within 0 4294967295)) None (rows_of (found_of matches.now)) }
@@ -121,7 +115,7 @@ fn observe(matches: &ArgMatches<'_>) -> Result<Option<u32>, &'static str>
     }
 }
 
-/// The values of all options but the last one whose text may mean nothing.
+/// Values of the options whose text can be invalid, except `-O`.
 #[derive(Clone, Copy)]
 pub(super) struct RequestValues {
     pub(super) method: Method,
@@ -131,11 +125,9 @@ pub(super) struct RequestValues {
     pub(super) wait: u32,
 }
 
-/// The values of all options but the last one whose text may mean nothing.
+/// Returns the values of the options whose text can be invalid, except `-O`.
 ///
-/// # Errors
-///
-/// The name of the first option whose text means nothing, in the order of the usage line.
+/// The error is the name of the first option with an invalid text, in the order of the usage line.
 #[tactic(auto, unfolding(crate::specs::ClientWords::request_said))]
 fn request_values(matches: &ArgMatches<'_>) -> Result<RequestValues, &'static str>
     ensures { named result ≡ spec.request_said (rows_of (found_of matches.now)) }
@@ -154,7 +146,7 @@ fn request_values(matches: &ArgMatches<'_>) -> Result<RequestValues, &'static st
     })
 }
 
-/// What stands before the first comma, and what behind it.
+/// Splits a text at its first comma.
 
 fn halves(text: &str) -> Option<(&str, &str)>
     ensures { spec.AreHalves text.now (option_map (λ x. (x.0.now, x.1.now)) result) }
@@ -162,11 +154,8 @@ fn halves(text: &str) -> Option<(&str, &str)>
     text.split_once(',')
 }
 
-/// The value of one more option: the text itself, or behind `0x` the bytes of pairs of hexadecimal digits.
-///
-/// # Errors
-///
-/// Where memory is refused for it.
+/// Returns the value of the extra option: the bytes of the hexadecimal digits after `0x`, or the text itself if there
+/// is no `0x`.
 #[tactic(auto, unfolding(crate::specs::ClientWords::option_bytes))]
 fn option_bytes(alloc: Global, text: &str) -> Result<Option<Vec<u8>>, AllocError>
     ensures { IfOk result (λ found. option_map (λ v. v.items) found ≡ spec.option_bytes text.now) }
@@ -179,14 +168,10 @@ fn option_bytes(alloc: Global, text: &str) -> Result<Option<Vec<u8>>, AllocError
     Ok(Some(value))
 }
 
-/// The most bytes of the value of one more option.
+/// Maximum length of the value of the extra option, in bytes.
 const MAX_OPTION: usize = 1_034;
 
-/// One more option: a number, a comma and its value.
-///
-/// # Errors
-///
-/// Where memory is refused for the value.
+/// Returns the extra option in a text: a number, a comma and a value.
 #[tactic(auto, unfolding(crate::specs::ClientWords::extra_of))]
 fn extra_in(alloc: Global, text: &str) -> Result<Option<(u16, Vec<u8>)>, AllocError>
     ensures { IfOk result (λ found. option_map extra_value found ≡ spec.extra_of text.now) }
@@ -206,11 +191,9 @@ fn extra_in(alloc: Global, text: &str) -> Result<Option<(u16, Vec<u8>)>, AllocEr
     Ok(Some((number as u16, value)))
 }
 
-/// One more option, where the command line has it: in the second place the option's name, where its text means nothing.
+/// Returns the extra option, if `-O` is given.
 ///
-/// # Errors
-///
-/// Where memory is refused for its value.
+/// The inner error is the name of the option, if its text is invalid. The outer error is a failed allocation.
 fn extra(
     alloc: Global,
     matches: &ArgMatches<'_>,
@@ -226,11 +209,7 @@ fn extra(
     }
 }
 
-/// What the URI names.
-///
-/// # Errors
-///
-/// As `Target::read`.
+/// Returns the target of the URI. The errors are those of `Target::read`.
 #[tactic(auto, unfolding(crate::specs::ClientWords::uri_said))]
 fn aim(alloc: Global, matches: &ArgMatches<'_>) -> Result<Target, TargetFault>
     ensures { GivesUnlessMemory result (target_of (spec.uri_said (rows_of (found_of matches.now)))) }
@@ -239,11 +218,7 @@ fn aim(alloc: Global, matches: &ArgMatches<'_>) -> Result<Target, TargetFault>
     Target::read(alloc, uri)
 }
 
-/// The payload of the command line.
-///
-/// # Errors
-///
-/// Where memory is refused for it.
+/// Returns the payload of `-e`, percent-decoded, or no bytes if the option is not given.
 #[tactic(auto, unfolding(crate::specs::ClientWords::payload_said))]
 fn payload(alloc: Global, matches: &ArgMatches<'_>) -> Result<Vec<u8>, AllocError>
     ensures { IfOk result (λ bytes. bytes.items ≡ spec.payload_said (rows_of (found_of matches.now))) }
@@ -254,11 +229,7 @@ fn payload(alloc: Global, matches: &ArgMatches<'_>) -> Result<Vec<u8>, AllocErro
     Ok(bytes)
 }
 
-/// The name of a file, where the option was used.
-///
-/// # Errors
-///
-/// Where memory is refused for it.
+/// Returns the file name of an option, if the option is given.
 fn file_name(
     alloc: Global,
     matches: &ArgMatches<'_>,
@@ -275,8 +246,8 @@ fn file_name(
     }
 }
 
-/// Whether two options exclude each other: a payload from the command line and one from a file, or an observation by
-/// another method than GET.
+/// Returns `true` if two options exclude each other: both `-e` and `-f` are given, or `-s` with another method than
+/// GET.
 #[tactic(auto, unfolding(crate::specs::ClientWords::clashes))]
 fn clashes(matches: &ArgMatches<'_>, values: &RequestValues) -> bool
     ensures { result ≡ spec.clashes (rows_of (found_of matches.now)) values.now }
@@ -287,11 +258,7 @@ fn clashes(matches: &ArgMatches<'_>, values: &RequestValues) -> bool
     values.observe.is_some() && values.method != Method::Get
 }
 
-/// The plan with these values, and the texts that mean what they say.
-///
-/// # Errors
-///
-/// Where memory is refused.
+/// Returns the plan with these values, after adding the values of the options whose text is always valid.
 fn plan_with(
     alloc: Global,
     matches: &ArgMatches<'_>,
@@ -321,11 +288,7 @@ fn plan_with(
     })
 }
 
-/// The plan of what `clap` found in the words.
-///
-/// # Errors
-///
-/// `Target`, `Value`, `Clash` or `Memory`.
+/// Returns the plan for the options that `clap` found, or the error `Target`, `Value`, `Clash` or `Memory`.
 #[tactic(auto, unfolding(crate::specs::ClientWords::client_plan_in))]
 pub(super) fn client_plan(alloc: Global, matches: &ArgMatches<'_>) -> Result<ClientPlan, WordsFault>
     ensures { TellsClientPlan (spec.client_plan_in (rows_of (found_of matches.now))) result }

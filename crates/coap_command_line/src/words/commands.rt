@@ -1,4 +1,4 @@
-//! The command lines as `clap` is given them.
+//! Definitions of both command lines for `clap`.
 
 ghost use Rattle.std.specs.Prelude.{◌≡◌, IfErr, IfOk, Some, [], map, true};
 ghost use Rattle.coap_command_line.specs.Prelude.{app_of, fault_of, found_of, is_simple, is_simple_and_free};
@@ -13,7 +13,7 @@ use clap::{Arg, ArgAction, ArgMatches, Command};
 use std::alloc::{AllocError, Global};
 use std::convert::AsStr;
 
-/// The command with one more option of a letter, which takes a text.
+/// Adds a short option with a value.
 fn with_letter<'a>(
     alloc: Global,
     command: Command<'a>,
@@ -32,7 +32,7 @@ fn with_letter<'a>(
     command.arg(option)
 }
 
-/// The command with one more option of a word, which takes a text.
+/// Adds a long option with a value.
 fn with_word<'a>(
     alloc: Global,
     command: Command<'a>,
@@ -51,7 +51,7 @@ fn with_word<'a>(
     command.arg(option)
 }
 
-/// The command with one more option of a word, which takes a number.
+/// Adds a long option with a number as its value.
 fn with_number<'a>(
     alloc: Global,
     command: Command<'a>,
@@ -65,7 +65,7 @@ fn with_number<'a>(
     with_word(alloc, command, name, word, "N", help)
 }
 
-/// The command with one more option of a letter, which takes no text.
+/// Adds a short option without a value.
 fn with_letter_flag<'a>(
     alloc: Global,
     command: Command<'a>,
@@ -83,7 +83,7 @@ fn with_letter_flag<'a>(
     command.arg(option)
 }
 
-/// The command with one more option of a word, which takes no text.
+/// Adds a long option without a value.
 fn with_word_flag<'a>(
     alloc: Global,
     command: Command<'a>,
@@ -101,8 +101,7 @@ fn with_word_flag<'a>(
     command.arg(option)
 }
 
-/// The command of this name with the version of the programs and no other option, whose words are those behind the
-/// program's name.
+/// Creates a command with this name and the version of the programs. Its arguments do not include the program's name.
 fn bare<'a>(alloc: Global, name: &'a str, about: &'a str) -> Command<'a>
     ensures { app_of result ≡ spec.bare_app name.entry.now }
 {
@@ -112,11 +111,7 @@ fn bare<'a>(alloc: Global, name: &'a str, about: &'a str) -> Command<'a>
         .no_binary_name(true)
 }
 
-/// The command of `coap-server`.
-///
-/// # Errors
-///
-/// Where memory is refused.
+/// Creates the command of `coap-server`.
 pub(super) fn server_command<'a>(alloc: Global) -> Result<Command<'a>, AllocError>
     ensures { IfOk result (λ c. app_of c ≡ server_app) }
 {
@@ -147,7 +142,7 @@ pub(super) fn server_command<'a>(alloc: Global) -> Result<Command<'a>, AllocErro
     with_number(alloc, command, "--turns", "turns", help::TURNS)
 }
 
-/// The command with the URI as its one word that is no option, which has to be there.
+/// Adds the URI as the only argument that is no option. The URI is required.
 fn with_uri<'a>(alloc: Global, command: Command<'a>) -> Result<Command<'a>, AllocError>
     ensures { IfOk result (λ c. app_of c ≡ with_rule (app_of command.entry) uri_rule) }
 {
@@ -155,11 +150,7 @@ fn with_uri<'a>(alloc: Global, command: Command<'a>) -> Result<Command<'a>, Allo
     command.arg(uri)
 }
 
-/// The command of `coap-client`.
-///
-/// # Errors
-///
-/// Where memory is refused.
+/// Creates the command of `coap-client`.
 pub(super) fn client_command<'a>(alloc: Global) -> Result<Command<'a>, AllocError>
     ensures { IfOk result (λ c. app_of c ≡ client_app) }
 {
@@ -178,11 +169,12 @@ pub(super) fn client_command<'a>(alloc: Global) -> Result<Command<'a>, AllocErro
     with_uri(alloc, command)
 }
 
-/// What `clap` finds in the words of a flat command.
+/// Returns the options that `clap` finds in the arguments of a command without subcommands.
 ///
 /// # Errors
 ///
-/// `Usage` where `clap` refuses the words, and `Memory` where memory is refused.
+/// - `Usage`: `clap` rejects the arguments, or they ask for help or for the version.
+/// - `Memory`: allocation failed.
 pub(super) fn matches_in<'a, S: AsStr>(
     command: Command<'a>,
     words: &'a [S],

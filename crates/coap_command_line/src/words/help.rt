@@ -1,6 +1,6 @@
-//! What `--help` and `--version` say of the programs: each option in one line, with its range and its default.
+//! Texts of `--help` and `--version`: one line for each option, with its range and its default.
 
-/// The version of both programs.
+/// Version of both programs.
 pub(super) const VERSION: &str = "0.1.0";
 
 // ---- coap-server

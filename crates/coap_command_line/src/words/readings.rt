@@ -1,4 +1,4 @@
-//! What the texts of options mean, whatever the program.
+//! Values of options, for both programs.
 
 ghost use Rattle.std.specs.Prelude.{◌≡◌, ◌≤◌, IfOk, IfSome, option_map};
 ghost use Rattle.coap_command_line.specs.Prelude.{first_of, found_of, rows_of};
@@ -7,7 +7,7 @@ ghost use Rattle.coap_command_line.specs.CommandLines as spec;
 use clap::ArgMatches;
 use coap_text::number_in;
 
-/// The text of an option, where it was used.
+/// Returns the text of an option, if the option is given.
 #[tactic(auto, using(crate::proofs::WordLemmas::first_text))]
 pub(super) fn text_of<'a>(matches: &ArgMatches<'a>, name: &str) -> Option<&'a str>
     ensures { option_map (λ s. s.now) result ≡ first_of name.now (rows_of (found_of matches.now)) }
@@ -15,7 +15,7 @@ pub(super) fn text_of<'a>(matches: &ArgMatches<'a>, name: &str) -> Option<&'a st
     matches.get_str(name)
 }
 
-/// Whether an option that takes no text was used.
+/// Returns `true` if an option without a value is given.
 #[tactic(auto, unfolding(crate::specs::CommandLines::is_used))]
 pub(super) fn is_used(matches: &ArgMatches<'_>, name: &str) -> bool
     ensures { result ≡ spec.is_used name.now (rows_of (found_of matches.now)) }
@@ -26,7 +26,7 @@ pub(super) fn is_used(matches: &ArgMatches<'_>, name: &str) -> bool
     }
 }
 
-/// The number that a text means, where it lies between these bounds.
+/// Returns the number in a text, if the number is between `low` and `high`.
 #[tactic(auto, unfolding(crate::specs::CommandLines::number_within))]
 pub(super) fn number_within(text: &str, low: u64, high: u64) -> Option<u64>
     ensures value { result ≡ spec.number_within low high text.now }
@@ -39,11 +39,9 @@ pub(super) fn number_within(text: &str, low: u64, high: u64) -> Option<u64>
     Some(number)
 }
 
-/// The number of an option, or this one where it is not used.
+/// Returns the number of an option, or `unused` if the option is not given.
 ///
-/// # Errors
-///
-/// The option's name, where its text is no decimal number between these bounds.
+/// The error is the name of the option, if its text is no decimal number between `low` and `high`.
 pub(super) fn number(
     matches: &ArgMatches<'_>,
     name: &'static str,

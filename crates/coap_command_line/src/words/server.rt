@@ -1,4 +1,4 @@
-//! The words of `coap-server`.
+//! Options of `coap-server`.
 
 ghost use Rattle.std.specs.Prelude.{◌≡◌, IfOk, Some, codes, option_map};
 ghost use Rattle.coap_command_line.specs.Prelude.{found_of, rows_of, named, option_value, TellsServerPlan, mode_value};
@@ -15,7 +15,7 @@ use coap_wire::{
 use std::alloc::{AllocError, Global};
 use std::net::{IpAddr, Ipv4Addr};
 
-/// The values of all options but the two that choose a mode.
+/// Values of all options except `--stdio` and `--script`, which choose a mode.
 #[derive(Clone, Copy)]
 pub(super) struct ServerValues {
     pub(super) address: IpAddr,
@@ -26,18 +26,16 @@ pub(super) struct ServerValues {
     pub(super) turns: u64,
 }
 
-/// The numeric address that a text writes.
+/// Returns the numeric IP address that a text denotes, or `None` if there is none.
 fn address_in(text: &str) -> Option<IpAddr>
     ensures { result ≡ spec.address_of text.now }
 {
     text.parse::<IpAddr>().ok()
 }
 
-/// The address to listen at, 0.0.0.0 where none is said.
+/// Returns the address to listen at, by default 0.0.0.0.
 ///
-/// # Errors
-///
-/// The option's name, where its text is no numeric address.
+/// The error is the name of the option, if its text is no numeric address.
 fn address(matches: &ArgMatches<'_>) -> Result<IpAddr, &'static str>
     ensures { named result
         ≡ option_value (codes "-A") spec.address_of spec.every_address (rows_of (found_of matches.now)) }
@@ -51,11 +49,9 @@ fn address(matches: &ArgMatches<'_>) -> Result<IpAddr, &'static str>
     }
 }
 
-/// The limits of each connection.
+/// Returns the limits of each connection.
 ///
-/// # Errors
-///
-/// The name of the first option whose text is no number in its range.
+/// The error is the name of the first option whose text is no number in its range.
 #[tactic(auto, unfolding(crate::specs::ServerWords::limits_said))]
 fn limits(matches: &ArgMatches<'_>) -> Result<Limits, &'static str>
     ensures { named result ≡ spec.limits_said (rows_of (found_of matches.now)) }
@@ -92,11 +88,9 @@ fn limits(matches: &ArgMatches<'_>) -> Result<Limits, &'static str>
     Ok(limits)
 }
 
-/// The values of all options but the two that choose a mode.
+/// Returns the values of all options except `--stdio` and `--script`.
 ///
-/// # Errors
-///
-/// The name of the first option whose text means nothing or is out of its range, in the order of the usage line.
+/// The error is the name of the first option whose text is malformed or out of range, in the order of the usage line.
 #[tactic(auto, unfolding(crate::specs::ServerWords::values_said))]
 pub(super) fn server_values(matches: &ArgMatches<'_>) -> Result<ServerValues, &'static str>
     ensures { named result ≡ spec.values_said (rows_of (found_of matches.now)) }
@@ -117,11 +111,7 @@ pub(super) fn server_values(matches: &ArgMatches<'_>) -> Result<ServerValues, &'
     })
 }
 
-/// What the server does: `None` where `--stdio` and `--script` exclude each other.
-///
-/// # Errors
-///
-/// Where memory is refused for the script's name.
+/// Returns the mode of the server, or `None` if both `--stdio` and `--script` are given.
 fn mode_in(
     alloc: Global,
     stdio: bool,
@@ -149,11 +139,7 @@ fn mode_in(
     }
 }
 
-/// The plan of what `clap` found in the words.
-///
-/// # Errors
-///
-/// `Value`, `Clash` or `Memory`.
+/// Returns the plan for the options that `clap` found, or the error `Value`, `Clash` or `Memory`.
 #[tactic(auto, unfolding(crate::specs::ServerWords::server_plan_in))]
 pub(super) fn server_plan(alloc: Global, matches: &ArgMatches<'_>) -> Result<ServerPlan, WordsFault>
     ensures { TellsServerPlan (spec.server_plan_in (rows_of (found_of matches.now))) result }

@@ -2,7 +2,7 @@ use Rattle.std.proofs.Common.{◌≡◌, None, false}
 use Rattle.coap_client_engine.specs.Prelude.{seen, LeadsOn, IsFlushed}
 use Rattle.coap_client_engine.proofs.run.run_client.Given as goal
 
--- no outlet has failed, and the run goes on, with as many turns as were counted
+-- No outlet has failed, and the run continues after the counted number of iterations.
 abbrev pub invariant-loop : goal.invariant-loop
 invariant-loop g l = record {
   out : g.O.Outlet.is_failed l.out ≡ false;

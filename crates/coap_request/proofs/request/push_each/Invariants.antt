@@ -2,7 +2,7 @@ use Rattle.std.proofs.Common.{◌≡◌, ◌+◌, ◌++◌, length, take}
 use Rattle.coap_request.specs.Prelude.{coap_options, options_with, IsRow, byte_lists}
 use Rattle.coap_request.proofs.request.push_each.Given as goal
 
--- the options of the values so far stand behind those that were there
+-- The options of the values so far follow the options that were in the list before.
 abbrev pub invariant-loop-value : goal.invariant-loop-value
 invariant-loop-value l =
     record {

@@ -3,7 +3,7 @@ use Rattle.coap_client_engine.specs.Prelude.{Course, status_in, turns_in, Seen, 
 use Rattle.coap_client_engine.specs.Prelude.{IsAsked}
 use Rattle.coap_client_engine.proofs.run.state.Run.take_all.Given as goal
 
--- no outlet has failed, the run goes on, and as much was taken as was counted
+-- No outlet has failed, the run continues, and at least the counted number of bytes was processed.
 abbrev pub invariant-loop : goal.invariant-loop
 invariant-loop g l = record {
   out : g.O.Outlet.is_failed l.out ≡ false;
