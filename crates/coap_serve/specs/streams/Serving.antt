@@ -134,8 +134,8 @@ pub record IsOpening {W : Type 0} (told : List (DoorCall W) → Type 0) (v : Ser
 
 -- One turn of a server with its connections. `told` states which calls the listener had. If another connection may be
 -- opened, the listener is asked once, and a connection is opened for the wire that it returns. Then each connection is
--- served. The wait is zero if and only if a connection was opened, a change may affect one served before it, or one can
--- be served at once.
+-- served. The wait is zero if and only if a connection was opened, a change may affect one served earlier, or one is
+-- ready.
 pub record IsTurnOf {W : Type 0} (readable writable : W → Option Bool) (trace : W → WireTrace) (told : List (DoorCall W) → Type 0) (v : ServerValue) (es : List (ℕ × Peer W)) (after : ServerValue) (left : List (ℕ × Peer W)) (wait : Wait) : Type 0 where
   pub opens : Bool
   pub server : ServerValue

@@ -160,8 +160,8 @@ abbrev pub IsAsked : (wanted : Bool) (told : Option Bool) (answer : Bool) → Ty
 IsAsked true told answer = IsTold told answer
 IsAsked false told answer = answer ≡ false
 
--- `result` is `true` if something can be done at once. The connection has bytes to accept or to discard, or its wire
--- must be read and may be, or it must be written and may be.
+-- `result` is `true` if something can be done at once. The connection has bytes to accept or to discard, its wire must
+-- be read and may be, or it must be written and may be.
 pub record CanGoOn (e : FarEnd) (result : Bool) : Type 0 where
   pub reads : Bool
   pub writes : Bool
