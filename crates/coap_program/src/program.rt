@@ -62,7 +62,8 @@ impl Program<'_> {
     }
 
     /// Writes help or the version to standard output if the arguments ask for it, and otherwise the error to standard
-    /// error. Returns the exit status of the program, which is 3 if standard output does not accept the text.
+    /// error. Returns the exit status: 0 for help and the version, 1 for invalid arguments, 3 if an allocation failed.
+    /// If standard output does not accept the text, the status is 3.
     pub fn refuse(&self, rt: &(impl Print + Eprint), fault: &WordsFault) -> u8
         ensures within { result ≤ 3 }
         ensures refused { is_help_or_version fault.now ≡ false →

@@ -8,7 +8,7 @@ use std::rt::Files;
 
 /// Error that ends a script.
 enum Trouble {
-    /// File that cannot be read.
+    /// Failure to read the file.
     File(FileTrouble),
     /// Number of the first line that is no event, from 1.
     Line(u64),

@@ -159,7 +159,7 @@ impl<'a, R: Net + time::Clock> SocketDoor<'a, R> {
     /// # Errors
     ///
     /// - `Socket`: the system cannot listen at the address.
-    /// - `Memory`: an allocation for the places failed.
+    /// - `Memory`: an allocation failed.
     pub fn listen(
         rt: &'a R,
         alloc: Global,

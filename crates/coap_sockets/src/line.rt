@@ -27,7 +27,8 @@ use thiserror::Error;
 /// Error of `Line::connect`.
 #[derive(Clone, Copy, Debug, PartialEq, Eq, Error)]
 pub enum ConnectFault {
-    /// Host of which no address accepted a connection in time, with the cause for the last address tried.
+    /// Failure to connect, with its cause. If the host has several addresses, the cause is that of the last address
+    /// tried.
     #[error("cannot connect")]
     Socket(Hindrance),
     /// Failed allocation.

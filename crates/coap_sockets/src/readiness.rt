@@ -125,7 +125,7 @@ impl Readiness {
         // The system is not called either if the write is deferred. A write is deferred at most once.
         ensures later { self.old.writable ≡ true → self.old.yields ≡ true →
             (stream.new ≡ stream.old) × (self.new ≡ spec.put_off self.old) × (result ≡ Later) }
-        // After a write was made, no write is marked as deferred.
+        // A write that is made clears both flags of deferral.
         ensures made { self.old.writable ≡ true → self.old.yields ≡ false →
             (self.new.yields ≡ false) × (self.new.has_yielded ≡ false) }
     {

@@ -28,7 +28,7 @@ none_or_same i stamp later e = grind (arith, nat_tests)
 
 -- ---- readiness
 
--- An answer that a wire may give if it is asked.
+-- A possible result of asking a wire for its readiness.
 pub an_answer : (wanted : Bool) (told : Option Bool) → (answer : Bool) × IsAsked wanted told answer
 an_answer true None = (false, tt)
 an_answer true (Some told) = (told, refl)

@@ -54,7 +54,7 @@ pub record HasTurned (v after : ServerValue) : Type 0 where
 
 -- ---- each connection in order
 
--- The server and the entry of a connection after it was served. If the connection is over, it is dropped.
+-- The server and the entry of a connection after it was served. If the outcome is `Over`, the connection is dropped.
 abbrev pub server_left : Course → ServerValue → ℕ → ServerValue
 server_left Open v id = v
 server_left Over v id = server_dropped v id
@@ -63,7 +63,8 @@ abbrev pub end_left : {W : Type 0} → Course → ℕ → Peer W → List (ℕ �
 end_left Open id p = (id, p) ∷ []
 end_left Over id p = []
 
--- A connection was served in a turn, and was dropped if it is over. Its wire was read and written at no other time.
+-- A connection was served in a turn, and was dropped if its outcome is `Over`. Its wire was read and written at no
+-- other time.
 pub record HasHadItsPart {W : Type 0} (readable writable : W → Option Bool) (trace : W → WireTrace) (v : ServerValue) (e : ℕ × Peer W) (after : ServerValue) (left : List (ℕ × Peer W)) : Type 0 where
   pub served : ServerValue
   pub peer : Peer W

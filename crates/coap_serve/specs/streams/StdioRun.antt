@@ -104,7 +104,7 @@ pub record LeavesNothing (c : ConfigValues) (bytes output : List ℕ) : Type 0 w
   pub none_waits : waiting_on side ≡ []
   pub written : output ≡ bytes_of side.history.queued
 
--- The same for some of the first bytes read. In a run that ends by a failed allocation, they are those before the last
+-- The same for a prefix of the bytes read. In a run that ends by a failed allocation, the prefix ends before the last
 -- byte of the request that could not be stored.
 pub record LeavesNothingBefore (c : ConfigValues) (pieces : List (List ℕ)) (output : List ℕ) : Type 0 where
   pub taken : List ℕ

@@ -44,12 +44,12 @@ server_wrote v id Later = v
 server_wrote v id End = v
 server_wrote v id Failed = v
 
--- The bytes that are kept of those left: none if the connection processes no further message.
+-- The bytes that are kept of those left: none if the connection processes no further message, otherwise all.
 abbrev pub left_behind : Option Reason → List ℕ → List ℕ
 left_behind None rest = rest
 left_behind (Some why) rest = []
 
--- The bytes that are left after the connection accepted all that it accepts of these.
+-- The bytes that are kept after the connection accepted all that it accepts of these.
 abbrev pub rest_left : ServerValue → ℕ → List ℕ → List ℕ
 rest_left v id rest = left_behind (stop_on (session_of id (fed v id rest).server.sessions)) (drop (fed v id rest).count rest)
 
@@ -90,7 +90,7 @@ pub record IsTakenAndWritten (may_write : Bool) (v : ServerValue) (id : ℕ) (by
   pub rest : left ≡ rest_left v id bytes
   pub outcome : course ≡ course_of wrote (is_over_in (outlook_of after id))
 
--- The steps that follow a read. If the read failed, there is none, and the connection is over.
+-- The steps that follow a read. If the read failed, there is none, and the outcome is `Over`.
 abbrev pub IsCarriedOn : (failed may_write : Bool) → ServerValue → ℕ → List ℕ → WireTrace → ServerValue → List ℕ → WireTrace → Course → Type 0
 IsCarriedOn true may_write v id bytes wire after left told course = (after ≡ v) × (told ≡ wire) × (course ≡ Over)
 IsCarriedOn false may_write v id bytes wire after left told course = IsTakenAndWritten may_write v id bytes wire after left told course
@@ -114,8 +114,8 @@ pub record ComesToNothing (may_read may_write : Bool) (v : ServerValue) (id : �
   pub there_is_one : (wire : WireTrace) → IsServedOnce may_read may_write v id rest wire v rest wire Open
   pub always : (wire : WireTrace) (after : ServerValue) (left : List ℕ) (told : WireTrace) (course : Course) → IsServedOnce may_read may_write v id rest wire after left told course → (after ≡ v) × (left ≡ rest) × (told ≡ wire) × (course ≡ Open)
 
--- The connection was served once, for the readiness that its wire returned. If the wire records its readiness,
--- `readable` and `writable` are that.
+-- The connection was served once, with the results of `may_read` and `may_write` of its wire. If the wire records them,
+-- they are `readable` and `writable`.
 pub record IsServed (readable writable : Option Bool) (v : ServerValue) (id : ℕ) (rest : List ℕ) (wire : WireTrace) (after : ServerValue) (left : List ℕ) (told : WireTrace) (course : Course) : Type 0 where
   pub may_read : Bool
   pub may_write : Bool
@@ -125,8 +125,8 @@ pub record IsServed (readable writable : Option Bool) (v : ServerValue) (id : �
 
 -- ---- remaining work
 
--- The I/O interest of a connection with this work left. Bytes read before can be accepted or must be discarded, the
--- wire must be read, the wire must be written. Nothing applies if there is no connection.
+-- The I/O interest of a connection with this work left. It states if bytes read before can be accepted or must be
+-- discarded, and if the wire must be read and written. Without a connection it is empty.
 abbrev pub wants_in : Option Outlook → (is_empty : Bool) → Stamp → Wants
 wants_in None is_empty stamp = record { take = false; read = false; write = false; due = None; stamp = stamp }
 wants_in (Some o) is_empty stamp = record {
@@ -155,7 +155,7 @@ pub record FarEnd : Type 0 where
 abbrev pub end_of : {W : Type 0} (readable writable : W → Option Bool) → Peer W → FarEnd
 end_of readable writable p = record { readable = readable p.wire; writable = writable p.wire; wants = p.wants }
 
--- The readiness of a wire if it is wanted, and otherwise `false`.
+-- `answer` is the readiness of a wire if that is wanted, and otherwise `false`.
 abbrev pub IsAsked : (wanted : Bool) (told : Option Bool) (answer : Bool) → Type 0
 IsAsked true told answer = IsTold told answer
 IsAsked false told answer = answer ≡ false
@@ -179,7 +179,7 @@ pub record IsInTurn (stamp : Stamp) (e : FarEnd) : Type 0 where
   pub can : CanGoOn e ready
   pub is : (same_stamp e.wants.stamp stamp && not ready) ≡ false
 
--- The connection is idle for `true`, and not idle for `false`.
+-- The connection is idle if the last argument is `true`, and not idle if it is `false`.
 abbrev pub IsRestAnswer : Stamp → FarEnd → Bool → Type 0
 IsRestAnswer stamp e true = IsAtRest stamp e
 IsRestAnswer stamp e false = IsInTurn stamp e
@@ -191,8 +191,8 @@ least_with due all = fold (λ due e. sooner due e.wants.due) due all
 abbrev pub least_due : List FarEnd → Option ℕ
 least_due all = least_with None all
 
--- Serving a connection may affect the `earlier` connections before it, which were served earlier in the turn. There are
--- some, and the stamp of the server has changed.
+-- `true` if serving a connection may affect the `earlier` connections before it, which were served earlier in the turn.
+-- There must be at least one, and the stamp of the server must have changed.
 abbrev pub concerns_earlier : (earlier : ℕ) (before after : Stamp) → Bool
 concerns_earlier earlier before after = nat_lt 0 earlier && not (same_stamp after before)
 

@@ -119,7 +119,8 @@ fn failed(got: Got) -> bool
     }
 }
 
-/// Returns the outcome, for the result of the write and for whether the connection is finished.
+/// Returns the outcome from the result of the write. `is_over` is `true` if nothing more will be written on the
+/// connection.
 fn outcome(wrote: Got, is_over: bool) -> Course
     ensures { result ≡ course_of wrote is_over }
 {

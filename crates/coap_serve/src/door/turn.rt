@@ -90,8 +90,8 @@ fn accept<D: Door>(
     Ok(true)
 }
 
-/// Serves each connection in order of its number, except those that are idle, and drops those that are over. Returns
-/// the work that remains.
+/// Serves each connection in order of its number, except those that are idle, and drops those with the outcome `Over`.
+/// Returns the work that remains.
 ///
 /// # Errors
 ///
@@ -118,7 +118,7 @@ fn serve_each<W: Wire + Ready + Drop>(
     Ok(seen.agenda)
 }
 
-/// Serves the next connection, and drops it if it is over. Returns the progress of the turn.
+/// Serves the next connection, and drops it if its outcome is `Over`. Returns the progress of the turn.
 ///
 /// # Errors
 ///

@@ -9,10 +9,10 @@ ghost use Rattle.coap_serve.specs.Prelude.{waiting_at, Report, IoFault, IsStdioR
 
 /// States that an idle connection may be skipped.
 ///
-/// The theorem is about a connection that is not over, on a server whose connections are all settled. If nothing in its
-/// I/O interest can be done, serving it has no effect, whatever its wire does. The wire is neither read nor written.
-/// There is an outcome. Every outcome leaves the server, the bytes left from its reads, and the trace of its wire
-/// unchanged, and the connection stays open.
+/// The theorem is about a connection on which more may be written, on a server whose connections are all settled. If
+/// nothing in its I/O interest can be done, serving it has no effect, whatever its wire does. The wire is neither read
+/// nor written. There is an outcome. Every outcome leaves the server, the bytes left from its reads, and the trace of
+/// its wire unchanged, and the connection stays open.
 pub fn what_has_nothing_to_do_is_passed_over()
     ensures { (v : ServerValue) (id i : ℕ) (rest : List ℕ) (may_read may_write : Bool) → LiesAt id i v.sessions →
         AreSettled v.host v.sessions → can_go_on (wants_of v id rest) may_read may_write ≡ false →
