@@ -1,4 +1,4 @@
-//! Files that are read whole.
+//! Reads whole files.
 
 ghost use Rattle.std.specs.Prelude.{◌≤◌, length, IfOk};
 
@@ -7,21 +7,21 @@ use std::fs;
 use std::io::{Error, ErrorKind, Read};
 use std::rt::Files;
 
-/// Why a file is not used.
+/// Error of `read_whole`.
 #[derive(Clone, Copy, Debug, PartialEq, Eq)]
 pub enum Trouble {
-    /// It cannot be opened.
+    /// File that cannot be opened.
     Open,
-    /// It cannot be read.
+    /// File that cannot be read.
     Read,
-    /// It is longer than it may be.
+    /// File that is longer than the limit.
     TooLong,
-    /// Memory was refused.
+    /// Failed allocation.
     Memory,
 }
 
 impl Trouble {
-    /// Returns why a file is not opened.
+    /// Returns the error for a file that could not be opened.
     pub fn of_opening(fault: &Error) -> Trouble {
         if fault.kind() == ErrorKind::OutOfMemory {
             Trouble::Memory
@@ -51,9 +51,10 @@ fn bytes_of(alloc: Global, reader: &mut impl Read, most: usize) -> Result<Vec<u8
 ///
 /// # Errors
 ///
-/// - `Open`, `Read`: The file cannot be opened or read.
-/// - `TooLong`: It has more bytes. One more than it may have was read.
-/// - `Memory`: Memory was refused.
+/// - `Open`: the file cannot be opened.
+/// - `Read`: the file cannot be read.
+/// - `TooLong`: the file has more bytes. One byte more than `most` was read.
+/// - `Memory`: an allocation failed.
 pub fn read_whole(
     rt: &(impl Input + Files + AllocGlobal),
     name: &str,

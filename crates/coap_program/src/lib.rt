@@ -1,8 +1,8 @@
-//! What the programs `coap-server` and `coap-client` have in common: how they read their words and files, what they
-//! write to standard error, and with which status they end.
+//! The parts that the programs `coap-server` and `coap-client` share: their arguments, files, messages on standard
+//! error, and exit statuses.
 //!
-//! What the words mean is in `coap_command_line`, and sockets are in `coap_sockets`. The programs themselves are in
-//! `coap_server` and `coap_client_main`. Continue with `program.rt`.
+//! The meaning of the arguments is in `coap_command_line`, and sockets are in `coap_sockets`. The programs themselves
+//! are in `coap_server` and `coap_client_main`. Continue with `program.rt`.
 #![tactic(auto)]
 
 mod files;

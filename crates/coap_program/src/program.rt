@@ -1,4 +1,4 @@
-//! A program's words, and what it writes to standard error.
+//! The arguments of a program, and its messages on standard error.
 
 ghost use Rattle.std.specs.Prelude.{◌≡◌, ◌≤◌, ◌==◌, false, if◌then◌else◌, IfErr};
 ghost use Rattle.coap_command_line.specs.Prelude.{is_help_or_version, words_fault_number};
@@ -11,24 +11,24 @@ use std::fmt::Display;
 use std::io::ErrorKind;
 use std::rt::Env;
 
-/// The status of a run that ended, and for help and the version.
+/// Exit status of a run that ended, and of help and the version.
 pub const ENDED: u8 = 0;
 
-/// The status for words that are not understood.
+/// Exit status for invalid arguments, and for an invalid line of a script.
 pub const USAGE: u8 = 1;
 
-/// The status for a connection, a device, a file, memory or turns.
+/// Exit status for a failed connection, device, file or allocation, and for the limit of turns.
 pub const FAULT: u8 = 3;
 
-/// A program, by its name, with which each of its lines on standard error begins.
+/// Name of a program, with which each of its lines on standard error begins.
 #[derive(Clone, Copy)]
 pub struct Program<'a> {
-    /// Its name.
+    /// Name of the program.
     pub name: &'a str,
 }
 
 impl Program<'_> {
-    /// Writes a line about what went wrong to standard error, and returns the status.
+    /// Writes a line about an error to standard error, and returns the status.
     pub fn tell(&self, rt: &impl Eprint, what: impl Display + Drop, status: u8) -> u8
         ensures { result ≡ status }
     {
@@ -37,12 +37,14 @@ impl Program<'_> {
         status
     }
 
-    /// Returns the words after the program's name.
+    /// Returns the arguments after the program's name.
     ///
     /// # Errors
     ///
-    /// The status with which the program is to end, if they are not UTF-8 or memory was refused. What is wrong was
-    /// written to standard error.
+    /// The exit status of the program. The error was written to standard error.
+    ///
+    /// - `USAGE`: an argument is not UTF-8.
+    /// - `FAULT`: an allocation failed.
     pub fn words(&self, rt: &(impl Eprint + Env + AllocGlobal)) -> Result<Vec<String>, u8>
         ensures { IfErr result (λ status. status ≤ 3) }
     {
@@ -59,8 +61,9 @@ impl Program<'_> {
         }
     }
 
-    /// Writes help or the version to standard output if the words ask for it, and else why they are refused to standard
-    /// error. Returns the status with which the program is to end, which is 3 if standard output takes no text.
+    /// Writes help or the version to standard output if the arguments ask for it, and otherwise the error to standard
+    /// error. Returns the exit status: 0 for help and the version, 1 for invalid arguments, 3 if an allocation failed.
+    /// If standard output does not accept the text, the status is 3.
     pub fn refuse(&self, rt: &(impl Print + Eprint), fault: &WordsFault) -> u8
         ensures within { result ≤ 3 }
         ensures refused { is_help_or_version fault.now ≡ false →
@@ -73,7 +76,7 @@ impl Program<'_> {
             };
         }
         match fault {
-            // clap's text is whole lines already.
+            // The text of clap already consists of whole lines.
             WordsFault::Usage(text) => {
                 let _ = eprint!(rt; "{text}");
                 USAGE
@@ -84,7 +87,7 @@ impl Program<'_> {
     }
 }
 
-/// Returns the words after the program's name.
+/// Returns the arguments after the program's name.
 fn words_of(alloc: Global, mut words: Args) -> Result<Vec<String>, AllocError> {
     let _name = words.next();
     words.collect(alloc)

@@ -1,17 +1,17 @@
-//! Standard descriptors that are closed.
+//! Keeps the numbers of closed standard descriptors from being used for sockets.
 
 use std::fs::OpenOptions;
 use std::os::fd::AsRawFd;
 use std::rt::Files;
 
-/// The number of standard error, the last standard descriptor.
+/// Number of standard error, the last standard descriptor.
 const LAST: i32 = 2;
 
-/// Takes the place of the first standard descriptor that is closed, where one is, by `/dev/null`, and holds it as long
-/// as it lives; so no socket takes that place, and no byte that is written there goes to a peer.
+/// Opens `/dev/null` in place of the first standard descriptor that is closed, if there is one, and returns the file.
+/// While the file exists, no socket gets that number, so no byte written to that descriptor goes to a peer.
 ///
-/// The system gives what is opened the least number that is free. Where `/dev/null` cannot be opened, nothing takes the
-/// place.
+/// The system gives each opened file the lowest free number. The result is `None` if all three descriptors are open or
+/// if `/dev/null` cannot be opened.
 pub fn hold_standard<R: Files>(rt: &R) -> Option<R::File>
 where
     R::File: AsRawFd,

@@ -1,4 +1,4 @@
--- What the contracts and the proofs of the crate name, passed on from one place. Declares nothing.
+-- Re-exports the definitions that the contracts and proofs of this crate use. This file defines nothing.
 
 -- ---- std and the kit's crates
 pub use Rattle.indexmap.specs.IndexMap.{insert_entry, set_value_at}

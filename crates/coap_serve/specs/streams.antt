@@ -1,4 +1,5 @@
--- Runs of `serve_one` and `serve_door`: their errors, progress, turns, recorded interests, and the promise of each run.
+-- Runs of `serve_one` and `serve_door`: their errors, progress, turns and recorded interests, and the definition of
+-- each run.
 pub mod StdioRun
 pub mod Standing
 pub mod Faults

@@ -1,2 +1,2 @@
--- The view of a configuration, passed on from `coap_model`.
+-- Re-exports the view of a configuration from `coap_model`.
 pub use Rattle.coap_model.specs.views.ConfigViews

@@ -1,4 +1,4 @@
-//! Serves connections over the wires that a door hands out.
+//! Runs a server over the connections that a listener (`Door`) accepts.
 
 ghost use Rattle.coap_serve.specs.Prelude.{IsDoorRun, waited_behind, TellsMore, trace_by, IsMemoryOrTurns};
 
@@ -14,29 +14,41 @@ use coap_model::Config;
 pub use service::Service;
 use std::alloc::Global;
 
-/// Serves connections over the wires that a door hands out, as many turns as the configuration allows. It runs one
-/// `Service`, in which nothing is stored at first.
+/// Serves the connections that a listener accepts, for as many turns as the configuration allows.
 ///
-/// A turn moves the server to the moment that the clock tells: one that goes back changes nothing. It asks the door for
-/// one wire, where one more connection may be opened. Then each connection in order of its number takes what was read
-/// before, or else what one read of at most 16,384 bytes gives, and what waits is written once. No wire is read where
-/// its connection takes nothing: where it has stopped or was released (RFC 8323 section 5.5), or where its queue has no
-/// room for the greatest message sent. No wire is read or written that may not be. A connection is dropped, it alone,
-/// where its wire has failed or where nothing more is to be written on it.
+/// A turn is one iteration of the event loop of one `Service`, whose store is empty at first. Its parts, in order:
 ///
-/// Between turns the door waits, and the clock is read after that. The wait is none if a connection was opened in the
-/// turn, if a change of what is stored concerns a connection that had had its part of it, or if something can be done
-/// at once on a connection. Otherwise it ends at the next moment at which a held answer is to be sent or an observer is
-/// to be told the moment, or as soon as a wire is ready. A connection on which nothing can be done is passed over as
-/// long as neither the moment nor what is stored changes.
+/// - The time of the server becomes that of the clock. An earlier time changes nothing.
+/// - If another connection may be opened, the listener is asked once for one.
+/// - Each connection is served in order of its number. It processes the bytes left from an earlier read, or else those
+///   of one read of at most 16,384 bytes. Then its queued bytes are written once.
 ///
-/// The server and its wires are gone at the end, so the clause `run` says that fitting ones exist. The contract of
-/// `Service::turn` states the part of each connection, and so rejects a body that serves nobody.
+/// A connection is not read if it accepts no bytes. Either it has stopped or was released (RFC 8323 section 5.5), or
+/// its queue has no room for a message of the maximum size. A connection is read and written only if it is ready. A
+/// connection is dropped if its transport has failed or nothing more will be written. This affects no other connection.
+///
+/// The listener waits between turns, and then the clock is read. The wait is zero in three cases:
+///
+/// - A connection was opened in the turn.
+/// - A change of the store affects a connection that was served earlier in the turn.
+/// - Something can be done at once on a connection.
+///
+/// Otherwise the wait ends as soon as a connection is ready, or a client connects and another connection may be opened.
+/// The wait ends at the latest when time alone may queue something. At that time a delayed response is due or an
+/// observer of `/time` must be notified. A connection on which nothing can be done is skipped while neither the time
+/// nor the store changes.
+///
+/// The server and its connections do not outlive the call, so the clause `run` states that matching values exist. The
+/// contract of `Service::turn` states how each connection is served, so it rejects an implementation that serves none.
 ///
 /// # Errors
 ///
-/// It ends with an error always: `Memory` where memory was refused, and `Turns` where one more turn would be needed. A
-/// wire that fails is none.
+/// The function returns only with an error:
+///
+/// - `Memory`: an allocation failed.
+/// - `Turns`: the configured number of turns was made.
+///
+/// A connection that fails is no error.
 pub fn serve_door<D: Door, C: Clock>(
     alloc: Global,
     door: &mut D,
@@ -44,8 +56,8 @@ pub fn serve_door<D: Door, C: Clock>(
     config: Config,
 ) -> Result<(), IoFault>
     ensures fault { IsMemoryOrTurns result }
-    // It made whole turns, one behind the other, as its clock and its door tell them: all that may be, or as many as
-    // memory was had for.
+    // The run consists of whole turns, as the traces of the clock and of the listener record them. They are all allowed
+    // turns, or those before an allocation failed.
     ensures run { let tells = TellsMore (C.moments clock.old) (C.moments clock.new) in
         IsDoorRun D.Wire.readable D.Wire.writable
         (trace_by D.Wire.given D.Wire.written D.Wire.answers D.Wire.rooms) config tells
@@ -63,7 +75,7 @@ pub fn serve_door<D: Door, C: Clock>(
     Err(IoFault::Turns)
 }
 
-/// Lets a door wait behind so many turns, where there were any.
+/// Lets the listener wait after a turn; `turns` is the number of turns made. There is no wait before the first turn.
 fn wait_behind<D: Door>(door: &mut D, turns: u64, wait: Wait, opens: bool)
     ensures { TellsMore (D.calls door.old) (D.calls door.new) (waited_behind turns wait opens) }
 {

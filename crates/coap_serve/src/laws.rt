@@ -1,4 +1,4 @@
-//! What holds of every server, each as the contract of a function that does nothing.
+//! Theorems about every server. Each is the contract of a function with an empty body.
 
 mod runs;
 

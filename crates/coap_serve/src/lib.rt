@@ -1,15 +1,17 @@
-//! A CoAP server over reliable transports (RFC 8323): its runs, and all public names of the crates of the server.
+//! A CoAP server over reliable transports (RFC 8323). This crate contains the functions that run a server, and
+//! re-exports all public names of the crates of the server.
 //!
 //! - `serve_one` runs a server with one connection over one input and one output, such as standard input and output.
-//! - `serve_door` runs a server over the connections that a listener (`Door`) accepts. `Service` is the same, one turn a
-//!   call, for a program that embeds the server (docs/EMBEDDING.md).
+//! - `serve_door` runs a server over the connections that a listener (`Door`) accepts. `Service` does the same for a
+//!   program that embeds the server: each call is one iteration of the event loop (docs/EMBEDDING.md).
 //! - `Server` is the server itself, which performs no I/O: each event is one call.
-//! - `Config`, `Limits` and `Starts` configure it. `script` and `Server::replay` run a text of events.
+//! - `Config`, `Limits` and `Starts` configure it. `script` parses a text of events, and `Server::replay` runs them.
 //! - `laws` has the theorems over all servers.
 //!
 //! This crate opens no socket: `coap_sockets` implements `Door`, `Wire` and `Clock` over TCP. The server is in
-//! `coap_server_engine`, one connection of it in `coap_server_session`, and what it does, as a function of its events,
-//! in `coap_model`. Continue with `serve.rt` and then `door.rt`, or with `coap_server_engine/src/server.rt`.
+//! `coap_server_engine`, and one connection of it in `coap_server_session`. `coap_model` defines the server's behaviour
+//! as a function of its events. Continue with `serve.rt` and then `door.rt`, or with
+//! `coap_server_engine/src/server.rt`.
 #![tactic(auto)]
 
 mod door;

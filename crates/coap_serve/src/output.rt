@@ -1,4 +1,4 @@
-//! Writes what waits to an outlet.
+//! Writes all queued bytes of a connection to an outlet.
 
 ghost use Rattle.std.specs.Prelude.{◌≡◌, false, IfOk, OnOk, OnErr, is_err};
 ghost use Rattle.coap_serve.specs.Prelude.{AddsBytes, WritesPart, IsFlushed, IsPartFlushed, session_of, stop_on};
@@ -8,9 +8,19 @@ use coap_io::{Outlet, WriteFailed};
 use coap_model::ConnId;
 use coap_server_engine::Server;
 
-/// Writes all that waits on a connection, until nothing waits: what is written makes room, and what there is room for
-/// then comes to wait. The number of iterations is at most the pending entries plus the observers plus one. Answers why
-/// the connection takes no message any more.
+/// Writes the queued bytes of a connection until none is queued. Returns the reason if the connection processes no
+/// further message.
+///
+/// Each write frees space in the queue, so pending responses and notifications that now fit are queued. The number of
+/// iterations is at most the pending entries plus the observers plus one.
+///
+/// # Errors
+///
+/// - `WriteFailed`: a write failed, and only a part of the bytes was written.
+///
+/// # Preconditions
+///
+/// The outlet has not failed.
 pub(crate) fn flush<W: Outlet>(
     writer: &mut W,
     server: &mut Server,

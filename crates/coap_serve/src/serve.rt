@@ -13,30 +13,30 @@ use coap_model::{Config, ConnId, Handled};
 use coap_server_engine::Server;
 use std::alloc::Global;
 use thiserror::Error;
-/// What a run over one input and one output did.
+/// Result of a run over one input and one output.
 #[derive(Clone, Copy, Debug, PartialEq, Eq)]
 pub struct Report {
-    /// The bytes that were read.
+    /// Number of bytes read.
     pub read: u64,
-    /// The messages that were handled.
+    /// Number of messages processed.
     pub messages: u64,
-    /// Why the run ended.
+    /// Cause of the end of the run.
     pub reason: Reason,
 }
 
-/// Why a run stopped short. The discriminants are the faults' numbers.
+/// Error that ends a run. The discriminants are the numbers of the errors.
 #[derive(Clone, Copy, Debug, PartialEq, Eq, Error)]
 pub enum IoFault {
-    /// Reading failed.
+    /// Failed read of the input.
     #[error("cannot read")]
     Read = 1,
-    /// Writing failed.
+    /// Failed write to the output.
     #[error("cannot write")]
     Write = 2,
-    /// Memory was refused.
+    /// Failed allocation.
     #[error("no memory")]
     Memory = 3,
-    /// One more turn would be needed than the configuration allows.
+    /// Limit of turns, reached before the run ended.
     #[error("too many turns")]
     Turns = 4,
 }
@@ -49,37 +49,45 @@ const _: () = prove!(IoFault::Memory as u8 == 3);
 
 const _: () = prove!(IoFault::Turns as u8 == 4);
 
-/// How many bytes are read at once, at most.
+/// Maximum number of bytes of one read.
 const PIECE: usize = 4_096;
 
-/// How a turn went.
+/// Result of one turn: of one read and the processing of its bytes.
 #[derive(Clone, Copy)]
 struct Turn {
-    /// The bytes that were read.
+    /// Number of bytes read.
     read: usize,
-    /// The messages that were handled.
+    /// Number of messages processed.
     messages: u64,
-    /// Why the run ends, where it does.
+    /// Reason to end the run, or `None` if it continues.
     stop: Option<Reason>,
 }
 
-/// Serves one connection: writes our Capabilities and Settings, then reads pieces of at most 4,096 bytes and writes the
-/// answer to each message before it looks at the next one (RFC 8323 sections 3.3, 5.3, 5.4). It runs one `Server`,
-/// which has this connection alone: requests are answered from a store in which nothing is stored at first, at the
-/// moment at which the configuration starts (RFC 7252 section 5.8), and observers are notified (RFC 7641).
+/// Serves one connection over an input and an output until the run ends.
 ///
-/// It ends at the end of input or with the first message or fault that stops the connection. Every read is a turn, the
-/// one that finds the end too. Bytes after a stop in the same chunk are read but not processed. When the run ends,
-/// responses that are delayed by one second or more are discarded. Only at time 2^64 - 1 are they sent at once. The
-/// order of the writes within one read is in no clause.
+/// The function writes the server's Capabilities and Settings Message (CSM). Then it reads at most 4,096 bytes at a
+/// time. The response to each message is written before the next message is processed (RFC 8323 sections 3.3, 5.3,
+/// 5.4). The function drives one `Server` with this connection alone. Requests are answered from a store that is empty
+/// at first (RFC 7252 section 5.8), and observers are notified (RFC 7641). The time stays at the start time of the
+/// configuration.
+///
+/// The run ends at the end of input, or with the first message or malformed input that stops the connection. Every read
+/// is a turn, including the read that finds the end. Bytes after a stop in the same chunk are read but not processed.
+/// When the run ends, responses that are delayed by one second or more are discarded. Only at time 2^64 - 1 are they
+/// sent at once. No clause states the order of the writes within one read.
 ///
 /// # Errors
 ///
-/// `Memory` where the room of the connection or of the store was refused: then nothing was read or written. `Memory`
-/// too where the room of a representation that a request stores was refused: then all that is defined for the bytes
-/// before the last one of that request was written, and nothing of the request was handled. `Write` where a write
-/// failed, with a part of the output written. `Read` where a read failed, and `Turns` where one more turn would be
-/// needed: then all that is defined for the bytes so far was written.
+/// - `Memory`: an allocation failed. If it was for the connection or the store, nothing was read or written. If it was
+///   for a representation that a request stores, nothing of that request was processed. The output for all bytes before
+///   its last one was written.
+/// - `Write`: a write failed, and a part of the output was written.
+/// - `Read`: a read failed. The output for all bytes read was written.
+/// - `Turns`: the limit of turns was reached. The output for all bytes read was written.
+///
+/// # Preconditions
+///
+/// The input and the output have not failed, and `starts.ids` of the configuration is below 2^64 - 1.
 pub fn serve_one<R: Source, W: Outlet>(
     alloc: Global,
     reader: &mut R,
@@ -89,14 +97,14 @@ pub fn serve_one<R: Source, W: Outlet>(
     requires reader_works { R.is_failed reader.old ≡ false }
     requires writer_works { W.is_failed writer.old ≡ false }
     requires id_left { config.now.starts.ids + 1 < 2 ^ 64 }
-    // The standard-stream law, whatever the cuts: over what was read and written, where the devices tell it. No read
-    // gives more than 4,096 bytes.
+    // The bytes read and written match the definition of a run, however the input is split, as far as the devices
+    // record them. No read returns more than 4,096 bytes.
     ensures run { (pieces : List (List ℕ)) × (output : List ℕ)
         × HasGiven (R.told reader.old) (R.told reader.new) pieces
         × AllByRecursion (λ p. length p ≤ 4096) pieces
         × AddsBytes (W.written writer.old) (W.written writer.new) output
         × IsStdioRun config.now pieces output result }
-    // A device fault comes exactly where that device failed.
+    // The result is `Read` if and only if the reader has failed, and `Write` if and only if the writer has failed.
     ensures read { R.is_failed reader.new ≡ is_read_fault result }
     ensures write { W.is_failed writer.new ≡ is_write_fault result }
 {
@@ -112,7 +120,7 @@ pub fn serve_one<R: Source, W: Outlet>(
     run(reader, writer, &mut server, id, config)
 }
 
-/// Turns until the run ends, at most as many as the configuration allows.
+/// Runs turns until the run ends, at most as many as the configuration allows.
 fn run<R: Source, W: Outlet>(
     reader: &mut R,
     writer: &mut W,
@@ -149,7 +157,7 @@ fn run<R: Source, W: Outlet>(
     Err(IoFault::Turns)
 }
 
-/// One read, and what comes of it.
+/// Reads once, processes the bytes, and returns the result of this turn.
 fn take_turn<R: Source, W: Outlet>(
     reader: &mut R,
     writer: &mut W,
@@ -187,12 +195,13 @@ fn take_turn<R: Source, W: Outlet>(
     })
 }
 
-/// Handles the messages of a piece, and writes what each queues before the next one is looked at, and answers how many
-/// were handled. Where the connection takes no message any more, the bytes behind that are not looked at.
+/// Processes the messages of an input chunk, and writes the output of each before the next one. Returns the number of
+/// messages processed. If a message or malformed input stops the connection, the bytes after it are not processed.
 ///
 /// # Errors
 ///
-/// `Write` where a write failed, and `Memory` where memory was refused for a representation that a message stores.
+/// - `Write`: a write failed.
+/// - `Memory`: an allocation failed for a representation that a message stores.
 fn serve_piece<W: Outlet>(
     writer: &mut W,
     server: &mut Server,
@@ -224,7 +233,8 @@ fn serve_piece<W: Outlet>(
     Ok(messages)
 }
 
-/// How many messages a take handled: faults of the bytes are the only stops without one.
+/// Returns the number of messages that a call of `Server::take` processed: 0 or 1. The reasons `Format`, `TooLarge` and
+/// `TokenLength` are those of malformed input, which is no message.
 fn handled(what: Handled) -> u64
     ensures { result ≡ count_of what }
 {
@@ -236,7 +246,7 @@ fn handled(what: Handled) -> u64
     }
 }
 
-/// Why a connection takes no message any more, if it does not.
+/// Returns the reason if the connection processes no further message.
 fn stop(server: &Server, id: ConnId) -> Option<Reason>
     ensures { result ≡ stop_on (session_of id server.now.sessions) }
 {
@@ -244,7 +254,7 @@ fn stop(server: &Server, id: ConnId) -> Option<Reason>
     status.phase.stop()
 }
 
-/// The input of a connection ended: why it takes no message any more.
+/// Reports the end of input to a connection, and returns the reason why it processes no further message.
 fn end(server: &mut Server, id: ConnId) -> Option<Reason>
     requires stands { (c : ConfigValues) × (bytes : List ℕ) × IsGoing c server.old id bytes }
     ensures { (c : ConfigValues) (bytes : List ℕ) → IsGoing c server.old id bytes →

@@ -1,4 +1,4 @@
-//! Listens, and serves what connects.
+//! Listens at an address and serves the connections that clients open.
 
 ghost use Rattle.std.specs.Prelude.{◌≡◌, ◌∷◌, ℕ, [], true, is_some, IfSome, IfNone};
 ghost use Rattle.coap_serve.specs.Configs.{config_refusal};
@@ -13,8 +13,8 @@ use coap_sockets::{SocketDoor, SystemClock};
 use std::net::{Net, SocketAddr};
 use std::time;
 
-/// Returns the configuration of a plan for a server that starts at the time that the clock gives, or `None` if a limit is
-/// out of its range.
+/// Returns the configuration of a plan for a server that starts at the time of the clock. If a limit is out of its
+/// range, the result is `None`.
 fn config_now<C: Clock>(clock: &mut C, plan: &ServerPlan) -> Option<Config>
     ensures now { IfSome result (λ config.
         TellsMore (C.moments clock.old) (C.moments clock.new) (config.starts.moment ∷ [])) }
@@ -25,8 +25,10 @@ fn config_now<C: Clock>(clock: &mut C, plan: &ServerPlan) -> Option<Config>
     config_of(plan, Starts::at(clock.now()))
 }
 
-/// Listens at an address, says so in one line of standard error, and serves what connects. It answers the status, with
-/// which it ends only where it cannot listen, memory was refused or the turns are used up.
+/// Listens at an address, writes one line that says so to standard error, and serves the connections that clients open.
+/// Returns an exit status only after an error.
+///
+/// The errors are a limit out of its range, a system that cannot listen, a failed allocation, and the limit of turns.
 pub(crate) fn run(
     rt: &(impl Eprint + Net + time::Clock + AllocGlobal),
     address: SocketAddr,

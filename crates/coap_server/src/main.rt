@@ -1,9 +1,9 @@
-//! The program `coap-server`: CoAP over reliable transports (RFC 8323).
+//! The program `coap-server`: a server for CoAP over reliable transports (RFC 8323).
 //!
-//! Its words are those of `coap_command_line::server_words`. With `--stdio` it serves one connection over standard
-//! input and output; with `--script FILE` it replays the script in that file, or in standard input where FILE is `-`, on
-//! a server, and writes the line of each event. Else it listens at an address, and serves the connections that are
-//! opened to it.
+//! The function `coap_command_line::server_words` defines its arguments. With `--stdio` it serves one connection over
+//! standard input and output. With `--script FILE` it runs the events of the script in that file, and writes the line
+//! of each event. If FILE is `-`, the script is read from standard input. Otherwise it listens at an address and serves
+//! the connections that clients open.
 #![tactic(auto)]
 
 ghost use Rattle.std.specs.Prelude.{◌≡◌, true, is_some, IfSome, IfNone};
@@ -22,22 +22,22 @@ use std::process::ExitCode;
 use std::rt::{Env, Files};
 use std::{io, time};
 
-/// The program, by its name.
+/// Name of the program, for its messages.
 pub(crate) const PROGRAM: Program = Program {
     name: "coap-server",
 };
 
-/// The bytes of a representation, at most.
+/// Maximum length of a representation, in bytes.
 const REP_MAX: usize = 65_000;
 
-/// Counts that begin at 0.
+/// Counters that begin at 0.
 const FROM_ZERO: Starts = Starts {
     moment: 0,
     versions: 0,
     ids: 0,
 };
 
-/// The configuration of a plan, with counts that begin where it is told.
+/// Returns the configuration of a plan, with counters that begin at `starts`, or `None` if a limit is out of its range.
 pub(crate) fn config_of(plan: &ServerPlan, starts: Starts) -> Option<Config>
     ensures value { IfSome result (λ config. config ≡ planned plan.now starts) }
     ensures refused { IfNone result (is_some (config_refusal (planned plan.now starts)) ≡ true) }
@@ -56,7 +56,7 @@ pub(crate) fn config_of(plan: &ServerPlan, starts: Starts) -> Option<Config>
     }
 }
 
-/// Serves one connection over standard input and output, and answers the status.
+/// Serves one connection over standard input and output, and returns the exit status.
 fn serve(rt: &(impl Input + Print + Eprint + AllocGlobal), config: &Config) -> u8
     requires { config.now.starts.ids ≡ 0 }
 {
@@ -68,7 +68,7 @@ fn serve(rt: &(impl Input + Print + Eprint + AllocGlobal), config: &Config) -> u
     }
 }
 
-/// Does what a plan says, and answers the status.
+/// Runs a plan, and returns the exit status.
 fn run(
     rt: &(impl Input + Print + Eprint + Files + Net + time::Clock + AllocGlobal),
     plan: &ServerPlan,
@@ -85,7 +85,7 @@ fn run(
     }
 }
 
-/// Does what the program's words say, and returns the status.
+/// Runs the program with its arguments, and returns the exit status.
 fn start(rt: &(impl Input + Print + Eprint + Env + Files + Net + time::Clock + AllocGlobal)) -> u8 {
     let words = match PROGRAM.words(rt) {
         Ok(words) => words,

@@ -1,4 +1,4 @@
-//! Runs scripts.
+//! Runs scripts of events.
 
 use crate::PROGRAM;
 use coap_program::{ENDED, FAULT, Trouble as FileTrouble, USAGE, read_whole};
@@ -6,15 +6,15 @@ use coap_serve::{Config, Event, ReplayFault, ScriptFault, Server, WriteOutlet, s
 use std::io;
 use std::rt::Files;
 
-/// Why a script was not run to its end.
+/// Error that ends a script.
 enum Trouble {
-    /// Its file is not read.
+    /// Failure to read the file.
     File(FileTrouble),
-    /// The line with this number, from 1, is no event.
+    /// Number of the first line that is no event, from 1.
     Line(u64),
-    /// A line cannot be written.
+    /// Failed write of a line.
     Write,
-    /// Memory was refused.
+    /// Failed allocation.
     Memory,
 }
 
@@ -52,8 +52,8 @@ fn read_and_run(
     }
 }
 
-/// Runs the script in the file with this name, or in standard input where it is `-`, and answers the status: 1 for a
-/// line that is no event, 3 for a file, a device or memory. Nothing is run where a line is no event.
+/// Runs the script in the file with this name, or in standard input if the name is `-`. Returns the exit status: 1 for
+/// a line that is no event, 3 for a failed file, device or allocation. If a line is no event, no event is run.
 pub(crate) fn run(
     rt: &(impl Input + Print + Eprint + Files + AllocGlobal),
     name: &str,

@@ -1,4 +1,4 @@
--- What kinds of errors come to, and that what a call passes on is within its room.
+-- The results for each kind of error, and that a call transfers at most as many bytes as its buffer has.
 use Rattle.std.proofs.Common.{◌≡◌, ◌≢◌, ℕ, zero, suc, false, List, length, refl, arith}
 use Rattle.std.specs.Prelude.{Result, Ok, Err}
 use Rattle.std.specs.Io.{ReadsAtMost, WritesAtMost}

@@ -1,4 +1,4 @@
--- What the answers of a socket that never waits come to.
+-- Defined by this project: the meaning of the results of calls on a socket that does not block.
 use Rattle.std.specs.Prelude.{ℕ, zero, suc, Bool, true, false, Result, Ok, Err}
 use Rattle.std.specs.IoError.{error_kind}
 use Rattle.std.specs.declared.io.Error.{Error}
@@ -12,38 +12,40 @@ use Rattle.coap_sockets.specs.declared.answers.Refused.TheVariants.{NoneThere, O
 use Rattle.coap_sockets.specs.declared.answers.Hindrance.{Hindrance}
 use Rattle.coap_sockets.specs.declared.answers.Hindrance.TheVariants as hindrance
 
--- the socket has nothing to give, or no room to take
+-- The socket has no input or no room.
 unfoldable pub is_would_block : ErrorKind → Bool
 is_would_block WouldBlock = true
 is_would_block _ = false
 
--- where nothing is there, and where a signal came in between, a later call may do better; all else is a failure
+-- The result for a call that ended with an error. If the socket was not ready, or a signal interrupted the call, a
+-- later call may succeed. Every other error is a failure.
 unfoldable pub fault_got : ErrorKind → Got
 fault_got WouldBlock = Later
 fault_got Interrupted = Later
 fault_got _ = Failed
 
--- what a read comes to: no byte is the end of what the peer sends
+-- The result of a read. A read of no byte has found the end of input.
 abbrev pub read_got : Result ℕ Error → Got
 read_got (Ok zero) = End
 read_got (Ok (suc n)) = Bytes (suc n)
 read_got (Err e) = fault_got (error_kind e)
 
--- what a write comes to: one that takes no byte has failed
+-- The result of a write. A write of no byte has failed.
 abbrev pub write_got : Result ℕ Error → Got
 write_got (Ok zero) = Failed
 write_got (Ok (suc n)) = Bytes (suc n)
 write_got (Err e) = fault_got (error_kind e)
 
--- What an accept that gave no connection comes to: none waits; one came to nothing by itself, and another may wait; or the system
--- has no room for one, or something else that time may mend.
+-- The reason for which an accept gave no connection. `NoneThere`: none is pending. `Once`: a connection failed or the
+-- call was interrupted, and another may be pending. `Full`: the system lacks resources, or has another error that may
+-- pass with time.
 unfoldable pub accept_fault : ErrorKind → Refused
 accept_fault WouldBlock = NoneThere
 accept_fault Interrupted = Once
 accept_fault ConnectionAborted = Once
 accept_fault _ = Full
 
--- what hinders a connection, by the error of the call or of the socket
+-- The cause of a failed attempt to connect, by the error of a call or of the socket.
 unfoldable pub hindrance_of : ErrorKind → Hindrance
 hindrance_of kind.ConnectionRefused = hindrance.Refused
 hindrance_of kind.HostUnreachable = hindrance.Unreachable

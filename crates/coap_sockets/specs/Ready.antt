@@ -1,4 +1,4 @@
--- What is known of a socket without asking the system.
+-- Defined by this project: the readiness of a socket, as far as it is known without a system call.
 use Rattle.std.specs.Prelude.{ℕ, ◌==◌, nat_lt, Bool, true, false, not, ◌||◌, ◌&&◌, Result, Ok, Err}
 use Rattle.std.specs.IoError.{error_kind}
 use Rattle.std.specs.declared.io.Error.{Error}
@@ -9,13 +9,14 @@ use Rattle.coap_io.specs.declared.wire.Got.TheVariants.{Bytes, Later, End, Faile
 use Rattle.coap_sockets.specs.Answers.{is_would_block}
 use Rattle.coap_sockets.specs.declared.readiness.Readiness.{Readiness}
 
--- of a socket that nothing is known of, both are to be tried
+-- The readiness of a new socket: a read and a write must be tried.
 abbrev pub unknown : Readiness
 unknown = record { readable = true; writable = true; stops_short = false; yields = false; has_yielded = false }
 
--- After an event: what failed, and what the peer has closed, is found by the next read and the next write. A read stops short of that, and
--- where urgent data stood: it gives the bytes before, and leaves the bytes behind. Of many that can be read, those behind the first few are
--- to be read before any of them is written, but none twice between two writes.
+-- The readiness after an event. The next read or write finds an error, or that the peer has closed. A read stops short
+-- of these and of urgent data: it returns the bytes before and leaves those after. If a wait reports many sockets with
+-- input, those after the first few are all read before any of them is written. No socket is deferred twice between two
+-- writes.
 abbrev pub woken : Readiness → Event → (behind_many : Bool) → Readiness
 woken r e behind_many =
     let failed = is_error e || is_read_closed e in
@@ -27,10 +28,11 @@ woken r e behind_many =
       has_yielded = r.has_yielded;
     }
 
--- Whether another read is to be tried before the system tells of the socket again, after one with so much room. It is not where the system
--- had nothing. Nor is it where it gave fewer bytes than there was room for: it tells of what comes behind these. But where reads stop
--- short, something that it has told of may stand behind them. Where it gave none, the peer has ended, which another read tells again. After
--- any other error a read is tried again.
+-- `true` if another read is tried before the system reports the socket again, after a read into a buffer of `room`
+-- bytes. There is no other read if the system had no input. There is none if it gave fewer bytes than `room`, because
+-- it reports input that comes later. But if reads stop short, something that was already reported may follow those
+-- bytes. A read of no byte has found the end, which another read finds again. After any other error a read is tried
+-- again.
 abbrev pub stays_readable : (stops_short : Bool) (room : ℕ) → Result ℕ Error → Bool
 stays_readable stops_short room (Ok count) = (count == 0) || not (nat_lt count room) || stops_short
 stays_readable stops_short room (Err e) = not (is_would_block (error_kind e))
@@ -38,7 +40,8 @@ stays_readable stops_short room (Err e) = not (is_would_block (error_kind e))
 abbrev pub read_with : Readiness → ℕ → Result ℕ Error → Readiness
 read_with r room answer = record r { readable = stays_readable r.stops_short room answer }
 
--- After a write of so many bytes another may take some: not where none was taken for want of room, nor where fewer were taken.
+-- `true` if another write may be accepted after a write of `offered` bytes. There is no other write if the system had
+-- no room or accepted fewer bytes.
 abbrev pub stays_writable : ℕ → Result ℕ Error → Bool
 stays_writable offered (Ok count) = (count == 0) || not (nat_lt count offered)
 stays_writable offered (Err e) = not (is_would_block (error_kind e))
@@ -46,18 +49,18 @@ stays_writable offered (Err e) = not (is_would_block (error_kind e))
 abbrev pub written_with : Readiness → ℕ → Result ℕ Error → Readiness
 written_with r offered answer = record r { writable = stays_writable offered answer; yields = false; has_yielded = false }
 
--- after a write that was put off
+-- The readiness after a write was deferred.
 abbrev pub put_off : Readiness → Readiness
 put_off r = record r { yields = false; has_yielded = true }
 
--- a write of so many bytes that came to this left some, for want of room
+-- A write of `offered` bytes with this result left some for lack of room.
 abbrev pub is_blocked_by : ℕ → Got → Bool
 is_blocked_by offered (Bytes n) = nat_lt n offered
 is_blocked_by offered Later = true
 is_blocked_by offered End = false
 is_blocked_by offered Failed = false
 
--- it found no room
+-- The write found no room.
 abbrev pub is_later : Got → Bool
 is_later (Bytes n) = false
 is_later Later = true

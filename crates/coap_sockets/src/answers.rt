@@ -1,4 +1,4 @@
-//! What the answers of a socket that never waits come to.
+//! The meaning of the results of calls on a socket that does not block.
 
 ghost use Rattle.std.specs.Prelude.{◌≡◌};
 ghost use Rattle.std.specs.IoError.{error_kind};
@@ -9,38 +9,38 @@ use std::io;
 use std::io::ErrorKind;
 use thiserror::Error;
 
-/// Why an accept gave no connection.
+/// Reason for which an accept gave no connection.
 #[derive(Clone, Copy, PartialEq, Eq)]
 pub(crate) enum Refused {
-    /// None waits.
+    /// No pending connection.
     NoneThere,
-    /// That one came to nothing, and another may wait.
+    /// Failure of one connection or of one call; another connection may be pending.
     Once,
-    /// The system has no room for it, or something else is wrong that time may mend.
+    /// Lack of resources in the system, or another error that may pass with time.
     Full,
 }
 
-/// What hinders a connection.
+/// Cause of a failed attempt to connect.
 #[derive(Clone, Copy, Debug, PartialEq, Eq, Error)]
 pub enum Hindrance {
-    /// The system knows no host of this name.
+    /// Name of a host that the system does not know.
     #[error("unknown name")]
     UnknownName,
-    /// The address refuses it: nobody listens at the port.
+    /// Refusal by the address: no program listens at the port.
     #[error("connection refused")]
     Refused,
-    /// No way leads to the address.
+    /// Lack of a route to the address.
     #[error("host unreachable")]
     Unreachable,
-    /// Nothing came back in time.
+    /// Lack of a response in time.
     #[error("timed out")]
     TimedOut,
-    /// The system fails otherwise, as where no file can be opened any more.
+    /// Any other failure of the system, such as a lack of file descriptors.
     #[error("system fault")]
     System,
 }
 
-/// Whether an error says that the socket has nothing to give, or no room to take.
+/// Returns `true` if an error means that the socket has no input or no room.
 pub(crate) fn is_would_block(error: io::Error) -> bool
     ensures { result ≡ spec.is_would_block (error_kind error) }
 {
@@ -50,7 +50,7 @@ pub(crate) fn is_would_block(error: io::Error) -> bool
     }
 }
 
-/// What a call comes to that ended with an error.
+/// Returns the result for a call that ended with an error: `Later` if a later call may succeed, otherwise `Failed`.
 fn fault_got(error: io::Error) -> Got
     ensures { result ≡ spec.fault_got (error_kind error) }
 {
@@ -61,7 +61,7 @@ fn fault_got(error: io::Error) -> Got
     }
 }
 
-/// What a read comes to. One that gives no byte has found the end of what the peer sends.
+/// Returns the result of a read. A read of no byte has found the end of input.
 pub(crate) fn read_got(answer: io::Result<usize>) -> Got
     ensures { result ≡ spec.read_got answer }
 {
@@ -72,7 +72,7 @@ pub(crate) fn read_got(answer: io::Result<usize>) -> Got
     }
 }
 
-/// What a write of at least one byte comes to. One that takes none has failed.
+/// Returns the result of a write of at least one byte. A write of no byte has failed.
 pub(crate) fn write_got(answer: io::Result<usize>) -> Got
     ensures { result ≡ spec.write_got answer }
 {
@@ -83,7 +83,7 @@ pub(crate) fn write_got(answer: io::Result<usize>) -> Got
     }
 }
 
-/// What an accept comes to that ended with an error.
+/// Returns the reason for which an accept gave no connection, from its error.
 pub(crate) fn accept_fault(error: io::Error) -> Refused
     ensures { result ≡ spec.accept_fault (error_kind error) }
 {
@@ -95,7 +95,7 @@ pub(crate) fn accept_fault(error: io::Error) -> Refused
     }
 }
 
-/// What hinders a connection where a call of the system ended with an error, or where the socket has it.
+/// Returns the cause of a failed attempt to connect, from the error of a system call or of the socket.
 pub(crate) fn hindrance_of(error: io::Error) -> Hindrance
     ensures { result ≡ spec.hindrance_of (error_kind error) }
 {

@@ -5,7 +5,7 @@ use coap_io::Clock;
 use std::time;
 use std::time::Duration;
 
-/// The seconds since 1970 that the system's clock tells. Where it cannot be read, the moment is the last one.
+/// Clock that returns the seconds since 1970. If the system's clock cannot be read, it returns the last time again.
 #[derive(Drop)]
 pub struct SystemClock<'a, R> {
     rt: &'a R,
@@ -13,7 +13,7 @@ pub struct SystemClock<'a, R> {
 }
 
 impl<'a, R: time::Clock> SystemClock<'a, R> {
-    /// The system's clock.
+    /// Returns the clock over the system's clock.
     pub fn new(rt: &'a R) -> SystemClock<'a, R> {
         SystemClock { rt, last: 0 }
     }
@@ -28,7 +28,8 @@ impl<'a, R: time::Clock> Clock for SystemClock<'a, R> {
     }
 }
 
-/// The seconds since a run began, whatever becomes of the time of day. Where the clock cannot be read, they are 0.
+/// Clock that returns the seconds since a run began, independent of the time of day. If the system's clock cannot be
+/// read, it returns 0.
 #[derive(Drop)]
 pub struct RunClock<'a, R> {
     rt: &'a R,
@@ -36,7 +37,7 @@ pub struct RunClock<'a, R> {
 }
 
 impl<'a, R: time::Clock> RunClock<'a, R> {
-    /// The clock of a run that begins now.
+    /// Returns the clock of a run that begins now.
     pub fn start(rt: &'a R) -> RunClock<'a, R> {
         RunClock {
             rt,
@@ -44,7 +45,7 @@ impl<'a, R: time::Clock> RunClock<'a, R> {
         }
     }
 
-    /// Another one of the same run.
+    /// Returns another clock of the same run.
     pub(crate) fn again(&self) -> RunClock<'a, R> {
         RunClock {
             rt: self.rt,
@@ -52,12 +53,12 @@ impl<'a, R: time::Clock> RunClock<'a, R> {
         }
     }
 
-    /// The time since the run began.
+    /// Returns the time since the run began.
     pub(crate) fn passed(&self) -> Duration {
         monotonic(self.rt).saturating_sub(self.began)
     }
 
-    /// How long it is until the next second begins: one at the most.
+    /// Returns the time until the next second of the run begins: at most one second.
     pub(crate) fn to_next_second(&self) -> Duration {
         to_next_second(self.passed())
     }
@@ -69,7 +70,7 @@ impl<'a, R: time::Clock> Clock for RunClock<'a, R> {
     }
 }
 
-/// The reading of the clock that never goes back.
+/// Returns the time of the monotonic clock, or zero if it cannot be read.
 pub(crate) fn monotonic(rt: &impl time::Clock) -> Duration {
     rt.monotonic().unwrap_or(Duration::ZERO)
 }

@@ -1,5 +1,5 @@
-//! A server's door over TCP: one listener, the wires of the connections that it accepted, and one set of events for all
-//! of them.
+//! The listener of a server over TCP: one listening socket, the connections that it accepted, and one set of events for
+//! all of them.
 
 ghost use Rattle.std.specs.Prelude.{◌≡◌, ◌≤◌, ◌&&◌, true, false, length, Some, None, IsSome, IfSome, IfNone, IfOk};
 ghost use Rattle.std.specs.Prelude.{option_map};
@@ -25,13 +25,13 @@ use std::time::Duration;
 use std::{io, time};
 use thiserror::Error;
 
-/// Why a door cannot be opened. The discriminants are the faults' numbers.
+/// Error of `SocketDoor::listen`. The discriminants are the numbers of the errors.
 #[derive(Clone, Copy, Debug, PartialEq, Eq, Error)]
 pub enum ListenFault {
-    /// The address cannot be listened at.
+    /// Address at which the system cannot listen.
     #[error("cannot listen")]
     Socket = 1,
-    /// Memory was refused.
+    /// Failed allocation.
     #[error("no memory")]
     Memory = 2,
 }
@@ -56,25 +56,25 @@ impl From<AllocError> for ListenFault {
     }
 }
 
-/// What is known of a wire's socket: the wire and the door share it.
+/// Readiness of a wire's socket, which the wire and the listener share.
 type Shared = Rc<Cell<Readiness>>;
 
-/// The token of the listener. No wire has it: a wire's is the index of its place.
+/// Token of the listening socket. No wire has it: the token of a wire is the index of its place.
 const LISTENER: Token = Token(usize::MAX);
 
-/// How many sockets that one wait tells of are written as soon as they were read. Each write may wake its peer, which
-/// costs more than the write where the peer is another process of the same machine; so of many sockets those behind
-/// these are all read first, and their writes stand together.
+/// Number of sockets, of those that one wait reports, that are written as soon as they were read. A write may wake the
+/// peer, which costs more than the write if the peer is another process on the same machine. The sockets after these
+/// are therefore all read first, and then written together.
 const AT_ONCE: usize = 8;
 
-/// One accepted connection. Its socket is closed where it is dropped.
+/// One accepted connection. Its socket is closed when it is dropped.
 pub struct SocketWire {
     stream: TcpStream,
     readiness: Shared,
 }
 
-// The system resets a connection that is closed with bytes unread, and the peer may lose what was written last. So the
-// peer is told the end first, and what has come is read and given up.
+// The system resets a connection that is closed with unread bytes, and the peer may then lose the last bytes written.
+// So the socket is first shut down for writing, and the bytes received so far are read and discarded.
 impl Drop for SocketWire {
     fn drop(self) {
         let SocketWire {
@@ -86,7 +86,7 @@ impl Drop for SocketWire {
     }
 }
 
-/// Reads what has come and gives it up, at most a mebibyte.
+/// Reads the bytes received so far and discards them, at most a mebibyte.
 fn give_up<S: Read>(stream: &mut S) {
     let mut bytes = [0; READ_SIZE];
     for _ in 0..64 {
@@ -99,7 +99,7 @@ fn give_up<S: Read>(stream: &mut S) {
 }
 
 impl Wire for SocketWire {
-    // A socket tells nothing of what it passed on.
+    // A socket does not record the bytes that it transferred.
     ghost given = { λ _. None };
 
     ghost written = { λ _. None };
@@ -120,7 +120,7 @@ impl Wire for SocketWire {
 }
 
 impl Ready for SocketWire {
-    // What is known of a socket stands in what the wire and the door share.
+    // The readiness of a socket is stored in the cell that the wire and the listener share.
     ghost readable = { λ _. None };
 
     ghost writable = { λ _. None };
@@ -134,11 +134,11 @@ impl Ready for SocketWire {
     }
 }
 
-/// The door of a server that listens at one address.
+/// Listener of a server at one address.
 ///
 /// It has a place for each wire, which is free while no wire shares it. The token of a wire is the index of its place.
-/// A socket that is closed leaves the set of events, and all events of a wait are told before another place is taken;
-/// so no event of an old wire reaches a new one.
+/// A closed socket leaves the set of events, and all events of a wait are processed before another place is used. So no
+/// event of an old wire reaches a new one.
 #[derive(Drop)]
 pub struct SocketDoor<'a, R> {
     rt: &'a R,
@@ -146,19 +146,20 @@ pub struct SocketDoor<'a, R> {
     poll: Poll,
     events: Events,
     places: Vec<Shared>,
-    /// Whether a peer may be waiting at the listener.
+    /// `true` if a client may be waiting at the listening socket.
     may_accept: bool,
-    /// Since when nothing is accepted, where the system had no room for a connection.
+    /// Time at which the system had no room for a connection. Nothing is accepted for one second after it.
     full_since: Option<Duration>,
 }
 
 impl<'a, R: Net + time::Clock> SocketDoor<'a, R> {
-    /// Listens at an address, with a place for so many wires. The address can be taken again at once after a program
-    /// that listened there was killed (`SO_REUSEADDR`).
+    /// Listens at an address, with places for `wires` connections. After a program that listened at the address was
+    /// killed, the address can be used again at once (`SO_REUSEADDR`).
     ///
     /// # Errors
     ///
-    /// `Socket` where the address cannot be listened at, `Memory` where the room of the places is refused.
+    /// - `Socket`: the system cannot listen at the address.
+    /// - `Memory`: an allocation failed.
     pub fn listen(
         rt: &'a R,
         alloc: Global,
@@ -185,16 +186,16 @@ impl<'a, R: Net + time::Clock> SocketDoor<'a, R> {
         })
     }
 
-    /// The address at which it listens, as the system tells it.
+    /// Returns the address of the listener, as the system reports it.
     ///
     /// # Errors
     ///
-    /// Where the system does not tell.
+    /// The error of the system, if it does not report the address.
     pub fn address(&self) -> io::Result<SocketAddr> {
         self.listener.local_addr()
     }
 
-    /// How long nothing is to be accepted, since the system had no room for a connection.
+    /// Returns the time for which nothing is accepted, because the system had no room for a connection.
     fn full_for(&self) -> Duration
         ensures none { self.now.full_since ≡ None → as_nanos result ≡ 0 }
         ensures most { as_nanos result ≤ second }
@@ -205,7 +206,8 @@ impl<'a, R: Net + time::Clock> SocketDoor<'a, R> {
         }
     }
 
-    /// A new connection as the wire of a place. One whose socket cannot be set up is closed.
+    /// Returns the wire of a new connection, for a place. If its socket cannot be set up, the connection is closed and
+    /// the result is `None`.
     fn wire(&self, mut stream: TcpStream, place: usize) -> Option<SocketWire> {
         stream.set_nodelay(true).ok()?;
         let readiness = self.places.get(place)?.clone().ok()?;
@@ -221,7 +223,7 @@ impl<'a, R: Net + time::Clock> SocketDoor<'a, R> {
         Some(SocketWire { stream, readiness })
     }
 
-    /// Keeps what an accept has told that gave no connection.
+    /// Records the reason for which an accept gave no connection.
     fn keep(&mut self, refused: Refused)
         ensures none_there { refused ≡ refusal.NoneThere →
             (self.new.may_accept ≡ false) × (self.new.full_since ≡ self.old.full_since) }
@@ -237,13 +239,13 @@ impl<'a, R: Net + time::Clock> SocketDoor<'a, R> {
         }
     }
 
-    /// How long a wait may be at most; `None` is without end.
+    /// Returns the longest time of a wait, or `None` for a wait without end.
     fn time_for(&self, wait: Wait, opens: bool) -> Option<Duration>
         ensures no { wait ≡ asked.No → option_map as_nanos result ≡ Some 0 }
         ensures forever { wait ≡ asked.Forever → opens && self.now.may_accept ≡ false → result ≡ None }
-        // A wait ends, unless it is asked to be without end.
+        // A wait has an end, unless `Wait::Forever` is requested.
         ensures ends { IfNone result (wait ≡ asked.Forever) }
-        // A peer that waits already is not made to wait, but while the system has no room for it.
+        // A client that is already waiting is not delayed, unless the system has no room for its connection.
         ensures at_once { opens && self.now.may_accept ≡ true → self.now.full_since ≡ None →
             option_map as_nanos result ≡ Some 0 }
         ensures full { opens && self.now.may_accept ≡ true → IfSome result (λ time. as_nanos time ≤ second) }
@@ -260,7 +262,7 @@ impl<'a, R: Net + time::Clock> SocketDoor<'a, R> {
         }
     }
 
-    /// How long it is until a moment in seconds since 1970 begins. Where the system's clock cannot be read, it is a
+    /// Returns the time until a second since 1970 begins. If the system's clock cannot be read, the result is one
     /// second.
     fn left_until(&self, moment: u64) -> Duration {
         match self.rt.since_1970() {
@@ -269,7 +271,7 @@ impl<'a, R: Net + time::Clock> SocketDoor<'a, R> {
         }
     }
 
-    /// Tells the events of a wait to the wires and to the door.
+    /// Passes the events of a wait to the wires and to the listener.
     fn tell(&mut self) {
         for (before, event) in self.events.iter().enumerate() {
             match self.places.get(event.token().0) {
@@ -280,7 +282,7 @@ impl<'a, R: Net + time::Clock> SocketDoor<'a, R> {
     }
 }
 
-/// So many places that no wire shares yet.
+/// Returns `count` places that no wire shares yet.
 fn places(alloc: Global, count: usize) -> Result<Vec<Shared>, AllocError>
     ensures { IfOk result (λ places. length places.items ≡ count) }
 {
@@ -295,7 +297,7 @@ impl<'a, R: Net + time::Clock> Door for SocketDoor<'a, R> {
     type Wire = SocketWire;
 
     fn next(&mut self) -> Option<SocketWire>
-        // The system is not asked where no peer waits.
+        // The system is not called if no client is waiting.
         ensures { self.old.may_accept ≡ false → result ≡ None }
     {
         if !self.may_accept || !self.full_for().is_zero() {
@@ -314,7 +316,7 @@ impl<'a, R: Net + time::Clock> Door for SocketDoor<'a, R> {
         }
     }
 
-    // Where the wait fails, nothing is learnt, and the next one tells it.
+    // If the wait fails, nothing is recorded, and the next wait reports the events.
     fn wait(&mut self, wait: Wait, opens: bool) {
         let time = self.time_for(wait, opens);
         if self.poll.poll(&mut self.events, time).is_ok() {

@@ -1,4 +1,4 @@
-//! A client's wire over TCP, which waits.
+//! The connection of a client over TCP, whose calls may wait.
 
 ghost use Rattle.std.specs.Prelude.{◌≡◌, ◌≢◌, ℕ, length, None, [], ◌∷◌};
 ghost use Rattle.std.specs.IoError.{error_kind};
@@ -24,13 +24,14 @@ use std::time::Duration;
 use std::{io, time};
 use thiserror::Error;
 
-/// Why there is no connection.
+/// Error of `Line::connect`.
 #[derive(Clone, Copy, Debug, PartialEq, Eq, Error)]
 pub enum ConnectFault {
-    /// The host has no address that answers in time: what hindered the connection to the last one that was tried.
+    /// Failure to connect, with its cause. If the host has several addresses, the cause is that of the last address
+    /// tried.
     #[error("cannot connect")]
     Socket(Hindrance),
-    /// Memory was refused.
+    /// Failed allocation.
     #[error("no memory")]
     Memory,
 }
@@ -51,10 +52,10 @@ impl From<AllocError> for ConnectFault {
     }
 }
 
-/// The token of the one socket.
+/// Token of the only socket.
 const LINE: Token = Token(0);
 
-/// Why a name was not looked up.
+/// Returns the error for a failed lookup of a name.
 fn lookup_fault(error: io::Error) -> ConnectFault
     ensures memory { error_kind error ≡ kind.OutOfMemory → result ≡ fault.Memory }
     ensures other { error_kind error ≢ kind.OutOfMemory → result ≡ fault.Socket hindrance.UnknownName }
@@ -65,7 +66,7 @@ fn lookup_fault(error: io::Error) -> ConnectFault
     }
 }
 
-/// What connects: tries one address after the other.
+/// State for connecting to a host, which tries one address after the other.
 #[derive(Drop)]
 struct Dialer<'a, R> {
     rt: &'a R,
@@ -75,7 +76,7 @@ struct Dialer<'a, R> {
 }
 
 impl<'a, R: Net + time::Clock> Dialer<'a, R> {
-    /// The connection to an address, where it comes about before the clock stands there.
+    /// Returns the connection to an address. The attempt fails when the clock reaches `end`.
     fn dial(&mut self, address: SocketAddr, end: Duration) -> Result<TcpStream, ConnectFault> {
         let mut stream = TcpStream::connect(self.rt, address)?;
         self.poll
@@ -92,7 +93,7 @@ impl<'a, R: Net + time::Clock> Dialer<'a, R> {
         Ok(stream)
     }
 
-    /// Waits until something has become of the connection, and answers whether it has before the clock stands there.
+    /// Waits until the attempt to connect has succeeded or failed. Returns `false` if the clock reached `end` first.
     fn comes_about(&mut self, end: Duration) -> io::Result<bool> {
         for _ in 0..u64::MAX {
             let left = end.saturating_sub(self.clock.passed());
@@ -107,7 +108,7 @@ impl<'a, R: Net + time::Clock> Dialer<'a, R> {
         Ok(false)
     }
 
-    /// The wire of a connection, whose run begins now.
+    /// Returns the wire of a connection, whose run begins now.
     fn line(self, stream: TcpStream) -> Line<'a, R> {
         Line {
             stream,
@@ -121,32 +122,38 @@ impl<'a, R: Net + time::Clock> Dialer<'a, R> {
     }
 }
 
-/// The wire of a client. A read with nothing there waits, until the next second of the run begins at the most. So does
-/// a write with no room, where the call before it was one too: whoever writes twice and reads nothing has something to
-/// write first.
+/// Connection of a client.
+///
+/// A read without input waits for some, at most until the next second of the run begins. A write without room waits in
+/// the same way, but only if the call before it was one too. A caller that writes twice without a read must write
+/// before it can continue.
 #[derive(Drop)]
 pub struct Line<'a, R> {
     stream: TcpStream,
     poll: Poll,
     events: Events,
     clock: RunClock<'a, R>,
-    /// Whether bytes may wait to be written: at first, and where the last write did not take all.
+    /// `true` if bytes may have to be written: at first, and if the last write did not accept all bytes.
     is_blocked: bool,
-    /// Whether the last call was a write that found no room.
+    /// `true` if the last call was a write that found no room.
     is_stuck: bool,
-    /// Whether the last wait ended as a second of the run began. The run looks at that moment before it waits again.
+    /// `true` if the last wait ended because a second of the run began. The run checks its deadlines at that time
+    /// before it waits again.
     has_ticked: bool,
 }
 
 impl<'a, R: Net + time::Clock> Line<'a, R> {
-    /// Connects to a host, which is a name, or an address without brackets, at a port: tries each address of it in
-    /// turn, for so many seconds in all, of a name the first 32. Each gets an equal share of what is left for it and
-    /// those behind it, and a second at the least, while there is one. Looking up a name comes before these seconds,
-    /// and takes as long as the system takes for it.
+    /// Connects to a host, which is a name or an address without brackets, at a port.
+    ///
+    /// The addresses of the host are tried in turn, of a name the first 32. All attempts together take at most
+    /// `seconds` seconds. Each attempt gets an equal share of the time left for it and the later ones. If at least one
+    /// second is left, the share is no shorter. The lookup of a name comes before these seconds, and takes as long as
+    /// the system needs.
     ///
     /// # Errors
     ///
-    /// `Socket` where none of the addresses answers in time, `Memory` where memory is refused.
+    /// - `Socket`: the name is unknown, no address accepted a connection in time, or the system failed.
+    /// - `Memory`: an allocation failed.
     pub fn connect(
         rt: &'a R,
         alloc: Global,
@@ -178,12 +185,12 @@ impl<'a, R: Net + time::Clock> Line<'a, R> {
         Err(fault)
     }
 
-    /// The clock of the run, which began as the connection came about.
+    /// Returns the clock of the run, which began when the connection was made.
     pub fn clock(&self) -> RunClock<'a, R> {
         self.clock.again()
     }
 
-    /// What a read waits for: bytes, and room where bytes may wait to be written.
+    /// Returns the events that a read waits for: input, and also room if bytes may have to be written.
     fn interest(&self) -> Interest {
         if self.is_blocked {
             Interest::READABLE | Interest::WRITABLE
@@ -192,10 +199,10 @@ impl<'a, R: Net + time::Clock> Line<'a, R> {
         }
     }
 
-    /// Waits for one of these, or until the next second of the run begins.
+    /// Waits for one of these events, at most until the next second of the run begins.
     fn wait(&mut self, interest: Interest) {
-        // To register it once more has the system tell again what is ready. Where that fails, the wait ends with the
-        // second.
+        // To register the socket again makes the system report again what is ready. If that fails, the wait ends with
+        // the second.
         let _ = self
             .poll
             .registry()
@@ -208,7 +215,7 @@ impl<'a, R: Net + time::Clock> Line<'a, R> {
         self.has_ticked = self.events.is_empty();
     }
 
-    /// Writes, and once more behind a wait for room, where there is none and the call before found none either.
+    /// Writes once. If there was no room, and the call before found none either, waits for room and writes again.
     fn write_or_wait(&mut self, bytes: &[u8]) -> Got
         ensures { IsWithin (length bytes.now) result }
     {
@@ -221,7 +228,7 @@ impl<'a, R: Net + time::Clock> Line<'a, R> {
     }
 }
 
-/// Whether a write of so many bytes left some, for want of room.
+/// Returns `true` if a write of `offered` bytes left some for lack of room.
 fn is_blocked_by(offered: usize, got: Got) -> bool
     ensures { result ≡ is_blocked_by offered got }
 {
@@ -234,7 +241,7 @@ fn is_blocked_by(offered: usize, got: Got) -> bool
 }
 
 impl<'a, R: Net + time::Clock> Wire for Line<'a, R> {
-    // A socket tells nothing of what it passed on.
+    // A socket does not record the bytes that it transferred.
     ghost given = { λ _. None };
 
     ghost written = { λ _. None };

@@ -1,4 +1,4 @@
-//! How long there is to wait.
+//! Durations of waits and of attempts to connect.
 
 ghost use Rattle.std.specs.Prelude.{◌≡◌, option_map};
 ghost use Rattle.std.specs.Duration.{as_nanos};
@@ -6,36 +6,36 @@ ghost use Rattle.coap_sockets.specs.Moments as spec;
 
 use std::time::Duration;
 
-/// A second.
+/// Returns one second.
 pub(crate) fn second() -> Duration
     ensures { as_nanos result ≡ spec.second }
 {
     Duration::from_secs(1)
 }
 
-/// How long it is until a moment in seconds begins: nothing where it has begun.
+/// Returns the time until `moment`, in seconds, begins. If it has begun, the result is zero.
 pub(crate) fn left_until(moment: u64, now: Duration) -> Duration
     ensures { as_nanos result ≡ spec.left_until moment (as_nanos now) }
 {
     Duration::from_secs(moment).saturating_sub(now)
 }
 
-/// What is left of a time that began at a moment.
+/// Returns the part of a duration that is left at `now`, if it started at `began`.
 pub(crate) fn left_of(time: Duration, began: Duration, now: Duration) -> Duration
     ensures { as_nanos result ≡ spec.left_of (as_nanos time) (as_nanos began) (as_nanos now) }
 {
     time.saturating_sub(now.saturating_sub(began))
 }
 
-/// How long it is until the next second begins.
+/// Returns the time until the next second begins: more than zero, and at most one second.
 pub(crate) fn to_next_second(now: Duration) -> Duration
     ensures { as_nanos result ≡ spec.to_next_second (as_nanos now) }
 {
     second().saturating_sub(Duration::from_nanos(u64::from(now.subsec_nanos())))
 }
 
-/// The share of one who has it first of what is left for all, with so many others behind it: a second at the least,
-/// while so much is left.
+/// Returns the time for one attempt to connect, with `others` addresses after this one. It is the remaining time
+/// divided by the number of remaining addresses, and at least one second if that much remains.
 pub(crate) fn share_of(left: Duration, others: u16) -> Duration
     ensures { as_nanos result ≡ spec.share_of (as_nanos left) others }
 {
@@ -43,9 +43,9 @@ pub(crate) fn share_of(left: Duration, others: u16) -> Duration
     share.max(second()).min(left)
 }
 
-/// Returns the time at which the attempt to connect to an address ends, the one with this index of so many, which share
-/// a time from the clock's start: after the share of it and the later ones of what is left. Returns `None` if nothing is
-/// left.
+/// Returns the time at which the attempt to connect to an address ends, or `None` if no time is left. Times count from
+/// the start of the first attempt: `passed` is the present time, and all attempts end at `limit`. The address is that
+/// with this index among `count` addresses.
 pub(crate) fn end_of_attempt(
     passed: Duration,
     limit: Duration,
@@ -63,7 +63,7 @@ pub(crate) fn end_of_attempt(
     Some(passed.saturating_add(share_of(left, others)))
 }
 
-/// A time, but at most this one; `None` is a time without end.
+/// Returns the shorter of two durations, where `None` is one without end.
 pub(crate) fn at_most(limit: Duration, time: Option<Duration>) -> Duration
     ensures { as_nanos result ≡ spec.at_most (as_nanos limit) (option_map as_nanos time) }
 {

@@ -1,4 +1,4 @@
-//! What is known of a socket without asking the system.
+//! The readiness of a socket, as far as it is known without a system call.
 
 ghost use Rattle.std.specs.Prelude.{◌≡◌, true, false, length};
 ghost use Rattle.coap_io.specs.streams.Wires.{IsWithin};
@@ -11,28 +11,27 @@ use mio::event::Event;
 use std::io;
 use std::io::{Read, Write};
 
-/// What is known of a socket without asking the system.
+/// Readiness of a socket, as far as it is known without a system call.
 ///
-/// The system tells of changes alone. So what it told holds until a call finds that the socket has nothing to give, or
-/// no room to take; and a call that passed on fewer bytes than it was asked for has found the same, but for a read that
-/// stops short.
+/// The system reports changes only. A report is therefore valid until a call finds that the socket has no input, or no
+/// room. A call that transfers fewer bytes than requested has found the same, except for a read that stops short.
 #[derive(Clone, Copy, PartialEq, Eq)]
 pub struct Readiness {
-    /// Whether a read may come to something else than that nothing is there.
+    /// `true` if a read may return something other than `Later`.
     pub readable: bool,
-    /// Whether a write may come to something else than that there is no room.
+    /// `true` if a write may return something other than `Later`.
     pub writable: bool,
-    /// Whether a read may give fewer bytes than it has room for, and leave something that the system has told of
-    /// already: the end of what the peer sends, a failure, or bytes behind urgent data.
+    /// `true` if a read may return fewer bytes than its buffer has room for, and leave something that the system has
+    /// already reported. That can be the end of input, an error, or bytes after urgent data.
     pub stops_short: bool,
-    /// Whether the next write is put off once, until the other sockets that were told of with this one have been read.
+    /// `true` if the next write is deferred once, until the other sockets that the same wait reported have been read.
     pub yields: bool,
-    /// Whether that was done and nothing was written since: then the next write is not put off.
+    /// `true` if a write was deferred and none was made since. The next write is then not deferred.
     pub has_yielded: bool,
 }
 
 impl Readiness {
-    /// That of a socket that nothing is known of: a read and a write are to be tried.
+    /// Returns the readiness of a new socket, for which a read and a write must be tried.
     pub(crate) fn unknown() -> Readiness
         ensures { result ≡ spec.unknown }
     {
@@ -45,7 +44,8 @@ impl Readiness {
         }
     }
 
-    /// That after an event of the system, which was told behind many others at once or not.
+    /// Returns the readiness after an event. `behind_many` is `true` if the same wait reported at least `AT_ONCE`
+    /// events before it.
     pub(crate) fn woken(self, event: &Event, behind_many: bool) -> Readiness
         ensures { result ≡ spec.woken self event.now behind_many }
     {
@@ -62,7 +62,7 @@ impl Readiness {
         }
     }
 
-    /// That after a read with so much room.
+    /// Returns the readiness after a read into a buffer of `room` bytes.
     fn read_with(self, room: usize, answer: io::Result<usize>) -> Readiness
         ensures { result ≡ spec.read_with self room answer }
     {
@@ -73,7 +73,7 @@ impl Readiness {
         Readiness { readable, ..self }
     }
 
-    /// That after a write of so many bytes.
+    /// Returns the readiness after a write of `offered` bytes.
     fn written_with(self, offered: usize, answer: io::Result<usize>) -> Readiness
         ensures { result ≡ spec.written_with self offered answer }
     {
@@ -89,7 +89,7 @@ impl Readiness {
         }
     }
 
-    /// That after a write that was put off.
+    /// Returns the readiness after a write was deferred.
     fn put_off(self) -> Readiness
         ensures { result ≡ spec.put_off self }
     {
@@ -100,10 +100,10 @@ impl Readiness {
         }
     }
 
-    /// Reads once, where a read may come to something, and keeps what was learnt of the socket.
+    /// Reads once, if a read may return something, and records the resulting readiness.
     pub(crate) fn read<S: Read>(&mut self, stream: &mut S, buffer: &mut [u8]) -> Got
         ensures within { IsWithin (length buffer.new) result }
-        // The system is not asked where nothing can come of it.
+        // The system is not called if the socket has no input.
         ensures idle { self.old.readable ≡ false →
             (stream.new ≡ stream.old) × (self.new ≡ self.old) × (result ≡ Later) }
     {
@@ -116,16 +116,16 @@ impl Readiness {
         read_got(answer)
     }
 
-    /// Writes once, where a write may come to something and is not put off, and keeps what was learnt of the socket.
+    /// Writes once, if there may be room and the write is not deferred, and records the resulting readiness.
     pub(crate) fn write<S: Write>(&mut self, stream: &mut S, bytes: &[u8]) -> Got
         ensures within { IsWithin (length bytes.now) result }
-        // The system is not asked where nothing can come of it.
+        // The system is not called if the socket has no room.
         ensures idle { self.old.writable ≡ false →
             (stream.new ≡ stream.old) × (self.new ≡ self.old) × (result ≡ Later) }
-        // Nor where the write is put off, which happens once.
+        // The system is not called either if the write is deferred. A write is deferred at most once.
         ensures later { self.old.writable ≡ true → self.old.yields ≡ true →
             (stream.new ≡ stream.old) × (self.new ≡ spec.put_off self.old) × (result ≡ Later) }
-        // A write that is made ends that.
+        // A write that is made clears both flags of deferral.
         ensures made { self.old.writable ≡ true → self.old.yields ≡ false →
             (self.new.yields ≡ false) × (self.new.has_yielded ≡ false) }
     {

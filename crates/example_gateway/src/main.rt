@@ -1,5 +1,6 @@
-//! A gateway to a sensor: a program that embeds the server, and serves at the path /measured what a file holds, as the
-//! files of a system's sensors do. The file is read anew before each turn, and at least once a second.
+//! A gateway to a sensor: a program that embeds the server. It serves the contents of a file at the path /measured,
+//! such as one of the files in which a system reports its sensors. The file is read before each turn of the event loop,
+//! and at least once a second.
 //!
 //!     example_gateway 127.0.0.1:5683 /sys/class/thermal/thermal_zone0/temp
 #![tactic(auto)]
@@ -12,14 +13,14 @@ use std::net::{Net, SocketAddr};
 use std::rt::{Env, Files};
 use std::{env, fs, time};
 
-/// What is measured: the bytes of a file.
+/// Returns the measured value: the bytes of a file.
 fn measured(rt: &(impl Files + AllocGlobal), file: &str) -> Result<Vec<u8>> {
     let mut bytes = Vec::new(rt.alloc());
     fs::open(rt, file)?.read_to_end(&mut bytes)?;
     Ok(bytes)
 }
 
-/// Serves at an address what a file holds, as long as it can be read.
+/// Serves the contents of a file at an address, as long as the file can be read.
 fn serve(
     rt: &(impl Eprint + Files + Net + time::Clock + AllocGlobal),
     address: SocketAddr,
@@ -48,7 +49,8 @@ fn serve(
     for _ in 0..config.turns() {
         let now = clock.now();
         let _ = service.tick(now);
-        // Refused where a peer deleted it and stored something else in its place: then it waits for that to go.
+        // This fails if a client deleted the resource and stored another one, since the server stores only one. The
+        // value is stored again after the other resource is deleted.
         let _ = service.put(&path, Some(0), &measured(rt, file)?);
         let wait = service.turn(&mut door)?;
         door.wait(wait.at_most(now.saturating_add(1)), service.can_open());

@@ -1,4 +1,4 @@
--- What the connections leave to be done, one after the other.
+-- The work that remains on the connections visited so far in a turn.
 use Rattle.std.proofs.Common.{◌≡◌, ◌⊎◌, ℕ, suc, ◌+◌, ◌≤◌, Bool, true, false, List, [], ◌∷◌, ◌++◌, length, map, take, drop, Option, Some, None, refl, sym, ap, subst, ◌∙◌, inl, inr, arith, ◌||◌, slice_get, IfSome, ◌<◌, remove, nat_eq, append_assoc, add-one}
 use Rattle.std.proofs.lemmas.Bool.Decides.{nat_tests}
 use Rattle.coap_serve.specs.Prelude.{AllByRecursion, keys_of, values_of, Agenda, Course, Over, Wants, Host, Outlook}
@@ -18,27 +18,28 @@ use Rattle.coap_model.proofs.OptionLemmas.{one_made}
 
 -- ---- stamps
 
--- what a connection is to be served for has the stamp of the server
+-- The I/O interest of a connection has the stamp of the server.
 pub stamp_in : (o : Option Outlook) (is_empty : Bool) (stamp : Stamp) → (wants_in o is_empty stamp).stamp ≡ stamp
 stamp_in o is_empty stamp = grind arith
 
--- it concerns none, or the stamp is the same
+-- If no earlier connection is affected, there is none, or the stamp is the same.
 none_or_same : (i : ℕ) (stamp later : Stamp) → concerns_earlier i stamp later ≡ false → (i ≡ 0) ⊎ (later ≡ stamp)
 none_or_same i stamp later e = grind (arith, nat_tests)
 
--- ---- what can be done at once
+-- ---- readiness
 
--- something that a wire may answer which is asked where it is wanted
+-- A possible result of asking a wire for its readiness.
 pub an_answer : (wanted : Bool) (told : Option Bool) → (answer : Bool) × IsAsked wanted told answer
 an_answer true None = (false, tt)
 an_answer true (Some told) = (told, refl)
 an_answer false told = (false, refl)
 
--- what can be done where its wire answers this of a read
+-- The readiness of a connection whose wire returned `reads` for a read.
 pub can_with : (e : FarEnd) (reads : Bool) → IsAsked e.wants.read e.readable reads → CanGoOn e (e.wants.take || reads || (an_answer e.wants.write e.writable).0)
 can_with e reads asked = let writes = an_answer e.wants.write e.writable in record { reads = reads; writes = writes.0; read = asked; write = writes.1; is = refl }
 
--- what was read can be taken, or its wire is to be read and may be
+-- The connection is ready: bytes that were read can be accepted or must be discarded, or its wire must be read and may
+-- be.
 pub can_go_on_so : (e : FarEnd) (reads result : Bool) → IsAsked e.wants.read e.readable reads → (e.wants.take || reads) ≡ true → result ≡ true → CanGoOn e result
 can_go_on_so e reads result asked may is = subst (CanGoOn e) (or_left (e.wants.take || reads) _ may ∙ sym is) (can_with e reads asked)
 
@@ -50,12 +51,12 @@ sooner_never due = grind arith
 or_turned : (a b c : Bool) → ((a || b) || c) ≡ ((a || c) || b)
 or_turned a b c = grind arith
 
--- something can be done on one of two lists
+-- The readiness of two lists together is that of either.
 can_both : (xs ys : List FarEnd) (one other : Bool) → CanAnyGoOn xs one → CanAnyGoOn ys other → CanAnyGoOn (xs ++ ys) (one || other)
 can_both [] ys one other none can = rw none can
 can_both (e ∷ es) ys one other can more = (can.0, can.1 || other, can.2, can_both es ys can.1 other can.3 more, rw can.4 (or_assoc can.0 can.1 other))
 
--- nothing can be done on those at rest, which were all served on a server with this stamp
+-- Nothing can be done on idle connections.
 none_at_rest : (stamp : Stamp) (all : List FarEnd) → AllByRecursion (IsAtRest stamp) all → CanAnyGoOn all false
 none_at_rest stamp [] rests = refl
 none_at_rest stamp (e ∷ es) rests = (false, false, rests.0.1, none_at_rest stamp es rests.1, refl)
@@ -66,11 +67,11 @@ fresh_at_rest stamp (e ∷ es) rests = (rests.0.0, fresh_at_rest stamp es rests.
 
 -- ---- the entries of a map, by the index of a value
 
--- as many values as keys
+-- Maps with the same keys have the same number of values.
 pub same_length : {P : Type 0} (es fs : List (ℕ × P)) → keys_of es ≡ keys_of fs → length es ≡ length fs
 same_length es fs same = simp length-map at (ap length same)
 
--- the entry of a value
+-- A value at an index is that of the entry at this index.
 value_at : {P : Type 0} (es : List (ℕ × P)) (i : ℕ) (p : P) → slice_get (values_of es) i ≡ Some p → (e : ℕ × P) × (slice_get es i ≡ Some e) × (e.1 ≡ p)
 value_at es i p at = one_made (λ e. e.1) (slice_get es i) p (sym (slice_get-map (λ e. e.1) es i) ∙ at)
 
@@ -79,7 +80,7 @@ some_at_index xs i within = elim (slice_get_cases xs i).1 [ inl there ↦ (there
 
 -- ---- parts of a list
 
--- those from an index on, up to one more
+-- The elements from one index to another, with one more at the end.
 more_between : {X : Type 0} (xs : List X) (from i : ℕ) (x : X) → from ≤ i → slice_get xs i ≡ Some x → drop from (take (i + 1) xs) ≡ drop from (take i xs) ++ x ∷ []
 more_between xs from i x order at =
     let within = slice_get_within xs i x at in
@@ -91,14 +92,14 @@ front_between xs from to order = rw (← take-take from to xs order) (take-appen
 next_first : {X : Type 0} (xs : List X) (i : ℕ) (x : X) → slice_get xs i ≡ Some x → drop i xs ≡ x ∷ drop (i + 1) xs
 next_first xs i x at = rw (drop_more xs i x (slice_get_within xs i x at), get_or_from_slice_get xs i x x at) refl
 
--- those before one that is removed
+-- The elements before one that is removed stay.
 pub front_stays : {X : Type 0} (xs : List X) (i : ℕ) → i < length xs → take i (remove xs i) ≡ take i xs
 front_stays xs i within = take_at (take i xs) (drop (suc i) xs) i (length-take-le i xs (omega arith))
 
--- ---- a turn of the loop
+-- ---- an iteration of the loop
 
 module _ {P : Type 0} (far : P → FarEnd) where
-  -- what is known of far far_ends
+  -- The states of the connections that decide whether they can be served.
   abbrev pub far_ends : List (ℕ × P) → List FarEnd
   far_ends es = map (λ e. far e.1) es
 
@@ -106,7 +107,7 @@ module _ {P : Type 0} (far : P → FarEnd) where
       → far_ends (drop from (take (i + 1) es)) ≡ far_ends (drop from (take i es)) ++ far p ∷ []
   more_ends es from i p order at = let there = value_at es i p at in rw (more_between es from i there.0 order there.1, map-append, there.2) refl
 
-  -- one that was served
+  -- One connection was served and stays open.
   pub open_step : (es : List (ℕ × P)) (i : ℕ) (p : P) {a b : Agenda} {changed : Bool} {stamp : Stamp} {ready : Bool} → slice_get (values_of es) i ≡ Some p
       → IsAgendaOf a changed stamp (far_ends (take i es)) → CanGoOn (far p) ready → (far p).wants.stamp ≡ stamp → b ≡ agenda_with a ready (far p).wants.due
       → IsAgendaOf b changed stamp (far_ends (take (i + 1) es))
@@ -118,7 +119,7 @@ module _ {P : Type 0} (far : P → FarEnd) where
     fresh = λ none. all_append (λ e. e.wants.stamp ≡ stamp) (far_ends (take i es)) (far p ∷ []) (seen.fresh none) (same, tt);
   })
 
-  -- what a connection that was served changes may concern those before it, by the stamps of the server before and after
+  -- Serving a connection may affect those before it, as the stamps of the server before and after show.
   pub served_later : (es fs : List (ℕ × P)) (i : ℕ) {a b : Agenda} {changed : Bool} (was is : Host) {stamp later : Stamp} {concerns : Bool} → IsAgendaOf a changed (stamp_of was) (far_ends (take i es))
       → take i fs ≡ take i es → stamp ≡ stamp_of was → later ≡ stamp_of is → concerns ≡ concerns_earlier i stamp later → b ≡ agenda_with a concerns None
       → IsAgendaOf b (changed || concerns_earlier i (stamp_of was) (stamp_of is)) (stamp_of is) (far_ends (take i fs))
@@ -132,9 +133,9 @@ module _ {P : Type 0} (far : P → FarEnd) where
         elim (none_or_same i (stamp_of was) (stamp_of is) parts.1) [ inl first ↦ rw first tt | inr same ↦ rw same (seen.fresh parts.0) ];
   })
 
-  -- ---- what is passed over
+  -- ---- skipped connections
 
-  -- those from an index up to another one are at rest, and the least moment counts theirs
+  -- The connections between two indices are idle, and the deadline includes theirs.
   pub record ArePassed (es : List (ℕ × P)) (from to : ℕ) (stamp : Stamp) (before now : Option ℕ) : Type 0 where
     pub rest : AllByRecursion (IsAtRest stamp) (far_ends (drop from (take to es)))
     pub due : now ≡ least_with before (far_ends (drop from (take to es)))
@@ -154,11 +155,11 @@ module _ {P : Type 0} (far : P → FarEnd) where
         due = rw (more, is, passed.due, fold-append) refl;
       }
 
-  -- the next one is not at rest
+  -- The next connection is not idle.
   pub one_next : (es : List (ℕ × P)) (i : ℕ) (p : P) (stamp : Stamp) → slice_get (values_of es) i ≡ Some p → IsInTurn stamp (far p) → IfSome (slice_get es i) (λ e. IsInTurn stamp (far e.1))
   one_next es i p stamp at in_turn = let there = value_at es i p at in rw (there.1, there.2) in_turn
 
-  -- those that were looked at, and those that were passed over then
+  -- Connections that were visited, followed by those that were skipped then.
   pub past_on : (es : List (ℕ × P)) (from to : ℕ) {a b : Agenda} {changed : Bool} (host : Host) {stamp : Stamp} → stamp ≡ stamp_of host → from ≤ to → IsAgendaOf a changed (stamp_of host) (far_ends (take from es))
       → AllByRecursion (IsAtRest stamp) (far_ends (drop from (take to es))) → b ≡ agenda_past a (far_ends (drop from (take to es))) → IsAgendaOf b changed (stamp_of host) (far_ends (take to es))
   past_on es from to {changed = changed} host on order seen rest is =
@@ -172,7 +173,7 @@ module _ {P : Type 0} (far : P → FarEnd) where
         fresh = λ none. all_append (λ e. e.wants.stamp ≡ stamp_of host) (far_ends (take from es)) passed (seen.fresh none) (fresh_at_rest (stamp_of host) passed rests);
       })
 
--- what was noted when it was served has the stamp of the server
+-- The interest that was recorded when the connection was served has the stamp of the server.
 pub stamp_noted : {W : Type 0} (es : List (ℕ × Peer W)) (i : ℕ) {p : Peer W} (v : ServerValue) {course : Course} → slice_get (values_of es) i ≡ Some p
     → IfSome (slice_get es i) (λ is. course ≡ Open → is.1.wants ≡ wants_of v is.0 is.1.rest) → course ≡ Open → p.wants.stamp ≡ stamp_of v.host
 stamp_noted es i {p} v at noted open_now =
@@ -180,14 +181,14 @@ stamp_noted es i {p} v at noted open_now =
     let note = rw there.1 at noted in
     rw (← there.2, ap (λ (w : Wants). w.stamp) (note open_now)) (stamp_in (outlook_of v there.0.0) _ (stamp_of v.host))
 
--- one more was opened
+-- Another connection was opened.
 pub one_more_opened : {W : Type 0} (v after : ServerValue) (id : ℕ) (p : Peer W) (es now : List (ℕ × Peer W)) → open_refusal v ≡ None → id ≡ v.ids + 1 → after ≡ server_opened v → now ≡ insert_entry nat_eq es id p → p.rest ≡ [] → HasOneMore p.wire v es after now
 one_more_opened v after id p es now may number opened entries rest = record { peer = p; may = may; server = opened; entries = rw (← number) entries; rest = rest; handed = refl }
 
 module _ {W : Type 0} (readable writable : W → Option Bool) (trace : W → WireTrace) where
   -- ---- one after the other
 
-  -- those that were served, and others after them
+  -- Two lists that were served, one after the other.
   both_served : {n : ℕ} {u v w : ServerValue} {es fs ls ms : List (ℕ × Peer W)} {one other : Bool} (m : ℕ) → m ≡ n + length ls → AreServed readable writable trace n u es one v ls → AreServed readable writable trace m v fs other w ms
       → AreServed readable writable trace n u (es ++ fs) (one || other) w (ls ++ ms)
   both_served m many (NoMore n start) two = let same : m ≡ n = omega (arith, many) in rw same at two
@@ -197,18 +198,18 @@ module _ {W : Type 0} (readable writable : W → Option Bool) (trace : W → Wir
       rw (append_assoc its left ms, or_assoc (concerns_earlier n (stamp_of start.host) (stamp_of between.host)) changed other)
       (HadItsPart n start e _ between its _ _ _ in_turn part (both_served m (omega (arith, many, length-append its left)) rest two))
 
-  -- those at rest
+  -- Idle connections only.
   all_passed : (n : ℕ) (v : ServerValue) (es : List (ℕ × Peer W)) → AllByRecursion (IsAtRest (stamp_of v.host)) (map (λ e. end_of readable writable e.1) es) → AreServed readable writable trace n v es false v es
   all_passed n v [] rests = NoMore n v
   all_passed n v (e ∷ es) rests = PassedOver n v e es false v es rests.0 (all_passed (n + 1) v es rests.1)
 
-  -- how far a turn is: those before an index were served
+  -- The progress of a turn: the connections before an index were served.
   pub record AreServedTo (u : ServerValue) (all : List (ℕ × Peer W)) (v : ServerValue) (now : List (ℕ × Peer W)) (at : ℕ) (changed : Bool) : Type 0 where
     pub done : List (ℕ × Peer W)
     pub all_of_them : all ≡ done ++ drop at now
     pub served : AreServed readable writable trace 0 u done changed v (take at now)
 
-  -- those up to another index were passed over
+  -- The connections up to another index were skipped.
   pub passed_on : {u v : ServerValue} {all now : List (ℕ × Peer W)} (from to : ℕ) {changed : Bool} {stamp : Stamp} → stamp ≡ stamp_of v.host → from ≤ to → to ≤ length now → AllByRecursion (IsAtRest stamp) (map (λ e. end_of readable writable e.1) (drop from (take to now)))
       → AreServedTo u all v now from changed → AreServedTo u all v now to changed
   passed_on {u} {v} {all} {now} from to {changed = changed} is order within rests before = record {
@@ -233,7 +234,7 @@ module _ {W : Type 0} (readable writable : W → Option Bool) (trace : W → Wir
   pub all_are_served : {u v : ServerValue} {all now : List (ℕ × Peer W)} {at : ℕ} {changed : Bool} → length now ≤ at → AreServedTo u all v now at changed → AreServed readable writable trace 0 u all changed v now
   all_are_served {now = now} {at = at} most before = rw (before.all_of_them, drop_all at now most, append-nil) (rw (take_all at now most) at before.served)
 
-  -- how far a round is, with what those before an index leave to be done
+  -- The progress of a turn through the connections, with the work that remains on those before an index.
   pub record IsRoundTo (u : ServerValue) (all : List (ℕ × Peer W)) (a : Agenda) (v : ServerValue) (now : List (ℕ × Peer W)) (at : ℕ) : Type 0 where
     pub changed : Bool
     pub served : AreServedTo u all v now at changed

@@ -1,4 +1,4 @@
--- What a run of a door has told so far, turn by turn.
+-- The traces of clock and listener in a run, turn by turn.
 use Rattle.std.proofs.Common.{◌≡◌, ℕ, ◌+◌, ◌<◌, Bool, false, List, [], ◌∷◌, ◌++◌, length, Option, refl, ap, ◌∙◌, arith, inr}
 use Rattle.coap_serve.specs.Prelude.{is_none, ConfigValues, Peer, IoFault, Memory, Wait, open_refusal, ServerValue}
 use Rattle.coap_serve.specs.Prelude.{OneMore, HasTurnedSo, IsCutRun, EndsWith, moved_to, waited_behind}
@@ -6,7 +6,7 @@ use Rattle.coap_serve.specs.Prelude.{IsTurnOf, IsAskedOnce, asked_by, TellsMore,
 use Rattle.std.proofs.lemmas.List.{length-append}
 use Rattle.coap_io.proofs.streams.DeviceLemmas.{told_then}
 
--- ---- how far a run has come
+-- ---- progress of a run
 
 module _ {W : Type 0} (readable writable : W → Option Bool) (trace : W → WireTrace) (c : ConfigValues) where
   pub record HasRunTo (clock : List ℕ → Type 0) (door : List (DoorCall W) → Type 0) (v : ServerValue) (es : List (ℕ × Peer W)) (is_spent : Bool) (wait : Wait) (turns : ℕ) : Type 0 where

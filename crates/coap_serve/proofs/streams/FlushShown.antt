@@ -1,5 +1,5 @@
--- A flush of a server that shows a world is the flush of that world, and nothing waits after it. Where it ends in the world for some
--- bytes, what is defined for them was written.
+-- A flush of a server that shows a world is the flush of that world, and no byte is queued after it. If it ends in the
+-- world for some bytes, the whole output for them was written.
 use Rattle.std.proofs.Common.{◌≡◌, ◌⊎◌, ℕ, zero, suc, ◌+◌, ◌≤◌, ◌==◌, List, [], ◌∷◌, ◌++◌, length, map, Option, Some, None, refl, sym, ap, ◌∙◌, append_assoc, arith, inl, inr}
 use Rattle.std.proofs.lemmas.Bool.{cond_both}
 use Rattle.std.proofs.lemmas.Bool.Decides.{nat_tests}
@@ -21,7 +21,7 @@ use Rattle.coap_model.proofs.world.GrowLaws.{front_written, same_front, none_wai
 use Rattle.coap_model.proofs.world.WalkLaws.{written_between}
 use Rattle.coap_model.proofs.world.AcrossLaws.{written_there}
 
--- The server after some turns of a flush shows this world, and this was written.
+-- The server after some iterations of a flush shows this world, and these bytes were written.
 pub record FlushShown (c : ConfigValues) (es : List Event) (id : ℕ) (s : Side) (turns : ℕ) (after : ServerValue) (text : List ℕ) : Type 0 where
   pub config : after.config ≡ c
   pub events : List Event
@@ -32,15 +32,15 @@ pub record FlushShown (c : ConfigValues) (es : List Event) (id : ℕ) (s : Side)
   pub there : side_of id (world_after c events).sides ≡ Some side
   pub said : front_written side ≡ front_written s ++ text
 
--- A server of this configuration shows a world, in which the connection with this number is this one.
+-- A server of this configuration shows a world in which the connection with this number is this one.
 pub record ShowsSide (c : ConfigValues) (v : ServerValue) (id : ℕ) (s : Side) : Type 0 where
   pub config : v.config ≡ c
   pub events : List Event
   pub shows : Shows v events
   pub there : side_of id (world_after c events).sides ≡ Some s
 
--- The same of the only connection. The world for these bytes is the one in which that is flushed, and the connection spelled what they
--- spell.
+-- The same for the only connection. A flush leads from this world to the world for these bytes, and the connection
+-- received the stream that they encode.
 pub record LeadsTo (c : ConfigValues) (v : ServerValue) (s : Side) (bytes : List ℕ) : Type 0 where
   pub config : v.config ≡ c
   pub events : List Event
@@ -49,7 +49,7 @@ pub record LeadsTo (c : ConfigValues) (v : ServerValue) (s : Side) (bytes : List
   pub flushes : flushed c.limits (only_id c) (world_after c events) ≡ world_for c bytes
   pub spelled : spelled_on c.limits.max_message (only_id c) events ≡ (stream_of c bytes, c.limits.max_message)
 
--- the server stands behind the bytes, and behind what was written of their output this was written, which is all the rest
+-- The server has accepted these bytes. After the prefix `front` of their output, the whole rest of it was written.
 pub record StandsBehind (c : ConfigValues) (bytes front : List ℕ) (after : ServerValue) (wrote : List ℕ → Type 0) : Type 0 where
   pub stands : Stands c after bytes
   pub text : List ℕ
@@ -60,7 +60,7 @@ module _ (c : ConfigValues) (v : ServerValue) (id : ℕ) (s : Side) (from : Show
   abbrev es : List Event
   es = from.events
 
-  -- one turn more
+  -- One more iteration.
   module _ (turns : ℕ) (now : ServerValue) (text : List ℕ) (so_far : FlushShown c es id s turns now text) where
     session_is : session_of id now.sessions ≡ Some (session_shown (stream_on now.config.limits.max_message id so_far.events).rest so_far.side)
     session_is = side_there now so_far.events id so_far.side so_far.shows (ap (λ (k : ConfigValues). side_of id (world_after k so_far.events).sides) so_far.config ∙ so_far.there)
@@ -91,7 +91,7 @@ module _ (c : ConfigValues) (v : ServerValue) (id : ℕ) (s : Side) (from : Show
               ∙ rw (waits_shown, written_all, so_far.said) (append_assoc (front_written s) text (waiting_on t));
         }
 
-  -- all turns
+  -- All iterations.
   flushing : (turns : ℕ) → FlushShown c es id s turns (flush_turns turns id v).server (flush_turns turns id v).text
   unfolding flush_turns written_times
   flushing zero = record { config = from.config; events = es; shows = from.shows; world = refl; spelled = refl; side = s; there = from.there; said = sym (append-nil (front_written s)) }
@@ -102,7 +102,7 @@ module _ (c : ConfigValues) (v : ServerValue) (id : ℕ) (s : Side) (from : Show
       ap more_in (side_there v es id s from.shows (ap (λ (k : ConfigValues). side_of id (world_after k es).sides) from.config ∙ from.there))
       ∙ ap (λ (n : ℕ). length s.history.held + n) (length-map s.observers _)
 
-  -- after all turns, or those after which nothing waits, the world is the flushed one
+  -- After all iterations, or those after which no byte is queued, the world is the flushed one.
   whole : (turns : ℕ) → turns ≤ suc (more_at id v) → (waiting_at id (flush_turns turns id v).server ≡ []) ⊎ (turns ≡ suc (more_at id v)) → written_times c.limits id turns (world_after c es) ≡ flushed c.limits id (world_after c es)
   whole turns within done =
       let f = flushing turns in
@@ -115,7 +115,7 @@ module _ (c : ConfigValues) (v : ServerValue) (id : ℕ) (s : Side) (from : Show
       ]
       ∙ sym (flushed_so c.limits id w s from.there)
 
-  -- and so nothing waits
+  -- No byte is queued then.
   none_waits : (turns : ℕ) → turns ≤ suc (more_at id v) → (waiting_at id (flush_turns turns id v).server ≡ []) ⊎ (turns ≡ suc (more_at id v)) → waiting_at id (flush_turns turns id v).server ≡ []
   none_waits turns within done =
       let f = flushing turns in
@@ -129,7 +129,7 @@ module _ (c : ConfigValues) (v : ServerValue) (id : ℕ) (s : Side) (from : Show
 
 -- ---- any connection
 
--- where no connection has the number, turns of a flush leave that so
+-- If no connection has the number, none has it after iterations of a flush.
 absent_entries : (id : ℕ) (f : ℕ × SessionValue → ℕ × SessionValue) (es : List (ℕ × SessionValue)) → ((e : ℕ × SessionValue) → (f e).0 ≡ e.0) → session_of id es ≡ None → session_of id (map f es) ≡ None
 unfolding session_of
 absent_entries id f [] keeps none = refl
@@ -144,7 +144,7 @@ absent_turns id v (suc turns) none =
     absent_entries id (settled_entry u.host) (map becomes u.sessions) (λ e. refl)
     (absent_entries id becomes u.sessions (λ e. cond_both (e.0 == id) _ _ (λ (x : ℕ × SessionValue). x.0 ≡ e.0) (λ is. refl) (λ apart. refl)) (absent_turns id v turns none))
 
--- A flush leaves nothing that waits on the connection with this number, where one has it.
+-- A flush leaves no byte queued on the connection with this number, if there is one.
 flush_on : (v after : ServerValue) (es : List Event) (id : ℕ) (wrote : List ℕ → Type 0) (found : Option Side) → Shows v es → side_of id (world_after v.config es).sides ≡ found → IsFlushed id v after wrote → waiting_at id after ≡ []
 flush_on v after es id wrote (Some s) shows there did = leaves_nothing v.config v id s (record { config = refl; events = es; shows = shows; there = there }) after wrote did
 flush_on v after es id wrote None shows absent did = rw did.server (ap waiting_in (absent_turns id v did.turns (no_session v es id shows absent)))
@@ -161,7 +161,7 @@ module _ (c : ConfigValues) (v : ServerValue) (s : Side) (bytes : List ℕ) (lea
   abbrev from : ShowsSide c v id s
   from = record { config = leads.config; events = leads.events; shows = leads.shows; there = leads.there }
 
-  -- after all turns, or those after which nothing waits, the world is the one for the bytes
+  -- After all iterations, or those after which no byte is queued, the world is that for the bytes.
   pub turns_stand : (turns : ℕ) → turns ≤ suc (more_at id v) → (waiting_at id (flush_turns turns id v).server ≡ []) ⊎ (turns ≡ suc (more_at id v))
       → Stands c (flush_turns turns id v).server bytes × (stdio_output c bytes ≡ front_written s ++ (flush_turns turns id v).text)
   turns_stand turns within done =

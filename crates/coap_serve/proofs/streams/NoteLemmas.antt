@@ -1,4 +1,5 @@
--- What was noted of connections stays so while the stamp is the same, and a stamp that changed never comes back.
+-- Recorded interests of connections stay correct while the stamp is the same, and a stamp that has changed never
+-- repeats.
 use Rattle.std.proofs.Common.{◌≡◌, ◌≢◌, ℕ, zero, suc, ◌+◌, ◌≤◌, Bool, true, false, List, [], ◌∷◌, ◌++◌, length, map, filter, drop, Option, Some, None, refl, sym, ap, ◌∙◌, arith, ◌==◌, ◌||◌, option_map, if◌then◌else◌, Result, Ok, Err, nat_eq, is_ok, slice_get, remove, IfOk, OnOk, OnErr}
 use Rattle.std.proofs.lemmas.Bool.{eq-eqb, eqb-true, eqb-false}
 use Rattle.std.proofs.lemmas.Bool.Decides.{nat_tests}
@@ -38,13 +39,13 @@ no_earlier_on one other third first later = omega arith
 pub no_earlier_either_way : (one other : Stamp) → IsNoEarlier one other → IsNoEarlier other one → one ≡ other
 no_earlier_either_way one other on back = grind arith
 
--- a stamp that was left does not come back
+-- A stamp never repeats after it has changed.
 pub never_back : (one other third : Stamp) → IsNoEarlier one other → IsNoEarlier other third → third ≡ one → other ≡ one
 never_back one other third first later back = no_earlier_either_way other one (rw back at later) first
 
 -- ---- the host
 
--- another host follows: its stamp is no earlier, and where that is the same, the host is
+-- The host `later` can follow `host`: its stamp is not earlier, and if the stamp is the same, the host is the same.
 pub record Follows (host later : Host) : Type 0 where
   pub no_earlier : IsNoEarlier (stamp_of host) (stamp_of later)
   pub same : stamp_of later ≡ stamp_of host → later ≡ host
@@ -55,13 +56,13 @@ follows_itself host = record { no_earlier = omega arith; same = λ e. refl }
 pub moment_follows : (host : Host) (later : ℕ) → host.now ≤ later → Follows host (record host { now = later })
 moment_follows host later on = record { no_earlier = omega arith; same = λ e. ap (λ (s : Stamp). record host { now = s.moment }) e }
 
--- a removal that removes nothing leaves all as it was
+-- A removal that removes no resource changes nothing.
 none_removed : (rs : List Resource) (path : Path) → length (removed_at rs path) ≡ length rs → removed_at rs path ≡ rs
 unfolding removed_at
 none_removed [] path as_many = refl
 none_removed (r ∷ rs) path as_many = grind (arith, none_removed rs path)
 
--- a change of the store either moves the stamp on or is none
+-- A change of the store either makes the stamp later or changes nothing.
 pub change_follows : (host : Host) (c : Change) → Follows host (host_changed host c)
 change_follows host Nothing = follows_itself host
 change_follows host (Put path format bytes) = record { no_earlier = omega arith; same = λ e. absurd (omega (arith, ap (λ (s : Stamp). s.versions) e)) }
@@ -92,9 +93,10 @@ unfolding session_of
 each_settles other host [] = refl
 each_settles other host (e ∷ es) = grind (arith, each_settles other host es)
 
--- ---- a server on which something happened
+-- ---- a server after some events
 
--- Another host follows. All stay settled, and where the stamp is the same, the connections with these numbers are then as they were.
+-- The host of `after` follows that of `v`. All connections stay settled. If the stamp is the same, the spared
+-- connections are unchanged.
 pub record GoesOnSparing (Spared : ℕ → Type 0) (v after : ServerValue) : Type 0 where
   pub follows : Follows v.host after.host
   pub settled : AreSettled v.host v.sessions → AreSettled after.host after.sessions
@@ -116,7 +118,7 @@ one_then_another {v = v} {w = w} {after = after} first later =
       spared = λ other is all e. later.spared other is (first.settled all) (behind e) ∙ first.spared other is all (between e);
     }
 
--- another host follows, and all settle on it
+-- Another host follows, and all connections settle on it.
 entries_settle : (Spared : ℕ → Type 0) (v : ServerValue) (host : Host) (ids : ℕ) (es : Entries) → Follows v.host host
     → ((other : ℕ) → Spared other → session_of other es ≡ session_of other v.sessions)
     → GoesOnSparing Spared v (record v { host = host; ids = ids; sessions = map (settled_entry host) es })
@@ -130,11 +132,11 @@ entries_settle Spared v host ids es follows same = record {
 pub another_host : (Spared : ℕ → Type 0) (v : ServerValue) (host : Host) → Follows v.host host → GoesOnSparing Spared v (server_settled (record v { host = host }))
 another_host Spared v host follows = entries_settle Spared v host v.ids v.sessions follows (λ other is. refl)
 
--- all but one
+-- All numbers but one.
 abbrev pub But : ℕ → ℕ → Type 0
 But id other = other ≢ id
 
--- something happens to one connection, and the host follows
+-- One connection changes, and another host follows.
 one_happens : (v : ServerValue) (id : ℕ) (f : SessionValue → SessionValue) (host : Host) → Follows v.host host → GoesOnSparing (But id) v (record v { host = host; sessions = map (settled_entry host) (map (session_becomes id f) v.sessions) })
 one_happens v id f host follows = entries_settle (But id) v host v.ids (map (session_becomes id f) v.sessions) follows (λ other. other_stays other id f v.sessions)
 
@@ -156,7 +158,7 @@ takes_sparing (suc turns) v id bytes =
       | false ↦ so_far
     ]
 
--- ---- one connection's part of a turn
+-- ---- serving one connection
 
 hears : (v : ServerValue) (id : ℕ) (heard : Got) → GoesOnSparing (But id) v (server_heard v id heard)
 hears v id End = one_happens v id session_ended v.host (follows_itself v.host)
@@ -178,7 +180,7 @@ module _ (may_read may_write : Bool) (v : ServerValue) (id : ℕ) (rest : List �
   pub served_no_earlier : IsNoEarlier (stamp_of v.host) (stamp_of after.host)
   served_no_earlier = served_on.follows.no_earlier
 
--- ---- a connection goes or comes, and the moment moves on
+-- ---- opening, dropping, and the time
 
 pub dropped_on : (v : ServerValue) (id : ℕ) → GoesOnSparing (But id) v (server_dropped v id)
 dropped_on v id = entries_settle (But id) v v.host v.ids (filter (is_other id) v.sessions) (follows_itself v.host) (λ other. other_is_kept other id v.sessions)
@@ -189,12 +191,12 @@ opened_on v = entries_settle (But (v.ids + 1)) v v.host (v.ids + 1) _ (follows_i
 pub ticked_no_earlier : (v : ServerValue) (later : ℕ) → v.host.now ≤ later → IsNoEarlier (stamp_of v.host) (stamp_of (server_ticked v later).host)
 ticked_no_earlier v later on = (moment_follows v.host later on).no_earlier
 
--- where the stamp is the same, the moment is
+-- If the stamp is the same, the time is the same.
 pub ticked_to_the_same : (v : ServerValue) (later : ℕ) → AreSettled v.host v.sessions → stamp_of (server_ticked v later).host ≡ stamp_of v.host → server_ticked v later ≡ v
 ticked_to_the_same v later settled same =
     ap (λ (s : Stamp). server_ticked v s.moment) same ∙ ap (λ (es : Entries). record v { sessions = es }) (all_settled_stay v.host v.sessions settled)
 
--- ---- what was noted
+-- ---- recorded interests
 
 module _ {Spared : ℕ → Type 0} {v after : ServerValue} (on : GoesOnSparing Spared v after) (settled : AreSettled v.host v.sessions) where
   module _ (id : ℕ) (is : Spared id) (same : stamp_of after.host ≡ stamp_of v.host) where
@@ -226,9 +228,9 @@ noted_where_dropped v id settled = keeps_notes settled (dropped_on v id)
 pub noted_where_opened : (v : ServerValue) → AreSettled v.host v.sessions → KeepsNotes (v.ids + 1) v (server_opened v)
 noted_where_opened v settled = keeps_notes settled (opened_on v)
 
--- ---- all that is done while a connection is passed over
+-- ---- while a connection is skipped
 
--- this one alone
+-- This number alone.
 abbrev Only : ℕ → ℕ → Type 0
 Only id other = other ≡ id
 
@@ -248,7 +250,7 @@ module _ (id : ℕ) (v after : ServerValue) (rest : List ℕ) (settled : AreSett
   pub noted_throughout : wants_of after id rest ≡ wants_of v id rest
   noted_throughout = wants_stay (passed_on_sparing passed) settled id refl same rest
 
-  -- where nothing could be done then, nothing can now
+  -- If nothing could be done then, nothing can be done now.
   pub still_nothing_to_do : (i : ℕ) (may_read may_write : Bool) → LiesAt id i after.sessions → can_go_on (wants_of v id rest) may_read may_write ≡ false → is_over_in (outlook_of v id) ≡ false → ComesToNothing may_read may_write after id rest
   still_nothing_to_do i may_read may_write lies idle on =
       let spared = passed_on_sparing passed in
@@ -256,15 +258,15 @@ module _ (id : ℕ) (v after : ServerValue) (rest : List ℕ) (settled : AreSett
       (ap (λ (w : Wants). can_go_on w may_read may_write) noted_throughout ∙ idle)
       (ap is_over_in (outlook_stays spared settled id refl same) ∙ on)
 
--- ---- notes of other connections
+-- ---- recorded interests of other connections
 
 module _ {W : Type 0} (P Q : ℕ × Peer W → Type 0) (id : ℕ) (each : (e : ℕ × Peer W) → e.0 ≢ id → P e → Q e) where
-  -- what follows for each other connection from what held of it, holds of all where all are others
+  -- If `Q` follows from `P` for each other connection, it does for a list without this one.
   pub others_become : (es : List (ℕ × Peer W)) → NonePasses (nat_eq id) es → AllByRecursion P es → AllByRecursion Q es
   others_become [] apart all = tt
   others_become (e ∷ es) apart all = (each e (λ same. eqb-false id e.0 apart.0 (sym same)) all.0, others_become es apart.1 all.1)
 
-  -- so of those beside one, where each has a number of its own
+  -- The same for the entries beside one in a map, whose numbers are distinct.
   beside_become : (es : List (ℕ × Peer W)) (i : ℕ) (p : Peer W) → IsDistinct nat_eq (keys_of es) → slice_get es i ≡ Some (id, p) → AllByRecursion P es → AllByRecursion Q (remove es i)
   unfolding IsDistinct
   beside_become [] i p distinct at all = absurd cc
@@ -274,7 +276,7 @@ module _ {W : Type 0} (P Q : ℕ × Peer W → Type 0) (id : ℕ) (each : (e : �
       let none_where_same = λ (same : e.0 ≡ id). lookup-none (nat_eq id) es (none_past_head nat_eq_equiv id e es distinct (eq-eqb id e.0 (sym same))) in
       (each e (λ same. absurd (cc (there, none_where_same same))) all.0, beside_become es i p distinct.1 at all.1)
 
-  -- so of all once one more is there, or in the place of the one with its number
+  -- The same for all entries after one was added, or replaced the entry with its number.
   with_one_more : (p : Peer W) (es : List (ℕ × Peer W)) → Q (id, p) → IsDistinct nat_eq (keys_of (insert_entry nat_eq es id p)) → AllByRecursion P es → AllByRecursion Q (insert_entry nat_eq es id p)
   unfolding IsDistinct
   with_one_more p [] one distinct all = (one, tt)
@@ -284,58 +286,58 @@ module _ {W : Type 0} (P Q : ℕ × Peer W → Type 0) (id : ℕ) (each : (e : �
         | false ↦ λ is apart. (each e (λ same. eqb-false id e.0 is (sym same)) all.0, with_one_more p es one apart.1 all.1)
       ] refl distinct
 
--- what was noted just now
+-- An interest that was just recorded is correct.
 noted_now : {W : Type 0} (v : ServerValue) (id : ℕ) (p : Peer W) → p.wants ≡ wants_of v id p.rest → IsNoted v (id, p)
 noted_now v id p is = record {
   no_earlier = rw (ap (λ (w : Wants). w.stamp) is ∙ stamp_in (outlook_of v id) _ (stamp_of v.host)) (no_earlier_itself (stamp_of v.host));
   truth = λ same. is;
 }
 
--- ---- one at an index
+-- ---- the entry at an index
 
--- one that is written, and those beside it
+-- One entry is written, and those beside it stay.
 noted_with : {W : Type 0} (v : ServerValue) (es : List (ℕ × Peer W)) (i id : ℕ) (p q : Peer W) → slice_get es i ≡ Some (id, p) → AreNoted v (remove es i) → IsNoted v (id, q) → AreNoted v (set_value_at es i q)
 noted_with v [] i id p q at beside noted = absurd cc
 noted_with v (e ∷ es) zero id p q at beside noted = let same : e.0 ≡ id = cc in (rw same noted, beside)
 noted_with v (e ∷ es) (suc i) id p q at beside noted = (beside.0, noted_with v es i id p q at beside.1 noted)
 
--- ---- one connection's part of a turn
+-- ---- serving one connection
 
 module _ {W : Type 0} (may_read may_write : Bool) (v : ServerValue) (id : ℕ) (rest : List ℕ) (wire : WireTrace) (after : ServerValue) (left : List ℕ) (told : WireTrace) (es : List (ℕ × Peer W)) (i : ℕ) (p q : Peer W)
     (settled : AreSettled v.host v.sessions) (distinct : IsDistinct nat_eq (keys_of es)) (at : slice_get es i ≡ Some (id, p)) (noted : AreNoted v es) where
-  -- the notes of those beside it hold
+  -- The recorded interests of the connections beside it are correct.
   pub beside_served : (course : Course) → IsServedOnce may_read may_write v id rest wire after left told course → AreNoted after (remove es i)
   beside_served course part =
       beside_become (IsNoted v) (IsNoted after) id (stays_noted (served_on may_read may_write v id rest after left course part) settled) es i p distinct at noted
 
-  -- all hold, where it goes on
+  -- All are correct, if the connection stays open.
   pub all_noted : (r : Result Course IoFault) → IfOk r (λ course. IsServedOnce may_read may_write v id rest wire after left told course) → IfOk r (λ course. course ≡ Open → q.wants ≡ wants_of after id q.rest)
       → IfOk r (λ course. course ≡ Open → AreNoted after (set_value_at es i q))
   all_noted (Ok course) part wants = λ open_now. noted_with after es i id p q at (beside_served course part) (noted_now after id q (wants open_now))
   all_noted (Err fault) part wants = tt
 
--- ---- a connection goes or comes
+-- ---- opening and dropping
 
 others_only : (id : ℕ) (es : Entries) → is_there (session_of id es) ≡ false → filter (is_other id) es ≡ es
 unfolding session_of
 others_only id [] none = refl
 others_only id (e ∷ es) none = grind (arith, others_only id es)
 
--- it was dropped, whether it was there or not
+-- A connection was dropped, whether it existed or not.
 pub dropped_so : {T E : Type 0} (r : Result T E) (v after : ServerValue) (id : ℕ) → AreSettled v.host v.sessions → is_ok r ≡ is_there (session_of id v.sessions) → OnOk r (after ≡ server_dropped v id) → OnErr r (after ≡ v) → after ≡ server_dropped v id
 dropped_so (Ok x) v after id settled answer ok err = ok
 dropped_so (Err e) v after id settled answer ok err = rw (err, others_only id v.sessions (sym answer), all_settled_stay v.host v.sessions settled) refl
 
--- one was opened, and what it is to be served for noted
+-- A connection was opened, and its interest was recorded.
 pub noted_with_one_more : {W : Type 0} (v after : ServerValue) (id : ℕ) (p : Peer W) (es now : List (ℕ × Peer W)) → AreSettled v.host v.sessions → AreNoted v es → id ≡ v.ids + 1 → after ≡ server_opened v
     → p.wants ≡ wants_of after id p.rest → now ≡ insert_entry nat_eq es id p → IsDistinct nat_eq (keys_of now) → AreNoted after now
 noted_with_one_more v after id p es now settled noted given opened wants is distinct =
     let on : GoesOnSparing (But id) v after = rw (opened, given) (opened_on v) in
     rw is (with_one_more (IsNoted v) (IsNoted after) id (stays_noted on settled) p es (noted_now after id p wants) (rw is at distinct) noted)
 
--- ---- how long the door may wait
+-- ---- the wait of the listener
 
--- something that may be said of these
+-- Some result that is possible for these connections.
 some_answer : (all : List FarEnd) → (ready : Bool) × CanAnyGoOn all ready
 some_answer [] = (false, refl)
 some_answer (e ∷ es) =
@@ -351,13 +353,13 @@ wait_where_changed a opens ready noted all once = grind arith
 wait_where_fresh : (a : Agenda) (opens ready : Bool) (all : List FarEnd) → a.at_once ≡ (false || ready) → a.due ≡ least_with None all → wait_of (agenda_with a opens None) ≡ wait_for ((opens || false) || ready) all
 wait_where_fresh a opens ready all once due = rw (once, due, sooner_never) (elim ready as (λ r. (if r || opens then No else wait_until (least_with None all)) ≡ (if (opens || false) || r then No else wait_until (least_with None all))) [ true ↦ grind arith | false ↦ grind arith ])
 
--- where no stamp is older, the notes are the truth
+-- If no recorded stamp is older, the recorded interests are the present ones.
 ends_are_true : {W : Type 0} (readable writable : W → Option Bool) (v : ServerValue) (es : List (ℕ × Peer W)) → AreNoted v es → AllByRecursion (λ e. e.wants.stamp ≡ stamp_of v.host) (map (λ e. end_of readable writable e.1) es)
     → map (λ e. end_of readable writable e.1) es ≡ map (λ e. true_end readable writable v e) es
 ends_are_true readable writable v [] noted fresh = refl
 ends_are_true readable writable v (e ∷ es) noted fresh = rw (noted.0.truth fresh.0, ends_are_true readable writable v es noted.1 fresh.1) refl
 
--- the agenda by the notes says how long the door may wait by what is true
+-- The wait that the agenda computes from recorded interests is the wait for the present ones.
 pub wait_so : {W : Type 0} (readable writable : W → Option Bool) (v : ServerValue) (es : List (ℕ × Peer W)) (a b : Agenda) (opens changed : Bool) → AreNoted v es
     → IsAgendaOf a changed (stamp_of v.host) (map (λ e. end_of readable writable e.1) es) → b ≡ agenda_with a opens None
     → IsWaitAfter (opens || changed) (map (λ e. true_end readable writable v e) es) (wait_of b)

@@ -7,13 +7,14 @@ use Rattle.std.proofs.lemmas.List.Folds.{concat-append}
 use Rattle.coap_model.proofs.streams.OutputLaws.{world_for_written, outcome_there}
 
 module _ (c : ConfigValues) where
-  -- what is defined for bytes is everything that the connection queued for them, and nothing of it waits
+  -- The output defined for these bytes is everything that the connection queued for them, and none of it is still
+  -- queued.
   pub all_written : (bytes output : List ℕ) → output ≡ stdio_output c bytes → LeavesNothing c bytes output
   all_written bytes output whole =
       let all = world_for_written c bytes in
       record { side = all.side; there = all.there; none_waits = all.waits; written = whole ∙ ap (λ (o : Outcome). o.output) (outcome_there c bytes all.side all.there) }
 
-  -- A run leaves no byte that waits, unless a write failed.
+  -- A run leaves no byte queued, unless a write failed.
   pub run_leaves_nothing : (pieces : List (List ℕ)) (output : List ℕ) (result : Result Report IoFault) → IsStdioRun c pieces output result → LeavesNothingWaiting c pieces output result
   run_leaves_nothing pieces output (Ok report) run = all_written (concat pieces) output run.written
   run_leaves_nothing pieces output (Err Read) run = all_written (concat pieces) output run.1.written

@@ -1,4 +1,4 @@
--- A connection on which nothing can be done: its part of a turn comes to nothing.
+-- To serve a connection on which nothing can be done has no effect.
 use Rattle.std.proofs.Common.{◌≡◌, ℕ, zero, suc, Bool, true, false, ◌&&◌, List, [], ◌∷◌, length, drop, Some, None, refl, sym, ap, ◌∙◌, arith, ◌||◌, ◌==◌, nat_lt, option_map, if◌then◌else◌}
 use Rattle.std.proofs.Math.Dec.{eqb-suc-zero}
 use Rattle.std.proofs.lemmas.Bool.{or_parts}
@@ -14,7 +14,7 @@ use Rattle.coap_server_engine.proofs.values.ServerLemmas.{changed_one, written_a
 use Rattle.coap_model.proofs.OptionLemmas.{there_is_none}
 use Rattle.coap_server_engine.proofs.world.ShowLaws.{taking_stopped}
 
--- ---- it takes nothing
+-- ---- accepting bytes
 
 untouched : (v : ServerValue) (id i : ℕ) (s : SessionValue) (piece : List ℕ) → LiesAt id i v.sessions → session_of id v.sessions ≡ Some s → AreSettled v.host v.sessions → session_takes s ≡ false → server_taken v id piece ≡ v
 unfolding server_taken
@@ -44,12 +44,12 @@ untouched_where_stopped v id i s bytes (suc turns) lies here settled closed =
       | false ↦ so_far
     ]
 
--- where bytes are left that it does not take, it takes none
+-- If bytes are left that the connection does not accept, it accepts none.
 takes_nothing : (v : ServerValue) (id : ℕ) (s : SessionValue) (b : ℕ) (rest : List ℕ) → session_of id v.sessions ≡ Some s → (wants_of v id (b ∷ rest)).take ≡ false
     → (session_takes s ≡ false) × (is_over s.link.phase ≡ false)
 takes_nothing v id s b rest here idle = or_parts (session_takes s) (is_over s.link.phase) (rw eqb-suc-zero at (rw here at idle))
 
--- what was read before and waits for room stays, and where nothing was, nothing is taken
+-- Bytes that were read before and that do not fit stay; without such bytes, none are accepted.
 still_fed : (v : ServerValue) (id i : ℕ) (s : SessionValue) (rest : List ℕ) → LiesAt id i v.sessions → session_of id v.sessions ≡ Some s → AreSettled v.host v.sessions → (wants_of v id rest).take ≡ false → IsUntouched v (fed v id rest)
 unfolding fed_turns
 still_fed v id i s [] lies here settled idle = record { server = refl; count = refl }
@@ -60,7 +60,7 @@ left_as_it_is : (v : ServerValue) (id : ℕ) (s : SessionValue) (rest : List ℕ
 left_as_it_is v id s [] here idle = elim (stop_on (session_of id v.sessions)) as (λ why. left_behind why [] ≡ []) [ None ↦ refl | Some why ↦ refl ]
 left_as_it_is v id s (b ∷ rest) here idle = rw (here, there_is_none (stop_of s.link.phase) (takes_nothing v id s b rest here idle).1) refl
 
--- ---- its part of a turn
+-- ---- serving the connection
 
 not_heard : (may_read is_empty takes : Bool) → ((is_empty && takes) && may_read) ≡ false → ((may_read && is_empty) && takes) ≡ false
 not_heard may_read is_empty takes e = grind arith
@@ -102,7 +102,7 @@ nothing_done v id i s rest may_read may_write lies here settled idle on =
           (server, carried.rest ∙ left_so, wrote.1, carried.outcome ∙ rw (wrote.0, server, on) refl);
     }
 
--- a connection on which nothing can be done may be passed over
+-- A connection on which nothing can be done may be skipped.
 pub passed_over : (v : ServerValue) (id i : ℕ) (rest : List ℕ) (may_read may_write : Bool) → LiesAt id i v.sessions → AreSettled v.host v.sessions → can_go_on (wants_of v id rest) may_read may_write ≡ false → is_over_in (outlook_of v id) ≡ false → ComesToNothing may_read may_write v id rest
 passed_over v id i rest may_read may_write lies settled idle on =
     elim (session_of id v.sessions) as (λ o. session_of id v.sessions ≡ o → is_over_in (option_map (session_outlook v.host.now) o) ≡ false → ComesToNothing may_read may_write v id rest) [

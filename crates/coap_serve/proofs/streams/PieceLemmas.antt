@@ -1,4 +1,4 @@
--- A piece of a run, one take and one flush after the other.
+-- A chunk of a run, one call of `take` and one flush after the other.
 use Rattle.std.proofs.Common.{◌≡◌, ℕ, ◌+◌, ◌<◌, List, [], ◌++◌, length, take, drop, Option, Some, None, true, false, refl, sym, ap, ◌∙◌, append_assoc, arith, ◌==◌}
 use Rattle.std.proofs.lemmas.Bool.{eqb-true, eqb-false}
 use Rattle.std.proofs.lemmas.List.{append-nil, take-append-drop, nil_from_length}
@@ -10,8 +10,8 @@ use Rattle.coap_io.proofs.streams.DeviceLemmas.{bytes_none, bytes_then}
 use Rattle.coap_model.proofs.streams.OutputLaws.{output_grows, stopped_output, stopped_outcome}
 use Rattle.coap_serve.proofs.streams.TakeLemmas.{front_of_nothing, FrontServed, is_not_missing, front_refused}
 
--- Of a piece behind some bytes a front was taken and this rest is left; x and y are what the outlet told before the piece and
--- tells now.
+-- A prefix of a chunk was processed and this rest is left. `x` and `y` are the records of the outlet before the chunk
+-- and now.
 pub record Serves (c : ConfigValues) (id : ℕ) (bytes piece : List ℕ) (v : ServerValue) (rest : List ℕ) (x y : Option (List ℕ)) (messages : ℕ) : Type 0 where
   pub taken : List ℕ
   pub all : piece ≡ taken ++ rest
@@ -36,13 +36,13 @@ module _ (c : ConfigValues) (id : ℕ) (bytes piece : List ℕ) (v : ServerValue
   abbrev here : List ℕ
   here = bytes ++ so_far.taken
 
-  -- nothing is left
+  -- Nothing is left.
   pub served_all : rest ≡ [] → IsWhole c bytes piece v (AddsBytes x y) messages
   served_all none =
       rw (so_far.all, none, append-nil)
       (record { stands = so_far.goes.stands; text = so_far.text; says = so_far.says; written = so_far.written; counted = so_far.counted })
 
-  -- a front of the rest, and what is behind it
+  -- A prefix of the rest, and the bytes after it.
   module _ (n : ℕ) where
     split_so : piece ≡ (so_far.taken ++ take n rest) ++ drop n rest
     split_so = rw (append_assoc, take-append-drop) so_far.all
@@ -53,7 +53,7 @@ module _ (c : ConfigValues) (id : ℕ) (bytes piece : List ℕ) (v : ServerValue
     whole_bytes : bytes ++ piece ≡ (here ++ take n rest) ++ drop n rest
     whole_bytes = ap (λ (b : List ℕ). bytes ++ b) split_so ∙ simp append_assoc
 
-    -- the front was served, and the connection goes on
+    -- The prefix was processed, and the connection processes further messages.
     pub serves_more : (z : Option (List ℕ)) (after : ServerValue) (more : ℕ) → FrontServed c id here (take n rest) after (AddsBytes y z) more → stop_on (session_of id after.sessions) ≡ None → Serves c id bytes piece after (drop n rest) x z (messages + more)
     serves_more z after more did going =
         let said = did.whole in
@@ -67,7 +67,7 @@ module _ (c : ConfigValues) (id : ℕ) (bytes piece : List ℕ) (v : ServerValue
           counted = omega (arith, said.counted, so_far.counted, ap (λ (b : List ℕ). (outcome c b).messages) further_bytes);
         }
 
-    -- the front was served, and the connection takes no message any more
+    -- The prefix was processed, and the connection processes no further message.
     pub serves_last : (z : Option (List ℕ)) (after : ServerValue) (more : ℕ) (why : Reason) → FrontServed c id here (take n rest) after (AddsBytes y z) more → stop_on (session_of id after.sessions) ≡ Some why → IsWhole c bytes piece after (AddsBytes x z) (messages + more)
     serves_last z after more why did stopped =
         let said = did.whole in
@@ -87,7 +87,7 @@ module _ (c : ConfigValues) (id : ℕ) (bytes piece : List ℕ) (v : ServerValue
           counted = omega (arith, said.counted, so_far.counted, ap (λ (o : Outcome). o.messages) same);
         }
 
-    -- what the front brings about was not written whole
+    -- The output for the prefix was not written in full.
     pub cut_off : (z : Option (List ℕ)) → IsCut c here (take n rest) (AddsBytes y z) → IsCut c bytes piece (AddsBytes x z)
     cut_off z did =
         let more = output_grows c (here ++ take n rest) (drop n rest) in
@@ -99,7 +99,7 @@ module _ (c : ConfigValues) (id : ℕ) (bytes piece : List ℕ) (v : ServerValue
           written = bytes_then x y z so_far.text did.part so_far.written did.written;
         }
 
-  -- memory was refused for a message of the rest
+  -- An allocation failed for a message in the rest.
   pub piece_refused : (after : ServerValue) (fault : TakeFault) → IsNotTaken v id rest fault after → IsRefused c bytes piece (AddsBytes x y)
   piece_refused after taking.NoSuch not = absurd (is_not_missing c v id here rest so_far.goes not.0)
   piece_refused after (taking.Memory n) not =
@@ -115,7 +115,7 @@ module _ (c : ConfigValues) (id : ℕ) (bytes piece : List ℕ) (v : ServerValue
         written = so_far.written;
       }
 
--- ---- what tests tell
+-- ---- results of tests
 
 pub is_filled : (xs : List ℕ) → false ≡ (length xs == 0) → 0 < length xs
 is_filled xs e = omega (arith, eqb-false (length xs) 0 (sym e))

@@ -42,14 +42,14 @@ pub turn_piece : (c : ConfigValues) (v : ServerValue) (id : ℕ) (bytes piece : 
 turn_piece c v id bytes piece after gave wrote t goes has did read_is stop_is =
     inr (record { piece = piece; has = has; served = did; read = read_is; reason = rw goes.number at stop_is ∙ stop_told c after (bytes ++ piece) did.stands })
 
--- ---- a run that goes on
+-- ---- a run that continues
 
 not_empty-push : (ps : List (List ℕ)) (p : List ℕ) → AreNotEmpty ps → p ≢ [] → AreNotEmpty (ps ++ p ∷ [])
 not_empty-push [] p each some = (some, tt)
 not_empty-push (q ∷ ps) p each some = (each.0, not_empty-push ps p each.1 some)
 
--- After so many turns this was read, and so many messages were handled: a and b are what the source told before the run and now,
--- x and y what the outlet told.
+-- After `turns` turns, `read` bytes were read and `messages` messages were processed. `a` and `b` are the records of
+-- the source before the run and now; `x` and `y` are those of the outlet.
 pub record RunsOn (c : ConfigValues) (id turns read messages : ℕ) (v : ServerValue) (a b : Told) (x y : Option (List ℕ)) : Type 0 where
   pub pieces : List (List ℕ)
   pub output : List ℕ
@@ -63,7 +63,7 @@ pub record RunsOn (c : ConfigValues) (id turns read messages : ℕ) (v : ServerV
   pub messages_are : messages ≡ (outcome c (concat pieces)).messages
   pub text : stdio_output c [] ++ output ≡ stdio_output c (concat pieces)
 
--- what a run that ended did, behind what was written before it
+-- The rest of a run that ended, after the output `front` was written.
 abbrev pub Ran : ConfigValues → List ℕ → Told → Told → Option (List ℕ) → Option (List ℕ) → Result Report IoFault → Type 0
 Ran c front a b x y result = (pieces : List (List ℕ)) × (output : List ℕ) × HasGiven a b pieces × AllByRecursion (λ p. length p ≤ 4096) pieces × AddsBytes x y output × IsStdioRun c pieces (front ++ output) result
 
@@ -82,12 +82,12 @@ run_begins c id v a x goes = record {
   text = append-nil (stdio_output c []);
 }
 
--- one turn more: b and y are what the devices told before it, z and d what they tell after it
+-- One more turn. `b` and `y` are the records of the devices before it; `d` and `z` are those after it.
 module _ (c : ConfigValues) (id turns read messages : ℕ) (v after : ServerValue) (a b d : Told) (x y z : Option (List ℕ)) (so_far : RunsOn c id turns read messages v a b x y) where
   abbrev bytes : List ℕ
   bytes = concat so_far.pieces
 
-  -- the pieces with one more
+  -- The chunks with one more.
   abbrev longer : List ℕ → List (List ℕ)
   longer piece = so_far.pieces ++ piece ∷ []
 
@@ -100,14 +100,14 @@ module _ (c : ConfigValues) (id turns read messages : ℕ) (v after : ServerValu
   pieces_go_on : GoesOn c so_far.pieces
   pieces_go_on = record { given = so_far.given; no_stop = so_far.goes.going }
 
-  -- the text so far and more of it
+  -- The output so far, and more of it.
   more_text : (text more : List ℕ) → text ≡ stdio_output c bytes ++ more → stdio_output c [] ++ (so_far.output ++ more) ≡ text
   more_text text more is = sym (append_assoc (stdio_output c []) so_far.output more) ∙ ap (λ (o : List ℕ). o ++ more) so_far.text ∙ sym is
 
   said_more : (piece more : List ℕ) → Says c bytes piece more → stdio_output c [] ++ (so_far.output ++ more) ≡ stdio_output c (concat (longer piece))
   said_more piece more is = more_text (stdio_output c (concat (longer piece))) more (ap (stdio_output c) (longer_bytes piece) ∙ is)
 
-  -- the run with one piece more, for which this was written
+  -- The run with one more chunk, for which these bytes were written.
   ran : (piece text : List ℕ) (result : Result Report IoFault) → HasGiven b d (piece ∷ []) → length piece ≤ 4096 → AddsBytes y z text → IsStdioRun c (longer piece) (stdio_output c [] ++ (so_far.output ++ text)) result → Ran c (stdio_output c []) a d x z result
   ran piece text result gave few wrote did = (
     longer piece,
@@ -168,9 +168,9 @@ module _ (c : ConfigValues) (id turns read messages : ℕ) (v after : ServerValu
         | inr did ↦ ran_whole t why did.piece did.served.text lt did.has.given did.has.few did.served.written did.read did.served.counted did.served.says (rw (sym did.reason ∙ stops) refl)
       ]
 
-  -- ---- the run stops short in this turn
+  -- ---- an error ends the run in this turn
 
-  -- what a fault of a turn makes of the run
+  -- The result of a run that an error of a turn ends.
   pub faulted : (e : IoFault) → turns < c.turns → IsTurn c bytes after (HasGiven b d) (AddsBytes y z) (Err e) → Ran c (stdio_output c []) a d x z (Err e)
   faulted Read lt t = (
     so_far.pieces,
@@ -202,17 +202,17 @@ module _ (c : ConfigValues) (id turns read messages : ℕ) (v after : ServerValu
       }))
   faulted Turns lt t = absurd t
 
--- a run behind our Capabilities and Settings
+-- A run after the server's CSM was written.
 pub greeted : (c : ConfigValues) (a d : Told) (x y z : Option (List ℕ)) (result : Result Report IoFault) → AddsBytes x y (stdio_output c []) → Ran c (stdio_output c []) a d y z result → Ran c [] a d x z result
 greeted c a d x y z result wrote ran = (ran.0, stdio_output c [] ++ ran.1, ran.2, ran.3, bytes_then x y z (stdio_output c []) ran.1 wrote ran.4, ran.5)
 
--- what a run that did not begin did
+-- A run that did not begin.
 pub not_begun : (c : ConfigValues) (a : Told) (x : Option (List ℕ)) → Ran c [] a a x x (Err Memory)
 not_begun c a x = ([], [], given_none a, tt, bytes_none x, inl (refl, refl))
 
--- ---- The beginning of a run: a connection is opened, and its own Capabilities and Settings are written.
+-- ---- the beginning of a run: a connection is opened, and the server's CSM is written
 
--- what the contracts of `new` and `open` say of a server with its first connection
+-- The contracts of `new` and `open` for a server with its first connection.
 pub record Opens (c : ConfigValues) (new v : ServerValue) (id : ℕ) : Type 0 where
   pub new_is : new ≡ new_server c
   pub begins : Shows new []
@@ -239,13 +239,13 @@ module _ (c : ConfigValues) (new v : ServerValue) (id : ℕ) (opens : Opens c ne
         spelled = nothing_yet c;
       }
 
-  -- what a run begins from
+  -- The state in which a run begins.
   pub goes_at_first : (after : ServerValue) (wrote : List ℕ → Type 0) → IsFlushed id v after wrote → IsGoing c after id [] × wrote (stdio_output c [])
   goes_at_first after wrote did =
       let now = flush_stands c v (new_side c.limits) [] opening_leads after wrote (rw number at did) in
       (record { number = number; ranges = rw opens.new_is at opens.ranges; stands = now.stands; going = (outcome_at_first c).1 }, rw now.says now.written)
 
-  -- what waits on a new connection was not written whole
+  -- The bytes queued on a new connection were not written in full.
   pub cut_at_first : (a : Told) (x z : Option (List ℕ)) → IsPartFlushed id v (WritesPart x z) → Ran c [] a a x z (Err Write)
   cut_at_first a x z did =
       let cut = part_flush_leads c v (new_side c.limits) [] opening_leads x z (rw number at did) in
@@ -253,7 +253,7 @@ module _ (c : ConfigValues) (new v : ServerValue) (id : ℕ) (opens : Opens c ne
 
 -- ---- the end of input
 
--- the connection takes messages, so it stops, and gives up what it holds
+-- The connection processes messages, so the end of input stops it, and pending entries are discarded.
 pub end_stops : (c : ConfigValues) (v v1 : ServerValue) (id : ℕ) (bytes : List ℕ) → IsGoing c v id bytes → v1.config ≡ v.config → ((events : List Event) → Shows v events → Shows v1 (events ++ Ended id ∷ [])) → stop_on (session_of id v1.sessions) ≡ Some (end_reason (is_cut (stream_of c bytes).rest))
 unfolding steps_by side_ended
 end_stops c v v1 id bytes goes config shows =
@@ -271,6 +271,6 @@ end_stops c v v1 id bytes goes config shows =
     ∙ ap stop_of ((settled_handles_none w.store w.now (side_ended all.side cut)).stopped (end_reason cut) stopped).0
     ∙ ap (λ (s : Stream × ℕ). Some (end_reason (is_cut s.0.rest))) (goes.stands.spelled goes.going))
 
--- the connection is there
+-- The connection exists.
 pub not_there : (c : ConfigValues) (v : ServerValue) (id : ℕ) (bytes : List ℕ) → IsGoing c v id bytes → false ≡ is_there (session_of id v.sessions) → ⊥
 not_there c v id bytes goes none = let bad : false ≡ true = none ∙ ap is_there (session_going c v id bytes goes).1 in cc

@@ -1,4 +1,4 @@
--- What a turn of a door makes of what its server shows, part by part.
+-- The events of the parts of a turn.
 use Rattle.std.proofs.Common.{◌≡◌, ℕ, zero, suc, ◌+◌, true, false, List, [], ◌∷◌, ◌++◌, length, Option, Result, Ok, Err, OnOk, OnErr, append_assoc, arith}
 use Rattle.coap_serve.specs.Prelude.{AllByRecursion, Fed, fed_turns, where_there, took_turns, took, ShowsMore}
 use Rattle.coap_serve.specs.Prelude.{ShowsPartlyFed, IsServing, HasServed, HasTurned, opening, ServerValue, session_of}
@@ -9,7 +9,7 @@ use Rattle.coap_model.proofs.world.EntryLemmas.{all_append, all_if}
 
 -- ---- events one after the other
 
--- nothing happened
+-- Nothing happened.
 pub none_served : (v after : ServerValue) → after ≡ v → HasServed v after
 none_served v after is = record { events = []; serving = tt; shows = shows_same v after is }
 
@@ -23,16 +23,16 @@ served_further {u} {v} {w} one two = record {
 pub one_served : (v after : ServerValue) (e : Event) → IsServing e → ShowsMore v after (e ∷ []) → HasServed v after
 one_served v after e is shows = record { events = e ∷ []; serving = (is, tt); shows = shows }
 
--- it was dropped, where it was there
+-- The connection was dropped, if it existed.
 pub dropped_served : {T E : Type 0} (r : Result T E) (v after : ServerValue) (id : ℕ) → OnOk r (ShowsMore v after (Dropped id ∷ [])) → OnErr r (after ≡ v) → HasServed v after
 dropped_served (Ok x) v after id ok err = one_served v after (Dropped id) tt ok
 dropped_served (Err e) v after id ok err = none_served v after err
 
--- bytes were written
+-- Bytes were written.
 pub written_served : (v w after : ServerValue) (id n : ℕ) → w ≡ v → ShowsMore w after (Wrote id n ∷ []) → HasServed v after
 written_served v w after id n is shows = one_served v after (Wrote id n) tt (rw is at shows)
 
--- ---- takes
+-- ---- calls of take
 
 there_serving : (id : ℕ) (bytes : List ℕ) (o : Option SessionValue) → AllByRecursion IsServing (where_there o (λ s. Took id bytes))
 there_serving id bytes o = grind arith

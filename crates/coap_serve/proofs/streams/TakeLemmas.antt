@@ -1,4 +1,4 @@
--- A take of a run and the flush behind it: what they write is what is defined for the bytes taken.
+-- A call of `take` in a run and the flush after it: together they write the output defined for the bytes accepted.
 use Rattle.std.proofs.Common.{◌≡◌, ◌≢◌, ◌⊎◌, ℕ, suc, ◌<◌, ◌≤◌, Bool, true, cond, List, [], ◌∷◌, ◌++◌, length, take, Option, Some, None, refl, sym, ap, subst, ◌∙◌, append_assoc, arith, inl, inr}
 use Rattle.std.proofs.lemmas.Bool.{le-leb}
 use Rattle.std.proofs.lemmas.List.{append-nil}
@@ -26,7 +26,7 @@ use Rattle.coap_model.proofs.streams.OutputLaws.{world_for_written, world_goes_o
 use Rattle.coap_serve.proofs.streams.FlushShown.{LeadsTo, turns_stand, flush_stands}
 use Rattle.coap_server_engine.proofs.scripting.ShownLemmas.{config_stays}
 
--- ---- more turns write more
+-- ---- more iterations write more
 
 text_grows : (id : ℕ) (v : ServerValue) (few many : ℕ) → few ≤ many → (more : List ℕ) × ((flush_turns many id v).text ≡ (flush_turns few id v).text ++ more)
 unfolding flush_turns
@@ -41,7 +41,7 @@ front_of_nothing (x ∷ xs) ys none = absurd cc
 
 -- ---- a flush that ends in the world for some bytes
 
--- a part was written of what is left to be written for the bytes
+-- A part of the output that is still to be written for the bytes was written.
 pub part_flush_leads : (c : ConfigValues) (v : ServerValue) (s : Side) (bytes : List ℕ) → LeadsTo c v s bytes → (x y : Option (List ℕ)) → IsPartFlushed (only_id c) v (WritesPart x y)
     → (part missing : List ℕ) × (missing ≢ []) × (stdio_output c bytes ≡ front_written s ++ (part ++ missing)) × AddsBytes x y part
 part_flush_leads c v s bytes leads x y did =
@@ -54,23 +54,24 @@ part_flush_leads c v s bytes leads x y did =
       did.part.4,
     )
 
--- what was handled before the flush
+-- The messages processed before the flush.
 flush_counts : (c : ConfigValues) (v : ServerValue) (s : Side) (bytes : List ℕ) → LeadsTo c v s bytes → (outcome c bytes).messages ≡ length s.history.handled
 flush_counts c v s bytes leads =
     let left = flush_leaves c.limits (only_id c) (world_after c leads.events) s leads.there in
     let is_there = ap (λ (w : World). side_of (only_id c) w.sides) (sym leads.flushes) ∙ left.0.there in
     ap (λ (o : Outcome). o.messages) (outcome_there c bytes left.0.side is_there) ∙ ap length left.0.handled
 
--- what a server tells of its connection is why the bytes stop it
+-- The server returns the reason for which the bytes stop its connection.
 pub stop_told : (c : ConfigValues) (v : ServerValue) (bytes : List ℕ) → Stands c v bytes → stop_on (session_of (only_id c) v.sessions) ≡ (outcome c bytes).stop
 stop_told c v bytes stands =
     let all = world_for_written c bytes in
     let is_there : side_of (only_id c) (world_after v.config stands.events).sides ≡ Some all.side = rw (stands.config, stands.world) all.there in
     ap stop_on (side_there v stands.events (only_id c) all.side stands.shows is_there) ∙ ap (λ (o : Outcome). o.stop) (sym (outcome_there c bytes all.side all.there))
 
--- ---- some bytes are taken
+-- ---- some bytes are accepted
 
--- the first n bytes of a piece bring nothing about, and the next one is the last of a message that stores a representation
+-- The first `n` bytes of a chunk have no output, and the next byte is the last of a message that stores a
+-- representation.
 pub record FrontRefused (c : ConfigValues) (bytes piece : List ℕ) (n : ℕ) : Type 0 where
   pub last : ℕ
   pub behind : List ℕ
@@ -78,12 +79,12 @@ pub record FrontRefused (c : ConfigValues) (bytes piece : List ℕ) (n : ℕ) : 
   pub refused : IsLastByte c (bytes ++ take n piece) last
   pub says : Says c bytes (take n piece) []
 
--- the front of a piece was served, and this is why no message is taken any more
+-- A prefix of a chunk was processed, and the server returns whether it stops the connection.
 pub record FrontServed (c : ConfigValues) (id : ℕ) (bytes front : List ℕ) (after : ServerValue) (wrote : List ℕ → Type 0) (messages : ℕ) : Type 0 where
   pub whole : IsWhole c bytes front after wrote messages
   pub stop : stop_on (session_of id after.sessions) ≡ (outcome c (bytes ++ front)).stop
 
--- what the contract of a take says where it was made
+-- The contract of a call of `take` that returned no error.
 pub record WasTaken (v after : ServerValue) (id : ℕ) (piece : List ℕ) (t : Taken) : Type 0 where
   pub after_is : after ≡ server_taken v id piece
   pub takes_so : (events : List Event) → Shows v events → t.bytes ≡ takes v.config events id piece
@@ -124,7 +125,7 @@ module _ (v : ServerValue) (bytes : List ℕ) (goes : IsGoing v.config v (only_i
   session_was : session_of id v.sessions ≡ Some (session_shown (stream_on M id es).rest before)
   session_was = side_there v es id before goes.stands.shows was_there
 
-  -- ---- memory is refused
+  -- ---- an allocation fails
 
   front_refused_by : (piece : List ℕ) (n : ℕ) → RefusesLast v es id piece n → FrontRefused c bytes piece n
   unfolding outcome flushed_after
@@ -149,7 +150,7 @@ module _ (v : ServerValue) (bytes : List ℕ) (goes : IsGoing v.config v (only_i
         says = ap (λ (w : World). (outcome_on (side_of id w.sides)).output) same ∙ sym (append-nil (stdio_output c bytes));
       }
 
-  -- ---- the take
+  -- ---- the call of take
 
   module _ (piece : List ℕ) (v1 : ServerValue) (t : Taken) (took : WasTaken v v1 id piece t) where
     abbrev T : List ℕ
@@ -165,7 +166,7 @@ module _ (v : ServerValue) (bytes : List ℕ) (goes : IsGoing v.config v (only_i
     bytes_are : T ≡ take (takes c es id piece) piece
     bytes_are = ap (λ (n : ℕ). take n piece) (took.takes_so es goes.stands.shows)
 
-    -- the world after the take, once it is flushed, is that for the bytes
+    -- The world after the call, once it is flushed, is that for the bytes.
     flushed_world : flushed c.limits id (world_after c (es ++ Took id T ∷ [])) ≡ world_for c (bytes ++ T)
     unfolding flushed_after steps_by
     flushed_world =
@@ -199,7 +200,7 @@ module _ (v : ServerValue) (bytes : List ℕ) (goes : IsGoing v.config v (only_i
       spelled = spelled_more c es bytes T (goes.stands.spelled goes.going);
     }
 
-    -- The take and its flush did what is defined for the bytes taken.
+    -- The call and its flush did everything that is defined for the bytes accepted.
     front_served_by : (after : ServerValue) (wrote : List ℕ → Type 0) (messages : ℕ) → messages ≡ count_of t.handled → IsFlushed id v1 after wrote → FrontServed c id bytes T after wrote messages
     front_served_by after wrote messages counted did =
         let now = flush_stands c v1 grown.0 (bytes ++ T) leads after wrote did in
@@ -217,22 +218,22 @@ module _ (v : ServerValue) (bytes : List ℕ) (goes : IsGoing v.config v (only_i
           stop = stop_told c after (bytes ++ T) now.stands;
         }
 
-    -- A write failed: a part was written of what is defined for the bytes taken.
+    -- A write failed: a part of the output defined for the bytes accepted was written.
     front_cut_by : (x y : Option (List ℕ)) → IsPartFlushed id v1 (WritesPart x y) → IsCut c bytes T (AddsBytes x y)
     front_cut_by x y did =
         let cut = part_flush_leads c v1 grown.0 (bytes ++ T) leads x y did in
         record { part = cut.0; missing = cut.1; some = cut.2; says = cc (cut.3, said_before); written = cut.4 }
 
--- ---- for any name of the configuration and of the number
+-- ---- any name of the configuration and of the number
 
 module _ (c : ConfigValues) (v : ServerValue) (id : ℕ) (bytes : List ℕ) (goes : IsGoing c v id bytes) where
-  -- what holds by the names that the server gives holds by any
+  -- A statement about the configuration and number of the server holds for any equal ones.
   pub by_any_name : (P : ConfigValues → ℕ → Type 0) → (IsGoing v.config v (only_id v.config) bytes → P v.config (only_id v.config)) → P c id
   by_any_name P holds =
       subst (P c) (sym goes.number)
       (subst (λ (k : ConfigValues). IsGoing k v (only_id k) bytes → P k (only_id k)) goes.stands.config holds (subst (λ (n : ℕ). IsGoing c v n bytes) goes.number goes))
 
-  -- the connection is there
+  -- The connection exists.
   pub session_going : (s : SessionValue) × (session_of id v.sessions ≡ Some s)
   session_going = by_any_name (λ k n. (s : SessionValue) × (session_of n v.sessions ≡ Some s)) (λ so. (_, session_was v bytes so))
 
@@ -258,6 +259,6 @@ module _ (c : ConfigValues) (v : ServerValue) (id : ℕ) (bytes piece : List ℕ
     pub front_some : 0 < length piece → 1 ≤ t.bytes
     front_some = by_any_name c v id bytes goes (λ k n. WasTaken v v1 n piece t → 0 < length piece → 1 ≤ t.bytes) (λ so. front_some_by v bytes so piece v1 t) took
 
--- a take handles one message at most
+-- A call of `take` processes at most one message.
 pub handled_few : (what : Handled) → count_of what ≤ 1
 handled_few what = grind arith

@@ -1,4 +1,4 @@
--- Which faults tell of a device, and which end the serving of wires.
+-- Defined by this project: the errors that report a failed device, and those that end a run over a listener.
 use Rattle.std.specs.Prelude.{Bool, true, false, Result, Ok, Err}
 use Rattle.coap_serve.specs.declared.serve.IoFault.{IoFault}
 use Rattle.coap_serve.specs.declared.serve.IoFault.TheVariants.{Read, Write, Memory, Turns}
@@ -17,14 +17,14 @@ is_write_fault (Err Write) = true
 is_write_fault (Err Memory) = false
 is_write_fault (Err Turns) = false
 
--- a fault, if any, is want of memory
+-- The error is a failed allocation.
 abbrev pub IsMemory : IoFault → Type 0
 IsMemory Read = ⊥
 IsMemory Write = ⊥
 IsMemory Memory = Unit {0}
 IsMemory Turns = ⊥
 
--- serving ends with a fault: want of memory, or of a further turn
+-- The result is an error: a failed allocation or the limit of turns.
 abbrev pub IsMemoryOrTurns : {T : Type 0} → Result T IoFault → Type 0
 IsMemoryOrTurns (Ok x) = ⊥
 IsMemoryOrTurns (Err Read) = ⊥

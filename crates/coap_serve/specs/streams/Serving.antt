@@ -1,4 +1,4 @@
--- A turn of a door: what happens in it, and that each connection has its part.
+-- Defined by this project: one turn of the event loop, its events, and how each connection is served in it.
 use Rattle.std.specs.Prelude.{◌≡◌, ℕ, ◌+◌, Bool, true, false, List, [], ◌∷◌, ◌++◌, length, map, take, drop, slice_get, Option, Some, None, is_none, is_some, nat_eq, ◌||◌, if◌then◌else◌}
 use Rattle.std.specs.List.{AllByRecursion}
 use Rattle.indexmap.specs.IndexMap.{insert_entry}
@@ -17,9 +17,9 @@ use Rattle.coap_serve.specs.declared.door.peer.Peer.{Peer}
 use Rattle.coap_serve.specs.declared.door.agenda.Agenda.{Agenda}
 use Rattle.coap_io.specs.declared.wire.Wait.{Wait}
 
--- ---- what happens
+-- ---- events
 
--- what happens where connections are served: bytes are taken, bytes are written, an input ends, a connection is dropped
+-- The events of serving connections: bytes are accepted, bytes are written, an input ends, a connection is dropped.
 abbrev pub IsServing : Event → Type 0
 IsServing (Opened id) = ⊥
 IsServing (Took id bytes) = Unit {0}
@@ -32,18 +32,20 @@ IsServing (Released id) = ⊥
 IsServing (Announced id size) = ⊥
 IsServing (Dropped id) = Unit {0}
 
--- Connections were served, and nothing else happened: whatever the server showed, it shows with such events behind it.
+-- Connections were served, and nothing else happened. If the server showed some events before, it now shows them
+-- followed by events of serving.
 pub record HasServed (v after : ServerValue) : Type 0 where
   pub events : List Event
   pub serving : AllByRecursion IsServing events
   pub shows : ShowsMore v after events
 
--- one connection is opened, with the next number, or none is
+-- The event that opens a connection with the next number, or no event.
 abbrev pub opening : ServerValue → Bool → List Event
 opening v true = Opened (v.ids + 1) ∷ []
 opening v false = []
 
--- A turn was made, all of it or a part: one connection was opened or none, then connections were served, and nothing else happened.
+-- A turn was made in full or in part. At most one connection was opened, then connections were served, and nothing else
+-- happened.
 pub record HasTurned (v after : ServerValue) : Type 0 where
   pub opens : Bool
   pub events : List Event
@@ -52,7 +54,7 @@ pub record HasTurned (v after : ServerValue) : Type 0 where
 
 -- ---- each connection in order
 
--- what is left of the server, and of the connection, where it was served: it is dropped where it is over
+-- The server and the entry of a connection after it was served. If the outcome is `Over`, the connection is dropped.
 abbrev pub server_left : Course → ServerValue → ℕ → ServerValue
 server_left Open v id = v
 server_left Over v id = server_dropped v id
@@ -61,7 +63,8 @@ abbrev pub end_left : {W : Type 0} → Course → ℕ → Peer W → List (ℕ �
 end_left Open id p = (id, p) ∷ []
 end_left Over id p = []
 
--- A connection had its part of a turn, and was dropped if it is over. Its wire was read and written for that alone.
+-- A connection was served in a turn, and was dropped if its outcome is `Over`. Its wire was read and written at no
+-- other time.
 pub record HasHadItsPart {W : Type 0} (readable writable : W → Option Bool) (trace : W → WireTrace) (v : ServerValue) (e : ℕ × Peer W) (after : ServerValue) (left : List (ℕ × Peer W)) : Type 0 where
   pub served : ServerValue
   pub peer : Peer W
@@ -70,7 +73,8 @@ pub record HasHadItsPart {W : Type 0} (readable writable : W → Option Bool) (t
   pub server : after ≡ server_left course served e.0
   pub far_end : left ≡ end_left course e.0 peer
 
--- The connection at an index had its part, and the turn is at a later index: those before and after it are as they were.
+-- The connection at an index was served, and the turn continues at the index `at`. The connections before and after it
+-- are unchanged.
 pub record HasGoneOn {W : Type 0} (readable writable : W → Option Bool) (trace : W → WireTrace) (v : ServerValue) (es : List (ℕ × Peer W)) (i : ℕ) (after : ServerValue) (left : List (ℕ × Peer W)) (at : ℕ) : Type 0 where
   pub e : ℕ × Peer W
   pub its : List (ℕ × Peer W)
@@ -79,8 +83,9 @@ pub record HasGoneOn {W : Type 0} (readable writable : W → Option Bool) (trace
   pub front : take at left ≡ take i es ++ its
   pub back : drop at left ≡ drop (i + 1) es
 
--- Each connection in order, after this many others that are still there: one at rest was passed over, any other one had its part of the
--- turn. Whether serving one of them concerned a connection before it, counting those others, is changed.
+-- Each connection in order was served, or skipped if it is idle. `earlier` is the number of connections before these
+-- that still exist. `changed` is `true` if serving one of these may affect a connection before it, including those
+-- `earlier` ones.
 pub data AreServed {W : Type 0} (readable writable : W → Option Bool) (trace : W → WireTrace) : (earlier : ℕ) → ServerValue → List (ℕ × Peer W) → (changed : Bool) → ServerValue → List (ℕ × Peer W) → Type 0 where
   NoMore : (earlier : ℕ) (v : ServerValue) → AreServed readable writable trace earlier v [] false v []
   PassedOver : (earlier : ℕ) (v : ServerValue) (e : ℕ × Peer W) (es : List (ℕ × Peer W)) (changed : Bool) (after : ServerValue) (left : List (ℕ × Peer W)) → IsAtRest (stamp_of v.host) (end_of readable writable e.1)
@@ -89,7 +94,7 @@ pub data AreServed {W : Type 0} (readable writable : W → Option Bool) (trace :
       → HasHadItsPart readable writable trace v e between its → AreServed readable writable trace (earlier + length its) between es changed after left
       → AreServed readable writable trace earlier v (e ∷ es) (concerns_earlier earlier (stamp_of v.host) (stamp_of between.host) || changed) after (its ++ left)
 
--- Each connection in order had its part but those at rest, and the agenda says what is left to be done.
+-- Each connection in order was served, except those that are idle, and the agenda describes the work that remains.
 pub record IsRound {W : Type 0} (readable writable : W → Option Bool) (trace : W → WireTrace) (v : ServerValue) (es : List (ℕ × Peer W)) (a : Agenda) (after : ServerValue) (left : List (ℕ × Peer W)) : Type 0 where
   pub changed : Bool
   pub served : AreServed readable writable trace 0 v es changed after left
@@ -97,7 +102,8 @@ pub record IsRound {W : Type 0} (readable writable : W → Option Bool) (trace :
 
 -- ---- a turn
 
--- A connection was opened for a wire, as one more may be: nothing is left of its reads, and the wire was not touched.
+-- A connection was opened for a wire, and no limit was reached before. No bytes are left from its reads, and the wire
+-- was not touched.
 pub record HasOneMore {W : Type 0} (wire : W) (v : ServerValue) (es : List (ℕ × Peer W)) (after : ServerValue) (left : List (ℕ × Peer W)) : Type 0 where
   pub peer : Peer W
   pub may : open_refusal v ≡ None
@@ -106,28 +112,31 @@ pub record HasOneMore {W : Type 0} (wire : W) (v : ServerValue) (es : List (ℕ 
   pub rest : peer.rest ≡ []
   pub handed : peer.wire ≡ wire
 
--- for the wire that a door handed out, or none
+-- A connection was opened for the wire that a listener returned. If it returned none, nothing changed.
 abbrev pub AreOpened : {W : Type 0} → (handed : Option W) → ServerValue → List (ℕ × Peer W) → ServerValue → List (ℕ × Peer W) → Type 0
 AreOpened (Some wire) v es after left = HasOneMore wire v es after left
 AreOpened None v es after left = (after ≡ v) × (left ≡ es)
 
--- A door is asked for a wire once if one more connection may be opened, and hands one out or none; otherwise it is not asked.
+-- The calls of a listener in a turn. If another connection may be opened, it is asked once for a wire and returns one
+-- or none. Otherwise it is not called.
 abbrev pub asked_by : {W : Type 0} → ServerValue → (handed : Option W) → List (DoorCall W)
 asked_by v handed = if is_none (open_refusal v) then (Asked handed ∷ []) else []
 
 abbrev pub IsAskedOnce : {W : Type 0} → (told : List (DoorCall W) → Type 0) → ServerValue → Type 0
 IsAskedOnce {W} told v = (handed : Option W) × told (asked_by v handed)
 
--- The door was asked, where told says which calls it had, and a connection was opened for the wire that it handed out, or none was.
+-- The listener was asked, and a connection was opened for the wire that it returned, or none was. `told` states which
+-- calls the listener had.
 pub record IsOpening {W : Type 0} (told : List (DoorCall W) → Type 0) (v : ServerValue) (es : List (ℕ × Peer W)) (after : ServerValue) (left : List (ℕ × Peer W)) (opens : Bool) : Type 0 where
   pub handed : Option W
   pub asked : told (asked_by v handed)
   pub opened : AreOpened handed v es after left
   pub is : opens ≡ is_some handed
 
--- A turn of a server and the far ends of its connections, where told says which calls its door had. The door is asked once if one more
--- connection may be opened, one is opened for the wire that it hands out, or none, and then each has its part. After that the door need
--- not wait at all exactly if a connection was opened, a change concerned one that had had its part, or something can be done at once.
+-- One turn of a server with its connections. `told` states which calls the listener had. If another connection may be
+-- opened, the listener is asked once, and a connection is opened for the wire that it returns. Then each connection is
+-- served. The wait is zero if and only if a connection was opened, a change may affect one served earlier, or one is
+-- ready.
 pub record IsTurnOf {W : Type 0} (readable writable : W → Option Bool) (trace : W → WireTrace) (told : List (DoorCall W) → Type 0) (v : ServerValue) (es : List (ℕ × Peer W)) (after : ServerValue) (left : List (ℕ × Peer W)) (wait : Wait) : Type 0 where
   pub opens : Bool
   pub server : ServerValue

@@ -1,4 +1,5 @@
--- How far a run over one input has come: which bytes its server has taken, and what a piece and a turn do to it.
+-- Defined by this project: the progress of a run over one input, and the effect of one chunk and of one turn on its
+-- server.
 use Rattle.std.specs.Prelude.{◌≡◌, ◌≢◌, ◌⊎◌, ℕ, ◌+◌, ◌≤◌, List, [], ◌∷◌, ◌++◌, length, None, Some, Result, Ok, Err}
 use Rattle.coap_conn.specs.Limits.{AreInRange}
 use Rattle.coap_conn.specs.Calls.{end_reason}
@@ -13,8 +14,9 @@ use Rattle.coap_server_engine.specs.world.Shows.{Shows}
 use Rattle.coap_model.specs.streams.Output.{only_id, stream_of, world_for, outcome, stdio_output}
 use Rattle.coap_serve.specs.streams.StdioRun.{IsLastByte}
 
--- A server of this configuration stands behind these bytes: it shows events that leave the world for these bytes, and in which the
--- connection spelled what they spell and announced no other size, where nothing stops it.
+-- A server of this configuration has accepted these bytes. It shows events that lead to the world for these bytes. If
+-- nothing stops the connection, then in these events it received the stream that the bytes encode, and it announced no
+-- other size.
 pub record Stands (c : ConfigValues) (v : ServerValue) (bytes : List ℕ) : Type 0 where
   pub config : v.config ≡ c
   pub events : List Event
@@ -22,20 +24,20 @@ pub record Stands (c : ConfigValues) (v : ServerValue) (bytes : List ℕ) : Type
   pub world : world_after c events ≡ world_for c bytes
   pub spelled : (outcome c bytes).stop ≡ None → spelled_on c.limits.max_message (only_id c) events ≡ (stream_of c bytes, c.limits.max_message)
 
--- and its only connection takes messages
+-- The server has accepted these bytes, and its only connection processes further messages.
 pub record IsGoing (c : ConfigValues) (v : ServerValue) (id : ℕ) (bytes : List ℕ) : Type 0 where
   pub number : id ≡ only_id c
   pub ranges : AreInRange c.limits
   pub stands : Stands c v bytes
   pub going : (outcome c bytes).stop ≡ None
 
--- ---- a piece
+-- ---- a chunk
 
--- more bytes write this text
+-- The output for `bytes` followed by `more` is the output for `bytes`, followed by `text`.
 abbrev pub Says : ConfigValues → List ℕ → List ℕ → List ℕ → Type 0
 Says c bytes more text = stdio_output c (bytes ++ more) ≡ stdio_output c bytes ++ text
 
--- a piece was served, and so many messages were handled
+-- A chunk was processed, its output was written, and the number of its messages is `messages`.
 pub record IsWhole (c : ConfigValues) (bytes piece : List ℕ) (after : ServerValue) (wrote : List ℕ → Type 0) (messages : ℕ) : Type 0 where
   pub stands : Stands c after (bytes ++ piece)
   pub text : List ℕ
@@ -43,7 +45,7 @@ pub record IsWhole (c : ConfigValues) (bytes piece : List ℕ) (after : ServerVa
   pub written : wrote text
   pub counted : (outcome c (bytes ++ piece)).messages ≡ (outcome c bytes).messages + messages
 
--- a write failed: a part was written of what the piece brings about
+-- A write failed: a proper prefix of the output for the chunk was written.
 pub record IsCut (c : ConfigValues) (bytes piece : List ℕ) (wrote : List ℕ → Type 0) : Type 0 where
   pub part : List ℕ
   pub missing : List ℕ
@@ -51,7 +53,8 @@ pub record IsCut (c : ConfigValues) (bytes piece : List ℕ) (wrote : List ℕ �
   pub says : Says c bytes piece (part ++ missing)
   pub written : wrote part
 
--- memory was refused for a message of the piece: what stands before its last byte brings about was written
+-- An allocation failed for a message of the chunk. The output for the bytes before the last byte of that message was
+-- written.
 pub record IsRefused (c : ConfigValues) (bytes piece : List ℕ) (wrote : List ℕ → Type 0) : Type 0 where
   pub front : List ℕ
   pub last : ℕ
@@ -62,7 +65,7 @@ pub record IsRefused (c : ConfigValues) (bytes piece : List ℕ) (wrote : List �
   pub says : Says c bytes front text
   pub written : wrote text
 
--- What a server did with a piece behind these bytes, where wrote says which bytes were written.
+-- The result of a server for a chunk that follows these bytes. `wrote` states which bytes were written.
 abbrev pub IsServed : ConfigValues → List ℕ → List ℕ → ServerValue → (List ℕ → Type 0) → Result ℕ IoFault → Type 0
 IsServed c bytes piece after wrote (Ok messages) = IsWhole c bytes piece after wrote messages
 IsServed c bytes piece after wrote (Err Write) = IsCut c bytes piece wrote
@@ -72,13 +75,13 @@ IsServed c bytes piece after wrote (Err Turns) = ⊥
 
 -- ---- one turn
 
--- a read gave this piece, which is not empty and has at most 4,096 bytes
+-- A read returned this chunk, which has 1 to 4,096 bytes.
 pub record HasRead (gave : List (List ℕ) → Type 0) (piece : List ℕ) : Type 0 where
   pub given : gave (piece ∷ [])
   pub some : piece ≢ []
   pub few : length piece ≤ 4096
 
--- the read found the end of input
+-- The read found the end of input: nothing was processed or written, and the turn ends the run.
 pub record IsEnd (c : ConfigValues) (bytes : List ℕ) (gave : List (List ℕ) → Type 0) (wrote : List ℕ → Type 0) (t : Turn) : Type 0 where
   pub given : gave ([] ∷ [])
   pub written : wrote []
@@ -86,7 +89,7 @@ pub record IsEnd (c : ConfigValues) (bytes : List ℕ) (gave : List (List ℕ) �
   pub messages : t.messages ≡ 0
   pub reason : t.stop ≡ Some (end_reason (is_cut (stream_of c bytes).rest))
 
--- the read gave a piece, which was served
+-- The read returned a chunk, which was processed.
 pub record IsPiece (c : ConfigValues) (bytes : List ℕ) (after : ServerValue) (gave : List (List ℕ) → Type 0) (wrote : List ℕ → Type 0) (t : Turn) : Type 0 where
   pub piece : List ℕ
   pub has : HasRead gave piece
@@ -94,7 +97,7 @@ pub record IsPiece (c : ConfigValues) (bytes : List ℕ) (after : ServerValue) (
   pub read : t.read ≡ length piece
   pub reason : t.stop ≡ (outcome c (bytes ++ piece)).stop
 
--- What a turn did, where gave says which pieces were read in it and wrote which bytes were written.
+-- The result of a turn. `gave` states which chunks were read in it, and `wrote` which bytes were written.
 abbrev pub IsTurn : ConfigValues → List ℕ → ServerValue → (List (List ℕ) → Type 0) → (List ℕ → Type 0) → Result Turn IoFault → Type 0
 IsTurn c bytes after gave wrote (Ok t) = IsEnd c bytes gave wrote t ⊎ IsPiece c bytes after gave wrote t
 IsTurn c bytes after gave wrote (Err Read) = gave [] × wrote []

@@ -1,4 +1,4 @@
-//! What the connections that were looked at in a turn leave to be done.
+//! The work that remains after a turn has visited some connections, and the skipping of idle connections.
 
 ghost use Rattle.std.specs.Prelude.{◌≡◌, ◌≤◌, drop, length, map, slice_get, take, IfSome, false, None};
 ghost use Rattle.coap_serve.specs.Prelude.{AllByRecursion, end_of, agenda_past, IsAtRest, IsInTurn, concerns_earlier};
@@ -9,18 +9,18 @@ use coap_io::{Ready, Wait};
 use coap_server_engine::Stamp;
 use coap_server_session::sooner;
 
-/// What the connections that were looked at in a turn leave to be done.
+/// Work that remains after a turn has visited some connections.
 #[derive(Clone, Copy, PartialEq, Eq)]
 pub(super) struct Agenda {
-    /// Whether another turn is to follow without a wait.
+    /// `true` if another turn must follow without a wait.
     pub(super) at_once: bool,
-    /// The least moment, in seconds, at which time alone may queue something.
+    /// Earliest time, in seconds, at which time alone may queue something on one of the connections.
     pub(super) due: Option<u64>,
 }
 
 impl Agenda {
-    /// With one connection more, on which something can be done at once or not, and on which time alone may queue
-    /// something at a moment, if ever.
+    /// Returns the agenda after one more connection. If `is_ready` is `true`, something can be done on it at once.
+    /// `due` is the time at which time alone may queue something on it, if any.
     pub(super) fn with(self, is_ready: bool, due: Option<u64>) -> Agenda
         ensures { result ≡ agenda_with self is_ready due }
     {
@@ -30,7 +30,7 @@ impl Agenda {
         }
     }
 
-    /// How long the door may wait.
+    /// Returns the time that the listener may wait.
     pub(super) fn wait(self) -> Wait
         ensures { result ≡ wait_of self }
     {
@@ -44,17 +44,17 @@ impl Agenda {
     }
 }
 
-/// How far a turn is through the connections.
+/// Progress of a turn through the connections.
 #[derive(Clone, Copy, PartialEq, Eq)]
 pub(super) struct Seen {
-    /// How many were looked at: the index of the next one.
+    /// Number of connections visited, which is the index of the next one.
     pub(super) at: usize,
-    /// What these leave to be done.
+    /// Work that remains on the connections visited.
     pub(super) agenda: Agenda,
 }
 
 impl Seen {
-    /// None, at the beginning of a turn.
+    /// Returns the progress at the beginning of a turn: no connection was visited.
     pub(super) fn none() -> Seen
         ensures { result ≡ record { at = 0; agenda = record { at_once = false; due = None } } }
     {
@@ -68,7 +68,8 @@ impl Seen {
     }
 }
 
-/// Passes over the connections at rest that come next, up to the first that is not, or to the end.
+/// Skips idle connections from the next one on, up to the first that is not idle or to the end. Their deadlines are
+/// added to the agenda.
 pub(super) fn pass_over<W: Ready>(peers: &Peers<W>, seen: Seen, stamp: Stamp) -> Seen
     requires { seen.at ≤ length peers.now.entries }
     ensures from { seen.at ≤ result.at }
@@ -96,8 +97,8 @@ pub(super) fn pass_over<W: Ready>(peers: &Peers<W>, seen: Seen, stamp: Stamp) ->
     }
 }
 
-/// Whether serving the connection at an index, before and after which the server had these stamps, may concern those
-/// before it, which have had their part of the turn.
+/// Returns `true` if serving the connection at an index may affect those before it, which were served earlier in the
+/// turn. `before` and `after` are the server's stamps before and after serving it.
 pub(super) fn concerns_others(at: usize, before: Stamp, after: Stamp) -> bool
     ensures { result ≡ concerns_earlier at before after }
 {

@@ -1,4 +1,4 @@
-//! The far end of a connection, and its part of a turn.
+//! The transport side of a connection, and how a turn serves it.
 
 ghost use Rattle.std.specs.Prelude.{◌≡◌, ◌≢◌, false, [], length, is_some, OnOk, OnErr, IfOk, IfErr};
 ghost use Rattle.coap_serve.specs.Prelude.{IsPartlyFed, fed, AddsBytes, HasServed, TellsMore, IsServedOnce, trace_by};
@@ -16,40 +16,42 @@ use coap_model::ConnId;
 use coap_server_engine::{Outlook, Server, Stamp};
 use indexmap::IndexMap;
 
-/// The far end of a connection.
+/// Transport side of a connection.
 #[derive(Drop)]
 pub(super) struct Peer<W> {
-    /// The wire to it.
+    /// Transport connection to the peer.
     pub(super) wire: W,
-    /// What was read from the wire and is not taken yet.
+    /// Bytes that were read and that the server has not accepted yet.
     pub(super) rest: Rest,
-    /// What it is to be served for.
+    /// I/O interest, recorded when the connection was last served.
     pub(super) wants: Wants,
 }
 
 impl<W: Ready> Peer<W> {
-    /// Whether its wire is to be read, and may be. (The wire is asked first: of most connections it may not be read.)
+    /// Returns `true` if the connection must be read and its wire may have input. (The wire is asked first, because
+    /// most wires have no input.)
     pub(super) fn can_read(&self) -> bool
         ensures { IsAsked self.now.wants.read (W.readable self.now.wire) result }
     {
         self.wire.may_read() && self.wants.read
     }
 
-    /// Whether its wire is to be written, and may be.
+    /// Returns `true` if the connection must be written and its wire may have room.
     pub(super) fn can_write(&self) -> bool
         ensures { IsAsked self.now.wants.write (W.writable self.now.wire) result }
     {
         self.wants.write && self.wire.may_write()
     }
 
-    /// Whether something that it is to be served for can be done at once.
+    /// Returns `true` if something can be done on the connection at once.
     pub(super) fn is_ready(&self) -> bool
         ensures { CanGoOn (end_of W.readable W.writable self.now) result }
     {
         self.wants.take || self.can_read() || self.can_write()
     }
 
-    /// Whether it was served on a server with this stamp, and nothing can be done now.
+    /// Returns `true` if the connection was last served when the server had this stamp, and nothing can be done on it
+    /// now.
     pub(super) fn is_at_rest(&self, stamp: Stamp) -> bool
         ensures { IsRestAnswer stamp (end_of W.readable W.writable self.now) result }
     {
@@ -57,25 +59,27 @@ impl<W: Ready> Peer<W> {
     }
 }
 
-/// The far ends by the numbers of their connections, in order.
+/// Transport sides by the numbers of their connections, in order.
 pub(super) type Peers<W> = IndexMap<u64, Peer<W>>;
 
-/// How a connection came out of its part of a turn.
+/// Outcome for a connection after a turn has served it.
 #[derive(Clone, Copy, PartialEq, Eq)]
 pub(super) enum Course {
-    /// It goes on.
+    /// Connection that stays open.
     Open,
-    /// Its wire has failed, or nothing more is to be written.
+    /// Connection to be dropped: its wire has failed, or nothing more will be written on it.
     Over,
 }
 
-/// Serves a connection whose wire may be read or not, and written or not: reads once, where it may, all that was read
-/// before is taken and the connection takes bytes; lets it take what was read; and writes once what waits, where it
-/// may. Notes what it is to be served for next.
+/// Serves a connection once: reads, processes and writes. Then it records the connection's I/O interest.
+///
+/// The wire is read once if `may_read` is `true`, all bytes of earlier reads were accepted, and the connection accepts
+/// bytes. The connection then processes the received bytes. If `may_write` is `true`, queued bytes are written once. If
+/// the read fails, the other steps are skipped, and nothing is recorded.
 ///
 /// # Errors
 ///
-/// `Memory` where memory was refused.
+/// - `Memory`: an allocation failed.
 pub(super) fn serve_peer<W: Wire>(
     server: &mut Server,
     id: ConnId,
@@ -83,7 +87,8 @@ pub(super) fn serve_peer<W: Wire>(
     may_read: bool,
     may_write: bool,
 ) -> Result<Course, IoFault>
-    // The wire is read once exactly if it was to be, and written once exactly if something was queued.
+    // The wire is read once if a read is due, and written once if bytes are queued and `may_write` is `true`. Otherwise
+    // it is not touched.
     ensures part { IfOk result (λ course. IsServedOnce may_read may_write server.old id peer.old.rest
         (trace_by W.given W.written W.answers W.rooms peer.old.wire) server.new peer.new.rest
         (trace_by W.given W.written W.answers W.rooms peer.new.wire) course) }
@@ -102,7 +107,7 @@ pub(super) fn serve_peer<W: Wire>(
     Ok(outcome(wrote, is_over(outlook)))
 }
 
-/// Whether a wire has failed.
+/// Returns `true` for `Got::Failed`.
 fn failed(got: Got) -> bool
     ensures { result ≡ has_failed got }
 {
@@ -114,7 +119,8 @@ fn failed(got: Got) -> bool
     }
 }
 
-/// How a connection comes out whose write came to this, and on which nothing more is to be written, or something is.
+/// Returns the outcome from the result of the write. `is_over` is `true` if nothing more will be written on the
+/// connection.
 fn outcome(wrote: Got, is_over: bool) -> Course
     ensures { result ≡ course_of wrote is_over }
 {
@@ -124,18 +130,18 @@ fn outcome(wrote: Got, is_over: bool) -> Course
     Course::Open
 }
 
-/// Reads once, where all that was read before is taken, the wire may be read and the connection takes bytes, and
-/// answers what came of it: `Later` too where nothing was read. The end of what the peer sends is told to the
-/// connection.
+/// Reads once if `may_read` is `true`, all bytes of earlier reads were accepted, and the connection accepts bytes.
+/// Returns the result of the read, or `Later` if there was none. The end of input is reported to the connection.
 #[tactic(auto, using(crate::proofs::streams::ServingLemmas::none_served))]
 fn hear<W: Wire>(server: &mut Server, id: ConnId, peer: &mut Peer<W>, may_read: bool) -> Got
     ensures server { server.new ≡ server_heard server.old id result }
     ensures shows { HasServed server.old server.new }
-    // The wire is read once if it is to be, with room for 16,384 bytes, and what it gave is there to be taken.
+    // If a read is due, the wire is read once, into a buffer of 16,384 bytes, and `peer.rest` has the bytes of that
+    // read.
     ensures laid { IsLaidOut (is_heard may_read server.old id peer.old.rest) peer.old.rest
         (trace_by W.given W.written W.answers W.rooms peer.old.wire) result peer.new.rest
         (trace_by W.given W.written W.answers W.rooms peer.new.wire) }
-    // Nothing changes if it is not.
+    // If no read is due, nothing changes.
     ensures passed { is_heard may_read server.old id peer.old.rest ≡ false → peer.new ≡ peer.old }
 {
     if !may_read || !peer.rest.is_empty() || !server.can_take(id) {
@@ -150,12 +156,12 @@ fn hear<W: Wire>(server: &mut Server, id: ConnId, peer: &mut Peer<W>, may_read: 
     got
 }
 
-/// Lets a connection take what was read, message by message, until all is taken or it takes none. Where it takes no
-/// message any more, what is left is given up.
+/// Passes the bytes that were read to a connection, message by message, until all are accepted or none is. If the
+/// connection then processes no further message, the other bytes are discarded.
 ///
 /// # Errors
 ///
-/// `Memory` where memory was refused for a representation that a message stores.
+/// - `Memory`: an allocation failed for a representation that a message stores.
 #[tactic(auto, using(crate::proofs::streams::ServingLemmas::part_served))]
 fn take_rest(server: &mut Server, id: ConnId, rest: &mut Rest) -> Result<(), IoFault>
     ensures server { OnOk result (server.new ≡ (fed server.old id rest.old).server) }
@@ -174,8 +180,8 @@ fn take_rest(server: &mut Server, id: ConnId, rest: &mut Rest) -> Result<(), IoF
     Ok(())
 }
 
-/// Writes once a front of what waits on a connection, where anything does and the wire may be written, and answers what
-/// came of it: `Later` too where nothing was written, and `Failed` for each answer that a write fails with.
+/// Writes queued bytes of a connection once, from the first, if some are queued and `may_write` is `true`. Returns the
+/// result of the write, or `Later` if there was none. The result `End` of a write is returned as `Failed`.
 #[tactic(auto, using(crate::proofs::streams::ServingLemmas::none_served, coap_conn::proofs::NextPartLemmas::few_written))]
 fn write_once<W: Wire>(server: &mut Server, id: ConnId, wire: &mut W, may_write: bool) -> Got
     ensures server { server.new ≡ server_wrote server.old id result }
@@ -187,7 +193,7 @@ fn write_once<W: Wire>(server: &mut Server, id: ConnId, wire: &mut W, may_write:
         (bytes_passed (waiting_once may_write id server.old) result) }
     ensures gave { waiting_once may_write id server.old ≢ [] → AddsBytes (W.given wire.old) (W.given wire.new) [] }
     ensures no_read { waiting_once may_write id server.old ≢ [] → TellsMore (W.rooms wire.old) (W.rooms wire.new) [] }
-    // Where something waits and it may be written, it is written once.
+    // If bytes are queued and the wire may be written, it is written once.
     ensures answered { waiting_once may_write id server.old ≢ [] →
         IsOneWrite (W.answers wire.old) (W.answers wire.new) result }
     ensures no_end { result ≢ End }
@@ -215,7 +221,7 @@ fn write_once<W: Wire>(server: &mut Server, id: ConnId, wire: &mut W, may_write:
     }
 }
 
-/// Whether a connection takes no message any more.
+/// Returns `true` if a connection processes no further message.
 fn has_stopped(server: &Server, id: ConnId) -> bool
     ensures { result ≡ is_some (stop_on (session_of id server.now.sessions)) }
 {
@@ -225,7 +231,7 @@ fn has_stopped(server: &Server, id: ConnId) -> bool
     status.phase.stop().is_some()
 }
 
-/// Whether nothing more is to be written on a connection on which this is to be done, or none has the number.
+/// Returns `true` if nothing more will be written on a connection with this work left, or if there is no connection.
 fn is_over(outlook: Option<Outlook>) -> bool
     ensures { result ≡ is_over_in outlook }
 {

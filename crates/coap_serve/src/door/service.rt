@@ -1,4 +1,4 @@
-//! A server at a door, turn by turn, for a program that embeds it.
+//! A server over the connections of a listener, for a program that embeds it and runs the event loop.
 
 ghost use Rattle.std.specs.Prelude.{◌≡◌, false, All};
 ghost use Rattle.coap_serve.specs.streams.Notes.{IsNoted};
@@ -13,8 +13,9 @@ use coap_store::{PathKey, StoreFault};
 use indexmap::IndexMap;
 use std::alloc::{AllocError, Global};
 
-/// A server with the wires of its connections, which a program holds, and serves turn by turn. What was noted of each
-/// connection is true, unless a turn was refused memory.
+/// Server together with the transport connections that it serves. A program embeds it and calls `turn` for each
+/// iteration of its event loop. The recorded I/O interest of each connection is correct, unless an allocation failed in
+/// a turn.
 #[derive(Drop)]
 pub struct Service<W> {
     alloc: Global,
@@ -33,11 +34,12 @@ impl<W: Wire + Ready + Drop> Service<W> {
     ghost use Rattle.coap_serve.specs.Prelude.{Event, Ticked, Stored, Removed, Shows};
     ghost use Rattle.coap_serve.specs.declared.serve.IoFault.TheVariants as fault;
 
-    /// A server with no connection, that stores nothing, whose counts begin where the configuration says.
+    /// Returns a server with no connection and an empty store. Its counters begin at the values that the configuration
+    /// gives.
     ///
     /// # Errors
     ///
-    /// Where memory is refused.
+    /// - `AllocError`: an allocation failed.
     pub fn new(alloc: Global, config: Config) -> Result<Service<W>, AllocError>
         ensures value { IfOk result (λ s. s.server ≡ new_server config) }
         ensures shows { IfOk result (λ s. Shows s.server []) }
@@ -52,18 +54,18 @@ impl<W: Wire + Ready + Drop> Service<W> {
         })
     }
 
-    /// Whether one more connection may be opened, which is what a door is told that waits.
+    /// Returns `true` if another connection may be opened. A program passes this value to `Door::wait`.
     pub fn can_open(&self) -> bool
         ensures { result ≡ is_none (open_refusal self.now.server) }
     {
         self.server.can_open()
     }
 
-    /// The moment is now this one, in seconds: as `Server::tick`.
+    /// Sets the time of the server, in seconds, as `Server::tick` does.
     ///
     /// # Errors
     ///
-    /// Where it is before the moment of the server. Nothing has changed then.
+    /// - `Backwards`: the time is earlier than that of the server, which is unchanged.
     pub fn tick(&mut self, now: u64) -> Result<(), Backwards>
         ensures answer { is_ok result ≡ nat_le self.old.server.host.now now }
         ensures ok { OnOk result (self.new.server ≡ server_ticked self.old.server now) }
@@ -77,11 +79,11 @@ impl<W: Wire + Ready + Drop> Service<W> {
         self.server.tick(now)
     }
 
-    /// Stores a representation as `Server::put`, and answers its version. Who observes the path is notified.
+    /// Stores a representation as `Server::put` does, and returns its version. Observers of the path are notified.
     ///
     /// # Errors
     ///
-    /// As `Server::put`. Nothing has changed then.
+    /// Those of `Server::put`. The server is unchanged.
     pub fn put(
         &mut self,
         path: &PathKey,
@@ -100,11 +102,11 @@ impl<W: Wire + Ready + Drop> Service<W> {
         self.server.put(path, format, bytes)
     }
 
-    /// Takes the resource at a path away as `Server::remove`. Who observes it is notified.
+    /// Removes the resource at a path as `Server::remove` does. Its observers are notified.
     ///
     /// # Errors
     ///
-    /// As `Server::remove`. Nothing has changed then.
+    /// Those of `Server::remove`. The server is unchanged.
     pub fn remove(&mut self, path: &PathKey) -> Result<(), StoreFault>
         ensures answer { RefusedBy result (remove_refusal self.old.server.host.store path.now) }
         ensures ok { OnOk result (self.new.server ≡ server_removed self.old.server path.now) }
@@ -117,25 +119,31 @@ impl<W: Wire + Ready + Drop> Service<W> {
         self.server.remove(path)
     }
 
-    /// Makes one turn at a moment: opens one connection, if one more may be opened and the door hands out a wire, and
-    /// serves each. Returns how long the door may wait then: `Wait::No` exactly if a connection was opened, a change
-    /// concerns a connection that was served before it in this turn, or something can be done at once on a connection;
-    /// otherwise until the least moment at which time alone may queue something, or without end if there is none.
+    /// Runs one turn of the event loop: opens at most one connection, and serves each connection. Returns how long the
+    /// listener may wait before the next turn.
+    ///
+    /// If another connection may be opened, the listener is asked for one. The result is `Wait::No` if and only if one
+    /// of these holds:
+    ///
+    /// - A connection was opened.
+    /// - A change affects a connection that was served earlier in the turn.
+    /// - Something can be done at once on a connection.
+    ///
+    /// Otherwise the wait ends at the earliest time at which time alone may queue something. Without such a time, the
+    /// result is `Wait::Forever`.
     ///
     /// # Errors
     ///
-    /// `Memory` where memory was refused, in this turn or in one before it.
+    /// - `Memory`: an allocation failed, in this turn or in an earlier one. No later turn does anything.
     #[tactic(auto, using(crate::proofs::streams::ServingLemmas::turned_as_before))]
     pub fn turn<D: Door<Wire = W>>(&mut self, door: &mut D) -> Result<Wait, IoFault>
-        // Nothing happens to the server but that one connection is opened or none, and that connections are served.
+        // The events of a turn are at most one opened connection, followed by events of served connections.
         ensures shows { HasTurned self.old.server self.new.server }
-        // The door is asked once where one more connection may be opened, and not else.
+        // The listener is asked once if another connection may be opened, and not otherwise.
         ensures asks { self.old.is_spent ≡ false
             → IsAskedOnce (TellsMore (D.calls door.old) (D.calls door.new)) self.old.server }
-        // One connection is opened or none; then each in order has its part of the turn, but those at rest: its wire
-        // is read and written for that alone. The result is No exactly if a connection was opened, a change concerned
-        // one that had had its part, or something can be done at once; otherwise it is the least moment at which time
-        // alone may queue something, or Forever if there is none.
+        // At most one connection is opened. Then each connection in order is served, except those that are idle. Its
+        // wire is read and written at no other time. The clause also determines the result.
         ensures turn { IfOk result (λ wait. IsTurnOf W.readable W.writable
             (trace_by W.given W.written W.answers W.rooms) (TellsMore (D.calls door.old) (D.calls door.new))
             self.old.server self.old.peers.entries self.new.server self.new.peers.entries wait) }

@@ -1,4 +1,4 @@
-//! A turn of a door.
+//! One turn of the event loop over the connections of a listener.
 
 ghost use Rattle.std.specs.Prelude.{◌≡◌, ◌<◌, ◌≤◌, ◌+◌, ◌-◌, ◌^◌, ◌||◌, Bool, false, Ok, Some, length, is_none, map};
 ghost use Rattle.std.specs.Prelude.{remove, slice_get, take, IfSome, IfOk, IfErr, OnOk, OnErr};
@@ -16,14 +16,12 @@ use coap_io::{Door, Ready, Rest, Wait, Wire};
 use coap_server_engine::Server;
 use std::alloc::Global;
 
-/// Makes one turn at a moment: opens one connection, if one more may be opened and the door hands out a wire, and
-/// serves each. Returns how long the door may wait then: `Wait::No` exactly if a connection was opened, a change
-/// concerns a connection that was served before it in this turn, or something can be done at once on a connection;
-/// otherwise until the least moment at which time alone may queue something, or without end if there is none.
+/// Runs one turn: opens at most one connection, if the listener returns one, and serves each connection. Returns how
+/// long the listener may wait before the next turn, as `Service::turn` describes.
 ///
 /// # Errors
 ///
-/// `Memory` where memory was refused.
+/// - `Memory`: an allocation failed.
 pub(super) fn take_turn<D: Door>(
     alloc: Global,
     server: &mut Server,
@@ -32,9 +30,9 @@ pub(super) fn take_turn<D: Door>(
 ) -> Result<Wait, IoFault>
     requires { AreNoted server.old peers.old.entries }
     ensures shows { HasTurned server.old server.new }
-    // The door is asked once, where one more connection may be opened.
+    // The listener is asked once if another connection may be opened, and not otherwise.
     ensures asks { IsAskedOnce (TellsMore (D.calls door.old) (D.calls door.new)) server.old }
-    // Each connection has its part, and the result says how long the door may wait then.
+    // Each connection is served, and the result is the time that the listener may wait.
     ensures turn { IfOk result (λ wait. IsTurnOf D.Wire.readable D.Wire.writable
         (trace_by D.Wire.given D.Wire.written D.Wire.answers D.Wire.rooms)
         (TellsMore (D.calls door.old) (D.calls door.new)) server.old peers.old.entries server.new peers.new.entries
@@ -48,11 +46,11 @@ pub(super) fn take_turn<D: Door>(
     Ok(agenda.with(opens, None).wait())
 }
 
-/// Opens one connection, where one more may be and the door hands out a wire, and answers whether it did.
+/// Opens one connection if another one may be opened and the listener returns one. Returns `true` if it did.
 ///
 /// # Errors
 ///
-/// `Memory` where memory was refused.
+/// - `Memory`: an allocation failed.
 #[tactic(auto, using(crate::proofs::streams::ServingLemmas::turned_as_before, crate::proofs::streams::ServingLemmas::turned_open))]
 fn accept<D: Door>(
     alloc: Global,
@@ -64,12 +62,12 @@ fn accept<D: Door>(
     ensures shows { HasTurned server.old server.new }
     ensures noted { OnOk result (AreNoted server.new peers.new.entries) }
     ensures fault { IfErr result IsMemory }
-    // The door is asked once where one more connection may be opened, and not at all for a wire that none could be
-    // opened for.
+    // The listener is asked once if another connection may be opened. Otherwise it is not asked, so it returns no wire
+    // for which none could be opened.
     ensures opened { IfOk result (λ opens. IsOpening (TellsMore (D.calls door.old) (D.calls door.new)) server.old
         peers.old.entries server.new peers.new.entries opens) }
     ensures passes { is_none (open_refusal server.old) ≡ false → (door.new ≡ door.old) × (result ≡ Ok false) }
-    // Memory is refused only for a wire that the door handed out.
+    // An allocation fails only for a wire that the listener returned.
     ensures refused { OnErr result ((wire : D.Wire) ×
         TellsMore (D.calls door.old) (D.calls door.new) (asked_by server.old (Some wire))) }
 {
@@ -92,19 +90,19 @@ fn accept<D: Door>(
     Ok(true)
 }
 
-/// Serves each connection in order of its number but those that are at rest, and drops those that are over. Answers
-/// what they leave to be done.
+/// Serves each connection in order of its number, except those that are idle, and drops those with the outcome `Over`.
+/// Returns the work that remains.
 ///
 /// # Errors
 ///
-/// `Memory` where memory was refused.
+/// - `Memory`: an allocation failed.
 fn serve_each<W: Wire + Ready + Drop>(
     server: &mut Server,
     peers: &mut Peers<W>,
 ) -> Result<Agenda, IoFault>
     requires { AreNoted server.old peers.old.entries }
     ensures shows { HasServed server.old server.new }
-    // Each connection in order has its part, but those at rest, and the result says what is left to be done.
+    // Each connection in order is served, except those that are idle, and the result is the work that remains.
     ensures round { IfOk result (λ agenda. IsRound W.readable W.writable
         (trace_by W.given W.written W.answers W.rooms) server.old peers.old.entries agenda server.new
         peers.new.entries) }
@@ -120,11 +118,11 @@ fn serve_each<W: Wire + Ready + Drop>(
     Ok(seen.agenda)
 }
 
-/// Serves the connection that comes next, and drops it where it is over.
+/// Serves the next connection, and drops it if its outcome is `Over`. Returns the progress of the turn.
 ///
 /// # Errors
 ///
-/// `Memory` where memory was refused.
+/// - `Memory`: an allocation failed.
 fn serve_next<W: Wire + Ready + Drop>(
     server: &mut Server,
     peers: &mut Peers<W>,
@@ -134,12 +132,12 @@ fn serve_next<W: Wire + Ready + Drop>(
     requires fits { length peers.old.entries < 2 ^ 64 }
     requires noted { AreNoted server.old peers.old.entries }
     ensures shows { HasServed server.old server.new }
-    // The connection has its part of the turn, and the others stand as before.
+    // The connection was served, and the others are unchanged.
     ensures part { IfOk result (λ later. HasGoneOn W.readable W.writable
         (trace_by W.given W.written W.answers W.rooms) server.old peers.old.entries seen.at server.new
         peers.new.entries later.at) }
     ensures noted { OnOk result (AreNoted server.new peers.new.entries) }
-    // What it leaves to be done is added to what those before it leave.
+    // The work that remains on it is added to that of the connections before it.
     ensures agenda { IfOk result (λ later. (changed : Bool) → IsAgendaOf seen.agenda changed (stamp_of server.old.host)
         (map (λ e. end_of W.readable W.writable e.1) (take seen.at peers.old.entries)) →
         IsAgendaOf later.agenda
@@ -147,7 +145,7 @@ fn serve_next<W: Wire + Ready + Drop>(
         (stamp_of server.new.host)
         (map (λ e. end_of W.readable W.writable e.1) (take later.at peers.new.entries))) }
     ensures within { IfOk result (λ later. later.at ≤ length peers.new.entries) }
-    // One fewer is left.
+    // The number of connections still to visit is one lower.
     ensures fewer { IfOk result (λ later. length peers.new.entries - later.at + 1 ≡ length peers.old.entries -
         seen.at) }
     ensures fault { IfErr result IsMemory }
@@ -171,11 +169,11 @@ fn serve_next<W: Wire + Ready + Drop>(
     }
 }
 
-/// Serves the connection at an index.
+/// Serves the connection at an index, and returns its outcome.
 ///
 /// # Errors
 ///
-/// `Memory` where memory was refused.
+/// - `Memory`: an allocation failed.
 fn serve_at<W: Wire + Ready>(
     server: &mut Server,
     peers: &mut Peers<W>,
@@ -192,10 +190,10 @@ fn serve_at<W: Wire + Ready>(
         (trace_by W.given W.written W.answers W.rooms is.1.wire) course))) }
     ensures wants { IfSome (slice_get peers.new.entries at)
         (λ is. IfOk result (λ course. course ≡ Open → is.1.wants ≡ wants_of server.new is.0 is.1.rest)) }
-    // What was noted of the others still holds, and what was noted of it does where it goes on.
+    // The recorded interests of the others are still correct, and so is that of this connection if it stays open.
     ensures others { OnOk result (AreNoted server.new (remove peers.new.entries at)) }
     ensures noted { IfOk result (λ course. course ≡ Open → AreNoted server.new peers.new.entries) }
-    // No other one is touched.
+    // No other connection is changed.
     ensures beside { remove peers.new.entries at ≡ remove peers.old.entries at }
     ensures before { take at peers.new.entries ≡ take at peers.old.entries }
     ensures same { keys_of peers.new.entries ≡ keys_of peers.old.entries }

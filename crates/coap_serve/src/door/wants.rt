@@ -1,4 +1,4 @@
-//! What a connection of a door is to be served for.
+//! The I/O interest of a connection.
 
 ghost use Rattle.std.specs.Prelude.{◌≡◌};
 ghost use Rattle.coap_serve.specs.Prelude.{wants_in, wants_of};
@@ -7,29 +7,30 @@ use coap_io::Rest;
 use coap_model::ConnId;
 use coap_server_engine::{Outlook, Server, Stamp};
 
-/// What a connection is to be served for, as it was left when it was served last.
+/// I/O interest of a connection, recorded when the connection was last served.
 #[derive(Clone, Copy, PartialEq, Eq)]
 pub(super) struct Wants {
-    /// What was read before can be taken, or is to be given up.
+    /// `true` if bytes that were read can be accepted or must be discarded.
     pub(super) take: bool,
-    /// Its wire is to be read, once it may be.
+    /// `true` if the wire must be read as soon as it has input.
     pub(super) read: bool,
-    /// Its wire is to be written, once it may be.
+    /// `true` if the wire must be written as soon as it has room.
     pub(super) write: bool,
-    /// The next moment, in seconds, at which time alone may queue something.
+    /// Next time, in seconds, at which time alone may queue something.
     pub(super) due: Option<u64>,
-    /// What the server was then: where that has changed, anything may be wanted.
+    /// Stamp of the server when this was recorded. After the stamp has changed, any field may be out of date.
     pub(super) stamp: Stamp,
 }
 
-/// What a connection is to be served for that has this left of what was read.
+/// Returns the I/O interest of a connection with these bytes left from its reads.
 pub(super) fn wants_on(server: &Server, id: ConnId, rest: &Rest) -> Wants
     ensures { result ≡ wants_of server.now id rest.now }
 {
     wants_by(server.outlook(id), rest.is_empty(), server.stamp())
 }
 
-/// What a connection is to be served for on which this is to be done, and where all that was read is taken or not.
+/// Returns the I/O interest of a connection with this work left. `is_empty` is `true` if all bytes that were read are
+/// accepted. The interest is empty if there is no connection.
 pub(super) fn wants_by(outlook: Option<Outlook>, is_empty: bool, stamp: Stamp) -> Wants
     ensures { result ≡ wants_in outlook is_empty stamp }
 {

@@ -1,4 +1,4 @@
-//! Theorems on runs: on a flush, and on a door that skips idle connections.
+//! Theorems on runs: on a flush, and on an event loop that skips idle connections.
 
 ghost use Rattle.std.specs.Prelude.{◌≡◌, ℕ, Bool, Option, Result, ◌+◌, ◌≤◌, List, [], false};
 ghost use Rattle.coap_serve.specs.Prelude.{ConfigValues, ServerValue, AreSettled, LiesAt, server_opened};
@@ -7,20 +7,23 @@ ghost use Rattle.coap_serve.specs.Prelude.{is_over_in, wants_of, IsNoEarlier, Ke
 ghost use Rattle.coap_serve.specs.Prelude.{Course, Stamp, outlook_of, stamp_of, Event, Shows, IsFlushed, AddsBytes};
 ghost use Rattle.coap_serve.specs.Prelude.{waiting_at, Report, IoFault, IsStdioRun, LeavesNothingWaiting};
 
-/// What has nothing to do may be passed over: where a connection is not over, and nothing can be done of what it is to
-/// be served for, its part of a turn comes to nothing, whatever its wire does. The wire is neither read nor written;
-/// there is an outcome; and each leaves the server, what is left of its reads and what its wire tells as they were, and
-/// the connection going on.
+/// States that an idle connection may be skipped.
+///
+/// The theorem is about a connection on which more may be written, on a server whose connections are all settled. If
+/// nothing in its I/O interest can be done, serving it has no effect, whatever its wire does. The wire is neither read
+/// nor written. There is an outcome. Every outcome leaves the server, the bytes left from its reads, and the trace of
+/// its wire unchanged, and the connection stays open.
 pub fn what_has_nothing_to_do_is_passed_over()
     ensures { (v : ServerValue) (id i : ℕ) (rest : List ℕ) (may_read may_write : Bool) → LiesAt id i v.sessions →
         AreSettled v.host v.sessions → can_go_on (wants_of v id rest) may_read may_write ≡ false →
         is_over_in (outlook_of v id) ≡ false → ComesToNothing may_read may_write v id rest }
 {}
 
-/// A stamp that was left never comes back. Stamps stand in one order: the later moment comes behind, at one moment the
-/// one where more versions were given, and of these the one where fewer resources are stored. Nothing that a door does
-/// to its server makes the stamp earlier: a connection's part of a turn leaves it no earlier, where a connection is
-/// dropped or opened it stays, and the moment does not go back.
+/// States that a stamp never repeats after it has changed.
+///
+/// Stamps are ordered by time, then by the number of versions stored so far, then by the number of stored resources,
+/// where fewer is later. The operations of an event loop never make the stamp of the server earlier. To serve a
+/// connection leaves it equal or later. To drop or open a connection leaves it equal. The time does not go back.
 pub fn stamps_never_come_back()
     ensures itself { (one : Stamp) → IsNoEarlier one one }
     ensures on { (one other third : Stamp) → IsNoEarlier one other → IsNoEarlier other third → IsNoEarlier one third }
@@ -37,11 +40,12 @@ pub fn stamps_never_come_back()
         IsNoEarlier (stamp_of v.host) (stamp_of (server_ticked v later).host) }
 {}
 
-/// What was noted of a connection holds while the server has the same stamp, where every connection is settled: what it
-/// is to be served for stays as it was over each part of a turn that another one has, where another one is dropped or
-/// opened, and where the moment moves on, which changes nothing where the stamp is the same; and so over all of these
-/// together, one after the other. So a connection on which nothing could be done may be passed over without a look at
-/// the server: its part of a turn comes to nothing.
+/// States that the recorded I/O interest of a connection stays correct while the stamp of the server is the same, if
+/// every connection is settled.
+///
+/// The interest is the same after another connection was served, dropped or opened. If the time advances and the stamp
+/// is the same, the whole server is unchanged. The interest is also the same after any sequence of these. An idle
+/// connection may therefore be skipped without a look at the server: to serve it would have no effect.
 pub fn what_was_noted_holds()
     ensures served { (v after : ServerValue) (id : ℕ) (rest left : List ℕ) (wire told : WireTrace)
         (may_read may_write : Bool) (course : Course) →
@@ -61,11 +65,13 @@ pub fn what_was_noted_holds()
         is_over_in (outlook_of v id) ≡ false → ComesToNothing may_read may_write after id rest }
 {}
 
-/// A flush leaves nothing that waits. After each flush that did not fail, no byte waits on the connection, whatever is
-/// pending and observed there: the number of writes to which a flush is limited is enough. So a run of `serve_one` that
-/// ends leaves no byte that waits, unless a write failed: everything that its connection queued for the bytes taken is
-/// in the output. A run that ends at its limit of turns, or because a read failed, is no exception. A run that ends for
-/// want of memory has taken the bytes before the last one of the request, or none.
+/// States that a flush leaves no byte queued.
+///
+/// After each flush that did not fail, no byte is queued on the connection, whatever is pending and observed there. The
+/// number of writes to which a flush is limited is therefore enough. So a run of `serve_one` that ends leaves no byte
+/// queued, unless a write failed. The output has everything that its connection queued for the bytes accepted. This
+/// includes runs that end at the limit of turns or because a read failed. A run that ends because an allocation failed
+/// has accepted the bytes before the last one of the request, or none.
 pub fn a_flush_leaves_nothing_waiting()
     ensures flush { (v after : ServerValue) (events : List Event) (id : ℕ) (before now : Option (List ℕ)) →
         Shows v events → IsFlushed id v after (AddsBytes before now) → waiting_at id after ≡ [] }

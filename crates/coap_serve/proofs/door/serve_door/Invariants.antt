@@ -2,7 +2,7 @@ use Rattle.coap_serve.specs.Prelude.{TellsMore, trace_by}
 use Rattle.coap_serve.proofs.streams.DoorLemmas.{HasRunTo}
 use Rattle.coap_serve.proofs.door.serve_door.Given as goal
 
--- how far the run has come
+-- The progress of the run.
 abbrev pub invariant-loop-turn : goal.invariant-loop-turn
 invariant-loop-turn g l =
     HasRunTo g.D.Wire.Ready.readable g.D.Wire.Ready.writable

@@ -28,7 +28,7 @@ returns-then-is_some-clause-served g c = λ k bytes goes.
     (front_served k c.loop-rest.server c.args.id _ c.loop-rest.rest.now so_far.goes c.take.new.self c.in-Ok.taken (assumption c.in-Ok.ensures) c.flush.new.server _ c.handled-messages.result c.handled-messages.ensures c.in-Ok-flush.ensures.ok)
     (sym c.in-Ok-flush.ensures.stop ∙ stopped.1)
 
--- a take takes some bytes
+-- A call of `take` accepts at least one byte.
 some : (g : Over) (c : goal.After-rest-1 g) → 1 ≤ c.in-Ok.taken.bytes
 some g c =
     let goes = c.requires.stands in

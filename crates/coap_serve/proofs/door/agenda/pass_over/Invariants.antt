@@ -3,7 +3,7 @@ use Rattle.coap_serve.specs.Prelude.{end_of}
 use Rattle.coap_serve.proofs.streams.AgendaLemmas.{ArePassed}
 use Rattle.coap_serve.proofs.door.agenda.pass_over.Given as goal
 
--- those that were passed over are at rest
+-- The connections skipped so far are idle.
 abbrev pub invariant-loop-at : goal.invariant-loop-at
 invariant-loop-at g l = (l.seen.at ≤ l.at) × (l.at ≤ length l.peers.entries) × ArePassed (end_of g.W.Ready.readable g.W.Ready.writable) l.peers.entries l.seen.at l.at l.stamp l.seen.agenda.due l.due
 

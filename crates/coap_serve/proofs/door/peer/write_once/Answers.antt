@@ -19,7 +19,7 @@ returns-in-Ok-clause-wrote g c = λ _.
 pub returns-in-Ok-clause-shows : goal.returns-in-Ok-clause-shows
 returns-in-Ok-clause-shows g c = written_served c.args.server.now _ c.written.new.self c.args.id c.in-Bytes.count (search rules) c.in-Ok.ensures.shows
 
--- it was written once, and what that was answered is what it comes to
+-- The wire was written once, and the result of that write is the result of the function.
 pub returns-in-Ok-clause-answered : goal.returns-in-Ok-clause-answered
 returns-in-Ok-clause-answered g c = λ _. Answered (Bytes c.in-Bytes.count) c.in-Bytes.ensures.answered refl
 

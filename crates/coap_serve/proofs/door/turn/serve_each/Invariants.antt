@@ -3,7 +3,8 @@ use Rattle.coap_serve.specs.Prelude.{stamp_of, AreSettled, AreNoted, end_of, IsI
 use Rattle.coap_serve.proofs.streams.AgendaLemmas.{IsRoundTo}
 use Rattle.coap_serve.proofs.door.turn.serve_each.Given as goal
 
--- those before it were served, with what they leave to be done; what was noted of all is true; and it is in turn
+-- The connections before the next one were served, and the agenda has the work that remains on them. All recorded
+-- interests are correct. The next connection is not idle.
 abbrev pub invariant-loop-seen : goal.invariant-loop-seen
 invariant-loop-seen g l =
     (l.seen.at ≤ length l.peers.entries)
