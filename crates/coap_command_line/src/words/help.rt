@@ -7,33 +7,33 @@ pub(super) const VERSION: &str = "0.1.0";
 
 pub(super) const SERVER: &str = "A CoAP server over TCP (RFC 8323)";
 
-pub(super) const ADDRESS: &str = "Numeric IP address to listen at [default: 0.0.0.0]";
+pub(super) const ADDRESS: &str = "Numeric IP address to listen on [default: 0.0.0.0]";
 
-pub(super) const PORT: &str = "Port to listen at, 1 to 65535 [default: 5683]";
+pub(super) const PORT: &str = "Port to listen on, 1 to 65535 [default: 5683]";
 
 pub(super) const DYNAMIC_MAX: &str = "Resources that clients may create, 0 to 1000 [default: 0]";
 
 pub(super) const STDIO: &str = "Serve one connection over standard input and output";
 
-pub(super) const SCRIPT: &str = "Run the script in FILE, - is standard input; not with --stdio";
+pub(super) const SCRIPT: &str = "Run the script in FILE (- for standard input); not with --stdio";
 
 pub(super) const MAX_MESSAGE: &str =
-    "Bytes of the greatest message taken, 1152 to 1048576 [default: 65536]";
+    "Largest accepted message in bytes, 1152 to 1048576 [default: 65536]";
 
 pub(super) const MAX_SENT: &str =
-    "Bytes of the greatest message sent, 1152 to 65536 [default: 65536]";
+    "Largest sent message in bytes, 1152 to 65536 [default: 65536]";
 
 pub(super) const QUEUE: &str =
-    "Bytes that may wait on a connection, --max-sent to 4194304 [default: 131072]";
+    "Output queue of a connection in bytes, --max-sent to 4194304 [default: 131072]";
 
-pub(super) const PENDING: &str = "Late answers held on a connection, 0 to 256 [default: 16]";
+pub(super) const PENDING: &str = "Pending responses of a connection, 0 to 256 [default: 16]";
 
-pub(super) const OBSERVERS: &str = "Observers on a connection, 0 to 256 [default: 16]";
+pub(super) const OBSERVERS: &str = "Observers of a connection, 0 to 256 [default: 16]";
 
-pub(super) const CONNECTIONS: &str = "Connections at a time, 1 to 256 [default: 16]";
+pub(super) const CONNECTIONS: &str = "Connections at the same time, 1 to 256 [default: 16]";
 
 pub(super) const TURNS: &str =
-    "Turns before the server gives up, 1 to 1000000000000 [default: 1000000000000]";
+    "Iterations until the server ends, 1 to 1000000000000 [default: 1000000000000]";
 
 // ---- coap-client
 
@@ -44,24 +44,25 @@ pub(super) const METHOD: &str = "Method: get, put, post or delete [default: get]
 pub(super) const PAYLOAD: &str = "Payload, percent-decoded; not with -f";
 
 pub(super) const INPUT: &str =
-    "Payload in FILE, at most 1048576 bytes, - is standard input; not with -e";
+    "Payload in FILE (- for standard input), at most 1048576 bytes; not with -e";
 
-pub(super) const OUTPUT: &str = "Write responses to FILE, - is standard output [default: -]";
+pub(super) const OUTPUT: &str = "Write payloads to FILE (- for standard output) [default: -]";
 
 pub(super) const CONTENT_FORMAT: &str =
-    "Content-Format of the payload: a number up to 65535 or a full name, as text/plain";
+    "Content-Format of the payload: 0 to 65535, or a name such as text/plain";
 
 pub(super) const ACCEPT: &str =
-    "Content-Format asked for: a number up to 65535 or a full name, as text/plain";
+    "Accept option: 0 to 65535, or a name such as text/plain";
 
-pub(super) const OBSERVE: &str = "Observe for so many seconds, 0 to 4294967295; only with get";
+pub(super) const OBSERVE: &str =
+    "Observe for this number of seconds, 0 to 4294967295; only with get";
 
-pub(super) const WAIT: &str = "Seconds to wait for an answer, 1 to 4294967295 [default: 90]";
+pub(super) const WAIT: &str = "Seconds to wait for a response, 1 to 4294967295 [default: 90]";
 
 pub(super) const OPTION: &str =
-    "One more option, NUM up to 65535; TEXT of at most 1034 bytes, from 0x on hexadecimal";
+    "Another option: NUM is 0 to 65535; TEXT has at most 1034 bytes, hexadecimal after 0x";
 
-pub(super) const PLAIN: &str = "Never send Uri-Host or Uri-Port";
+pub(super) const PLAIN: &str = "Send no Uri-Host and no Uri-Port";
 
 pub(super) const NEWLINE: &str = "Write a newline after each payload";
 
