@@ -1,4 +1,4 @@
--- A body that is read is spelled so, and what is spelled so is read.
+-- Decoding a body returns options and payload if and only if the bytes encode them.
 use Rattle.std.proofs.Common.{◌≡◌, ◌≢◌, ℕ, zero, suc, ◌+◌, ◌*◌, ◌/◌, ◌%◌, ◌<◌, ◌≤◌, Bool, true, false, cond, ltb, List, [], ◌∷◌, ◌++◌, length, take, drop, Result, Ok, Err, ◌⊎◌, inl, inr, refl, sym, ap, subst, ◌∙◌, arith}
 use Rattle.std.proofs.lemmas.Bool.{eq-eqb, ne_eqb, ltb-false, lt-ltb, le-ltb, cases_eq}
 use Rattle.std.proofs.lemmas.List.{append-nil, length-take, length-append, take-append-drop, take_at, drop_at}
@@ -11,27 +11,27 @@ use Rattle.coap_wire.proofs.BodyLemmas.{with_front}
 use Rattle.coap_wire.proofs.BodySteps.{bind_ok, ok_is, or_cut_ok, option_shorter, body_end, body_marker, body_empty_payload, body_option, body_fault}
 use Rattle.coap_wire.proofs.NumberLaws.{AreBytes-rest, AreBytes-tail, option_number_again, option_form_nibble, option_number_takes}
 
--- what a step gives, or why it failed
+-- A step returns a value or an error.
 pub result_cases : {A : Type 0} (r : Result A FormatFault) → ((x : A) × (r ≡ Ok x)) ⊎ ((e : FormatFault) × (r ≡ Err e))
 result_cases (Ok x) = inl (x, refl)
 result_cases (Err e) = inr (e, refl)
 
--- a step that would give a value and fail
+-- No step returns both a value and an error.
 pub ok_or_err : {A : Type 0} (r : Result A FormatFault) (x : A) (e : FormatFault) → r ≡ Ok x → r ≡ Err e → ⊥
 ok_or_err r x e p q = cc
 
--- a test that did not fail
+-- The test did not fail.
 pub cond_ok : {A : Type 0} (t : Bool) (d : FormatFault) (r : Result A FormatFault) (y : A) → cond t (Err d) r ≡ Ok y → (t ≡ false) × (r ≡ Ok y)
 cond_ok true d r y e = absurd cc
 cond_ok false d r y e = (refl, e)
 
--- the two nibbles of a first byte
+-- The two nibbles of a first byte.
 pub nibbles : (x y : ℕ) → y < 16 → ((16 * x + y) / 16 ≡ x) × ((16 * x + y) % 16 ≡ y)
 nibbles x y h = (omega arith, omega arith)
 
--- ---- an option's head
+-- ---- the head of an option
 
--- both extensions of an option's first byte, in front of after
+-- Both extensions of an option's first byte, followed by after.
 pub record TakesBoth (x y : ℕ) (s : List ℕ) (delta len : ℕ) (after : List ℕ) : Type 0 where
   pub delta_extension : List ℕ
   pub length_extension : List ℕ
@@ -63,17 +63,17 @@ both_takes x y s h small small_too fits e =
 both_again : (x y : ℕ) (d l : List ℕ) (delta len : ℕ) (after : List ℕ) → IsOptionForm x d delta → IsOptionForm y l len → both_at x y (d ++ (l ++ after)) ≡ Ok (delta, len, after)
 both_again x y d l delta len after f g = rw (option_number_again x d delta (l ++ after) f, option_number_again y l len after g) refl
 
--- the head of an option whose nibbles are below 15
+-- Both nibbles are below 15.
 pub option_head_good : (b : ℕ) (s : List ℕ) → b / 16 ≢ 15 → b % 16 ≢ 15 → option_head_at b s ≡ both_at (b / 16) (b % 16) s
 unfolding option_head_at
 option_head_good b s p q = rw (ne_eqb (b / 16) 15 p, ne_eqb (b % 16) 15 q) refl
 
--- a delta nibble of 15
+-- The delta has nibble 15.
 pub option_head_delta : (b : ℕ) (s : List ℕ) → b / 16 ≡ 15 → option_head_at b s ≡ Err OptionDelta
 unfolding option_head_at
 option_head_delta b s p = rw (eq-eqb (b / 16) 15 p) refl
 
--- a length nibble of 15
+-- The length has nibble 15.
 pub option_head_length : (b : ℕ) (s : List ℕ) → b / 16 ≢ 15 → b % 16 ≡ 15 → option_head_at b s ≡ Err OptionLength
 unfolding option_head_at
 option_head_length b s p q = rw (ne_eqb (b / 16) 15 p, eq-eqb (b % 16) 15 q) refl
@@ -88,7 +88,7 @@ head_nibbles b s h e =
       ]
     ]
 
--- the head of an option that is read is spelled so
+-- The bytes of a decoded option head encode it.
 pub option_head_takes : (b : ℕ) (s : List ℕ) (h : ℕ × ℕ × List ℕ) → AreBytes (b ∷ s) → option_head_at b s ≡ Ok h → IsOptionHead (b ∷ s) h.0 h.1 h.2 × AreBytes h.2
 option_head_takes b s h fits e =
     let n = head_nibbles b s h e in
@@ -109,7 +109,7 @@ option_head_takes b s h fits e =
       t.rest_fits,
     )
 
--- the first byte of an option that is no marker, and what is read behind it
+-- The first byte, which is no marker, and the result of decoding the bytes after it.
 pub record ReadsHead (s : List ℕ) (delta len : ℕ) (after : List ℕ) : Type 0 where
   pub first : ℕ
   pub behind : List ℕ
@@ -117,7 +117,7 @@ pub record ReadsHead (s : List ℕ) (delta len : ℕ) (after : List ℕ) : Type 
   pub no_marker : first ≢ 255
   pub is : option_head_at first behind ≡ Ok (delta, len, after)
 
--- the head of an option that is spelled is read
+-- The encoding of an option head is decoded to it.
 pub option_head_again : (s : List ℕ) (delta len : ℕ) (after : List ℕ) → IsOptionHead s delta len after → ReadsHead s delta len after
 option_head_again s delta len after h =
     let x = h.delta_nibble in
@@ -138,26 +138,26 @@ option_head_again s delta len after h =
 
 -- ---- a value
 
--- an option that is read in its number's range
+-- The number is in range and the value is complete.
 pub value_good : (number n : ℕ) (s : List ℕ) → number ≤ 65535 → n ≤ length s → value_at number n s ≡ Ok (record { number = number; value = take n s }, drop n s)
 value_good number n s p q = rw (le-ltb 65535 number p, le-ltb (length s) n q) refl
 
--- a value that is not all there
+-- The value is incomplete.
 pub value_cut : (number n : ℕ) (s : List ℕ) → number ≤ 65535 → length s < n → value_at number n s ≡ Err OptionCut
 value_cut number n s p q = rw (le-ltb 65535 number p, lt-ltb (length s) n q) refl
 
--- a number above 65,535
+-- The number is above 65,535.
 pub value_too_great : (number n : ℕ) (s : List ℕ) → 65535 < number → value_at number n s ≡ Err OptionNumber
 value_too_great number n s p = rw (lt-ltb 65535 number p) refl
 
--- the number, and the value in front of the rest
+-- The number of the option, and its value followed by the rest.
 pub record TakesValue (number n : ℕ) (s : List ℕ) (o : CoapOption) (rest : List ℕ) : Type 0 where
   pub number_is : o.number ≡ number
   pub number_fits : number ≤ 65535
   pub len : length o.value ≡ n
   pub parts : s ≡ o.value ++ rest
 
--- an option's value that is read stands in front of the rest
+-- The decoded value is followed by the rest.
 pub value_takes : (number n : ℕ) (s : List ℕ) (x : CoapOption × List ℕ) → value_at number n s ≡ Ok x → TakesValue number n s x.0 x.1
 value_takes number n s x e =
     let a = cond_ok (ltb 65535 number) OptionNumber (cond (ltb (length s) n) (Err OptionCut) (Ok (record { number = number; value = take n s }, drop n s))) x e in
@@ -179,7 +179,7 @@ value_again number value tail h =
 
 -- ---- an option
 
--- an option that is read is spelled so
+-- The bytes of a decoded option encode it.
 pub option_takes : (base b : ℕ) (s : List ℕ) (x : CoapOption × List ℕ) → AreBytes (b ∷ s) → option_at base b s ≡ Ok x → IsOneOption base x.0 (b ∷ s) x.1 × AreBytes x.1
 unfolding option_at
 option_takes base b s x fits e =
@@ -193,7 +193,7 @@ option_takes base b s x fits e =
       AreBytes-tail x.0.value x.1 (subst (λ (t : List ℕ). AreBytes t) v.parts h.1),
     )
 
--- the first byte of an option that is no marker, and what is read behind it
+-- The first byte, which is no marker, and the result of decoding the bytes after it.
 pub record ReadsOption (base : ℕ) (o : CoapOption) (s tail : List ℕ) : Type 0 where
   pub first : ℕ
   pub behind : List ℕ
@@ -201,7 +201,7 @@ pub record ReadsOption (base : ℕ) (o : CoapOption) (s tail : List ℕ) : Type 
   pub no_marker : first ≢ 255
   pub is : option_at base first behind ≡ Ok (o, tail)
 
--- an option that is spelled is read
+-- The encoding of an option is decoded to it.
 pub option_again : (base : ℕ) (o : CoapOption) (s tail : List ℕ) → IsOneOption base o s tail → ReadsOption base o s tail
 unfolding option_at
 option_again base o s tail one =
@@ -218,7 +218,7 @@ option_again base o s tail one =
 abbrev Body : Type 0
 Body = Result (List CoapOption × List ℕ) FormatFault
 
--- the cases in which a body is read
+-- The cases of decoding a body.
 pub record BodyCases (P : ℕ → List ℕ → Body → Type 0) : Type 0 where
   pub at_end : (base : ℕ) → P base [] (Ok ([], []))
   pub nothing : (base : ℕ) → P base (255 ∷ []) (Err EmptyPayload)
@@ -246,11 +246,11 @@ body_by P c (suc n) base (b ∷ s) h =
       ]
     ]
 
--- what holds in each case holds of each body
+-- A property that holds in each case holds for each body.
 pub body_induction : (P : ℕ → List ℕ → Body → Type 0) → BodyCases P → (base : ℕ) (s : List ℕ) → P base s (body_at base s)
 body_induction P c base s = body_by P c (length s) base s (omega arith)
 
--- ---- what a body gives
+-- ---- the result of decoding a body
 
 BytesTaken : ℕ → List ℕ → Body → Type 0
 BytesTaken base s r = AreBytes s → (x : List CoapOption × List ℕ) → r ≡ Ok x → IsOptionBytes base x.0 s (payload_bytes x.1)
@@ -270,7 +270,7 @@ bytes_cases = record {
       subst (λ (y : List CoapOption × List ℕ). IsOptionBytes base y.0 (b ∷ s) (payload_bytes y.1)) (ok_is made x a.2) (rest, t.0, bytes);
 }
 
--- a body that is read is spelled so
+-- The bytes of a decoded body encode it.
 pub body_takes : (base : ℕ) (s : List ℕ) (x : List CoapOption × List ℕ) → AreBytes s → body_at base s ≡ Ok x → IsOptionBytes base x.0 s (payload_bytes x.1)
 unfolding BytesTaken
 body_takes base s x fits e = body_induction BytesTaken bytes_cases base s fits x e
@@ -278,7 +278,7 @@ body_takes base s x fits e = body_induction BytesTaken bytes_cases base s fits x
 Ordered : ℕ → List ℕ → Body → Type 0
 Ordered base s r = (x : List CoapOption × List ℕ) → r ≡ Ok x → AreOrdered base x.0
 
--- an option's number is not below the one that it counts from
+-- The number of an option is not below base.
 pub option_number_from : (base b : ℕ) (s : List ℕ) (x : CoapOption × List ℕ) → option_at base b s ≡ Ok x → base ≤ x.0.number
 unfolding option_at
 option_number_from base b s x e =
@@ -299,7 +299,7 @@ ordered_cases = record {
       subst (λ (y : List CoapOption × List ℕ). AreOrdered base y.0) (ok_is made x a.2) (option_number_from base b s (o, rest) is, before a.0 a.1);
 }
 
--- the options of a body that is read stand in order
+-- The options of a decoded body are in order.
 pub options_ordered : (base : ℕ) (s : List ℕ) (x : List CoapOption × List ℕ) → body_at base s ≡ Ok x → AreOrdered base x.0
 unfolding Ordered
 options_ordered base s x e = body_induction Ordered ordered_cases base s x e
@@ -308,23 +308,23 @@ ordered_if_read : (base : ℕ) (s : List ℕ) (r : Body) → body_at base s ≡ 
 ordered_if_read base s (Ok x) is ok = options_ordered base s x is
 ordered_if_read base s (Err e) is ok = absurd cc
 
--- so do those of a body of which each can be read
+-- The options of a well-formed body are in order.
 pub options_in_order : (s : List ℕ) → IsOk (body_at 0 s) → AreOrdered 0 (options_in 0 s)
 options_in_order s ok = ordered_if_read 0 s (body_at 0 s) refl ok
 
--- ---- a body that is spelled
+-- ---- the encoding of a body
 
--- no option in front changes nothing
+-- Adding no option before changes nothing.
 pub with_front_nil : (r : Result (List CoapOption × List ℕ) FormatFault) → with_front [] r ≡ r
 with_front_nil (Ok x) = refl
 with_front_nil (Err e) = refl
 
--- one option in front, and then others
+-- Adding one option before others is adding all of them.
 pub with_front_cons : (o : CoapOption) (os : List CoapOption) (r : Result (List CoapOption × List ℕ) FormatFault) → (with_front os r >>= λ others. Ok (o ∷ others.0, others.1)) ≡ with_front (o ∷ os) r
 with_front_cons o os (Ok x) = refl
 with_front_cons o os (Err e) = refl
 
--- behind options that are spelled, reading goes on
+-- After encoded options, decoding continues with the rest.
 pub body_after : (base : ℕ) (os : List CoapOption) (s rest : List ℕ) → IsOptionBytes base os s rest → body_at base s ≡ with_front os (body_at (last_number base os) rest)
 body_after base [] s rest bytes = ap (body_at base) bytes ∙ sym (with_front_nil (body_at base rest))
 body_after base (o ∷ os) s rest bytes =
@@ -338,7 +338,7 @@ payload_again : (base : ℕ) (payload : List ℕ) → body_at base (payload_byte
 payload_again base [] = body_end base
 payload_again base (b ∷ bs) = body_marker base (b ∷ bs) (omega arith)
 
--- a body that is spelled is read
+-- The encoding of a body is decoded to it.
 pub body_again : (base : ℕ) (os : List CoapOption) (s payload : List ℕ) → IsOptionBytes base os s (payload_bytes payload) → body_at base s ≡ Ok (os, payload)
 body_again base os s payload bytes =
     body_after base os s (payload_bytes payload) bytes

@@ -1,10 +1,10 @@
--- Reading the options of a body one after the other, as a loop does.
+-- Decoding the options of a body one after the other, as a loop does.
 use Rattle.coap_wire.specs.Prelude.{IsOk, is_ok, CoapOption, FormatFault, EmptyPayload, ◌>>=◌, option_at, body_at}
 use Rattle.coap_wire.specs.Prelude.{options_read, options_in}
 use Rattle.std.proofs.Common.{true, false, ◌≡◌, ℕ, ◌<◌, List, [], ◌∷◌, ◌++◌, length, Result, Ok, Err, refl, sym, ap, ◌∙◌, append_assoc, arith}
 use Rattle.coap_wire.proofs.BodySteps.{body_end, body_marker, body_empty_payload, body_option, body_fault, option_shorter}
 
--- what was read before, and what is still read
+-- The options read before, followed by the result for the bytes that are left.
 abbrev pub with_front : List CoapOption → Result (List CoapOption × List ℕ) FormatFault → Result (List CoapOption × List ℕ) FormatFault
 with_front front read = read >>= λ x. Ok (front ++ x.0, x.1)
 
@@ -13,7 +13,7 @@ regroup : (front : List CoapOption) (o : CoapOption) (read : Result (List CoapOp
 regroup front o (Ok x) = ap (λ (os : List CoapOption). Ok (os, x.1)) (simp append_assoc)
 regroup front o (Err e) = refl
 
--- the payload ends what is read
+-- The payload ends the body.
 read_payload : (front os : List CoapOption) (payload : List ℕ) (read total : Result (List CoapOption × List ℕ) FormatFault) → read ≡ Ok (os, payload) → with_front front read ≡ total
     → total ≡ Ok (options_read total, payload)
 read_payload front os payload read total read_is so_far =
@@ -66,7 +66,7 @@ no_fault base b rest after e rest_is option_starts fault ok =
     let bad : false ≡ true = ap is_ok (sym failed) ∙ ok in
     absurd cc
 
--- an option, and what is read behind it
+-- One option, followed by the result for the bytes after it.
 abbrev behind_option : CoapOption → Result (List CoapOption × List ℕ) FormatFault → Result (List CoapOption × List ℕ) FormatFault
 behind_option o read = read >>= λ others. Ok (o ∷ others.0, others.1)
 

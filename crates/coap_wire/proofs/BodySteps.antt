@@ -1,4 +1,4 @@
--- Reading a body step by step: the end, the marker, an option, a fault.
+-- Decoding a body step by step: the end, the marker, an option, an error.
 use Rattle.std.proofs.Common.{◌≡◌, ℕ, zero, suc, ◌+◌, ◌/◌, ◌%◌, ◌≤◌, Bool, true, false, cond, eqb, ltb, List, [], ◌∷◌, length, take, drop, Option, Some, None, Result, Ok, Err, refl, ap, subst, ◌∙◌, arith}
 use Rattle.coap_wire.specs.Prelude.{w16, from_be_bytes, CoapOption, FormatFault, OptionDelta, OptionLength}
 use Rattle.coap_wire.specs.Prelude.{OptionCut, OptionNumber, EmptyPayload, ◌>>=◌, one_byte_at, two_bytes_at, plus}
@@ -7,30 +7,30 @@ use Rattle.coap_wire.specs.Prelude.{body_within, body_at}
 use Rattle.std.proofs.lemmas.Bool.{eq-eqb, ne_eqb}
 use Rattle.std.proofs.lemmas.List.{length-drop}
 
--- the value of a step that did not fail
+-- If both steps together succeed, the first one returned a value.
 pub bind_ok : {A B : Type 0} (r : Result A FormatFault) (f : A → Result B FormatFault) (y : B) → (r >>= f) ≡ Ok y → (x : A) × (r ≡ Ok x) × (f x ≡ Ok y)
 bind_ok (Ok x) f y e = (x, refl, e)
 bind_ok (Err d) f y e = absurd cc
 
--- two continuations that agree where the first step does not fail
+-- Two continuations give the same result if they agree on the value of the first step.
 pub bind_same : {A B : Type 0} (r : Result A FormatFault) (f g : A → Result B FormatFault) → ((x : A) → r ≡ Ok x → f x ≡ g x) → (r >>= f) ≡ (r >>= g)
 bind_same (Ok x) f g h = h x refl
 bind_same (Err d) f g h = refl
 
--- an extension that is all there
+-- The extension is complete.
 pub or_cut_ok : (o : Option (ℕ × List ℕ)) (y : ℕ × List ℕ) → or_cut o ≡ Ok y → o ≡ Some y
 or_cut_ok None y e = absurd cc
 or_cut_ok (Some x) y e = cc
 
--- two values of one `Some`
+-- The values of two equal `Some` are equal.
 pub some_is : {A : Type 0} (x y : A) → Some x ≡ Some y → x ≡ y
 some_is x y e = cc
 
--- two values that one step gives
+-- The values of two equal `Ok` are equal.
 pub ok_is : {A : Type 0} (x y : A) → ◌≡◌ {A = Result A FormatFault} (Ok x) (Ok y) → x ≡ y
 ok_is x y e = cc
 
--- ---- what is left is no longer
+-- ---- the rest is not longer
 
 one_shorter : (k : ℕ) (s : List ℕ) (y : ℕ × List ℕ) → plus k (one_byte_at s) ≡ Some y → length y.1 ≤ length s
 unfolding one_byte_at
@@ -54,7 +54,7 @@ number_shorter_at true one x s y e = subst (λ (r : ℕ × List ℕ). length r.1
 number_shorter_at false true x s y e = one_shorter 13 s y e
 number_shorter_at false false x s y e = two_shorter 269 s y e
 
--- behind an extension no more is left
+-- The bytes after an extension are at most as many as before.
 pub number_shorter : (x : ℕ) (s : List ℕ) (y : ℕ × List ℕ) → option_number_at x s ≡ Some y → length y.1 ≤ length s
 unfolding option_number_at
 number_shorter x s y e = number_shorter_at (ltb x 13) (eqb x 13) x s y e
@@ -84,7 +84,7 @@ value_shorter_at false false number n s x e =
     let made : CoapOption × List ℕ = (record { number = number; value = take n s }, drop n s) in
     subst (λ (y : CoapOption × List ℕ). length y.1 ≤ length s) (ok_is made x e) (omega (arith, length-drop n s))
 
--- an option takes bytes from the front
+-- The bytes after an option are at most as many as before.
 pub option_shorter : (base b : ℕ) (s : List ℕ) (x : CoapOption × List ℕ) → option_at base b s ≡ Ok x → length x.1 ≤ length s
 unfolding option_at
 option_shorter base b s x e =
@@ -93,7 +93,7 @@ option_shorter base b s x e =
     let second : length x.1 ≤ length a.0.2 = value_shorter_at (ltb 65535 (base + a.0.0)) (ltb (length a.0.2) a.0.1) (base + a.0.0) a.0.1 a.0.2 x a.2 in
     omega arith
 
--- ---- the turns do not matter
+-- ---- the limit of the recursion
 
 body_within_same : (m n base : ℕ) (s : List ℕ) → length s ≤ m → length s ≤ n
     → body_within m base s ≡ body_within n base s
@@ -113,24 +113,24 @@ body_within_same (suc m) (suc n) base (b ∷ s) p q =
     ap (λ (r : Result (List CoapOption × List ℕ) FormatFault). cond (eqb b 255) (cond (eqb (length s) 0) (Err EmptyPayload) (Ok ([], s))) r)
     (bind_same (option_at base b s) (λ first. body_within m first.0.number first.1 >>= λ others. Ok (first.0 ∷ others.0, others.1)) (λ first. body_within n first.0.number first.1 >>= λ others. Ok (first.0 ∷ others.0, others.1)) go)
 
--- no more turns are needed than there are bytes
+-- The number of bytes is a sufficient limit of the recursion.
 pub body_enough : (turns base : ℕ) (s : List ℕ) → length s ≤ turns → body_within turns base s ≡ body_at base s
 unfolding body_at
 body_enough turns base s h = body_within_same turns (length s) base s h (omega arith)
 
 -- ---- the steps
 
--- at the end there is neither an option nor a payload
+-- An empty body has no option and no payload.
 pub body_end : (base : ℕ) → body_at base [] ≡ Ok ([], [])
 unfolding body_at body_within
 body_end base = refl
 
--- the payload behind the marker
+-- The payload follows the marker.
 pub body_marker : (base : ℕ) (s : List ℕ) → (length s ≡ 0 → ⊥) → body_at base (255 ∷ s) ≡ Ok ([], s)
 unfolding body_at body_within
 body_marker base s h = rw (ne_eqb (length s) 0 h) refl
 
--- a marker with nothing behind it
+-- No byte follows the marker.
 pub body_empty_payload : (base : ℕ) (s : List ℕ) → length s ≡ 0 → body_at base (255 ∷ s) ≡ Err EmptyPayload
 unfolding body_at body_within
 body_empty_payload base s h = rw (eq-eqb (length s) 0 h) refl
@@ -139,12 +139,12 @@ body_step : (base b : ℕ) (s : List ℕ) → (b ≡ 255 → ⊥) → body_at ba
 unfolding body_at body_within
 body_step base b s h = rw (ne_eqb b 255 h) refl
 
--- an option, and then the others
+-- One option, followed by the others.
 pub body_option : (base b : ℕ) (s : List ℕ) (o : CoapOption) (rest : List ℕ) → (b ≡ 255 → ⊥) → option_at base b s ≡ Ok (o, rest) → body_at base (b ∷ s) ≡ (body_at o.number rest >>= λ others. Ok (o ∷ others.0, others.1))
 body_option base b s o rest h e =
     let shorter : length rest ≤ length s = option_shorter base b s (o, rest) e in
     body_step base b s h ∙ rw (e, body_enough (length s) o.number rest shorter) refl
 
--- an option that is wrong
+-- A malformed option.
 pub body_fault : (base b : ℕ) (s : List ℕ) (e : FormatFault) → (b ≡ 255 → ⊥) → option_at base b s ≡ Err e → body_at base (b ∷ s) ≡ Err e
 body_fault base b s e h is = body_step base b s h ∙ rw is refl

@@ -1,4 +1,4 @@
--- What a builder holds, and the parts that it writes.
+-- The message in a `MessageBuilder`, and the parts of its encoding.
 use Rattle.std.proofs.Common.{◌≡◌, ℕ, ◌+◌, ◌≤◌, ◌<◌, List, [], ◌∷◌, ◌++◌, length, refl, sym, ap, subst, ◌∙◌, append_assoc, arith}
 use Rattle.coap_wire.specs.Prelude.{AllByRecursion, OptionRef, Message, AreOrdered, last_number}
 use Rattle.coap_wire.specs.Prelude.{HasOptionForm, options_spelling, payload_bytes, body_spelling}
@@ -7,7 +7,7 @@ use Rattle.std.proofs.lemmas.List.{map_push, length-append, length-map}
 use Rattle.coap_wire.proofs.OptionLists.{ordered-push, forms-push}
 use Rattle.coap_wire.specs.Prelude.{MAX_EXTENDED_LENGTH}
 
--- with one option more, a builder still holds what it can hold
+-- With one more option, the message can still be built.
 pub option_added : (m : Message) (xs ys : List OptionRef) (o : OptionRef) → m.options ≡ coap_options xs → CanBeBuilt m → ys ≡ xs ++ o ∷ [] → last_number 0 (coap_options xs) ≤ o.number → o.number ≤ 65535
     → length o.value.now ≤ MAX_EXTENDED_LENGTH → length xs < 40 → CanBeBuilt (record m { options = coap_options ys })
 option_added m xs ys o options_are built more order number value room =
@@ -24,12 +24,12 @@ option_added m xs ys o options_are built more order number value room =
 
 -- ---- the parts of an encoding
 
--- the marker, and then the payload
+-- The marker, followed by the payload.
 pub marker_then_payload : (payload : List ℕ) → payload_bytes payload ≡ payload_marker payload ++ payload
 marker_then_payload [] = refl
 marker_then_payload (b ∷ bs) = refl
 
--- all but the payload, and then the payload
+-- The encoding without the payload, followed by the payload.
 pub front_then_payload : (m : Message) → spelling m ≡ front_spelling m ++ m.payload
 unfolding spelling front_spelling
 front_then_payload m =
@@ -54,7 +54,7 @@ length-whole m = omega (arith, ap length (front_then_payload m), length-append (
 joined : (a b c d first second third : List ℕ) → first ≡ a ++ b → second ≡ first ++ c → third ≡ second ++ d → third ≡ a ++ (b ++ (c ++ d))
 joined a b c d first second third first_is second_is third_is = rw (third_is, second_is, first_is) (simp append_assoc)
 
--- what is known of the head: the message m is what the builder holds, n the length of its body, and token its token
+-- The builder has the message m, whose token is `token` and whose body has n bytes.
 module _ (m now : Message) (n : ℕ) (token : List ℕ) (same : m ≡ now) (n_is : n ≡ length (body_spelling now)) (token_is : token ≡ m.token) where
   body_is : n ≡ length (body_spelling m)
   body_is = subst (λ (v : Message). n ≡ length (body_spelling v)) (sym same) n_is
@@ -87,7 +87,7 @@ module _ (m now : Message) (n : ℕ) (token : List ℕ) (same : m ≡ now) (n_is
       subst (λ (v : Message). third ≡ start ++ front_spelling v) same
       (joined start (head_spelling m.code m.token (length (body_spelling m))) (options_spelling 0 m.options) (payload_marker m.payload) first second third (first_is ∙ ap (λ (h : List ℕ). start ++ h) head_is) second_is third_is)
 
-  -- the size that is computed without writing
+  -- The size is computed without writing.
   pub front_size_is : (head options marker : ℕ) → head ≡ length (head_spelling m.code token n) → options ≡ length (options_spelling 0 m.options) → marker ≡ length (payload_marker m.payload)
       → head + options + marker ≡ length (front_spelling now)
   front_size_is head options marker head_has options_has marker_has =

@@ -1,4 +1,4 @@
--- The encoded options that a compact builder keeps.
+-- The encoded options of a `CompactBuilder`.
 use Rattle.std.proofs.Common.{◌≡◌, ℕ, ◌+◌, ◌-◌, ◌≤◌, List, [], ◌∷◌, ◌++◌, length, sym, ap, subst, ◌∙◌, arith}
 use Rattle.std.proofs.lemmas.List.{append-nil, length-append}
 use Rattle.std.proofs.lemmas.Grind.{common_steps}
@@ -10,17 +10,17 @@ use Rattle.coap_wire.proofs.SpellingLaws.{options_are_spelled}
 use Rattle.coap_wire.proofs.BodySteps.{body_end}
 use Rattle.coap_wire.proofs.BodyLaws.{body_again}
 
--- a nibble is extended by at most 2 bytes
+-- A nibble has at most 2 extension bytes.
 extension_bound : (n : ℕ) → length (option_form n).1 ≤ 2
 extension_bound n = grind (arith, nat_tests, common_steps)
 
--- encoded options are read as they are
+-- Decoding the encoding of options returns the options.
 pub read_again : (os : List CoapOption) → AreOrdered 0 os → AllByRecursion HasOptionForm os → options_in 0 (options_spelling 0 os) ≡ os
 read_again os ordered each =
     let bytes : IsOptionBytes 0 os (options_spelling 0 os) [] = subst (λ (s : List ℕ). IsOptionBytes 0 os s []) (append-nil (options_spelling 0 os)) (options_are_spelled 0 os [] ordered each) in
     ap options_read (body_again 0 os (options_spelling 0 os) [] bytes)
 
--- no byte is the encoding of no option
+-- The empty list is the encoding of no option.
 pub nothing_encoded : IsEncoding [] 0
 nothing_encoded =
     let none : options_in 0 [] ≡ [] = ap options_read (body_end 0) in
@@ -34,7 +34,7 @@ nothing_encoded =
 pub nothing_read : options_in 0 [] ≡ []
 nothing_read = ap options_read (body_end 0)
 
--- an option is encoded after others
+-- The encoding of an option is appended to that of others.
 module _ (bytes new : List ℕ) (last : ℕ) (o : CoapOption) (is : IsEncoding bytes last) (order : last ≤ o.number) (form : HasOptionForm o) (new_is : new ≡ bytes ++ option_spelling last o) where
   os : List CoapOption
   os = options_in 0 bytes
@@ -60,7 +60,7 @@ module _ (bytes new : List ℕ) (last : ℕ) (o : CoapOption) (is : IsEncoding b
   is_more : options_in 0 new ≡ more
   is_more = ap (options_in 0) new_spelled ∙ read_again more in_order have_forms
 
-  -- reading gives one option more
+  -- Decoding returns one more option.
   pub added : options_in 0 new ≡ options_in 0 bytes ++ o ∷ []
   unfolding more os
   added = is_more
@@ -74,11 +74,11 @@ module _ (bytes new : List ℕ) (last : ℕ) (o : CoapOption) (is : IsEncoding b
     last_is = sym (ap (last_number 0) is_more ∙ last_number-push 0 os o);
   }
 
-  -- the encoding is longer by that of the option
+  -- The length grows by that of the new encoding.
   pub longer : length (options_spelling 0 (options_in 0 new)) ≡ length (options_spelling 0 (options_in 0 bytes)) + length (option_spelling last o)
   longer = omega (arith, ap length encoded_more.encoded, ap length is.encoded, ap length new_is, length-append bytes (option_spelling last o))
 
--- an option takes at most 5 bytes beside its value
+-- An encoded option has at most 5 bytes besides its value.
 pub option_size_bound : (base : ℕ) (o : CoapOption) → length (option_spelling base o) ≤ 5 + length o.value
 option_size_bound base o =
     omega (arith, extension_bound (o.number - base), extension_bound (length o.value), length-append (option_form (o.number - base)).1 ((option_form (length o.value)).1 ++ o.value), length-append (option_form (length o.value)).1 o.value)

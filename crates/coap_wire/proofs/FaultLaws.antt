@@ -1,4 +1,4 @@
--- The fault that reading meets is the first one, and where it stands reading meets it.
+-- The error that decoding returns is the first one, and decoding returns the first error.
 use Rattle.std.proofs.Common.{◌≡◌, ◌≢◌, ℕ, ◌+◌, ◌/◌, ◌%◌, ◌<◌, List, [], ◌∷◌, length, drop, take, None, Result, Ok, Err, inl, inr, refl, sym, ap, subst, ◌∙◌, arith}
 use Rattle.std.proofs.lemmas.Bool.{cases_lt, cases_eq}
 use Rattle.coap_wire.specs.Prelude.{CoapOption, last_number, AreBytes, IsOptionHead, IsOptionBytes, option_extension}
@@ -10,13 +10,13 @@ use Rattle.coap_wire.proofs.BodySteps.{body_empty_payload, body_fault}
 use Rattle.coap_wire.proofs.NumberLaws.{option_number_short, option_number_cut, option_cases, option_number_length}
 use Rattle.coap_wire.proofs.BodyLaws.{result_cases, ok_or_err, option_head_good, option_head_delta, option_head_length, option_head_takes, option_head_again, value_good, value_cut, value_too_great, option_takes, BodyCases, body_induction, body_after}
 
--- two faults of one step
+-- Two errors of one step are equal.
 pub err_is : {A : Type 0} (d e : FormatFault) → ◌≡◌ {A = Result A FormatFault} (Err d) (Err e) → d ≡ e
 err_is d e h = cc
 
--- ---- an option's fault
+-- ---- the error of an option
 
--- both extensions are not all there
+-- The two extensions are incomplete.
 record IsBothCut (x y : ℕ) (s : List ℕ) (e : FormatFault) : Type 0 where
   fault : OptionCut ≡ e
   cut : length s < option_extension x + option_extension y
@@ -79,7 +79,7 @@ value_fault base s delta len after e head h =
       ]
     ]
 
--- an option that cannot be read is wrong in the way that is told
+-- If decoding an option fails, the option has the error returned.
 pub option_fault : (base b : ℕ) (s : List ℕ) (e : FormatFault) → AreBytes (b ∷ s) → b ≢ 255 → option_at base b s ≡ Err e → IsOptionFault base (b ∷ s) e
 unfolding option_at
 option_fault base b s e fits other h =
@@ -119,7 +119,7 @@ length_fault_again base b s small len =
     let is : option_at base b s ≡ Err OptionLength = rw (option_head_length b s (omega arith) len) refl in
     body_fault base b s OptionLength (omega arith) is
 
--- where an option is wrong, or the payload is empty, reading a body stops so
+-- If an option is malformed or the payload is empty, decoding a body returns that error.
 pub option_fault_again : (base : ℕ) (s : List ℕ) (e : FormatFault) → IsOptionFault base s e → body_at base s ≡ Err e
 option_fault_again base s EmptyPayload w = ap (body_at base) w ∙ body_empty_payload base [] refl
 option_fault_again base s OptionDelta w = ap (body_at base) w.2 ∙ delta_again base w.0 w.1 w.3 w.4
@@ -130,9 +130,9 @@ option_fault_again base s OptionNumber w = value_fault_again base s w.delta w.le
 option_fault_again base s TokenLength w = absurd w
 option_fault_again base s NotOneFrame w = absurd w
 
--- ---- a body's fault
+-- ---- the error of a body
 
--- options that can be read, and then one that is wrong
+-- Well-formed options, followed by an error.
 pub record HasBodyFault (base : ℕ) (s : List ℕ) (fault : FormatFault) : Type 0 where
   pub options : List CoapOption
   pub rest : List ℕ
@@ -142,7 +142,7 @@ pub record HasBodyFault (base : ℕ) (s : List ℕ) (fault : FormatFault) : Type
 FaultTaken : ℕ → List ℕ → Result (List CoapOption × List ℕ) FormatFault → Type 0
 FaultTaken base s r = AreBytes s → (e : FormatFault) → r ≡ Err e → HasBodyFault base s e
 
--- where no second step fails, the first one did
+-- If the second step cannot fail, the first one failed.
 pub bind_fault : {A B : Type 0} (r : Result A FormatFault) (f : A → B) (e : FormatFault) → (r >>= λ x. Ok (f x)) ≡ Err e → r ≡ Err e
 bind_fault (Ok x) f e h = absurd cc
 bind_fault (Err d) f e h = cc
@@ -160,12 +160,12 @@ fault_cases = record {
       record { options = o ∷ w.options; rest = w.rest; bytes = (rest, t.0, w.bytes); wrong = w.wrong };
 }
 
--- a body that cannot be read is wrong in the way that is told
+-- If decoding a body fails, the body has the error returned.
 pub body_fault_takes : (base : ℕ) (s : List ℕ) (e : FormatFault) → AreBytes s → body_at base s ≡ Err e → HasBodyFault base s e
 unfolding FaultTaken
 body_fault_takes base s e fits h = body_induction FaultTaken fault_cases base s fits e h
 
--- where an option of a body is wrong, reading stops so
+-- If a body has an error after well-formed options, decoding returns that error.
 pub body_fault_again : (base : ℕ) (os : List CoapOption) (s rest : List ℕ) (e : FormatFault) → IsOptionBytes base os s rest → IsOptionFault (last_number base os) rest e → body_at base s ≡ Err e
 body_fault_again base os s rest e bytes wrong =
     body_after base os s rest bytes ∙ ap (with_front os) (option_fault_again (last_number base os) rest e wrong)

@@ -1,4 +1,4 @@
--- The one form of a number is its only form.
+-- The form of a number is its only one.
 use Rattle.std.proofs.Common.{◌≡◌, ℕ, zero, suc, ◌-◌, ◌<◌, ◌≤◌, List, [], ◌∷◌, length, get_or, refl, sym, ap, subst, ◌∙◌, arith, inl, inr, le-ltb, lt-ltb}
 use Rattle.coap_wire.specs.Prelude.{w16, w32, to_be_bytes, from_be_bytes, AllByRecursion, IsByte, IsLengthForm}
 use Rattle.coap_wire.specs.Prelude.{length_form, greatest_length, IsOptionForm, option_form, MAX_EXTENDED_LENGTH}
@@ -6,9 +6,9 @@ use Rattle.coap_wire.specs.Prelude.{option_extension, greatest_token, IsTokenFor
 use Rattle.std.proofs.lemmas.Bool.{cases_lt, cases_eq, ne_eqb}
 use Rattle.std.proofs.lemmas.Nat.{be_bytes_2, be_bytes_4, from_be_bytes-to_be_bytes_2, from_be_bytes-to_be_bytes_4}
 
--- ---- what the forms share
+-- ---- facts on all forms
 
--- each of the bytes, and 0 behind them
+-- Each byte is below 256, and so is 0, the value for an index after them.
 below_256 : (bytes : List ℕ) → AllByRecursion IsByte bytes → (i : ℕ) → get_or bytes i 0 < 256
 below_256 [] fits i = omega arith
 below_256 (b ∷ bytes) fits zero = fits.0
@@ -26,7 +26,7 @@ number_2 a b fits = omega (arith, fits.0, fits.1.0)
 number_4 : (a b c d : ℕ) → AllByRecursion IsByte (a ∷ b ∷ c ∷ d ∷ []) → from_be_bytes w32 (a ∷ b ∷ c ∷ d ∷ []) < 4294967296
 number_4 a b c d fits = omega (arith, fits.0, fits.1.0, fits.1.1.0, fits.1.1.1.0)
 
--- ---- the length of a message's options and payload
+-- ---- the length of the options, the marker and the payload
 
 length_form_none : (n : ℕ) → n < 13 → length_form n ≡ (n, [])
 length_form_none n lt = rw (lt-ltb n 13 lt) refl
@@ -45,7 +45,7 @@ length_form_four n le =
     let b : 269 ≤ n = omega arith in
     rw (le-ltb n 13 a, le-ltb n 269 b, le-ltb n 65805 le) refl
 
--- The form that a length is given means that length.
+-- `length_form` is a form of the length.
 pub length_form_is : (n : ℕ) → n ≤ greatest_length → IsLengthForm (length_form n).0 (length_form n).1 n
 length_form_is n fits =
     elim (cases_lt n 13) [
@@ -82,7 +82,7 @@ length_form_only x (a ∷ b ∷ c ∷ d ∷ []) n form =
     (form.0 ∙ ap (λ (p : ℕ × List ℕ). p.0) (sym is), sym bytes ∙ ap (λ (p : ℕ × List ℕ). p.1) (sym is))
 length_form_only x (a ∷ b ∷ c ∷ d ∷ e ∷ es) n form = absurd form
 
--- The nibble of a length is a nibble, and the length has a form.
+-- The nibble of a length is below 16, and the length is in range.
 pub length_form_bound : (x : ℕ) (e : List ℕ) (n : ℕ) → IsLengthForm x e n → (x < 16) × (n ≤ greatest_length)
 length_form_bound x [] n form = (omega (arith, form.0), omega (arith, form.0, form.1))
 length_form_bound x (a ∷ []) n form = (omega (arith, form.0), omega (arith, form.1, form.2))
@@ -104,7 +104,7 @@ option_form_two n le =
     let a : 13 ≤ n = omega arith in
     rw (le-ltb n 13 a, le-ltb n 269 le) refl
 
--- The form that an option delta or length is given means that number.
+-- `option_form` is a form of the option delta or the option length.
 pub option_form_is : (n : ℕ) → n ≤ MAX_EXTENDED_LENGTH → IsOptionForm (option_form n).0 (option_form n).1 n
 option_form_is n fits =
     elim (cases_lt n 13) [
@@ -115,7 +115,7 @@ option_form_is n fits =
       ]
     ]
 
--- An option delta or length has no other form.
+-- An option delta or an option length has no other form.
 pub option_form_only : (x : ℕ) (e : List ℕ) (n : ℕ) → IsOptionForm x e n → (x ≡ (option_form n).0) × (e ≡ (option_form n).1)
 option_form_only x [] n form =
     let is = option_form_none n (omega (arith, form.0, form.1)) in
@@ -131,7 +131,7 @@ option_form_only x (a ∷ b ∷ []) n form =
     (form.0 ∙ ap (λ (p : ℕ × List ℕ). p.0) (sym is), sym bytes ∙ ap (λ (p : ℕ × List ℕ). p.1) (sym is))
 option_form_only x (a ∷ b ∷ c ∷ es) n form = absurd form
 
--- The nibble of an option delta or length is none of 15, and the number has a form.
+-- The nibble of an option delta or an option length is below 15, and the number is in range.
 pub option_form_bound : (x : ℕ) (e : List ℕ) (n : ℕ) → IsOptionForm x e n → (x < 15) × (n ≤ MAX_EXTENDED_LENGTH)
 option_form_bound x [] n form = (omega (arith, form.0), omega (arith, form.0, form.1))
 option_form_bound x (a ∷ []) n form = (omega (arith, form.0), omega (arith, form.1, form.2))
@@ -154,16 +154,16 @@ option_extension_some x h =
       | inr not ↦ omega (arith, option_extension_two x (omega (arith, h, not)))
     ]
 
--- the nibble of an option delta or length says how many bytes extend it
+-- The nibble of an option delta or an option length determines the number of extension bytes.
 pub option_form_width : (x : ℕ) (e : List ℕ) (n : ℕ) → IsOptionForm x e n → length e ≡ option_extension x
 option_form_width x [] n form = sym (option_extension_none x form.0)
 option_form_width x (a ∷ []) n form = sym (option_extension_one x form.0)
 option_form_width x (a ∷ b ∷ []) n form = sym (option_extension_two x (omega (arith, form.0)))
 option_form_width x (a ∷ b ∷ c ∷ es) n form = absurd form
 
--- ---- a token's length
+-- ---- a token length
 
--- A token's length has one form.
+-- A token length has exactly one form.
 pub token_form_has : (n : ℕ) → n ≤ greatest_token → IsTokenForm (token_form n).0 (token_form n).1 n
 token_form_has n small = (option_form_is n (omega (arith, small)), small)
 

@@ -1,4 +1,4 @@
--- The laws of a stream's frames: bytes have one list of them, wherever they are cut.
+-- The theorems on the frames of a stream: the relation determines them, and the segmentation does not change them.
 use Rattle.std.proofs.Common.{◌≡◌, ℕ, ◌+◌, ◌≤◌, List, [], ◌∷◌, ◌++◌, length, drop, Option, Some, None, refl, sym, ap, subst, ◌∙◌, arith}
 use Rattle.coap_wire.specs.Prelude.{concat, AreBytes, IsFrame, FrameFault, IsFrameFault, IsUnfinished, Beginning}
 use Rattle.coap_wire.specs.Prelude.{Unfinished, Whole, Faulty, beginning, size_bytes, fault_bytes, Frames, Sizes}
@@ -10,9 +10,9 @@ use Rattle.coap_wire.proofs.NumberLaws.{AreBytes-tail}
 use Rattle.coap_wire.proofs.StreamSteps.{whole_parts, fault_bytes_more, rest_behind, rest_is_all, sized_faulty_more, sized_whole_more, Holding, HoldsBehind, frames_from, frames_unfinished, frames_faulty, frames_whole, by_frames}
 use Rattle.coap_wire.proofs.StreamLaws.{AreBytes-front, whole_frame, fault_found, fault_bytes_again, fault_at_front, frame_at_front, size_behind_none, size_behind_one, size_for_fault, size_for_whole, unfinished_is, unfinished_again}
 
--- ---- going on
+-- ---- more bytes of a stream
 
--- the rest of frames is no longer than the bytes
+-- The rest is not longer than the stream.
 abbrev FramesAreWithin : Holding
 FramesAreWithin sizes s = length (sized_frames sizes s).rest ≤ length s
 
@@ -28,16 +28,16 @@ frames_within_step sizes s (Whole frame rest) again e =
 frames_rest_within : (sizes : Sizes) (s : List ℕ) → length (sized_frames sizes s).rest ≤ length s
 frames_rest_within sizes s = by_frames FramesAreWithin (λ at r again. frames_within_step at r (beginning (size_for at r) r) again refl) sizes s
 
--- a frame in front of frames stands in front of the frames gone on
+-- One more frame before the others stays before them when more bytes follow.
 frame_on : (frame : List ℕ) (found others : Frames) (fault : Option FrameFault) → frames_gone_on (with_frame frame found) fault others ≡ with_frame frame (frames_gone_on found fault others)
 frame_on frame found others None = refl
 frame_on frame found others (Some fault) = refl
 
--- the frames of s go on with t
+-- The frames of s, continued with t, are those of both together.
 abbrev FramesGoOn : List ℕ → Holding
 FramesGoOn t sizes s = sized_frames sizes (s ++ t) ≡ frames_on (sizes_of_rest sizes s (sized_frames sizes s).rest) (sized_frames sizes s) t
 
--- the frames first gone on with t
+-- The result first, continued with t.
 abbrev frames_on_with : Sizes → List ℕ → List ℕ → Frames → Frames
 frames_on_with sizes s t first = frames_on (sizes_of_rest sizes s first.rest) first t
 
@@ -60,11 +60,11 @@ frames_on_step t sizes s (Whole frame rest) again e =
     ∙ sym (frame_on frame first (sized_frames (sizes_of_rest sizes s first.rest) (first.rest ++ t)) first.fault)
     ∙ sym (ap (frames_on_with sizes s t) (frames_whole sizes s frame rest e))
 
--- Where bytes are cut does not matter to their frames.
+-- The segmentation of a stream does not change its frames.
 pub frames_go_on : (sizes : Sizes) (s more : List ℕ) → sized_frames sizes (s ++ more) ≡ frames_on (sizes_of_rest sizes s (sized_frames sizes s).rest) (sized_frames sizes s) more
 frames_go_on sizes s more = by_frames (FramesGoOn more) (λ at r again. frames_on_step more at r (beginning (size_for at r) r) again refl) sizes s
 
--- ---- what the function gives, the relation allows
+-- ---- the function satisfies the relation
 
 framed_unfinished : (sizes : Sizes) (s : List ℕ) → beginning (size_for sizes s) s ≡ Unfinished → FramedAs sizes s (record { frames = []; rest = s; fault = None })
 framed_unfinished sizes s u = record {
@@ -86,7 +86,7 @@ framed_faulty sizes s fault fits e = record {
   behind = tt;
 }
 
--- a frame in front of what is found
+-- One more frame comes before those that are found.
 pub framed_whole : (sizes : Sizes) (frame rest : List ℕ) (found : Frames) → IsFrame frame → length frame ≤ size_for sizes frame → FramedAs (sizes_behind (length frame) sizes) rest found → FramedAs sizes (frame ++ rest) (with_frame frame found)
 framed_whole sizes frame rest found is small others = record {
   more = others.more;
@@ -97,7 +97,7 @@ framed_whole sizes frame rest found is small others = record {
   behind = others.behind;
 }
 
--- where s has bytes only, its frames are found
+-- If s has bytes only, the result of the function is a division of s into frames.
 abbrev FramesAreFound : Holding
 FramesAreFound sizes s = AreBytes s → FramedAs sizes s (sized_frames sizes s)
 
@@ -114,11 +114,11 @@ framed_step sizes s (Whole frame rest) again e fits =
     subst (FramedAs sizes s) (sym (frames_whole sizes s frame rest e))
     (subst (λ (l : List ℕ). FramedAs sizes l (with_frame frame first)) (sym c.bytes) all)
 
--- What the function gives, the relation allows.
+-- The result of the function satisfies the relation.
 pub frames_framed : (sizes : Sizes) (s : List ℕ) → AreBytes s → FramedAs sizes s (sized_frames sizes s)
 frames_framed sizes s = by_frames FramesAreFound (λ at r again. framed_step at r (beginning (size_for at r) r) again refl) sizes s
 
--- ---- what the relation allows, the function gives
+-- ---- the relation determines the result of the function
 
 frames_ending : (sizes : Sizes) (rest more : List ℕ) (fault : Option FrameFault) → AreBytes (rest ++ more) → FramesEndWith (size_for sizes rest) rest fault → StandsBehind more fault → sized_frames sizes (rest ++ more) ≡ record { frames = []; rest = rest; fault = fault }
 frames_ending sizes rest more None fits ended behind =
@@ -140,7 +140,7 @@ frames_again sizes (f ∷ fs) rest more fault fits each small ended behind =
     ∙ frames_whole sizes (f ++ others) f others (frame_at_front sizes f others each.0 small.0)
     ∙ ap (with_frame f) (frames_again (sizes_behind (length f) sizes) fs rest more fault tail each.1 small.1 ends behind)
 
--- What the relation allows, the function gives.
+-- Whatever satisfies the relation is the result of the function.
 pub framed_frames : (sizes : Sizes) (s : List ℕ) (other : Frames) → AreBytes s → FramedAs sizes s other → other ≡ sized_frames sizes s
 framed_frames sizes s other fits framed =
     sym (ap (sized_frames sizes) framed.whole

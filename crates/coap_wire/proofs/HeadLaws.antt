@@ -1,4 +1,4 @@
--- A frame's head that is read is spelled so, and what is spelled so is read; the size that the first bytes declare.
+-- The head of a frame: decoding returns it if and only if the bytes encode it. `declared_of` agrees with `Declares`.
 use Rattle.std.proofs.Common.{◌≡◌, ◌≢◌, ℕ, ◌+◌, ◌-◌, ◌*◌, ◌/◌, ◌%◌, ◌<◌, ◌≤◌, List, [], ◌∷◌, ◌++◌, length, take, drop, Some, None, Ok, Err, ◌⊎◌, inl, inr, refl, sym, ap, subst, ◌∙◌, append_assoc, arith}
 use Rattle.std.proofs.lemmas.Bool.{eq-eqb, ne_eqb, lt-ltb, le-ltb, cases_lt, cases_eq}
 use Rattle.std.proofs.lemmas.List.{length-take, length-drop, length-append, take-append-drop, take_at, drop_at}
@@ -13,10 +13,10 @@ use Rattle.coap_wire.proofs.NumberLaws.{option_cases, AreBytes-tail, AreBytes-dr
 use Rattle.coap_wire.proofs.BodySteps.{some_is, ok_is}
 use Rattle.coap_wire.proofs.BodyLaws.{ok_or_err, nibbles}
 
--- ---- the lengths behind a first byte
+-- ---- the lengths after the first byte
 
--- Behind the first byte b the length n of a body is read, behind which stands at_code, and behind the code the length t of a token,
--- behind which stands at_token.
+-- After the first byte b, decoding returns the length n of a body, with at_code left. After the code it returns the
+-- length t of a token, with at_token left.
 pub record ReadsLengths (b : ℕ) (s : List ℕ) (t n : ℕ) : Type 0 where
   pub at_code : List ℕ
   pub at_token : List ℕ
@@ -24,12 +24,12 @@ pub record ReadsLengths (b : ℕ) (s : List ℕ) (t n : ℕ) : Type 0 where
   pub body : length_at (b / 16) s ≡ Some (n, at_code)
   pub token : option_number_at (b % 16) (drop 1 at_code) ≡ Some (t, at_token)
 
--- a byte of these lengths is missing
+-- A byte of these lengths is missing.
 pub record IsCutHead (b : ℕ) (s : List ℕ) : Type 0 where
   pub nibble : b % 16 ≢ 15
   pub cut : (length_at (b / 16) s ≡ None) ⊎ ((y : ℕ × List ℕ) × (length_at (b / 16) s ≡ Some y) × (option_number_at (b % 16) (drop 1 y.1) ≡ None))
 
--- the lengths are read, or no token has this one, or a byte is missing
+-- The lengths are decoded, or the token length has nibble 15, or a byte is missing.
 abbrev pub HeadCases : ℕ → List ℕ → Type 0
 HeadCases b s = ((t n : ℕ) × ReadsLengths b s t n) ⊎ ((b % 16 ≡ 15) ⊎ IsCutHead b s)
 
@@ -46,7 +46,7 @@ head_cases b s =
       ]
     ]
 
--- the bytes that extend the lengths
+-- The numbers of extension bytes of the two lengths.
 pub record HasWidths (b : ℕ) (s : List ℕ) (at_code at_token : List ℕ) : Type 0 where
   pub body : length s ≡ extension_of (b / 16) + length at_code
   pub token : length (drop 1 at_code) ≡ option_extension (b % 16) + length at_token
@@ -63,7 +63,7 @@ pub declared_nothing : declared_of [] ≡ Unknown
 unfolding declared_of
 declared_nothing = refl
 
--- no token has a length of nibble 15
+-- A token length of nibble 15 is invalid.
 pub declared_no_length : (b : ℕ) (s : List ℕ) → b % 16 ≡ 15 → declared_of (b ∷ s) ≡ BadToken
 unfolding declared_of
 declared_no_length b s h = rw (eq-eqb (b % 16) 15 h) refl
@@ -89,7 +89,7 @@ size_of_token first n behind y h = rw (le-ltb greatest_token y.0 h) refl
 size_of_long_token : (first n : ℕ) (behind : List ℕ) (y : ℕ × List ℕ) → greatest_token < y.0 → size_with first n behind (Some y) ≡ BadToken
 size_of_long_token first n behind y h = rw (lt-ltb greatest_token y.0 h) refl
 
--- the size of a frame with this first byte, a token of t bytes and a body of n bytes
+-- The size of a frame with this first byte, a token of t bytes and a body of n bytes.
 abbrev pub frame_size : ℕ → ℕ → ℕ → ℕ
 frame_size b t n = 1 + extension_of (b / 16) + 1 + option_extension (b % 16) + t + n
 
@@ -102,9 +102,9 @@ declared_size b s t n r short =
 pub declared_long : (b : ℕ) (s : List ℕ) (t n : ℕ) → ReadsLengths b s t n → greatest_token < t → declared_of (b ∷ s) ≡ BadToken
 declared_long b s t n r long = declared_with b s t n r ∙ size_of_long_token (1 + (length s - length r.at_code)) n (drop 1 r.at_code) (t, r.at_token) long
 
--- ---- lengths that are stated are read
+-- ---- stated lengths are decoded
 
--- the token's length behind the code and its extension
+-- The token length is decoded after the code.
 record ReadsToken (x t : ℕ) (s : List ℕ) : Type 0 where
   behind : List ℕ
   is : option_number_at x (drop 1 s) ≡ Some (t, behind)
@@ -113,14 +113,14 @@ token_again : (x t code : ℕ) (extension more : List ℕ) → IsOptionForm x ex
 token_again x t code [] more form = record { behind = drop 1 more; is = option_number_again x [] t (drop 1 more) form }
 token_again x t code (e ∷ es) more form = record { behind = more; is = option_number_again x (e ∷ es) t more form }
 
--- the first byte of stated lengths, and what stands behind it
+-- The first byte of stated lengths, and the bytes after it.
 abbrev first_of : {head : List ℕ} {t n : ℕ} → StatesLengths head t n → ℕ
 first_of h = 16 * h.length_nibble + h.token_nibble
 
 abbrev behind_stated : {head : List ℕ} {t n : ℕ} → StatesLengths head t n → List ℕ → List ℕ
 behind_stated h more = (h.extension ++ code_and_extension h.code h.token_extension) ++ more
 
--- lengths that are stated at the front are read
+-- The lengths that the first bytes state are decoded.
 pub record ReadsStated (head more : List ℕ) (t n : ℕ) (h : StatesLengths head t n) : Type 0 where
   pub first : ℕ
   pub behind : List ℕ
@@ -129,7 +129,7 @@ pub record ReadsStated (head more : List ℕ) (t n : ℕ) (h : StatesLengths hea
   pub extension : length h.extension ≡ extension_of (first / 16)
   pub token_extension : length h.token_extension ≡ option_extension (first % 16)
 
--- a nibble says how many bytes extend it
+-- The nibble determines the number of extension bytes.
 length_form_width : (x : ℕ) (e : List ℕ) (n : ℕ) → IsLengthForm x e n → length e ≡ extension_of x
 length_form_width x e n form =
     omega (arith, length_at_taken x (e ++ []) (n, []) (length_again x e n [] form), length-append e [])
@@ -159,7 +159,7 @@ stated_read head more t n h =
       token_extension = rw (k.1) (option_form_width y h.token_extension t h.token_form);
     }
 
--- a size that is spelled is declared
+-- A size that the first bytes state is declared.
 pub size_declared : (s : List ℕ) (n : ℕ) → IsDeclaredSize s n → declared_of s ≡ Size n
 size_declared s n d =
     let h = d.3 in
@@ -167,7 +167,7 @@ size_declared s n d =
     let same : frame_size r.first h.token_length h.body_length ≡ n = omega (arith, h.size, r.extension, r.token_extension) in
     ap declared_of (d.2 ∙ r.bytes) ∙ declared_size r.first r.behind h.token_length h.body_length r.read h.short ∙ ap Size same
 
--- a token length that is not taken is declared so
+-- An invalid token length that the first bytes state is declared.
 pub bad_token_declared : (s : List ℕ) → HasBadToken s → declared_of s ≡ BadToken
 bad_token_declared s bad =
     elim (bad.3) [
@@ -180,9 +180,9 @@ bad_token_declared s bad =
 declares_unknown : (s : List ℕ) → declared_of s ≡ Unknown → Declares s Unknown
 declares_unknown s e = (λ bad. cc (bad_token_declared s bad, e), λ n d. cc (size_declared s n d, e))
 
--- ---- lengths that are read are stated
+-- ---- decoded lengths are stated
 
--- the code, and what stands behind the code's place
+-- The code, and the bytes after the code and the extension.
 record HasCode (s extension : List ℕ) : Type 0 where
   code : ℕ
   more : List ℕ
@@ -193,7 +193,7 @@ code_before s [] behind h = record { code = 0; more = s; parts = refl }
 code_before [] (e ∷ es) behind h = absurd cc
 code_before (c ∷ s) (e ∷ es) behind h = record { code = c; more = behind; parts = ap (λ (l : List ℕ). c ∷ l) h }
 
--- the bytes that state the lengths, and what stands behind them
+-- The bytes that state the lengths, and the bytes after them.
 pub record IsStated (b : ℕ) (s : List ℕ) (t n : ℕ) : Type 0 where
   pub head : List ℕ
   pub more : List ℕ
@@ -245,7 +245,7 @@ read_bad_token b s t n fits r long =
 pub no_token_length : (b : ℕ) (s : List ℕ) → b % 16 ≡ 15 → HasBadToken (b ∷ s)
 no_token_length b s none = (b ∷ [], s, refl, inl (b, refl, none))
 
--- what the first bytes declare is what is read there
+-- The first bytes declare the result of `declared_of`.
 pub declares : (s : List ℕ) → AreBytes s → Declares s (declared_of s)
 declares [] fits = rw declared_nothing (declares_unknown [] declared_nothing)
 declares (b ∷ s) fits =
@@ -265,7 +265,7 @@ unknown_only s Unknown p q = refl
 unknown_only s (Size n) p q = absurd (q.1 n p)
 unknown_only s BadToken p q = absurd (q.0 p)
 
--- the first bytes declare nothing else
+-- The first bytes declare no other result.
 pub declared_only : (s : List ℕ) (d : Declared) → AreBytes s → Declares s d → d ≡ declared_of s
 declared_only s Unknown fits p = sym (unknown_only s (declared_of s) (declares s fits) p)
 declared_only s (Size n) fits p = sym (size_declared s n p)
@@ -314,7 +314,7 @@ head_whole code t n s short h = rw (le-ltb greatest_token t short, eq-eqb (lengt
 head_not_whole : (code t n : ℕ) (s : List ℕ) → t ≤ greatest_token → length s ≢ t + n → head_with code n (Some (t, s)) ≡ Err NotOneFrame
 head_not_whole code t n s short h = rw (le-ltb greatest_token t short, ne_eqb (length s) (t + n) h) refl
 
--- where no byte stands behind the length, no byte extends the token's length
+-- If no byte follows the length, the token length has no extension.
 few_token : (x t : ℕ) (behind : List ℕ) → option_number_at x [] ≡ Some (t, behind) → t ≤ greatest_token
 few_token x t behind e =
     elim (cases_lt x 13) [
@@ -322,7 +322,7 @@ few_token x t behind e =
       | inr ge ↦ absurd (omega (arith, option_extension_some x ge, option_number_length x [] (t, behind) e))
     ]
 
--- what is read of a head whose lengths are read: no code, or what stands behind it
+-- The result for a head whose lengths are decoded: no code, or the parts after the code.
 abbrev HeadParts : ℕ → List ℕ → ℕ → ℕ → List ℕ → List ℕ → Type 0
 HeadParts b s t n at_code at_token =
     ((at_code ≡ []) × (head_at (b ∷ s) ≡ Err NotOneFrame) × (t ≤ greatest_token))
@@ -337,7 +337,7 @@ parts_by b s t n (code ∷ behind) at_token nibble body token = inr (code, behin
 head_parts : (b : ℕ) (s : List ℕ) (t n : ℕ) → (r : ReadsLengths b s t n) → HeadParts b s t n r.at_code r.at_token
 head_parts b s t n r = parts_by b s t n r.at_code r.at_token r.nibble r.body r.token
 
--- a head that is read is spelled so, and its body is bytes
+-- The bytes of a decoded head encode it, and its body has bytes only.
 head_spelled : (b : ℕ) (s : List ℕ) (t n code : ℕ) (behind : List ℕ) → AreBytes (b ∷ s) → (r : ReadsLengths b s t n) → r.at_code ≡ code ∷ behind → t ≤ greatest_token → length r.at_token ≡ t + n
     → IsHeadAndBody (b ∷ s) code (take t r.at_token) (drop t r.at_token) × AreBytes (drop t r.at_token)
 head_spelled b s t n code behind fits r is short whole =
@@ -362,7 +362,7 @@ head_spelled b s t n code behind fits r is short whole =
       AreBytes-drop t r.at_token k.rest_fits,
     )
 
--- what a head says that is read
+-- The bytes encode the decoded head h.
 abbrev IsSpelledSo : List ℕ → Head → Type 0
 IsSpelledSo s h = IsHeadAndBody s h.code h.token h.body × AreBytes h.body
 
@@ -396,7 +396,7 @@ made_is : (code t : ℕ) (token body : List ℕ) → length token ≡ t → head
 unfolding head_made
 made_is code t token body h = rw (take_at token body t h, drop_at token body t h) refl
 
--- a head that is spelled is read
+-- The encoding of a head is decoded to it.
 pub head_again : (s : List ℕ) (code : ℕ) (token body : List ℕ) → IsHeadAndBody s code token body → head_at s ≡ Ok (record { code = code; token = token; body = body })
 head_again s code token body h =
     let x = h.length_nibble in
@@ -411,7 +411,7 @@ head_again s code token body h =
     ∙ head_read (16 * x + y) (h.extension ++ code ∷ behind) t (length body) behind (token ++ body) code (omega (arith, k.1, small)) (rw (k.0) is) (rw (k.1) token_is)
     ∙ head_whole code t (length body) (token ++ body) h.token_form.1 (length-append token body) ∙ ap Ok (made_is code t token body refl)
 
--- a frame's head can be read
+-- The head of a frame is decoded without an error.
 pub frame_head : (s : List ℕ) → IsFrame s → (h : Head) × (head_at s ≡ Ok h)
 frame_head s f =
     let h = f.3 in
@@ -427,7 +427,7 @@ frame_head s f =
           (head_made p.0 h.token_length r.read.at_token, ap head_at (f.2 ∙ r.bytes) ∙ p.3 ∙ head_whole p.0 h.token_length h.body_length r.read.at_token h.short len)
     ]
 
--- a head and the body that it states are a frame
+-- A head and a body of the stated length are a frame.
 pub head_frame : (s : List ℕ) (code : ℕ) (token body : List ℕ) → IsHeadAndBody s code token body → IsFrame s
 head_frame s code token body h =
     let behind = code ∷ (h.token_extension ++ (token ++ body)) in
@@ -457,9 +457,9 @@ head_frame s code token body h =
       },
     )
 
--- ---- what is wrong with a head
+-- ---- the error of a head
 
--- a token length that is not taken is a fault
+-- An invalid token length is an error.
 pub bad_token_read : (s : List ℕ) → HasBadToken s → head_at s ≡ Err TokenLength
 bad_token_read s bad =
     elim (bad.3) [
@@ -494,7 +494,7 @@ parts_fault b s e t n code fits r is h =
       ]
     ]
 
--- a head that cannot be read is wrong in the way that is told
+-- If decoding a head fails, the bytes have the error returned.
 pub head_is_wrong : (s : List ℕ) (e : FormatFault) → AreBytes s → head_at s ≡ Err e → IsFirstFault s e
 head_is_wrong [] e fits h = no_frame_is [] e head_nothing h
 head_is_wrong (b ∷ s) e fits h =

@@ -1,4 +1,4 @@
--- A number that is read behind a nibble is spelled so, and what is spelled so is read.
+-- Decoding a number with a given nibble returns the number if and only if the bytes after the nibble encode it.
 use Rattle.std.proofs.Common.{◌≡◌, ℕ, suc, ◌+◌, ◌<◌, ◌≤◌, Bool, true, false, cond, eqb, ltb, List, [], ◌∷◌, ◌++◌, length, take, drop, Option, Some, None, refl, sym, ap, subst, ◌∙◌, arith, ◌⊎◌, inl, inr}
 use Rattle.coap_wire.specs.Prelude.{w16, w32, from_be_bytes, IsLengthForm, extension_of, IsOptionForm}
 use Rattle.coap_wire.specs.Prelude.{option_extension, one_byte_at, two_bytes_at, four_bytes_at, plus, length_at}
@@ -8,20 +8,20 @@ use Rattle.std.proofs.lemmas.List.{get_or-drop, length-append, length-drop, take
 use Rattle.coap_wire.proofs.BodySteps.{some_is}
 use Rattle.coap_wire.proofs.FormLaws.{option_extension_none, option_extension_one, option_extension_two}
 
--- what stands behind n bytes are bytes
+-- The list after its first n bytes has bytes only.
 pub AreBytes-drop : (n : ℕ) (bytes : List ℕ) → AreBytes bytes → AreBytes (drop n bytes)
 AreBytes-drop n bytes h i = rw get_or-drop (h (n + i))
 
--- what stands behind a byte are bytes
+-- The list after its first byte has bytes only.
 pub AreBytes-rest : (b : ℕ) (bytes : List ℕ) → AreBytes (b ∷ bytes) → AreBytes bytes
 AreBytes-rest b bytes h i = h (suc i)
 
--- what stands behind some of the bytes are bytes
+-- The list after some of its bytes has bytes only.
 pub AreBytes-tail : (front bytes : List ℕ) → AreBytes (front ++ bytes) → AreBytes bytes
 AreBytes-tail [] bytes h = h
 AreBytes-tail (b ∷ front) bytes h = AreBytes-tail front bytes (λ i. h (suc i))
 
--- an extension, and whether it is all there
+-- There is a value or none: the extension is complete or not.
 pub option_cases : {A : Type 0} (o : Option A) → ((x : A) × (o ≡ Some x)) ⊎ (o ≡ None)
 option_cases (Some x) = inl (x, refl)
 option_cases None = inr refl
@@ -52,7 +52,7 @@ four_missing : (k : ℕ) (s : List ℕ) → length s < 4 → plus k (four_bytes_
 unfolding four_bytes_at
 four_missing k s h = rw (lt-ltb (length s) 4 h) refl
 
--- ---- which extension a nibble has
+-- ---- the extension of a nibble
 
 pub option_number_none : (x : ℕ) (s : List ℕ) → x < 13 → option_number_at x s ≡ Some (x, s)
 unfolding option_number_at
@@ -82,16 +82,16 @@ length_four : (x : ℕ) (s : List ℕ) → 14 < x → length_at x s ≡ plus 658
 unfolding length_at
 length_four x s h = rw (le-ltb x 13 (omega arith), ne_eqb x 13 (omega arith), ne_eqb x 14 (omega arith)) refl
 
--- ---- what is spelled so is read
+-- ---- an encoded number is decoded
 
--- an option delta or an option length that is spelled is read
+-- The encoding of an option delta or an option length is decoded to it.
 pub option_number_again : (x : ℕ) (e : List ℕ) (n : ℕ) (s : List ℕ) → IsOptionForm x e n → option_number_at x (e ++ s) ≡ Some (n, s)
 option_number_again x [] n s f = rw (f.1) (option_number_none x s f.0)
 option_number_again x (a ∷ []) n s f = rw (f.2) (option_number_one x (a ∷ s) f.0 ∙ one_at 13 a s)
 option_number_again x (a ∷ b ∷ []) n s f = rw (f.2) (option_number_two x (a ∷ b ∷ s) (omega arith) ∙ two_at 269 a b s)
 option_number_again x (a ∷ b ∷ c ∷ es) n s f = absurd f
 
--- a length that is spelled is read
+-- The encoding of a length is decoded to it.
 pub length_again : (x : ℕ) (e : List ℕ) (n : ℕ) (s : List ℕ) → IsLengthForm x e n → length_at x (e ++ s) ≡ Some (n, s)
 length_again x [] n s f = rw (f.1) (length_none x s f.0)
 length_again x (a ∷ []) n s f = rw (f.2) (length_one x (a ∷ s) f.0 ∙ one_at 13 a s)
@@ -100,23 +100,23 @@ length_again x (a ∷ b ∷ c ∷ []) n s f = absurd f
 length_again x (a ∷ b ∷ c ∷ d ∷ []) n s f = rw (f.2) (length_four x (a ∷ b ∷ c ∷ d ∷ s) (omega arith) ∙ four_at 65805 a b c d s)
 length_again x (a ∷ b ∷ c ∷ d ∷ g ∷ es) n s f = absurd f
 
--- a nibble of an option form is below 15
+-- The nibble of an option delta or an option length is below 15.
 pub option_form_nibble : (x : ℕ) (e : List ℕ) (n : ℕ) → IsOptionForm x e n → x < 15
 option_form_nibble x [] n f = omega arith
 option_form_nibble x (a ∷ []) n f = omega arith
 option_form_nibble x (a ∷ b ∷ []) n f = omega arith
 option_form_nibble x (a ∷ b ∷ c ∷ es) n f = absurd f
 
--- ---- what is read is spelled so
+-- ---- a decoded number is encoded so
 
--- the option number y stands in front of s, behind the nibble x
+-- With the nibble x, the first bytes of s encode the option number y.0, and y.1 follows.
 pub record TakesOptionNumber (x : ℕ) (s : List ℕ) (y : ℕ × List ℕ) : Type 0 where
   pub extension : List ℕ
   pub form : IsOptionForm x extension y.0
   pub parts : s ≡ extension ++ y.1
   pub rest_fits : AreBytes y.1
 
--- the length y stands in front of s, behind the nibble x
+-- With the nibble x, the first bytes of s encode the length y.0, and y.1 follows.
 pub record TakesLength (x : ℕ) (s : List ℕ) (y : ℕ × List ℕ) : Type 0 where
   pub extension : List ℕ
   pub form : IsLengthForm x extension y.0
@@ -136,7 +136,7 @@ option_two_takes x (a ∷ b ∷ s) y fits h e =
     subst (λ (z : ℕ × List ℕ). TakesOptionNumber x (a ∷ b ∷ s) z) (some_is (from_be_bytes w16 (a ∷ b ∷ []) + 269, s) y (sym (two_at 269 a b s) ∙ e))
     (record { extension = a ∷ b ∷ []; form = (h, (fits 0, (fits 1, tt)), refl); parts = refl; rest_fits = AreBytes-drop 2 (a ∷ b ∷ s) fits })
 
--- an option delta or an option length that is read is spelled so
+-- The bytes of a decoded option delta or option length encode it.
 pub option_number_takes : (x : ℕ) (s : List ℕ) (y : ℕ × List ℕ) → AreBytes s → x < 15 → option_number_at x s ≡ Some y → TakesOptionNumber x s y
 option_number_takes x s y fits small e =
     elim (cases_lt x 13) [
@@ -170,7 +170,7 @@ length_four_takes x (a ∷ b ∷ c ∷ d ∷ s) y fits h e =
     subst (λ (z : ℕ × List ℕ). TakesLength x (a ∷ b ∷ c ∷ d ∷ s) z) (some_is (from_be_bytes w32 (a ∷ b ∷ c ∷ d ∷ []) + 65805, s) y (sym (four_at 65805 a b c d s) ∙ e))
     (record { extension = a ∷ b ∷ c ∷ d ∷ []; form = (h, (fits 0, (fits 1, (fits 2, (fits 3, tt)))), refl); parts = refl; rest_fits = AreBytes-drop 4 (a ∷ b ∷ c ∷ d ∷ s) fits })
 
--- a length that is read is spelled so
+-- The bytes of a decoded length encode it.
 pub length_takes : (x : ℕ) (s : List ℕ) (y : ℕ × List ℕ) → AreBytes s → x < 16 → length_at x s ≡ Some y → TakesLength x s y
 length_takes x s y fits small e =
     elim (cases_lt x 13) [
@@ -185,13 +185,13 @@ length_takes x s y fits small e =
       ]
     ]
 
--- ---- an extension that is not all there
+-- ---- an incomplete extension
 
 option_one_cut : (s : List ℕ) → length s < 1 → plus 13 (one_byte_at s) ≡ None
 option_one_cut [] h = one_missing 13
 option_one_cut (a ∷ s) h = absurd (omega arith)
 
--- where too few bytes stand, no option number can be read
+-- With too few bytes, no option number is decoded.
 pub option_number_cut : (x : ℕ) (s : List ℕ) → length s < option_extension x → option_number_at x s ≡ None
 option_number_cut x s h =
     elim (cases_lt x 13) [
@@ -204,9 +204,9 @@ option_number_cut x s h =
       ]
     ]
 
--- ---- what is read stays read, whatever comes behind it
+-- ---- a decoded number stays the same when more bytes follow
 
--- at reads a number from the first n bytes, and leaves the others
+-- The function `at` decodes a number from the first n bytes and returns the other bytes.
 record ReadsFrom (n : ℕ) (at : List ℕ → Option (ℕ × List ℕ)) : Type 0 where
   more : (s t : List ℕ) (y : ℕ × List ℕ) → at s ≡ Some y → at (s ++ t) ≡ Some (y.0, y.1 ++ t)
   taken : (s : List ℕ) (y : ℕ × List ℕ) → at s ≡ Some y → length s ≡ n + length y.1
@@ -248,7 +248,7 @@ byte_missing k (b ∷ s) e = absurd (none_or_some (b + k, s) (sym e))
 reads_one : (k : ℕ) → ReadsFrom 1 (λ s. plus k (one_byte_at s))
 reads_one k = record { more = byte_more k; taken = byte_taken k; missing = byte_missing k }
 
--- a number of n bytes, and the bytes after it
+-- A number of n bytes, and the bytes after it.
 abbrev number_of : ℕ → ℕ → (List ℕ → ℕ) → List ℕ → Option (ℕ × List ℕ)
 number_of k n value s = plus k (cond (ltb (length s) n) None (Some (value (take n s), drop n s)))
 
@@ -299,15 +299,15 @@ reads_option : (x : ℕ) → ReadsFrom (option_extension x) (λ s. option_number
 unfolding option_number_at two_bytes_at
 reads_option x = reads_option_by (ltb x 13) (eqb x 13) x
 
--- an option number that is read stays read, whatever comes behind it
+-- A decoded option number stays the same when more bytes follow.
 pub option_number_more : (x : ℕ) (s t : List ℕ) (y : ℕ × List ℕ) → option_number_at x s ≡ Some y → option_number_at x (s ++ t) ≡ Some (y.0, y.1 ++ t)
 option_number_more x s t y e = (reads_option x).more s t y e
 
--- an option number takes its extension, and no more
+-- Decoding an option number consumes exactly its extension.
 pub option_number_length : (x : ℕ) (s : List ℕ) (y : ℕ × List ℕ) → option_number_at x s ≡ Some y → length s ≡ option_extension x + length y.1
 option_number_length x s y e = (reads_option x).taken s y e
 
--- where no option number can be read, too few bytes stand there
+-- If no option number is decoded, there are too few bytes.
 pub option_number_short : (x : ℕ) (s : List ℕ) → option_number_at x s ≡ None → length s < option_extension x
 option_number_short x s e = (reads_option x).missing s e
 
@@ -315,14 +315,14 @@ reads_length : (x : ℕ) → ReadsFrom (extension_of x) (λ s. length_at x s)
 unfolding length_at two_bytes_at four_bytes_at
 reads_length x = reads_by (ltb x 13) (eqb x 13) (eqb x 14) x
 
--- a length that is read stays read, whatever comes behind it
+-- A decoded length stays the same when more bytes follow.
 pub length_at_more : (x : ℕ) (s t : List ℕ) (y : ℕ × List ℕ) → length_at x s ≡ Some y → length_at x (s ++ t) ≡ Some (y.0, y.1 ++ t)
 length_at_more x s t y e = (reads_length x).more s t y e
 
--- a length takes its extension, and no more
+-- Decoding a length consumes exactly its extension.
 pub length_at_taken : (x : ℕ) (s : List ℕ) (y : ℕ × List ℕ) → length_at x s ≡ Some y → length s ≡ extension_of x + length y.1
 length_at_taken x s y e = (reads_length x).taken s y e
 
--- where no length can be read, its extension is not all there
+-- If no length is decoded, its extension is incomplete.
 pub length_at_missing : (x : ℕ) (s : List ℕ) → length_at x s ≡ None → length s < extension_of x
 length_at_missing x s e = (reads_length x).missing s e

@@ -1,10 +1,10 @@
--- The options of a list one after the other.
+-- Lists of options, one option after the other.
 use Rattle.coap_wire.specs.Prelude.{slice_get, AllByRecursion, OptionRef, CoapOption, AreOrdered, last_number}
 use Rattle.coap_wire.specs.Prelude.{HasOptionForm, option_spelling, options_spelling, coap_option, coap_options}
 use Rattle.std.proofs.Common.{◌≡◌, Some, ℕ, zero, suc, ◌+◌, ◌-◌, ◌≤◌, ◌<◌, List, [], ◌∷◌, ◌++◌, length, get_or, take, refl, sym, ap, ◌∙◌, append_assoc, arith}
 use Rattle.std.proofs.lemmas.List.{append-nil, take_more, map_push, length-append}
 
--- the spelling of options, and then of more
+-- The encoding of two lists is that of the first, followed by that of the second.
 pub options_spelling-append : (base : ℕ) (os ps : List CoapOption) → options_spelling base (os ++ ps) ≡ options_spelling base os ++ options_spelling (last_number base os) ps
 options_spelling-append base [] ps = refl
 options_spelling-append base (o ∷ os) ps =
@@ -14,19 +14,19 @@ pub last_number-push : (base : ℕ) (os : List CoapOption) (o : CoapOption) → 
 last_number-push base [] o = refl
 last_number-push base (p ∷ os) o = last_number-push p.number os o
 
--- each option's number is not below that of the option before it
+-- The number of each option is not below that of the option before it.
 pub ordered_at : (base : ℕ) (xs : List OptionRef) (i : ℕ) (x : OptionRef) → AreOrdered base (coap_options xs) → i < length xs → last_number base (coap_options (take i xs)) ≤ (get_or xs i x).number
 ordered_at base [] i x ordered lt = absurd (omega arith)
 ordered_at base (y ∷ ys) zero x ordered lt = ordered.0
 ordered_at base (y ∷ ys) (suc i) x ordered lt = ordered_at y.number ys i x ordered.1 (omega arith)
 
--- each option has a form
+-- Each option is in range.
 pub form_at : (xs : List OptionRef) (i : ℕ) (x : OptionRef) → AllByRecursion HasOptionForm (coap_options xs) → i < length xs → HasOptionForm (coap_option (get_or xs i x))
 form_at [] i x each lt = absurd (omega arith)
 form_at (y ∷ ys) zero x each lt = each.0
 form_at (y ∷ ys) (suc i) x each lt = form_at ys i x each.1 (omega arith)
 
--- one option more
+-- The list with one more option.
 pub options_more : (xs : List OptionRef) (i : ℕ) (x : OptionRef) → i < length xs → coap_options (take (i + 1) xs) ≡ coap_options (take i xs) ++ coap_option (get_or xs i x) ∷ []
 options_more xs i x lt = ap coap_options (take_more xs i x lt) ∙ map_push coap_option (take i xs) (get_or xs i x)
 
@@ -39,14 +39,14 @@ spelling_more base xs i x lt =
 pub last_number_more : (base : ℕ) (xs : List OptionRef) (i : ℕ) (x : OptionRef) → i < length xs → last_number base (coap_options (take (i + 1) xs)) ≡ (get_or xs i x).number
 last_number_more base xs i x lt = ap (last_number base) (options_more xs i x lt) ∙ last_number-push base (coap_options (take i xs)) (coap_option (get_or xs i x))
 
--- a front of the options has no longer spelling than all of them
+-- The encoding of the first options is not longer than that of all.
 pub spelling_of_front : (base : ℕ) (xs : List OptionRef) (i : ℕ) → length (options_spelling base (coap_options (take i xs))) ≤ length (options_spelling base (coap_options xs))
 spelling_of_front base xs zero = omega arith
 spelling_of_front base [] (suc i) = omega arith
 spelling_of_front base (y ∷ ys) (suc i) =
     omega (arith, length-append (option_spelling base (coap_option y)) (options_spelling y.number (coap_options (take i ys))), length-append (option_spelling base (coap_option y)) (options_spelling y.number (coap_options ys)), spelling_of_front y.number ys i)
 
--- with one option more at the end
+-- A list stays in order with one more option at its end.
 pub ordered-push : (base : ℕ) (os : List CoapOption) (o : CoapOption) → AreOrdered base os → last_number base os ≤ o.number → AreOrdered base (os ++ o ∷ [])
 ordered-push base [] o ordered le = (le, tt)
 ordered-push base (p ∷ os) o ordered le = (ordered.0, ordered-push p.number os o ordered.1 le)
@@ -55,13 +55,13 @@ pub forms-push : (os : List CoapOption) (o : CoapOption) → AllByRecursion HasO
 forms-push [] o each here = (here, tt)
 forms-push (p ∷ os) o each here = (each.0, forms-push os o each.1 here)
 
--- the length with one option more
+-- The length of the encoding with one more option.
 pub length_with_option : (xs : List OptionRef) (i size base step : ℕ) (x : OptionRef) → i < length xs → size ≡ length (options_spelling 0 (coap_options (take i xs))) → base ≡ last_number 0 (coap_options (take i xs))
     → step ≡ length (option_spelling base (coap_option (get_or xs i x))) → size + step ≡ length (options_spelling 0 (coap_options (take (i + 1) xs)))
 length_with_option xs i size base step x lt size_is base_is step_is =
     rw (spelling_more 0 xs i x lt, size_is, step_is, base_is) (sym (length-append (options_spelling 0 (coap_options (take i xs))) (option_spelling (last_number 0 (coap_options (take i xs))) (coap_option (get_or xs i x)))))
 
--- the length with one option more at the end
+-- The length of the encoding with one more option at the end.
 pub size_pushed : (xs ys : List OptionRef) (o : OptionRef) (size base step : ℕ) → ys ≡ xs ++ o ∷ [] → size ≡ length (options_spelling 0 (coap_options xs)) → base ≡ last_number 0 (coap_options xs)
     → step ≡ length (option_spelling base (coap_option o)) → size + step ≡ length (options_spelling 0 (coap_options ys))
 size_pushed xs ys o size base step more size_is base_is step_is =
@@ -69,7 +69,7 @@ size_pushed xs ys o size base step more size_is base_is step_is =
     let o_spelling = option_spelling (last_number 0 os) (coap_option o) in
     rw (more, map_push coap_option xs o, options_spelling-append 0 os (coap_option o ∷ []), size_is, step_is, base_is) (omega (arith, length-append (options_spelling 0 os) (o_spelling ++ []), ap length (append-nil o_spelling)))
 
--- the last element's number is the number of the last option
+-- The number of the last element is the number of the last option.
 pub last_number_is : (base : ℕ) (x : OptionRef) (xs : List OptionRef) (o : OptionRef) → slice_get (x ∷ xs) (length xs) ≡ Some o → o.number ≡ last_number base (coap_options (x ∷ xs))
 last_number_is base x [] o e = let h : x ≡ o = cc in ap (λ (y : OptionRef). y.number) (sym h)
 last_number_is base x (y ∷ ys) o e = last_number_is x.number y ys o e
@@ -78,9 +78,9 @@ pub last_found : (xs : List OptionRef) (o : OptionRef) → Some o ≡ slice_get 
 last_found [] o e = absurd cc
 last_found (x ∷ xs) o e = last_number_is 0 x xs o (let k : suc (length xs) - 1 ≡ length xs = omega arith in ap (slice_get (x ∷ xs)) (sym k) ∙ sym e)
 
--- ---- writing one option more
+-- ---- writing one more option
 
--- there is room for the next option where there is room for all of them
+-- If there is space for all options, there is space for the next one.
 pub room_for : (xs : List OptionRef) (i base space total : ℕ) (x : OptionRef) → i < length xs → base ≡ last_number 0 (coap_options (take i xs)) → space + length (options_spelling 0 (coap_options (take i xs))) ≡ total
     → length (options_spelling 0 (coap_options xs)) ≤ total → length (option_spelling base (coap_option (get_or xs i x))) ≤ space
 room_for xs i base space total x lt base_is so_far room =

@@ -1,4 +1,4 @@
--- What was read, by cases on the result.
+-- The properties of a decoded message, by cases on the result.
 use Rattle.std.proofs.Common.{◌≡◌, ℕ, List, Result, Ok, Err, refl, sym, ◌∙◌}
 use Rattle.coap_wire.specs.Prelude.{IfOk, IfErr, Message, AreBytes, Spells, IsFirstFault, message_of, FormatFault}
 use Rattle.coap_wire.proofs.FaultLaws.{err_is}

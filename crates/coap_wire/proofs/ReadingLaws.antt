@@ -1,4 +1,5 @@
--- The laws of reading: what is read is spelled so, what is spelled so is read, and the fault that is told is the first one.
+-- The theorems on decoding: `message_of` returns a message if and only if the bytes encode it, and otherwise the first
+-- error.
 use Rattle.std.proofs.Common.{◌≡◌, ℕ, List, Result, Ok, Err, inl, inr, refl, sym, subst, ◌∙◌}
 use Rattle.coap_wire.specs.Prelude.{CoapOption, Message, AreBytes, Spells, IsFrame, HasBadToken, HasOptionFault}
 use Rattle.coap_wire.specs.Prelude.{IsFirstFault, FormatFault, TokenLength, OptionDelta, OptionLength, OptionCut}
@@ -10,7 +11,7 @@ use Rattle.coap_wire.proofs.FaultLaws.{err_is, bind_fault, body_fault_takes, bod
 
 -- ---- the message
 
--- a message that is read is spelled so
+-- If `message_of` returns a message, the bytes encode it.
 pub message_spelled : (s : List ℕ) (m : Message) → AreBytes s → message_of s ≡ Ok m → Spells s m
 unfolding message_of
 message_spelled s m fits e =
@@ -21,16 +22,16 @@ message_spelled s m fits e =
     subst (λ (k : Message). Spells s k) (ok_is made m b.2)
     (record { body = a.0.body; head = h.0; options = body_takes 0 a.0.body b.0 h.1 b.1 })
 
--- a message that is spelled is read
+-- If the bytes encode a message, `message_of` returns it.
 pub message_again : (s : List ℕ) (m : Message) → Spells s m → message_of s ≡ Ok m
 unfolding message_of
 message_again s m h = rw (head_again s m.code m.token h.body h.head, body_again 0 m.options h.body m.payload h.options) refl
 
--- bytes spell one message at most
+-- Bytes encode at most one message.
 pub one_message : (s : List ℕ) (m n : Message) → Spells s m → Spells s n → m ≡ n
 one_message s m n p q = ok_is m n (sym (message_again s m p) ∙ message_again s n q)
 
--- ---- the first fault
+-- ---- the first error
 
 first_of_option : (s : List ℕ) (e : FormatFault) → HasOptionFault s e → IsFirstFault s e
 first_of_option s TokenLength w = absurd w.wrong
@@ -41,7 +42,7 @@ first_of_option s OptionLength w = w
 first_of_option s OptionCut w = w
 first_of_option s OptionNumber w = w
 
--- a fault that is told is the first one
+-- An error that `message_of` returns is the first one.
 pub fault_is_first : (s : List ℕ) (f : FormatFault) → AreBytes s → message_of s ≡ Err f → IsFirstFault s f
 unfolding message_of
 fault_is_first s f fits e =
@@ -81,7 +82,7 @@ no_frame_read s fits p q =
       | inr bad ↦ no_frame_from s bad.0 p q bad.1 (head_is_wrong s bad.0 fits bad.1)
     ]
 
--- the first fault is the one that is told
+-- `message_of` returns the first error.
 pub first_fault_again : (s : List ℕ) (f : FormatFault) → AreBytes s → IsFirstFault s f → message_of s ≡ Err f
 first_fault_again s TokenLength fits w = head_fault_read s TokenLength (bad_token_read s w)
 first_fault_again s NotOneFrame fits w = head_fault_read s NotOneFrame (no_frame_read s fits w.0 w.1)

@@ -1,4 +1,4 @@
--- Recognised options: what the tests mean, and why a look at the option before is enough.
+-- Recognised options: the functions agree with the relations, and in an ordered list the option before is enough.
 use Rattle.coap_wire.specs.Prelude.{All, IsTrue, ◌↔◌, unwrap_or, not, ◌||◌, ◌&&◌, ◌==◌, CoapOption, AreOrdered}
 use Rattle.coap_wire.specs.Prelude.{kind_of, IsFirstWithNumber, IsRecognised, is_first_with_number, has_kind}
 use Rattle.coap_wire.specs.Prelude.{is_recognised, known_behind, is_critical, first_critical_behind, option_before}
@@ -12,7 +12,7 @@ use Rattle.std.proofs.lemmas.List.Sums.{AllPass-from_list_all, list_all-from_All
 
 -- ---- the first with its number
 
--- in an ordered list: no option before p has a greater number than p, nor has p one that is greater than that of o behind it
+-- In an ordered list, no option before p has a larger number than p, and the next option o has none smaller.
 ordered_up_to : (base : ℕ) (earlier after : List CoapOption) (p o : CoapOption) → AreOrdered base (earlier ++ (p ∷ o ∷ after)) → (base ≤ p.number) × (p.number ≤ o.number) × All (λ q. q.number ≤ p.number) earlier
 ordered_up_to base [] after p o ordered = (ordered.0, ordered.1.0, All-nil (λ q. q.number ≤ p.number))
 ordered_up_to base (q ∷ qs) after p o ordered =
@@ -32,7 +32,7 @@ first_behind earlier after p o ordered =
       λ differs. All-push (λ q. q.number ≢ o.number) earlier p (All-weaker (λ q. q.number ≤ p.number) (λ q. q.number ≢ o.number) (λ q below same. differs (omega arith)) earlier split.2) differs,
     )
 
--- ---- what the tests mean
+-- ---- the functions and the relations
 
 first_from_test : (before : List CoapOption) (o : CoapOption) → is_first_with_number before o ≡ true → IsFirstWithNumber before o
 first_from_test before o test =
@@ -77,7 +77,7 @@ pub recognised_is_decided : (before : List CoapOption) (o : CoapOption) → IsTr
 unfolding is_recognised
 recognised_is_decided before o = (recognised_from_test before o (kind_of o.number) refl, test_from_recognised before o)
 
--- ---- from option to option
+-- ---- one option after the other
 
 pub known_end : (earlier : List CoapOption) → known_behind earlier [] ≡ []
 unfolding known_behind
@@ -112,9 +112,9 @@ critical_later : (earlier : List CoapOption) (o : CoapOption) (os : List CoapOpt
 unfolding first_critical_behind
 critical_later earlier o os not_critical = rw not_critical refl
 
--- ---- earlier options that tell the same
+-- ---- earlier options with the same effect
 
--- behind either list the same options, of numbers from base on, are the first with their number
+-- After either list, the same options with numbers from base on are the first with their number.
 AgreeFrom : ℕ → List CoapOption → List CoapOption → Type 0
 AgreeFrom base xs ys = (q : CoapOption) → base ≤ q.number → is_first_with_number xs q ≡ is_first_with_number ys q
 
@@ -166,7 +166,7 @@ critical_agrees base xs ys (o ∷ os) ordered agree =
 
 -- ---- the option before is enough
 
--- to a number that is not below b, another a at most as great tells nothing more
+-- A comparison with b makes one with a redundant, if a is at most b and the number q is not below b.
 lower_tells_nothing : (a b q : ℕ) → a ≤ b → b ≤ q → (not (a == q) && (not (b == q) && true)) ≡ (not (b == q) && true)
 lower_tells_nothing a b q below above = grind (arith, nat_tests)
 
@@ -175,7 +175,7 @@ unfolding AgreeFrom
 one_is_enough None o le = λ q above. refl
 one_is_enough (Some n) o le = λ q above. lower_tells_nothing n o.number q.number le above
 
--- with a recognised option at the front
+-- The list begins with a recognised option.
 pub knows : (before : Option ℕ) (all os : List CoapOption) (o : CoapOption) → all ≡ o ∷ os → AreOrdered (unwrap_or before 0) all → true ≡ is_recognised (option_before before) o
     → known_behind (option_before before) all ≡ o ∷ known_behind (option_before (Some o.number)) os
 knows before all os o is ordered recognised =
@@ -183,7 +183,7 @@ knows before all os o is ordered recognised =
     ap (known_behind (option_before before)) is ∙ known_here (option_before before) o os (sym recognised)
     ∙ ap (λ (ks : List CoapOption). o ∷ ks) (known_agrees o.number (option_before before ++ o ∷ []) (option_before (Some o.number)) os both.1 (one_is_enough before o both.0))
 
--- with another at the front
+-- The list begins with an option that is not recognised.
 pub passes_over : (before : Option ℕ) (all os : List CoapOption) (o : CoapOption) → all ≡ o ∷ os → AreOrdered (unwrap_or before 0) all → false ≡ is_recognised (option_before before) o
     → known_behind (option_before before) all ≡ known_behind (option_before (Some o.number)) os
 passes_over before all os o is ordered not_recognised =
@@ -191,7 +191,7 @@ passes_over before all os o is ordered not_recognised =
     ap (known_behind (option_before before)) is ∙ known_later (option_before before) o os (sym not_recognised)
     ∙ known_agrees o.number (option_before before ++ o ∷ []) (option_before (Some o.number)) os both.1 (one_is_enough before o both.0)
 
--- with any option at the front
+-- The list begins with any option.
 pub checks : (before : Option ℕ) (all os : List CoapOption) (o : CoapOption) (recognised : Bool) → all ≡ o ∷ os → AreOrdered (unwrap_or before 0) all → recognised ≡ is_recognised (option_before before) o
     → checked_behind (option_before before) all ≡ record { option = o; recognised = recognised } ∷ checked_behind (option_before (Some o.number)) os
 checks before all os o recognised is ordered test =
@@ -203,7 +203,7 @@ checks before all os o recognised is ordered test =
 pub stays_ordered : (base : ℕ) (all os : List CoapOption) (o : CoapOption) → all ≡ o ∷ os → AreOrdered base all → AreOrdered o.number os
 stays_ordered base all os o is ordered = let both : AreOrdered base (o ∷ os) = subst (AreOrdered base) is ordered in both.1
 
--- with a critical option at the front that is not recognised
+-- The list begins with a critical option that is not recognised.
 pub stops_at : (before : Option ℕ) (all os : List CoapOption) (o : CoapOption) → all ≡ o ∷ os → o.number % 2 ≡ 1 → false ≡ is_recognised (option_before before) o → first_critical_behind (option_before before) all ≡ Some o.number
 stops_at before all os o is odd not_recognised =
     ap (first_critical_behind (option_before before)) is
@@ -216,12 +216,12 @@ goes_past before all os o is ordered harmless =
     ap (first_critical_behind (option_before before)) is ∙ critical_later (option_before before) o os harmless
     ∙ critical_agrees o.number (option_before before ++ o ∷ []) (option_before (Some o.number)) os both.1 (one_is_enough before o both.0)
 
--- with a recognised option at the front
+-- The list begins with a recognised option.
 pub goes_past_recognised : (before : Option ℕ) (all os : List CoapOption) (o : CoapOption) → all ≡ o ∷ os → AreOrdered (unwrap_or before 0) all → true ≡ is_recognised (option_before before) o
     → first_critical_behind (option_before before) all ≡ first_critical_behind (option_before (Some o.number)) os
 goes_past_recognised before all os o is ordered recognised = goes_past before all os o is ordered (and_right (is_critical o) _ (ap not (sym recognised)))
 
--- with an elective option at the front
+-- The list begins with an elective option.
 pub goes_past_elective : (before : Option ℕ) (all os : List CoapOption) (o : CoapOption) → all ≡ o ∷ os → AreOrdered (unwrap_or before 0) all → (o.number % 2 ≡ 1 → ⊥)
     → first_critical_behind (option_before before) all ≡ first_critical_behind (option_before (Some o.number)) os
 goes_past_elective before all os o is ordered even = goes_past before all os o is ordered (and_left (is_critical o) _ (ne_eqb (o.number % 2) 1 even))

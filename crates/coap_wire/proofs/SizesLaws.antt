@@ -1,11 +1,11 @@
--- A stream that goes on while another size is in force.
+-- A stream that continues with another maximum size.
 use Rattle.std.proofs.Common.{◌≡◌, ℕ, ◌+◌, ◌-◌, ◌<◌, ◌≤◌, List, ◌++◌, length, Option, Some, None, refl, sym, ap, ◌∙◌, arith, inl, inr}
 use Rattle.std.proofs.lemmas.Bool.{cases_lt, lt-ltb, le-ltb}
 use Rattle.coap_wire.specs.Prelude.{Unfinished, beginning, Sizes, always, sizes_first, sizes_behind, size_for}
 use Rattle.coap_wire.specs.Prelude.{sizes_of_rest, StreamFault, Stream, sized_split, split, gone_on, split_on}
 use Rattle.coap_wire.proofs.StreamSteps.{AreAlikeBehind, split_alike, split_is, sized_goes_on, sized_rest, rest_within, unfinished_larger}
 
--- ---- a size at the time of so many bytes
+-- ---- one maximum for the first n bytes
 
 module _ (n M : ℕ) (S : Sizes) where
   pub first_in : (at : ℕ) → at < n → sizes_first n M S at ≡ M
@@ -28,7 +28,7 @@ first_none M S =
     first_past 0 M S at (omega arith) ∙ ap S same in
     λ i at. point at i
 
--- the same size behind it is one for all time
+-- If the maximum after them is the same, it never changes.
 pub first_always : (n M : ℕ) → sizes_first n M (always M) ≡ always M
 first_always n M =
     let point : (at : ℕ) → sizes_first n M (always M) at ≡ M = λ at.
@@ -38,9 +38,9 @@ first_always n M =
     ] in
     λ i at. point at i
 
--- ---- a stream that goes on
+-- ---- more bytes of a stream
 
--- the rest with the size in force now is as it is with the sizes of its bytes
+-- The rest gives the same result with the present maximum as with the sizes of its bytes.
 went_by : (F : Sizes) (N : ℕ) (s more : List ℕ) (fault : Option StreamFault) → ((at : ℕ) → F at ≤ N) → ((at : ℕ) → length s ≤ at → F at ≡ N) → (sized_split F s).fault ≡ fault
     → gone_on (sized_split F s) fault (sized_split (sizes_of_rest F s (sized_split F s).rest) ((sized_split F s).rest ++ more))
     ≡ gone_on (sized_split F s) fault (split N ((sized_split F s).rest ++ more))
@@ -57,11 +57,12 @@ went_by F N s more None most now none =
     ap (gone_on before None) (split_alike R (always N) before.rest more alike ∙ sym (split_is N (before.rest ++ more)))
 went_by F N s more (Some fault) most now is = refl
 
--- What is left of bytes goes on with more of them as with the size in force now, where no greater one was in force before.
+-- The rest continues with more bytes as if the present maximum were in effect from its start, if none before was
+-- larger.
 pub went_on : (F : Sizes) (N : ℕ) (s more : List ℕ) → ((at : ℕ) → F at ≤ N) → ((at : ℕ) → length s ≤ at → F at ≡ N)
     → sized_split F (s ++ more) ≡ split_on N (sized_split F s) more
 went_on F N s more most now = sized_goes_on F s more ∙ went_by F N s more (sized_split F s).fault most now refl
 
--- what is left is unfinished with the size in force now
+-- The rest is unfinished with the present maximum.
 pub left_unfinished : (F : Sizes) (N : ℕ) (s : List ℕ) → ((at : ℕ) → F at ≤ N) → (sized_split F s).fault ≡ None → beginning N (sized_split F s).rest ≡ Unfinished
 left_unfinished F N s most none = unfinished_larger (size_for (sizes_of_rest F s (sized_split F s).rest) (sized_split F s).rest) N (sized_split F s).rest (most _) (sized_rest F s none)

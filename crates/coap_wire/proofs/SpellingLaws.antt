@@ -1,4 +1,4 @@
--- A message that has a spelling has one, and no other.
+-- A message in range has exactly one encoding; any other message has none.
 use Rattle.std.proofs.Common.{◌≡◌, ℕ, ◌+◌, ◌-◌, ◌*◌, ◌≤◌, List, [], ◌∷◌, ◌++◌, length, refl, sym, ap, subst, ◌∙◌, append_assoc, arith}
 use Rattle.coap_wire.specs.Prelude.{AllByRecursion, CoapOption, Message, AreOrdered, length_form, greatest_token}
 use Rattle.coap_wire.specs.Prelude.{token_form, greatest_length, IsOptionForm, option_form, IsOneOption}
@@ -9,7 +9,7 @@ use Rattle.coap_wire.proofs.FormLaws.{length_form_is, length_form_only, length_f
 
 -- ---- one option
 
--- a head, its two extensions and the value, regrouped before the tail
+-- The parts of an option are regrouped before the tail.
 regrouped : (b : ℕ) (e f v tail : List ℕ) → b ∷ (e ++ (f ++ (v ++ tail))) ≡ (b ∷ (e ++ (f ++ v))) ++ tail
 regrouped b e f v tail = ap (λ (t : List ℕ). b ∷ t) (sym (append_assoc e (f ++ v) tail ∙ ap (λ (t : List ℕ). e ++ t) (append_assoc f v tail)))
 
@@ -26,7 +26,7 @@ delta_is base delta number is = omega arith
 number_is : (base number : ℕ) → base ≤ number → number ≡ base + (number - base)
 number_is base number le = omega arith
 
--- The bytes that begin with an option begin with its one spelling.
+-- Bytes that begin with an option begin with `option_spelling`.
 pub option_spelled_as : (base : ℕ) (o : CoapOption) (s tail : List ℕ) → IsOneOption base o s tail → s ≡ option_spelling base o ++ tail
 option_spelled_as base o s tail one =
     let delta_form = subst (λ (k : ℕ). IsOptionForm one.head.delta_nibble one.head.delta_extension k) (delta_is base one.delta o.number one.number) one.head.delta_form in
@@ -34,7 +34,7 @@ option_spelled_as base o s tail one =
     let l = option_form_only one.head.length_nibble one.head.length_extension (length o.value) one.head.length_form in
     option_bytes s one.head.delta_nibble one.head.length_nibble _ _ one.head.delta_extension one.head.length_extension _ _ o.value tail d.0 l.0 d.1 l.1 one.head.bytes
 
--- An option that is not below base and has a form is spelled so.
+-- `option_spelling` encodes an option in range whose number is not below base.
 pub option_is_spelled : (base : ℕ) (o : CoapOption) (tail : List ℕ) → base ≤ o.number → HasOptionForm o → IsOneOption base o (option_spelling base o ++ tail) tail
 option_is_spelled base o tail le has = record {
   delta = o.number - base;
@@ -53,7 +53,7 @@ option_is_spelled base o tail le has = record {
 
 -- ---- the options
 
--- The bytes that begin with options begin with their one spelling.
+-- Bytes that begin with options begin with `options_spelling`.
 pub options_spelled_as : (base : ℕ) (os : List CoapOption) (s tail : List ℕ) → IsOptionBytes base os s tail → s ≡ options_spelling base os ++ tail
 options_spelled_as base [] s tail bytes = bytes
 options_spelled_as base (o ∷ os) s tail bytes =
@@ -61,20 +61,20 @@ options_spelled_as base (o ∷ os) s tail bytes =
     ∙ ap (λ (t : List ℕ). option_spelling base o ++ t) (options_spelled_as o.number os bytes.0 tail bytes.2)
     ∙ sym (append_assoc (option_spelling base o) (options_spelling o.number os) tail)
 
--- Options that are spelled stand in order.
+-- Encoded options are in order.
 pub spelled_options_ordered : (base : ℕ) (os : List CoapOption) (s tail : List ℕ) → IsOptionBytes base os s tail → AreOrdered base os
 spelled_options_ordered base [] s tail bytes = tt
 spelled_options_ordered base (o ∷ os) s tail bytes =
     (number_above base bytes.1.delta o.number bytes.1.number, spelled_options_ordered o.number os bytes.0 tail bytes.2)
 
--- Options that are spelled have a form each.
+-- Each encoded option is in range.
 pub options_have_form : (base : ℕ) (os : List CoapOption) (s tail : List ℕ) → IsOptionBytes base os s tail → AllByRecursion HasOptionForm os
 options_have_form base [] s tail bytes = tt
 options_have_form base (o ∷ os) s tail bytes =
     let head = bytes.1.head in
     ((bytes.1.number_fits, (option_form_bound head.length_nibble head.length_extension (length o.value) head.length_form).1), options_have_form o.number os bytes.0 tail bytes.2)
 
--- Options in order that have a form each are spelled so.
+-- `options_spelling` encodes options that are in order and in range.
 pub options_are_spelled : (base : ℕ) (os : List CoapOption) (tail : List ℕ) → AreOrdered base os → AllByRecursion HasOptionForm os → IsOptionBytes base os (options_spelling base os ++ tail) tail
 options_are_spelled base [] tail ordered has = refl
 options_are_spelled base (o ∷ os) tail ordered has =
@@ -83,7 +83,7 @@ options_are_spelled base (o ∷ os) tail ordered has =
 
 -- ---- the message
 
--- a head's parts, regrouped before the body
+-- The parts of a head are regrouped before the body.
 parts_joined : (g : List ℕ) (code : ℕ) (f token body : List ℕ) → g ++ code ∷ (f ++ (token ++ body)) ≡ (g ++ code ∷ (f ++ token)) ++ body
 parts_joined g code f token body =
     ap (λ (t : List ℕ). g ++ code ∷ t) (sym (append_assoc f token body)) ∙ sym (append_assoc g (code ∷ (f ++ token)) body)
@@ -94,14 +94,14 @@ head_joined s x y p q code e g d f token body at_x at_y at_e at_d is =
     is ∙ (λ i. (16 * at_x i + at_y i) ∷ (at_e i ++ code ∷ (at_d i ++ (token ++ body))))
     ∙ ap (λ (t : List ℕ). (16 * p + q) ∷ t) (parts_joined g code f token body)
 
--- The bytes that are a head and a body are the one head of that body, and the body.
+-- A head and a body are `head_spelling`, followed by the body.
 pub head_spelled_as : (s : List ℕ) (code : ℕ) (token body : List ℕ) → IsHeadAndBody s code token body → s ≡ head_spelling code token (length body) ++ body
 head_spelled_as s code token body head =
     let l = length_form_only head.length_nibble head.extension (length body) head.length_form in
     let t = token_form_only (length token) head.token_nibble head.token_extension head.token_form in
     head_joined s head.length_nibble head.token_nibble _ _ code head.extension _ head.token_extension _ token body l.0 t.0 l.1 t.1 head.bytes
 
--- The one head of a body, and the body, are a head and a body.
+-- `head_spelling`, followed by the body, is a head and a body.
 pub head_is_spelled : (code : ℕ) (token body : List ℕ) → length token ≤ greatest_token → length body ≤ greatest_length → IsHeadAndBody (head_spelling code token (length body) ++ body) code token body
 head_is_spelled code token body short fits = record {
   length_nibble = (length_form (length body)).0;
@@ -116,14 +116,14 @@ head_is_spelled code token body short fits = record {
 body_spelled_as : (s : List ℕ) (m : Message) → (spelled : Spells s m) → spelled.body ≡ body_spelling m
 body_spelled_as s m spelled = options_spelled_as 0 m.options spelled.body (payload_bytes m.payload) spelled.options
 
--- The bytes that spell a message are its one spelling.
+-- The bytes that encode a message are its `spelling`.
 pub spelled_as : (s : List ℕ) (m : Message) → Spells s m → s ≡ spelling m
 unfolding spelling
 spelled_as s m spelled =
     head_spelled_as s m.code m.token spelled.body spelled.head
     ∙ ap (λ (body : List ℕ). head_spelling m.code m.token (length body) ++ body) (body_spelled_as s m spelled)
 
--- A message that bytes spell has a spelling.
+-- A message that bytes encode is in range.
 pub has_spelling : (s : List ℕ) (m : Message) → Spells s m → HasSpelling m
 has_spelling s m spelled = record {
   token = spelled.head.token_form.1;
@@ -132,7 +132,7 @@ has_spelling s m spelled = record {
   body = subst (λ (body : List ℕ). length body ≤ greatest_length) (body_spelled_as s m spelled) (length_form_bound spelled.head.length_nibble spelled.head.extension (length spelled.body) spelled.head.length_form).1;
 }
 
--- The spelling of a message that has one spells it.
+-- The `spelling` of a message in range encodes it.
 pub spelling_spells : (m : Message) → HasSpelling m → Spells (spelling m) m
 unfolding spelling
 spelling_spells m has = record {
@@ -141,6 +141,6 @@ spelling_spells m has = record {
   options = options_are_spelled 0 m.options (payload_bytes m.payload) has.ordered has.each;
 }
 
--- All bytes that spell a message are the same.
+-- A message has at most one encoding.
 pub one_spelling : (s t : List ℕ) (m : Message) → Spells s m → Spells t m → s ≡ t
 one_spelling s t m left right = spelled_as s m left ∙ sym (spelled_as t m right)

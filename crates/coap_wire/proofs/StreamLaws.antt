@@ -1,4 +1,4 @@
--- The laws of a stream: what it spells as a relation and as a function are one.
+-- The theorems on streams: the relation `Splits` and the function `sized_split` agree.
 use Rattle.std.proofs.Common.{◌≡◌, ℕ, ◌<◌, ◌≤◌, List, [], ◌∷◌, ◌++◌, length, take, drop, Option, Some, None, Err, inl, inr, refl, sym, ap, subst, ◌∙◌, arith}
 use Rattle.coap_wire.specs.Prelude.{concat, Message, AreBytes, Spells, IsTokenLengthFault, IsSizeHead}
 use Rattle.coap_wire.specs.Prelude.{IsDeclaredSize, IsFrame, HasBadToken, Declares, Size, BadToken, FormatFault}
@@ -17,7 +17,7 @@ use Rattle.coap_wire.proofs.SizeLaws.{spelling_is_frame}
 use Rattle.coap_wire.proofs.ReadingLaws.{message_spelled, message_again}
 use Rattle.coap_wire.proofs.StreamSteps.{size_bytes_first, size_bytes_some, stated_bytes, size_has_bytes, begin_bad_token, begin_too_large, begin_whole, whole_parts, whole_more, token_length_declared, too_large_declared, faulty_more, faulty_some, behind_twice, behind_none, size_for_more, Holding, HoldsBehind, stream_from, by_frames, sized_unfinished, sized_faulty, sized_message, sized_bad, unfinished_not_faulty}
 
--- the bytes in front are bytes
+-- The first part of a list of bytes has bytes only.
 pub AreBytes-front : (front bytes : List ℕ) → AreBytes (front ++ bytes) → AreBytes front
 AreBytes-front front bytes fits i =
     elim (cases_lt i (length front)) [
@@ -27,19 +27,19 @@ AreBytes-front front bytes fits i =
 
 -- ---- the bytes that state a size
 
--- a size's head ends with the byte at which the size is known
+-- The bytes that state a size end with the byte at which the size is known.
 pub size_head_bytes : (head more : List ℕ) (n : ℕ) → IsSizeHead head n → size_bytes (head ++ more) ≡ length head
 size_head_bytes head more n h = stated_bytes head more h.token_length h.body_length h.lengths
 
--- bytes that declare a size begin with its head
+-- Bytes that declare a size begin with the bytes that state it.
 pub size_head_of : (s : List ℕ) (n : ℕ) → AreBytes s → declared_of s ≡ Size n → IsDeclaredSize s n
 size_head_of s n fits e = subst (Declares s) e (declares s fits)
 
--- bytes that declare a bad token begin with it
+-- Bytes that declare an invalid token length begin with the bytes that state it.
 pub bad_token_of : (s : List ℕ) → AreBytes s → declared_of s ≡ BadToken → HasBadToken s
 bad_token_of s fits e = subst (Declares s) e (declares s fits)
 
--- what declares a size that is its length, in front of others, is a frame
+-- The first bytes of a stream are a frame if the stream declares their length as the size.
 pub frame_of_front : (frame rest : List ℕ) → AreBytes (frame ++ rest) → declared_of (frame ++ rest) ≡ Size (length frame) → IsFrame frame
 frame_of_front frame rest fits e =
     let d : IsDeclaredSize (frame ++ rest) (length frame) = size_head_of (frame ++ rest) (length frame) fits e in
@@ -50,21 +50,21 @@ frame_of_front frame rest fits e =
     let head : take k frame ≡ d.0 = sym (take-append-le k frame rest within) ∙ ap (take k) bytes ∙ take_at d.0 d.1 k refl in
     (d.0, drop k frame, sym (take-append-drop k frame) ∙ ap (λ (p : List ℕ). p ++ drop k frame) head, d.3)
 
--- a whole frame at the front is a frame
+-- A frame that `beginning` finds is a frame.
 pub whole_frame : (M : ℕ) (s frame rest : List ℕ) → AreBytes s → beginning M s ≡ Whole frame rest → IsFrame frame
 whole_frame M s frame rest fits e =
     let c = whole_parts M s frame rest e in
     frame_of_front frame rest (subst (λ (l : List ℕ). AreBytes l) c.bytes fits) (subst (λ (l : List ℕ). declared_of l ≡ Size (length frame)) c.bytes c.declared)
 
--- a frame of at most M bytes stands whole at the front
+-- `beginning` finds a frame of at most M bytes.
 pub frame_begins : (M : ℕ) (frame rest : List ℕ) → IsFrame frame → length frame ≤ M → beginning M (frame ++ rest) ≡ Whole frame rest
 frame_begins M frame rest f small =
     let alone : beginning M frame ≡ Whole (take (length frame) frame) (drop (length frame) frame) = begin_whole M frame (length frame) (size_declared frame (length frame) f) small (omega arith) in
     whole_more M frame rest frame [] (alone ∙ rw (take_all (length frame) frame (omega arith), drop_all (length frame) frame (omega arith)) refl)
 
--- ---- a fault at the front
+-- ---- an error in the first bytes
 
--- the bytes of a fault, whatever comes behind them
+-- The bytes that show an error stay the same when more bytes follow.
 token_length_bytes : (r more : List ℕ) → IsTokenLengthFault r → size_bytes (r ++ more) ≡ length r
 token_length_bytes r more f =
     elim f [
@@ -80,12 +80,12 @@ fault_size M r more TooLarge f = size_head_bytes r more f.0 f.1
 pub fault_bytes_again : (M : ℕ) (r more : List ℕ) (fault : FrameFault) → IsFrameFault M fault r → fault_bytes (r ++ more) ≡ r
 fault_bytes_again M r more fault f = take_at r more (size_bytes (r ++ more)) (sym (fault_size M r more fault f))
 
--- a fault at its byte is a fault at the front, whatever comes behind it
+-- `beginning` finds an error, whichever bytes follow those that show it.
 pub fault_begins : (M : ℕ) (r more : List ℕ) (fault : FrameFault) → IsFrameFault M fault r → beginning M (r ++ more) ≡ Faulty fault
 fault_begins M r more TokenLength f = faulty_more M r more TokenLength (begin_bad_token M r (bad_token_declared r (r, [], sym (append-nil r), f)))
 fault_begins M r more TooLarge f = faulty_more M r more TooLarge (begin_too_large M r f.0 (size_declared r f.0 (r, [], sym (append-nil r), f.1)) f.2)
 
--- the bytes of a fault at the front are that fault at its byte
+-- `fault_bytes` are the bytes that show an error that `beginning` finds.
 pub fault_found : (M : ℕ) (s : List ℕ) (fault : FrameFault) → AreBytes s → beginning M s ≡ Faulty fault → IsFrameFault M fault (fault_bytes s)
 fault_found M s TokenLength fits e =
     let bad : HasBadToken s = bad_token_of s fits (token_length_declared M s e) in
@@ -98,7 +98,7 @@ fault_found M s TooLarge fits e =
     let head : fault_bytes s ≡ d.0 = ap fault_bytes d.2 ∙ fault_bytes_again M d.0 d.1 TooLarge large in
     subst (λ (r : List ℕ). IsTooLarge M r) (sym head) large
 
--- ---- what is not finished
+-- ---- unfinished frames
 
 two_beginnings : (M : ℕ) (s frame rest : List ℕ) → beginning M s ≡ Unfinished → beginning M s ≡ Whole frame rest → ⊥
 two_beginnings M s frame rest u e = cc
@@ -110,7 +110,7 @@ no_frame_in M p q u f =
       | inr small ↦ two_beginnings M (p ++ q) p q u (frame_begins M p q f small)
     ]
 
--- where nothing stands at the front yet, no front is a frame or a fault
+-- If `beginning` returns `Unfinished`, no prefix is a frame or shows an error.
 pub unfinished_is : (M : ℕ) (s : List ℕ) → beginning M s ≡ Unfinished → IsUnfinished M s
 unfinished_is M s u p q is =
     let v : beginning M (p ++ q) ≡ Unfinished = sym (ap (beginning M) is) ∙ u in (
@@ -123,28 +123,27 @@ unfinished_by M s Unfinished fits u e = e
 unfinished_by M s (Whole frame rest) fits u e = absurd ((u frame rest (whole_parts M s frame rest e).bytes).0 (whole_frame M s frame rest fits e))
 unfinished_by M s (Faulty fault) fits u e = absurd ((u (fault_bytes s) (drop (size_bytes s) s) (sym (take-append-drop (size_bytes s) s))).1 fault (fault_found M s fault fits e))
 
--- where no front is a frame or a fault, nothing stands at the front yet
+-- If no prefix is a frame or shows an error, `beginning` returns `Unfinished`.
 pub unfinished_again : (M : ℕ) (s : List ℕ) → AreBytes s → IsUnfinished M s → beginning M s ≡ Unfinished
 unfinished_again M s fits u = unfinished_by M s (beginning M s) fits u refl
 
--- ---- the sizes behind frames
+-- ---- the maximum sizes after frames
 
--- where no frame stands in front
+-- No frame comes before.
 pub size_behind_none : (sizes : Sizes) (rest : List ℕ) → size_behind sizes [] rest ≡ size_for sizes rest
 size_behind_none sizes rest = ap (λ (f : Sizes). size_for f rest) (behind_none sizes)
 
--- where a frame stands in front of others
+-- One frame comes before the others.
 pub size_behind_one : (sizes : Sizes) (frame : List ℕ) (frames : List (List ℕ)) (rest : List ℕ) → size_behind sizes (frame ∷ frames) rest ≡ size_behind (sizes_behind (length frame) sizes) frames rest
 size_behind_one sizes frame frames rest =
     ap (λ (n : ℕ). size_for (sizes_behind n sizes) rest) (length-append frame (concat frames))
     ∙ ap (λ (f : Sizes). size_for f rest) (sym (behind_twice (length frame) (length (concat frames)) sizes))
 
--- the size in force at a frame's length is that at the front of bytes that begin with it
--- a frame has a byte
+-- A frame has at least one byte.
 pub frame_some : (frame : List ℕ) → IsFrame frame → 1 ≤ length frame
 frame_some frame f = omega (arith, (size_has_bytes frame (length frame) (size_declared frame (length frame) f)).0)
 
--- ---- what the function gives, the relation allows
+-- ---- the function satisfies the relation
 
 splits_unfinished : (sizes : Sizes) (s : List ℕ) → beginning (size_for sizes s) s ≡ Unfinished → Splits sizes s [] s None
 splits_unfinished sizes s u = record {
@@ -157,7 +156,7 @@ splits_unfinished sizes s u = record {
   behind = refl;
 }
 
--- the size in force at a fault at the front
+-- The maximum for bytes that begin with an error is that for the bytes that show it.
 pub size_for_fault : (sizes : Sizes) (s : List ℕ) (fault : FrameFault) → beginning (size_for sizes s) s ≡ Faulty fault → size_for sizes (fault_bytes s) ≡ size_for sizes s
 size_for_fault sizes s fault e =
     let n : ℕ = size_bytes s in
@@ -176,7 +175,7 @@ splits_faulty sizes s fault fits e = record {
   behind = tt;
 }
 
--- the size in force at the front of bytes is that at their first frame
+-- The maximum for bytes that begin with a frame is that for the frame.
 pub size_for_whole : (sizes : Sizes) (s frame rest : List ℕ) → beginning (size_for sizes s) s ≡ Whole frame rest → size_for sizes s ≡ size_for sizes frame
 size_for_whole sizes s frame rest e =
     let c = whole_parts (size_for sizes s) s frame rest e in
@@ -197,7 +196,7 @@ splits_bad sizes s frame rest f fits e bad = record {
   behind = tt;
 }
 
--- a frame that spells a message in front of what is split
+-- A frame that encodes a message comes before a stream that was split.
 pub splits_message : (sizes : Sizes) (frame rest : List ℕ) (m : Message) (ms : List Message) (r : List ℕ) (fault : Option StreamFault) → Spells frame m → length frame ≤ size_for sizes frame → Splits (sizes_behind (length frame) sizes) rest ms r fault → Splits sizes (frame ++ rest) (m ∷ ms) r fault
 splits_message sizes frame rest m ms r fault spelled small others = record {
   frames = frame ∷ others.frames;
@@ -209,7 +208,7 @@ splits_message sizes frame rest m ms r fault spelled small others = record {
   behind = others.behind;
 }
 
--- where s has bytes only, what the function gives splits it
+-- If s has bytes only, the result of the function splits it.
 abbrev IsSplit : Holding
 IsSplit sizes s = AreBytes s → SplitsAs sizes s (sized_split sizes s)
 
@@ -231,13 +230,13 @@ splits_step sizes s (Whole frame rest) again e fits =
       | inr bad ↦ subst (SplitsAs sizes s) (sym (sized_bad sizes s frame rest bad.0 e bad.1)) (splits_bad sizes s frame rest bad.0 fits e bad.1)
     ]
 
--- What the function gives, the relation allows.
+-- The result of the function satisfies the relation.
 pub split_splits : (sizes : Sizes) (bytes : List ℕ) → AreBytes bytes → SplitsAs sizes bytes (sized_split sizes bytes)
 split_splits sizes bytes = by_frames IsSplit (λ at r again. splits_step at r (beginning (size_for at r) r) again refl) sizes bytes
 
--- ---- what the relation allows, the function gives
+-- ---- the relation determines the result of the function
 
--- a frame that spells no message cannot be read
+-- Decoding a frame that encodes no message fails.
 pub format_fault_read : (M : ℕ) (r : List ℕ) → AreBytes r → IsFormatFault M r → (e : FormatFault) × (message_of r ≡ Err e)
 format_fault_read M r fits f =
     elim (result_cases (message_of r)) [
@@ -245,16 +244,16 @@ format_fault_read M r fits f =
       | inr bad ↦ bad
     ]
 
--- a fault has a byte
+-- The bytes that show an error are not empty.
 pub fault_some : (M : ℕ) (r : List ℕ) (fault : FrameFault) → IsFrameFault M fault r → 1 ≤ length r
 fault_some M r fault f = faulty_some M r fault (subst (λ (s : List ℕ). beginning M s ≡ Faulty fault) (append-nil r) (fault_begins M r [] fault f))
 
--- with more bytes behind it the fault stands at the front
+-- `beginning` finds the error with more bytes after it.
 pub fault_at_front : (sizes : Sizes) (rest more : List ℕ) (fault : FrameFault) → IsFrameFault (size_for sizes rest) fault rest → beginning (size_for sizes (rest ++ more)) (rest ++ more) ≡ Faulty fault
 fault_at_front sizes rest more fault ended =
     ap (λ (M : ℕ). beginning M (rest ++ more)) (size_for_more sizes rest more (fault_some (size_for sizes rest) rest fault ended)) ∙ fault_begins (size_for sizes rest) rest more fault ended
 
--- so does a frame of at most the size in force
+-- `beginning` finds a frame of at most the maximum size.
 pub frame_at_front : (sizes : Sizes) (frame rest : List ℕ) → IsFrame frame → length frame ≤ size_for sizes frame → beginning (size_for sizes (frame ++ rest)) (frame ++ rest) ≡ Whole frame rest
 frame_at_front sizes frame rest f small =
     ap (λ (M : ℕ). beginning M (frame ++ rest)) (size_for_more sizes frame rest (frame_some frame f)) ∙ frame_begins (size_for sizes frame) frame rest f small
@@ -284,7 +283,7 @@ split_frames sizes (f ∷ fs) (m ∷ ms) rest more fault fits spelled small ende
     ∙ sized_message sizes (f ++ others) f others m (frame_at_front sizes f others (spelling_is_frame f m spelled.0) small.0) (message_again f m spelled.0)
     ∙ ap (with_message m) (split_frames (sizes_behind (length f) sizes) fs ms rest more fault tail spelled.1 small.1 ends behind)
 
--- What the relation allows, the function gives.
+-- Whatever satisfies the relation is the result of the function.
 pub splits_split : (sizes : Sizes) (bytes : List ℕ) (other : Stream) → AreBytes bytes → SplitsAs sizes bytes other → other ≡ sized_split sizes bytes
 splits_split sizes bytes other fits s =
     sym (ap (sized_split sizes) s.whole

@@ -1,4 +1,4 @@
--- Reading a stream step by step: what stands at its front, and what more bytes behind it change.
+-- Splitting a stream step by step: the classification of its first bytes, and the effect of more bytes.
 use Rattle.std.proofs.Common.{◌≡◌, ◌≢◌, ℕ, zero, suc, ◌+◌, ◌-◌, ◌/◌, ◌%◌, ◌<◌, ◌≤◌, Bool, true, false, cond, eqb, ltb, List, [], ◌∷◌, ◌++◌, length, take, drop, Option, Some, None, Result, Ok, Err, ◌⊎◌, inl, inr, refl, sym, ap, subst, ◌∙◌, arith}
 use Rattle.std.proofs.lemmas.Bool.{eq-eqb, ne_eqb, lt-ltb, le-ltb, cases_lt, cases_eq}
 use Rattle.std.proofs.lemmas.List.{length-append, length-drop, length-take, length-take-le, take-append-drop, take-append-le, drop-append-le, take_all, drop_all}
@@ -34,7 +34,7 @@ unknown_not_bad e = cc
 same_size : (m n : ℕ) → Size m ≡ Size n → m ≡ n
 same_size m n e = cc
 
--- the lengths that are read behind the first byte b state the size m
+-- The lengths decoded after the first byte b state the size m.
 record HasSize (b : ℕ) (s : List ℕ) (m : ℕ) : Type 0 where
   token_length : ℕ
   body_length : ℕ
@@ -83,7 +83,7 @@ size_bytes_some (b ∷ s) h =
       | inr nibble ↦ omega (arith, size_bytes_by b s nibble)
     ]
 
--- the code and the extension of a token's length have as many bytes
+-- The code and the extension of the token length have `token_bytes` bytes.
 code_and_extension_bytes : (x code : ℕ) (extension : List ℕ) → length extension ≡ option_extension x → length (code_and_extension code extension) ≡ token_bytes x
 code_and_extension_bytes x code [] h =
     elim (cases_lt x 13) [
@@ -96,7 +96,7 @@ code_and_extension_bytes x code (e ∷ es) h =
       | inr ge ↦ omega (arith, h, token_bytes_some x ge)
     ]
 
--- stated lengths end with the byte at which the size is known
+-- The bytes that state the lengths end with the byte at which the size is known.
 pub stated_bytes : (head more : List ℕ) (t n : ℕ) → StatesLengths head t n → size_bytes (head ++ more) ≡ length head
 stated_bytes head more t n h =
     let r = stated_read head more t n h in
@@ -109,7 +109,7 @@ plus_above : (k : ℕ) (o : Option (ℕ × List ℕ)) (y : ℕ × List ℕ) → 
 plus_above k None y e = absurd (none_or_some y e)
 plus_above k (Some x) y e = let same : x.0 + k ≡ y.0 = ap (λ (z : ℕ × List ℕ). z.0) (some_is (x.0 + k, x.1) y e) in omega (arith, same)
 
--- a token's length that bytes extend is 13 at least
+-- A token length with an extension is at least 13.
 extended_above : (x : ℕ) (s : List ℕ) (y : ℕ × List ℕ) → 13 ≤ x → option_number_at x s ≡ Some y → 13 ≤ y.0
 extended_above x s y h e =
     elim (cases_lt 13 x) [
@@ -117,7 +117,7 @@ extended_above x s y h e =
       | inr same ↦ plus_above 13 (one_byte_at s) y (sym (option_number_one x s (omega (arith, h, same))) ∙ e)
     ]
 
--- lengths that are read have the bytes that state them, and the size is above their number
+-- If the lengths are decoded, the bytes that state them are present, and the size is above their number.
 reads_bytes : (b : ℕ) (s : List ℕ) (t n : ℕ) → ReadsLengths b s t n → (size_bytes (b ∷ s) < frame_size b t n) × (size_bytes (b ∷ s) ≤ length (b ∷ s))
 reads_bytes b s t n r =
     let w = widths b s t n r in
@@ -131,7 +131,7 @@ reads_bytes b s t n r =
           )
     ]
 
--- where a byte of the lengths is missing, fewer stand there
+-- If a byte of the lengths is missing, there are fewer than `size_bytes`.
 cut_head_bytes : (b : ℕ) (s : List ℕ) → IsCutHead b s → length (b ∷ s) < size_bytes (b ∷ s)
 cut_head_bytes b s c =
     let is = size_bytes_by b s c.nibble in
@@ -145,7 +145,7 @@ cut_head_bytes b s c =
           ]
     ]
 
--- where no size is known yet, a byte that states it is missing
+-- If no size is known yet, a byte that states it is missing.
 unknown_at : (b : ℕ) (s : List ℕ) → declared_of (b ∷ s) ≡ Unknown → length (b ∷ s) < size_bytes (b ∷ s)
 unknown_at b s e =
     elim (head_cases b s) [
@@ -159,7 +159,7 @@ unknown_at b s e =
       ]
     ]
 
--- a size or a bad token that is known has the bytes that state it
+-- If a size or an invalid token length is known, the bytes that state it are present.
 pub known_bytes : (s : List ℕ) → (declared_of s ≡ Unknown → ⊥) → size_bytes s ≤ length s
 known_bytes [] known = absurd (known declared_nothing)
 known_bytes (b ∷ s) known =
@@ -171,7 +171,7 @@ known_bytes (b ∷ s) known =
       ]
     ]
 
--- the size is above the number of bytes up to the one at which it is known, and these are there
+-- The bytes that state a size are present, and the size is above their number.
 pub size_has_bytes : (s : List ℕ) (n : ℕ) → declared_of s ≡ Size n → (size_bytes s < n) × (size_bytes s ≤ length s)
 size_has_bytes [] n e = absurd (unknown_not_size n (sym declared_nothing ∙ e))
 size_has_bytes (b ∷ s) n e =
@@ -179,7 +179,7 @@ size_has_bytes (b ∷ s) n e =
     let k = reads_bytes b s h.token_length h.body_length h.read in
     (omega (arith, k.0, h.size), k.1)
 
--- ---- what is declared stays declared, whatever comes behind it
+-- ---- a declaration stays the same when more bytes follow
 
 token_length_more : (x : ℕ) (s more : List ℕ) (y : ℕ × List ℕ) → option_number_at x (drop 1 s) ≡ Some y → (behind : List ℕ) × (option_number_at x (drop 1 (s ++ more)) ≡ Some (y.0, behind))
 token_length_more x [] more y e =
@@ -202,14 +202,14 @@ reads_more b s more t n r =
       token = token.1;
     }
 
--- a size that is declared stays declared, whatever comes behind it
+-- A declared size stays the same when more bytes follow.
 pub declared_more : (s t : List ℕ) (n : ℕ) → declared_of s ≡ Size n → declared_of (s ++ t) ≡ Size n
 declared_more [] t n e = absurd (unknown_not_size n (sym declared_nothing ∙ e))
 declared_more (b ∷ s) t n e =
     let h = size_at b s n e in
     declared_size b (s ++ t) h.token_length h.body_length (reads_more b s t h.token_length h.body_length h.read) h.short ∙ ap Size (sym h.size)
 
--- a token length that is not taken stays declared, whatever comes behind it
+-- An invalid token length stays declared when more bytes follow.
 pub bad_token_more : (s t : List ℕ) → declared_of s ≡ BadToken → declared_of (s ++ t) ≡ BadToken
 bad_token_more [] t e = absurd (unknown_not_bad (sym declared_nothing ∙ e))
 bad_token_more (b ∷ s) t e =
@@ -228,68 +228,68 @@ size_bytes_positive : (s : List ℕ) (n : ℕ) → declared_of s ≡ Size n → 
 size_bytes_positive [] n e = absurd (unknown_not_size n (sym declared_nothing ∙ e))
 size_bytes_positive (b ∷ s) n e = size_bytes_some (b ∷ s) (omega arith)
 
--- a frame has its first byte and its code at least
+-- A frame has at least two bytes: the first one and the code.
 pub declared_positive : (s : List ℕ) (n : ℕ) → declared_of s ≡ Size n → 2 ≤ n
 declared_positive s n e =
     let h = size_has_bytes s n e in
     let k = size_bytes_positive s n e in
     omega arith
 
--- the first byte says where the size is known
+-- The first byte determines the byte at which the size is known.
 pub size_bytes_more : (s t : List ℕ) → 1 ≤ length s → size_bytes (s ++ t) ≡ size_bytes s
 size_bytes_more [] t h = absurd (omega arith)
 size_bytes_more (b ∷ s) t h = refl
 
--- there is a byte where something is declared
+-- If something is declared, there is a byte.
 pub declared_some : (s : List ℕ) → (declared_of s ≡ Unknown → ⊥) → 1 ≤ length s
 declared_some [] h = absurd (h declared_nothing)
 declared_some (b ∷ s) h = omega arith
 
--- what one more byte makes known is known at that byte
+-- If one more byte makes the declaration known, that byte is the last one that states it.
 pub known_at_last : (s : List ℕ) (b : ℕ) → declared_of s ≡ Unknown → (declared_of (s ++ b ∷ []) ≡ Unknown → ⊥) → size_bytes (s ++ b ∷ []) ≡ length (s ++ b ∷ [])
 known_at_last [] b u known = omega (arith, known_bytes (b ∷ []) known, size_bytes_some (b ∷ []) (omega arith))
 known_at_last (a ∷ s) b u known =
     omega (arith, known_bytes (a ∷ (s ++ b ∷ [])) known, unknown_at a s u, size_bytes_more (a ∷ s) (b ∷ []) (omega arith), length-append s (b ∷ []))
 
--- a size that one more byte makes known is known at that byte
+-- If one more byte makes the size known, that byte is the last one that states it.
 pub size_at_last : (s : List ℕ) (b n : ℕ) → declared_of s ≡ Unknown → declared_of (s ++ b ∷ []) ≡ Size n → size_bytes (s ++ b ∷ []) ≡ length (s ++ b ∷ [])
 size_at_last s b n u e = known_at_last s b u (λ v. unknown_not_size n (sym v ∙ e))
 
--- ---- what stands at the front
+-- ---- the classification of the first bytes
 
--- where no size is known yet, nothing stands at the front
+-- No size is known yet: the frame is unfinished.
 pub begin_unknown : (M : ℕ) (s : List ℕ) → declared_of s ≡ Unknown → beginning M s ≡ Unfinished
 unfolding beginning
 begin_unknown M s e = ap (begins_with M s) e
 
--- a token length that is not taken stands at the front
+-- The token length is invalid.
 pub begin_bad_token : (M : ℕ) (s : List ℕ) → declared_of s ≡ BadToken → beginning M s ≡ Faulty TokenLength
 unfolding beginning
 begin_bad_token M s e = ap (begins_with M s) e
 
--- a size above M stands at the front
+-- The size is above M.
 pub begin_too_large : (M : ℕ) (s : List ℕ) (n : ℕ) → declared_of s ≡ Size n → M < n → beginning M s ≡ Faulty TooLarge
 unfolding beginning
 begin_too_large M s n e h = ap (begins_with M s) e ∙ rw (lt-ltb M n h) refl
 
--- where a byte of a frame of at most M bytes is missing, nothing stands at the front
+-- A byte of a frame of at most M bytes is missing: the frame is unfinished.
 pub begin_short : (M : ℕ) (s : List ℕ) (n : ℕ) → declared_of s ≡ Size n → n ≤ M → length s < n → beginning M s ≡ Unfinished
 unfolding beginning
 begin_short M s n e h k = ap (begins_with M s) e ∙ rw (le-ltb M n h, lt-ltb (length s) n k) refl
 
--- a whole frame stands at the front
+-- All bytes of a frame of at most M bytes are present.
 pub begin_whole : (M : ℕ) (s : List ℕ) (n : ℕ) → declared_of s ≡ Size n → n ≤ M → n ≤ length s → beginning M s ≡ Whole (take n s) (drop n s)
 unfolding beginning
 begin_whole M s n e h k = ap (begins_with M s) e ∙ rw (le-ltb M n h, le-ltb (length s) n k) refl
 
--- a size of at most M is known, and a byte of the frame is missing
+-- A size of at most M is known, and a byte of the frame is missing.
 record LacksBytes (M : ℕ) (s : List ℕ) : Type 0 where
   size : ℕ
   declared : declared_of s ≡ Size size
   small : size ≤ M
   short : length s < size
 
--- the frame and what stands behind it
+-- The frame, and the bytes after it.
 record IsWhole (M : ℕ) (s frame rest : List ℕ) : Type 0 where
   size : ℕ
   declared : declared_of s ≡ Size size
@@ -298,7 +298,7 @@ record IsWhole (M : ℕ) (s frame rest : List ℕ) : Type 0 where
   front : take size s ≡ frame
   behind : drop size s ≡ rest
 
--- what is known of s where this stands at its front
+-- The property of s that belongs to this classification.
 abbrev IsFront : ℕ → List ℕ → Beginning → Type 0
 IsFront M s Unfinished = (declared_of s ≡ Unknown) ⊎ LacksBytes M s
 IsFront M s (Whole frame rest) = IsWhole M s frame rest
@@ -323,18 +323,18 @@ front_by M s BadToken e = subst (IsFront M s) (sym (begin_bad_token M s e)) e
 front_is : (M : ℕ) (s : List ℕ) (b : Beginning) → beginning M s ≡ b → IsFront M s b
 front_is M s b e = subst (IsFront M s) e (front_by M s (declared_of s) refl)
 
--- nothing stands at the front of no bytes
+-- An empty stream is unfinished.
 pub unfinished_empty : (M : ℕ) → beginning M [] ≡ Unfinished
 unfinished_empty M = begin_unknown M [] declared_nothing
 
--- the frame and the rest are all the bytes, and the frame is as long as it declares
+-- The frame and the rest are all bytes of s, and the frame has the declared size.
 pub record IsCut (M : ℕ) (s frame rest : List ℕ) : Type 0 where
   pub bytes : s ≡ frame ++ rest
   pub some : 2 ≤ length frame
   pub small : length frame ≤ M
   pub declared : declared_of s ≡ Size (length frame)
 
--- a frame and what stands behind it
+-- A frame that `beginning` finds, and the bytes after it.
 pub whole_parts : (M : ℕ) (s frame rest : List ℕ) → beginning M s ≡ Whole frame rest → IsCut M s frame rest
 whole_parts M s frame rest e =
     let w : IsWhole M s frame rest = front_is M s (Whole frame rest) e in
@@ -346,28 +346,28 @@ whole_parts M s frame rest e =
       declared = w.declared ∙ ap Size (sym len);
     }
 
--- behind a frame less is left
+-- The bytes after a frame are fewer than before.
 pub whole_shorter : (M : ℕ) (s frame rest : List ℕ) → beginning M s ≡ Whole frame rest → length rest < length s
 whole_shorter M s frame rest e =
     let c = whole_parts M s frame rest e in
     omega (arith, c.some, ap (λ (l : List ℕ). length l) c.bytes, length-append frame rest)
 
--- where the front has a token length that is not taken, it is declared so
+-- If the error is an invalid token length, `declared_of` returns it.
 pub token_length_declared : (M : ℕ) (s : List ℕ) → beginning M s ≡ Faulty TokenLength → declared_of s ≡ BadToken
 token_length_declared M s e = front_is M s (Faulty TokenLength) e
 
--- where the front is too large, its size is declared
+-- If the error is a size above M, `declared_of` returns the size.
 pub too_large_declared : (M : ℕ) (s : List ℕ) → beginning M s ≡ Faulty TooLarge → (n : ℕ) × (declared_of s ≡ Size n) × (M < n)
 too_large_declared M s e = front_is M s (Faulty TooLarge) e
 
--- a whole frame stays whole, whatever comes behind it
+-- A frame stays the same when more bytes follow.
 pub whole_more : (M : ℕ) (s t frame rest : List ℕ) → beginning M s ≡ Whole frame rest → beginning M (s ++ t) ≡ Whole frame (rest ++ t)
 whole_more M s t frame rest e =
     let w : IsWhole M s frame rest = front_is M s (Whole frame rest) e in
     begin_whole M (s ++ t) w.size (declared_more s t w.size w.declared) w.small (omega (arith, length-append s t, w.long))
     ∙ rw (take-append-le w.size s t w.long, drop-append-le w.size s t w.long) (λ i. Whole (w.front i) (w.behind i ++ t))
 
--- a fault stays the fault, whatever comes behind it
+-- An error stays the same when more bytes follow.
 pub faulty_more : (M : ℕ) (s t : List ℕ) (fault : FrameFault) → beginning M s ≡ Faulty fault → beginning M (s ++ t) ≡ Faulty fault
 faulty_more M s t TokenLength e = begin_bad_token M (s ++ t) (bad_token_more s t (front_is M s (Faulty TokenLength) e))
 faulty_more M s t TooLarge e =
@@ -390,7 +390,7 @@ whole_alone M s (b ∷ f) rest c e BadToken is =
     let bad : ◌≡◌ {A = Beginning} (Faulty TokenLength) (Whole (b ∷ f) rest) = sym (faulty_more M (b ∷ f) rest TokenLength (begin_bad_token M (b ∷ f) is)) ∙ ap (beginning M) (sym c.bytes) ∙ e in
     absurd cc
 
--- a whole frame is whole without what stands behind it
+-- A frame is found without the bytes after it.
 pub whole_itself : (M : ℕ) (s frame rest : List ℕ) → beginning M s ≡ Whole frame rest → beginning M frame ≡ Whole frame []
 whole_itself M s frame rest e = whole_alone M s frame rest (whole_parts M s frame rest e) e (declared_of frame) refl
 
@@ -400,11 +400,11 @@ unfinished_not_faulty M s fault u e = cc
 faulty_known : (M : ℕ) (s : List ℕ) (fault : FrameFault) → beginning M s ≡ Faulty fault → declared_of s ≡ Unknown → ⊥
 faulty_known M s fault e u = unfinished_not_faulty M s fault (begin_unknown M s u) e
 
--- the bytes up to the one at which a fault is known are there
+-- The bytes that show an error are present.
 pub fault_has_bytes : (M : ℕ) (s : List ℕ) (fault : FrameFault) → beginning M s ≡ Faulty fault → size_bytes s ≤ length s
 fault_has_bytes M s fault e = known_bytes s (faulty_known M s fault e)
 
--- the bytes of a fault stand among the bytes at which it was known
+-- The bytes that show an error stay the same when more bytes follow.
 pub fault_bytes_more : (M : ℕ) (s t : List ℕ) (fault : FrameFault) → beginning M s ≡ Faulty fault → fault_bytes (s ++ t) ≡ fault_bytes s
 fault_bytes_more M s t fault e =
     let known = faulty_known M s fault e in
@@ -420,21 +420,21 @@ last_is_size M s b size u d long =
           omega (arith, short.short)
     ]
 
--- a frame that one more byte completes ends with that byte
+-- A frame that one more byte completes ends with that byte.
 pub whole_at_last : (M : ℕ) (s : List ℕ) (b : ℕ) (frame rest : List ℕ) → beginning M s ≡ Unfinished → beginning M (s ++ b ∷ []) ≡ Whole frame rest → (rest ≡ []) × (frame ≡ s ++ b ∷ [])
 whole_at_last M s b frame rest u e =
     let w : IsWhole M (s ++ b ∷ []) frame rest = front_is M (s ++ b ∷ []) (Whole frame rest) e in
     let size = last_is_size M s b w.size u w.declared w.long in
     (sym w.behind ∙ drop_all w.size (s ++ b ∷ []) (omega arith), sym w.front ∙ take_all w.size (s ++ b ∷ []) (omega arith))
 
--- where a size of at most M is known, there is no fault
+-- A known size of at most M excludes an error.
 no_fault_of_size : (M : ℕ) (s : List ℕ) (n : ℕ) (fault : FrameFault) → declared_of s ≡ Size n → n ≤ M → beginning M s ≡ Faulty fault → ⊥
 no_fault_of_size M s n TokenLength d small e = bad_not_size n (sym (front_is M s (Faulty TokenLength) e) ∙ d)
 no_fault_of_size M s n TooLarge d small e =
     let f : (n : ℕ) × (declared_of s ≡ Size n) × (M < n) = front_is M s (Faulty TooLarge) e in
     omega (arith, small, f.2, same_size f.0 n (sym f.1 ∙ d))
 
--- a fault that one more byte makes known is known at that byte
+-- If one more byte shows an error, that byte is the last one needed.
 pub fault_at_last : (M : ℕ) (s : List ℕ) (b : ℕ) (fault : FrameFault) → beginning M s ≡ Unfinished → beginning M (s ++ b ∷ []) ≡ Faulty fault → fault_bytes (s ++ b ∷ []) ≡ s ++ b ∷ []
 fault_at_last M s b fault u e =
     elim (front_is M s Unfinished u) [
@@ -448,7 +448,7 @@ extension_by_small false true two = omega arith
 extension_by_small false false true = omega arith
 extension_by_small false false false = omega arith
 
--- a length has at most four bytes of extension
+-- A length has at most four extension bytes.
 pub extension_small : (x : ℕ) → extension_of x ≤ 4
 extension_small x = extension_by_small (ltb x 13) (eqb x 13) (eqb x 14)
 
@@ -457,11 +457,11 @@ option_extension_by_small true one = omega arith
 option_extension_by_small false true = omega arith
 option_extension_by_small false false = omega arith
 
--- the code and the extension of a token's length have at most three bytes
+-- The code and the extension of the token length have at most three bytes.
 token_bytes_small : (x : ℕ) → token_bytes x ≤ 3
 token_bytes_small x = option_extension_by_small (ltb x 13) (eqb x 13)
 
--- a size is known at the eighth byte at the latest
+-- A size is known at the eighth byte or before.
 pub size_bytes_small : (s : List ℕ) → size_bytes s ≤ 8
 size_bytes_small [] = omega arith
 size_bytes_small (b ∷ s) =
@@ -476,7 +476,7 @@ unknown_small (b ∷ s) e =
     let k : length (b ∷ s) < size_bytes (b ∷ s) = unknown_at b s e in
     omega (arith, k, size_bytes_small (b ∷ s))
 
--- what is not finished has fewer than M bytes, where M is at least 8
+-- An unfinished frame has fewer than M bytes, if M is at least 8.
 pub unfinished_below : (M : ℕ) (s : List ℕ) → 8 ≤ M → beginning M s ≡ Unfinished → length s < M
 unfinished_below M s h u =
     elim (front_is M s Unfinished u) [
@@ -484,7 +484,7 @@ unfinished_below M s h u =
       | inr short ↦ omega (arith, short.small, short.short)
     ]
 
--- what is not finished where frames of M bytes are taken is not finished where greater ones are
+-- A frame that is unfinished with the maximum M is unfinished with a larger maximum.
 pub unfinished_larger : (M N : ℕ) (s : List ℕ) → M ≤ N → beginning M s ≡ Unfinished → beginning N s ≡ Unfinished
 unfinished_larger M N s h u =
     elim (front_is M s Unfinished u) [
@@ -492,9 +492,9 @@ unfinished_larger M N s h u =
       | inr short ↦ begin_short N s short.size short.declared (omega (arith, short.small)) short.short
     ]
 
--- ---- the sizes in force
+-- ---- the maximum sizes
 
--- the sizes behind so many bytes and then so many more
+-- The sizes after m bytes and n more bytes are those after m + n bytes.
 pub behind_twice : (m n : ℕ) (sizes : Sizes) → sizes_behind n (sizes_behind m sizes) ≡ sizes_behind (m + n) sizes
 behind_twice m n sizes =
     let same : (at : ℕ) → m + (n + at) ≡ (m + n) + at = λ at. omega arith in
@@ -505,13 +505,13 @@ behind_none sizes =
     let same : (at : ℕ) → 0 + at ≡ at = λ at. omega arith in
     λ i at. sizes (same at i)
 
--- the bytes that come behind others do not change the size in force at the front
+-- More bytes do not change the maximum for the first frame.
 pub size_for_more : (sizes : Sizes) (s t : List ℕ) → 1 ≤ length s → size_for sizes (s ++ t) ≡ size_for sizes s
 size_for_more sizes s t some = ap (λ (n : ℕ). sizes (n - 1)) (size_bytes_more s t some)
 
--- ---- the turns do not matter
+-- ---- the limit of the recursion
 
--- two searches that agree behind each frame
+-- Two searches that agree after each frame give the same result.
 then_same : (go hop : List ℕ → List ℕ → Frames) (s : List ℕ) (b : Beginning) → ((frame rest : List ℕ) → b ≡ Whole frame rest → go frame rest ≡ hop frame rest) → frames_then go s b ≡ frames_then hop s b
 then_same go hop s Unfinished h = refl
 then_same go hop s (Faulty fault) h = refl
@@ -535,22 +535,22 @@ within_same (suc m) (suc n) sizes (b ∷ s) p q =
     let k : length rest < length (b ∷ s) = whole_shorter (size_for sizes (b ∷ s)) (b ∷ s) frame rest e in
     within_same m n (sizes_behind (length frame) sizes) rest (omega arith) (omega arith))
 
--- no more turns are needed than there are bytes
+-- The number of bytes is a sufficient limit of the recursion.
 pub frames_enough : (turns : ℕ) (sizes : Sizes) (s : List ℕ) → length s ≤ turns → frames_within turns sizes s ≡ sized_frames sizes s
 unfolding sized_frames
 frames_enough turns sizes s h = within_same turns (length s) sizes s h (omega arith)
 
 -- ---- the frames, step by step
 
--- the frames behind one
+-- The frames after the first one.
 abbrev pub frames_from : Sizes → List ℕ → List ℕ → Frames
 frames_from sizes frame rest = sized_frames (sizes_behind (length frame) sizes) rest
 
--- what bytes spell behind a frame
+-- The result of splitting the bytes after a frame.
 abbrev pub stream_from : Sizes → List ℕ → List ℕ → Stream
 stream_from sizes frame rest = sized_split (sizes_behind (length frame) sizes) rest
 
--- the frames of bytes are what stands at their front, and then the frames of the others
+-- The frames of a stream are the first one, followed by the frames of the other bytes.
 pub frames_step : (sizes : Sizes) (s : List ℕ) → sized_frames sizes s ≡ frames_then (frames_from sizes) s (beginning (size_for sizes s) s)
 unfolding frames_within
 frames_step sizes s =
@@ -559,25 +559,25 @@ frames_step sizes s =
     (λ frame rest e. frames_enough (length s) (sizes_behind (length frame) sizes) rest (omega (arith, whole_shorter (size_for sizes s) s frame rest e)))
 
 module _ (sizes : Sizes) (s : List ℕ) where
-  -- what is not finished is left
+  -- An unfinished frame is the rest.
   pub frames_unfinished : beginning (size_for sizes s) s ≡ Unfinished → sized_frames sizes s ≡ record { frames = []; rest = s; fault = None }
   frames_unfinished e = frames_step sizes s ∙ ap (frames_then (frames_from sizes) s) e
 
-  -- a fault ends the frames
+  -- An error ends the frames.
   pub frames_faulty : (fault : FrameFault) → beginning (size_for sizes s) s ≡ Faulty fault → sized_frames sizes s ≡ record { frames = []; rest = fault_bytes s; fault = Some fault }
   frames_faulty fault e = frames_step sizes s ∙ ap (frames_then (frames_from sizes) s) e
 
-  -- a frame, and then the frames of the others
+  -- One frame, followed by the frames of the other bytes.
   pub frames_whole : (frame rest : List ℕ) → beginning (size_for sizes s) s ≡ Whole frame rest → sized_frames sizes s ≡ with_frame frame (frames_from sizes frame rest)
   frames_whole frame rest e = frames_step sizes s ∙ ap (frames_then (frames_from sizes) s) e
 
--- ---- what holds of all bytes, frame by frame
+-- ---- induction over the frames of a stream
 
--- what holds of bytes with these sizes
+-- A property of a stream and its maximum sizes.
 abbrev pub Holding : Type 1
 Holding = Sizes → List ℕ → Type 0
 
--- it holds behind the frame at the front
+-- The property holds for the bytes after the first frame.
 abbrev pub HoldsBehind : Holding → Sizes → List ℕ → Type 0
 HoldsBehind P sizes s = (frame rest : List ℕ) → beginning (size_for sizes s) s ≡ Whole frame rest → P (sizes_behind (length frame) sizes) rest
 
@@ -586,7 +586,7 @@ by_turns zero P step sizes s k = step sizes s (λ frame rest e. absurd (omega (a
 by_turns (suc turns) P step sizes s k =
     step sizes s (λ frame rest e. by_turns turns P step (sizes_behind (length frame) sizes) rest (omega (arith, k, whole_shorter (size_for sizes s) s frame rest e)))
 
--- what holds of bytes wherever it holds behind the frame at their front holds of all bytes
+-- A property of every stream follows if it passes from the bytes after the first frame to the whole stream.
 pub by_frames : (P : Holding) → ((sizes : Sizes) (s : List ℕ) → HoldsBehind P sizes s → P sizes s) → (sizes : Sizes) (s : List ℕ) → P sizes s
 by_frames P step sizes s = by_turns (length s) P step sizes s (omega arith)
 
@@ -599,32 +599,32 @@ split_by sizes s (Faulty fault) e = ap read_found (frames_faulty sizes s fault e
 split_by sizes s (Whole frame rest) e = ap read_found (frames_whole sizes s frame rest e)
 
 module _ (sizes : Sizes) (s : List ℕ) where
-  -- what bytes spell is what stands at their front, and then what the others spell
+  -- The result for a stream is its first frame or error, followed by the result for the other bytes.
   pub sized_step : sized_split sizes s ≡ stream_then (stream_from sizes) s (beginning (size_for sizes s) s)
   sized_step = split_by sizes s (beginning (size_for sizes s) s) refl
 
-  -- what is not finished is left
+  -- An unfinished frame is the rest.
   pub sized_unfinished : beginning (size_for sizes s) s ≡ Unfinished → sized_split sizes s ≡ record { messages = []; rest = s; fault = None }
   sized_unfinished e = split_by sizes s Unfinished e
 
-  -- a fault ends the stream
+  -- An error ends the stream.
   pub sized_faulty : (fault : FrameFault) → beginning (size_for sizes s) s ≡ Faulty fault → sized_split sizes s ≡ record { messages = []; rest = fault_bytes s; fault = Some (OfFrame fault) }
   sized_faulty fault e = split_by sizes s (Faulty fault) e
 
-  -- a frame that spells a message, and then what the others spell
+  -- A frame that encodes a message, followed by the result for the other bytes.
   pub sized_message : (frame rest : List ℕ) (m : Message) → beginning (size_for sizes s) s ≡ Whole frame rest → message_of frame ≡ Ok m → sized_split sizes s ≡ with_message m (stream_from sizes frame rest)
   sized_message frame rest m e is = split_by sizes s (Whole frame rest) e ∙ ap (λ (r : Result Message FormatFault). frame_then frame r (stream_from sizes frame rest)) is
 
-  -- a frame that spells none ends the stream
+  -- A frame that encodes no message ends the stream.
   pub sized_bad : (frame rest : List ℕ) (e : FormatFault) → beginning (size_for sizes s) s ≡ Whole frame rest → message_of frame ≡ Err e → sized_split sizes s ≡ record { messages = []; rest = frame; fault = Some Format }
   sized_bad frame rest e is bad = split_by sizes s (Whole frame rest) is ∙ ap (λ (r : Result Message FormatFault). frame_then frame r (stream_from sizes frame rest)) bad
 
--- ---- going on
+-- ---- more bytes of a stream
 
 not_both_fault_and_none : (o : Option StreamFault) (fault : StreamFault) → o ≡ Some fault → o ≡ None → ⊥
 not_both_fault_and_none o fault e h = none_or_some fault (sym h ∙ e)
 
--- the rest of a stream is no longer than it
+-- The rest of a stream is not longer than the stream.
 abbrev IsWithin : Holding
 IsWithin sizes s = length (sized_split sizes s).rest ≤ length s
 
@@ -643,19 +643,19 @@ within_step sizes s (Whole frame rest) again e =
 pub rest_within : (sizes : Sizes) (s : List ℕ) → length (sized_split sizes s).rest ≤ length s
 rest_within sizes s = by_frames IsWithin (λ at r again. within_step at r (beginning (size_for at r) r) again refl) sizes s
 
--- the sizes of the rest, where a frame stands in front
+-- The sizes of the rest, if a frame comes before.
 pub rest_behind : (sizes : Sizes) (frame rest s left : List ℕ) → length s ≡ length frame + length rest → length left ≤ length rest → sizes_of_rest (sizes_behind (length frame) sizes) rest left ≡ sizes_of_rest sizes s left
 rest_behind sizes frame rest s left all within =
     let same : length frame + (length rest - length left) ≡ length s - length left = omega (arith, all, within) in
     behind_twice (length frame) (length rest - length left) sizes ∙ ap (λ (n : ℕ). sizes_behind n sizes) same
 
--- where all of it is left
+-- The rest is the whole stream.
 pub rest_is_all : (sizes : Sizes) (s : List ℕ) → sizes_of_rest sizes s s ≡ sizes
 rest_is_all sizes s =
     let none : length s - length s ≡ 0 = omega arith in
     ap (λ (n : ℕ). sizes_behind n sizes) none ∙ behind_none sizes
 
--- where something stands at the front there is a byte
+-- If there is an error or a frame, there is a byte.
 pub faulty_some : (M : ℕ) (s : List ℕ) (fault : FrameFault) → beginning M s ≡ Faulty fault → 1 ≤ length s
 faulty_some M [] fault e = let bad : ◌≡◌ {A = Beginning} Unfinished (Faulty fault) = sym (unfinished_empty M) ∙ e in absurd cc
 faulty_some M (b ∷ s) fault e = omega arith
@@ -663,7 +663,7 @@ faulty_some M (b ∷ s) fault e = omega arith
 pub whole_some : (M : ℕ) (s frame rest : List ℕ) → beginning M s ≡ Whole frame rest → 1 ≤ length s
 whole_some M s frame rest e = omega (arith, whole_shorter M s frame rest e)
 
--- the same stands at the front with more bytes behind it, where the size in force is that of the front
+-- More bytes change neither the error or frame found nor the maximum size for it.
 pub sized_faulty_more : (sizes : Sizes) (s t : List ℕ) (fault : FrameFault) → beginning (size_for sizes s) s ≡ Faulty fault → beginning (size_for sizes (s ++ t)) (s ++ t) ≡ Faulty fault
 sized_faulty_more sizes s t fault e =
     ap (λ (M : ℕ). beginning M (s ++ t)) (size_for_more sizes s t (faulty_some (size_for sizes s) s fault e)) ∙ faulty_more (size_for sizes s) s t fault e
@@ -672,16 +672,16 @@ pub sized_whole_more : (sizes : Sizes) (s t frame rest : List ℕ) → beginning
 sized_whole_more sizes s t frame rest e =
     ap (λ (M : ℕ). beginning M (s ++ t)) (size_for_more sizes s t (whole_some (size_for sizes s) s frame rest e)) ∙ whole_more (size_for sizes s) s t frame rest e
 
--- a message in front of a stream stands in front of the stream gone on
+-- One more message before the others stays before them when more bytes follow.
 message_on : (m : Message) (stream others : Stream) (fault : Option StreamFault) → gone_on (with_message m stream) fault others ≡ with_message m (gone_on stream fault others)
 message_on m stream others None = refl
 message_on m stream others (Some fault) = refl
 
--- the stream of s goes on with t
+-- The result for s, continued with t, is that for both together.
 abbrev StreamGoesOn : List ℕ → Holding
 StreamGoesOn t sizes s = sized_split sizes (s ++ t) ≡ sized_split_on (sizes_of_rest sizes s (sized_split sizes s).rest) (sized_split sizes s) t
 
--- the stream first gone on with t
+-- The result first, continued with t.
 abbrev on_with : Sizes → List ℕ → List ℕ → Stream → Stream
 on_with sizes s t first = sized_split_on (sizes_of_rest sizes s first.rest) first t
 
@@ -710,15 +710,15 @@ on_step t sizes s (Whole frame rest) again e =
           ∙ sym (ap (on_with sizes s t) (sized_bad sizes s frame rest bad.0 e bad.1))
     ]
 
--- Where bytes are cut does not matter.
+-- The segmentation of a stream does not change its messages.
 pub sized_goes_on : (sizes : Sizes) (s more : List ℕ) → sized_split sizes (s ++ more) ≡ sized_split_on (sizes_of_rest sizes s (sized_split sizes s).rest) (sized_split sizes s) more
 sized_goes_on sizes s more = by_frames (StreamGoesOn more) (λ at r again. on_step more at r (beginning (size_for at r) r) again refl) sizes s
 
--- where s has no fault, what is left of it is not finished
+-- If s has no error, its rest is unfinished.
 abbrev LeavesUnfinished : Holding
 LeavesUnfinished sizes s = (sized_split sizes s).fault ≡ None → beginning (size_for (sizes_of_rest sizes s (sized_split sizes s).rest) (sized_split sizes s).rest) (sized_split sizes s).rest ≡ Unfinished
 
--- what stands at the front of what is left
+-- The classification of the first bytes of the rest.
 abbrev front_of_rest : Sizes → List ℕ → List ℕ → Beginning
 front_of_rest sizes s left = beginning (size_for (sizes_of_rest sizes s left) left) left
 
@@ -741,13 +741,13 @@ rest_step sizes s (Whole frame rest) again e h =
       | inr bad ↦ absurd (not_both_fault_and_none (sized_split sizes s).fault Format (ap (λ (u : Stream). u.fault) (sized_bad sizes s frame rest bad.0 e bad.1)) h)
     ]
 
--- Where there is no fault, what is left is not finished.
+-- If there is no error, the rest is unfinished.
 pub sized_rest : (sizes : Sizes) (s : List ℕ) → (sized_split sizes s).fault ≡ None → beginning (size_for (sizes_of_rest sizes s (sized_split sizes s).rest) (sized_split sizes s).rest) (sized_split sizes s).rest ≡ Unfinished
 sized_rest sizes s = by_frames LeavesUnfinished (λ at r again. rest_step at r (beginning (size_for at r) r) again refl) sizes s
 
 -- ---- sizes that agree
 
--- the size of an unfinished frame is not told yet, or it is told and at most the size in force
+-- The size of an unfinished frame is known, and it is at most the maximum.
 abbrev IsTold : ℕ → List ℕ → Type 0
 IsTold M s = (n : ℕ) × (declared_of s ≡ Size n) × (n ≤ M) × (length s < n)
 
@@ -758,7 +758,7 @@ front_cases M s u =
       | inr short ↦ inr (short.size, short.declared, short.small, short.short)
     ]
 
--- where a size is told, greater sizes in force do not change what stands at the front
+-- If the size is known, a larger maximum does not change the classification.
 begins_same : (M N : ℕ) (s : List ℕ) (n : ℕ) → declared_of s ≡ Size n → n ≤ M → M ≤ N → beginning M s ≡ beginning N s
 begins_same M N s n e small larger =
     elim (cases_lt (length s) n) [
@@ -766,7 +766,8 @@ begins_same M N s n e small larger =
       | inr long ↦ begin_whole M s n e small long ∙ sym (begin_whole N s n e (omega (arith, small, larger)) long)
     ]
 
--- what is kept is unfinished with the sizes F, its size in force is no greater with them than with G, and behind it they agree
+-- The bytes `kept` are unfinished with the sizes F. Their maximum in F is at most that in G, and F and G agree after
+-- them.
 pub record AreAlikeBehind (F G : Sizes) (kept : List ℕ) : Type 0 where
   pub unfinished : beginning (size_for F kept) kept ≡ Unfinished
   pub larger : size_for F kept ≤ size_for G kept
@@ -780,7 +781,7 @@ front_agrees F G (b ∷ s) more alike =
       | inr told ↦ begins_same (size_for F (b ∷ s)) (size_for G (b ∷ s)) (b ∷ (s ++ more)) told.0 (declared_more (b ∷ s) more told.0 told.1) told.2 alike.larger
     ]
 
--- a frame has all of what was kept of it
+-- A frame has at least the bytes that were kept of it.
 frame_has_kept : (M N : ℕ) (kept more frame rest : List ℕ) → beginning M kept ≡ Unfinished → beginning N (kept ++ more) ≡ Whole frame rest → length kept ≤ length frame
 frame_has_kept M N [] more frame rest u e = omega arith
 frame_has_kept M N (b ∷ s) more frame rest u e =
@@ -806,7 +807,7 @@ alike_at F G kept more (Whole frame rest) alike e =
     ∙ ap (λ (f : Sizes). with_frame frame (sized_frames f rest)) (behind_same F G (length kept) (length frame) alike.same long)
     ∙ sym (frames_whole G (kept ++ more) frame rest e)
 
--- What is unfinished may as well have been taken with a greater size in force.
+-- A larger maximum for an unfinished frame gives the same result.
 pub frames_alike : (F G : Sizes) (kept more : List ℕ) → AreAlikeBehind F G kept → sized_frames F (kept ++ more) ≡ sized_frames G (kept ++ more)
 frames_alike F G kept more alike = alike_at F G kept more (beginning (size_for G (kept ++ more)) (kept ++ more)) alike refl
 
@@ -814,7 +815,7 @@ pub split_alike : (F G : Sizes) (kept more : List ℕ) → AreAlikeBehind F G ke
 unfolding sized_split
 split_alike F G kept more alike = ap read_found (frames_alike F G kept more alike)
 
--- ---- sizes of bytes that are not there
+-- ---- sizes after the last byte
 
 abbrev AgreeTo : ℕ → Sizes → Sizes → Type 0
 AgreeTo n F G = (at : ℕ) → at < n → F at ≡ G at
@@ -842,7 +843,7 @@ same_to_step F s (Whole frame rest) again e G same =
     ∙ ap (with_frame frame) (again frame rest e (sizes_behind (length frame) G) (λ at h. same (length frame + at) (there at h)))
     ∙ sym (frames_whole G s frame rest (sym (front_by_size F G s (declared_of s) same refl) ∙ e))
 
--- The sizes behind the last byte do not matter.
+-- The sizes after the last byte have no effect.
 pub frames_same_to : (F G : Sizes) (s : List ℕ) → ((at : ℕ) → at < length s → F at ≡ G at) → sized_frames F s ≡ sized_frames G s
 frames_same_to F G s same = by_frames IsSameTo (λ sizes r again. same_to_step sizes r (beginning (size_for sizes r) r) again refl) F s G same
 
@@ -850,7 +851,7 @@ pub split_same_to : (F G : Sizes) (s : List ℕ) → ((at : ℕ) → at < length
 unfolding sized_split
 split_same_to F G s same = ap read_found (frames_same_to F G s same)
 
--- ---- one size for all time
+-- ---- a maximum that never changes
 
 pub split_is : (M : ℕ) (s : List ℕ) → split M s ≡ sized_split (always M) s
 unfolding split

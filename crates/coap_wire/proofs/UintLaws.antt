@@ -1,10 +1,10 @@
--- The bytes of a number mean that number.
+-- The bytes of a number encode that number.
 use Rattle.std.proofs.Common.{◌≡◌, ℕ, zero, suc, ◌<◌, ◌^◌, List, [], ◌∷◌, refl, sym, ap, ◌∙◌, arith}
 use Rattle.std.proofs.lemmas.Nat.{from_be_bytes-to_be_bytes_8}
 use Rattle.std.specs.Int.{byte_at}
 use Rattle.coap_wire.specs.Prelude.{w32, w64, to_be_bytes, uint_of, without_leading_zeros, bytes_of_uint}
 
--- leading zero bytes mean nothing
+-- Leading zero bytes do not change the number.
 zeros_mean_nothing : (bytes : List ℕ) → uint_of (without_leading_zeros bytes) ≡ uint_of bytes
 zeros_mean_nothing [] = refl
 zeros_mean_nothing (zero ∷ bytes) = zeros_mean_nothing bytes
@@ -13,12 +13,12 @@ zeros_mean_nothing (suc b ∷ bytes) = refl
 all_bytes_mean : (n : ℕ) → n < 2 ^ 64 → uint_of (to_be_bytes w64 n) ≡ n
 all_bytes_mean n fits = omega (arith, from_be_bytes-to_be_bytes_8 n fits)
 
--- The bytes of a number mean it.
+-- The shortest encoding of a number encodes it.
 pub uint_of_bytes : (n : ℕ) → n < 2 ^ 64 → uint_of (bytes_of_uint n) ≡ n
 unfolding bytes_of_uint
 uint_of_bytes n fits = zeros_mean_nothing (to_be_bytes w64 n) ∙ all_bytes_mean n fits
 
--- Equal bytes mean equal numbers.
+-- Numbers with equal encodings are equal.
 pub bytes_are_one : (m n : ℕ) → m < 2 ^ 64 → n < 2 ^ 64 → bytes_of_uint m ≡ bytes_of_uint n → m ≡ n
 bytes_are_one m n p q same = sym (uint_of_bytes m p) ∙ ap uint_of same ∙ uint_of_bytes n q
 
@@ -27,13 +27,13 @@ bytes_are_one m n p q same = sym (uint_of_bytes m p) ∙ ap uint_of same ∙ uin
 zeros_first : (a b c d : ℕ) (s : List ℕ) → a ≡ 0 → b ≡ 0 → c ≡ 0 → d ≡ 0 → without_leading_zeros (a ∷ b ∷ c ∷ d ∷ s) ≡ without_leading_zeros s
 zeros_first a b c d s p q r t = rw (p, q, r, t) refl
 
--- The fewest bytes of a number below 2^32 are among its last 4.
+-- The shortest encoding of a number below 2^32 is that of its last 4 bytes.
 pub four_bytes_of : (n : ℕ) → n < 2 ^ 32 → bytes_of_uint n ≡ without_leading_zeros (to_be_bytes w32 n)
 unfolding bytes_of_uint
 four_bytes_of n fits =
     zeros_first (byte_at 7 n) (byte_at 6 n) (byte_at 5 n) (byte_at 4 n) (to_be_bytes w32 n) (omega arith) (omega arith) (omega arith) (omega arith)
 
--- no byte means 0
+-- The shortest encoding of 0 has no byte.
 pub no_byte_of_zero : bytes_of_uint 0 ≡ []
 unfolding bytes_of_uint
 no_byte_of_zero = refl
@@ -41,7 +41,7 @@ no_byte_of_zero = refl
 one_byte_left : (a b c d e f g h : ℕ) → a ≡ 0 → b ≡ 0 → c ≡ 0 → d ≡ 0 → e ≡ 0 → f ≡ 0 → g ≡ 0 → without_leading_zeros (a ∷ b ∷ c ∷ d ∷ e ∷ f ∷ g ∷ suc h ∷ []) ≡ suc h ∷ []
 one_byte_left a b c d e f g h p q r s t u v = rw (p, q, r, s, t, u, v) refl
 
--- one byte means a number from 1 to 255
+-- The shortest encoding of a number from 1 to 255 has one byte.
 pub one_byte_of : (n : ℕ) → 0 < n → n < 256 → bytes_of_uint n ≡ n ∷ []
 unfolding bytes_of_uint
 one_byte_of zero some fits = absurd (omega arith)

@@ -6,7 +6,7 @@ pub stays : (b : ℕ) (s rest : List ℕ) → rest ≡ b ∷ s → (b ≡ 0 → 
 stays zero s rest e h = absurd (h refl)
 stays (suc b) s rest e h = rw e refl
 
--- a list that does not begin with 0 has no leading zeros
+-- A list that does not begin with 0 has no leading zeros.
 pub starts : (b : ℕ) (s rest : List ℕ) → rest ≡ b ∷ s → (b ≡ 0 → ⊥) → without_leading_zeros rest ≡ rest
 starts zero s rest e h = absurd (h refl)
 starts (suc b) s rest e h = rw e refl

@@ -1,4 +1,4 @@
--- Worked values of the definitions.
+-- Examples: values of the definitions.
 use Rattle.std.proofs.Common.{◌≡◌, [], ◌∷◌, refl, Ok, Err}
 use Rattle.coap_wire.specs.Prelude.{length_form, spelling, option_spelling, bytes_of_uint, declared_of, message_of}
 use Rattle.coap_wire.specs.Prelude.{one_byte_at, two_bytes_at, four_bytes_at, length_at, option_number_at, head_at}
@@ -8,8 +8,8 @@ use Rattle.coap_wire.specs.Prelude.{NotOneFrame}
 use Rattle.coap_wire.specs.Prelude.{BASE_MESSAGE_SIZE, MAX_EXTENDED_LENGTH, LARGEST_MESSAGE, LARGEST_SENT_MESSAGE}
 use Rattle.coap_wire.specs.Prelude.{LARGEST_QUEUE, DEFAULT_QUEUE}
 
--- The sizes that code and definitions share. The first is the base value of Max-Message-Size (RFC 8323 section 5.3.1),
--- the second the largest number with two extension bytes (RFC 7252 section 3.1).
+-- The sizes that code and definitions share. The first is the base value of Max-Message-Size (RFC 8323 section 5.3.1).
+-- The second is the largest number with two extension bytes (RFC 7252 section 3.1).
 base_message_size : BASE_MESSAGE_SIZE ≡ 1152
 base_message_size = refl
 
@@ -28,24 +28,24 @@ largest_queue = refl
 default_queue : DEFAULT_QUEUE ≡ 131072
 default_queue = refl
 
--- a length of 1,147 is Len 14 with 03 6E
+-- A length of 1,147 is Len 14 with 03 6E.
 length_1147 : length_form 1147 ≡ (14, 0x03 ∷ 0x6e ∷ [])
 length_1147 = refl
 
--- Len 15 with FF FF FF FF is 4,295,033,100
+-- Len 15 with FF FF FF FF is 4,295,033,100.
 length_greatest : length_form 4295033100 ≡ (15, 0xff ∷ 0xff ∷ 0xff ∷ 0xff ∷ [])
 length_greatest = refl
 
--- option 23 as the first one, with one value byte
+-- Option 23 is the first one and has a value of one byte.
 option_23 : option_spelling 0 (record { number = 23; value = 6 ∷ [] }) ≡ 0xd1 ∷ 0x0a ∷ 6 ∷ []
 option_23 = refl
 
--- our CSM with Max-Message-Size 65,536
+-- The CSM with Max-Message-Size 65,536.
 own_csm : spelling (record { code = 0xe1; token = []; options = record { number = 2; value = 1 ∷ 0 ∷ 0 ∷ [] } ∷ []; payload = [] }) ≡ 0x40 ∷ 0xe1 ∷ 0x23 ∷ 1 ∷ 0 ∷ 0 ∷ []
 unfolding spelling
 own_csm = refl
 
--- the bytes of 65,536, and of 0
+-- The bytes of 65,536 and of 0.
 uint_65536 : bytes_of_uint 65536 ≡ 1 ∷ 0 ∷ 0 ∷ []
 unfolding bytes_of_uint
 uint_65536 = refl
@@ -54,7 +54,7 @@ uint_0 : bytes_of_uint 0 ≡ []
 unfolding bytes_of_uint
 uint_0 = refl
 
--- the greatest size without a token
+-- The largest size without a token.
 size_greatest : declared_of (0xf0 ∷ 0xff ∷ 0xff ∷ 0xff ∷ 0xff ∷ []) ≡ Size 4295033106
 unfolding declared_of length_at four_bytes_at option_number_at
 size_greatest = refl
@@ -63,7 +63,7 @@ fault_1 : message_of (0x0f ∷ []) ≡ Err TokenLength
 unfolding message_of head_at
 fault_1 = refl
 
--- a token of 65 bytes
+-- A token length of 65.
 fault_1_long : message_of (0x0d ∷ 0x01 ∷ 0x34 ∷ []) ≡ Err TokenLength
 unfolding message_of head_at length_at option_number_at one_byte_at
 fault_1_long = refl
@@ -76,7 +76,7 @@ declared_no_extension : declared_of (0x0d ∷ 0x01 ∷ []) ≡ Unknown
 unfolding declared_of length_at option_number_at one_byte_at
 declared_no_extension = refl
 
--- a token of 13 bytes
+-- A token length of 13.
 declared_13 : declared_of (0x0d ∷ 0x01 ∷ 0x00 ∷ []) ≡ Size 16
 unfolding declared_of length_at option_number_at one_byte_at
 declared_13 = refl
@@ -89,12 +89,12 @@ declared_nibble_15 : declared_of (0x0f ∷ []) ≡ BadToken
 unfolding declared_of
 declared_nibble_15 = refl
 
--- our CSM with Max-Message-Size 65,536 and Extended-Token-Length 64
+-- The CSM with Max-Message-Size 65,536 and Extended-Token-Length 64.
 own_csm_of_both : spelling (record { code = 0xe1; token = []; options = record { number = 2; value = 1 ∷ 0 ∷ 0 ∷ [] } ∷ record { number = 6; value = 64 ∷ [] } ∷ []; payload = [] }) ≡ 0x60 ∷ 0xe1 ∷ 0x23 ∷ 1 ∷ 0 ∷ 0 ∷ 0x41 ∷ 0x40 ∷ []
 unfolding spelling
 own_csm_of_both = refl
 
--- a token of 13 bytes is spelled with one byte of extension
+-- A token length of 13 has one extension byte.
 spelled_13 : spelling (record { code = 0x01; token = 1 ∷ 2 ∷ 3 ∷ 4 ∷ 5 ∷ 6 ∷ 7 ∷ 8 ∷ 9 ∷ 10 ∷ 11 ∷ 12 ∷ 13 ∷ []; options = []; payload = [] }) ≡ 0x0d ∷ 0x01 ∷ 0x00 ∷ 1 ∷ 2 ∷ 3 ∷ 4 ∷ 5 ∷ 6 ∷ 7 ∷ 8 ∷ 9 ∷ 10 ∷ 11 ∷ 12 ∷ 13 ∷ []
 unfolding spelling
 spelled_13 = refl

@@ -1,15 +1,15 @@
--- The bytes of the codes (RFC 7252 sections 4.1, 5.8, 5.9, 12.1, RFC 8323 section 5).
+-- RFC 7252 sections 4.1, 5.8, 5.9, 12.1, RFC 8323 section 5: the codes, as bytes.
 use Rattle.std.specs.Prelude.{ℕ, ◌+◌, ◌*◌, ◌/◌, ◌%◌}
 
--- a class of 3 bits and a detail of 5 bits
+-- The code with a class of 3 bits and a detail of 5 bits.
 abbrev pub code_of : ℕ → ℕ → ℕ
 code_of class detail = class * 32 + detail
 
--- the class of a code
+-- The class of a code.
 abbrev pub class_of : ℕ → ℕ
 class_of code = code / 32
 
--- the detail of a code
+-- The detail of a code.
 abbrev pub detail_of : ℕ → ℕ
 detail_of code = code % 32
 

@@ -1,4 +1,5 @@
--- Why a frame spells no message: the first fault, in the order in which faults are looked for.
+-- Defined by this project: the first error of bytes that encode no message, in the order in which errors are looked
+-- for.
 use Rattle.std.specs.Prelude.{◌≡◌, ◌≢◌, ℕ, ◌+◌, ◌/◌, ◌%◌, ◌<◌, ◌≤◌, List, [], ◌∷◌, length, ◌⊎◌}
 use Rattle.coap_wire.specs.Message.{CoapOption, last_number}
 use Rattle.coap_wire.specs.Forms.{option_extension}
@@ -7,7 +8,7 @@ use Rattle.coap_wire.specs.Size.{IsFrame, HasBadToken}
 use Rattle.coap_wire.specs.declared.fault.FormatFault.{FormatFault}
 use Rattle.coap_wire.specs.declared.fault.FormatFault.TheVariants.{TokenLength, OptionDelta, OptionLength, OptionCut, OptionNumber, EmptyPayload, NotOneFrame}
 
--- s begins with an option's first byte, and its two extensions are not all there
+-- The bytes `s` are the start of an option, and end before the two extensions are complete.
 pub record IsOptionHeadCut (s : List ℕ) : Type 0 where
   pub first : ℕ
   pub after : List ℕ
@@ -16,7 +17,8 @@ pub record IsOptionHeadCut (s : List ℕ) : Type 0 where
   pub len : first % 16 < 15
   pub cut : length after < option_extension (first / 16) + option_extension (first % 16)
 
--- s begins with the head of an option whose number fits, and its value is not all there
+-- The bytes `s` are the start of an option, and end before its value is complete. The number of the option is `base`
+-- plus the delta, and at most 65,535.
 pub record IsValueCut (base : ℕ) (s : List ℕ) : Type 0 where
   pub delta : ℕ
   pub len : ℕ
@@ -25,7 +27,7 @@ pub record IsValueCut (base : ℕ) (s : List ℕ) : Type 0 where
   pub number : base + delta ≤ 65535
   pub cut : length after < len
 
--- s begins with the head of an option whose number is above 65,535
+-- The bytes `s` begin with the head of an option whose number, `base` plus the delta, is above 65,535.
 pub record IsNumberTooGreat (base : ℕ) (s : List ℕ) : Type 0 where
   pub delta : ℕ
   pub len : ℕ
@@ -33,7 +35,8 @@ pub record IsNumberTooGreat (base : ℕ) (s : List ℕ) : Type 0 where
   pub head : IsOptionHead s delta len after
   pub number : 65535 < base + delta
 
--- What is wrong at the front of s, where an option whose number counts from base, or the marker, should stand.
+-- The bytes `s` have this error at their start, where an option or the marker is expected. The delta of the option
+-- counts from `base`.
 abbrev pub IsOptionFault : ℕ → List ℕ → FormatFault → Type 0
 IsOptionFault base s EmptyPayload = s ≡ 255 ∷ []
 IsOptionFault base s OptionDelta = (b : ℕ) × (after : List ℕ) × (s ≡ b ∷ after) × (b ≢ 255) × (b / 16 ≡ 15)
@@ -43,7 +46,7 @@ IsOptionFault base s OptionNumber = IsNumberTooGreat base s
 IsOptionFault base s TokenLength = ⊥
 IsOptionFault base s NotOneFrame = ⊥
 
--- a frame whose options, up to one that is wrong, are these
+-- The bytes `s` are a frame. Its body is these options, followed by bytes that have this error at their start.
 pub record HasOptionFault (s : List ℕ) (fault : FormatFault) : Type 0 where
   pub code : ℕ
   pub token : List ℕ
@@ -54,8 +57,8 @@ pub record HasOptionFault (s : List ℕ) (fault : FormatFault) : Type 0 where
   pub bytes : IsOptionBytes 0 options body rest
   pub wrong : IsOptionFault (last_number 0 options) rest fault
 
--- The first fault of bytes that spell no message: a token length that is not taken, then bytes that are not one frame, then
--- the first option from the left that is wrong.
+-- The first error of bytes `s` that encode no message. The order is: an invalid token length, bytes that are not
+-- exactly one frame, the first malformed option.
 abbrev pub IsFirstFault : List ℕ → FormatFault → Type 0
 IsFirstFault s TokenLength = HasBadToken s
 IsFirstFault s NotOneFrame = (HasBadToken s → ⊥) × (IsFrame s → ⊥)

@@ -1,4 +1,4 @@
--- The numbers of options (RFC 7252 section 5.10; Observe: RFC 7641 section 2).
+-- RFC 7252 section 5.10, RFC 7641 section 2 (Observe): the numbers of options.
 use Rattle.std.specs.Prelude.{ℕ}
 
 abbrev pub if_match : ℕ

@@ -1,4 +1,4 @@
--- What the contracts and the proofs of the crate name, passed on from one place. Declares nothing.
+-- The names that the contracts and the proofs of this crate use, re-exported from one file. Nothing is defined here.
 
 -- ---- std and the kit's crates
 pub use Rattle.std.specs.Cmp.Lexicographic.{pointwise}

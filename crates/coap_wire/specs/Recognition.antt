@@ -1,4 +1,4 @@
--- Which options of a message are recognised (RFC 7252 sections 5.4, 5.10).
+-- RFC 7252 sections 5.4, 5.10: the recognised options of a message.
 use Rattle.std.specs.Prelude.{◌≡◌, ◌≢◌, ℕ, ◌%◌, ◌≤◌, List, [], ◌∷◌, ◌++◌, length, map, filter, find, Option, Some, None, option_map, Bool, true, false, not, ◌&&◌, ◌||◌, ◌==◌, nat_le, All}
 use Rattle.std.specs.List.{list_all}
 use Rattle.coap_wire.specs.Message.{CoapOption}
@@ -7,15 +7,15 @@ use Rattle.coap_wire.specs.declared.kinds.OptionKind.{OptionKind}
 
 -- ---- the table
 
--- a value of least to greatest bytes, in one option of a message at most
+-- The properties of an option that is not repeatable, with a value of `least` to `greatest` bytes.
 abbrev pub once : ℕ → ℕ → OptionKind
 once least greatest = record { min = least; max = greatest; repeatable = false }
 
--- the same in any number of options
+-- The properties of a repeatable option, with a value of `least` to `greatest` bytes.
 abbrev pub repeated : ℕ → ℕ → OptionKind
 repeated least greatest = record { min = least; max = greatest; repeatable = true }
 
--- the options by number (RFC 7252 section 5.10; Observe: RFC 7641 section 2)
+-- The properties of options by number (RFC 7252 section 5.10; Observe: RFC 7641 section 2).
 abbrev pub option_kinds : List (ℕ × OptionKind)
 option_kinds =
     (numbers.if_match, repeated 0 8)
@@ -36,18 +36,19 @@ option_kinds =
     ∷ (numbers.size1, once 0 4)
     ∷ []
 
--- what the table says of a number
+-- The properties of the options with this number, or `None` if the table does not have it.
 unfoldable pub kind_of : ℕ → Option OptionKind
 kind_of number = option_map (λ row. row.1) (find (λ row. row.0 == number) option_kinds)
 
--- ---- recognised
+-- ---- recognised options
 
--- no option of those before has the number of o: o is the first with its number
+-- The option `o` is the first with its number: no option in `before` has it.
 abbrev pub IsFirstWithNumber : List CoapOption → CoapOption → Type 0
 IsFirstWithNumber before o = All (λ p. p.number ≢ o.number) before
 
--- The option o, before which stand these, is recognised: its number is in the table, the length of its value is in the
--- range (RFC 7252 section 5.4.3), and, where it is not repeatable, it is the first with its number (section 5.4.5).
+-- The option `o` is recognised, if `before` are the options before it in its message. Its number is in the table, and
+-- the length of its value is in the range (RFC 7252 section 5.4.3). If it is not repeatable, it is the first with its
+-- number (section 5.4.5).
 pub record IsRecognised (before : List CoapOption) (o : CoapOption) : Type 0 where
   pub kind : OptionKind
   pub is_in_table : kind_of o.number ≡ Some kind
@@ -55,76 +56,79 @@ pub record IsRecognised (before : List CoapOption) (o : CoapOption) : Type 0 whe
   pub at_most : length o.value ≤ kind.max
   pub first : kind.repeatable ≡ false → IsFirstWithNumber before o
 
--- ---- the same as tests
+-- ---- the same as functions
 
--- no option of those before has the number of o
+-- The option `o` is the first with its number: no option in `before` has it.
 abbrev pub is_first_with_number : List CoapOption → CoapOption → Bool
 is_first_with_number before o = list_all (λ p. not (p.number == o.number)) before
 
--- the length of the value is in the range, and an option that is not repeatable is the first with its number
+-- The option `o` is recognised, if these are its properties. The length of its value is in the range. If it is not
+-- repeatable, it is the first with its number. Without properties it is not recognised.
 abbrev pub has_kind : List CoapOption → CoapOption → Option OptionKind → Bool
 has_kind before o None = false
 has_kind before o (Some kind) =
     (nat_le kind.min (length o.value) && nat_le (length o.value) kind.max)
     && (kind.repeatable || is_first_with_number before o)
 
--- the option o, before which stand these, is recognised
+-- The option `o` is recognised, if `before` are the options before it in its message.
 unfoldable pub is_recognised : List CoapOption → CoapOption → Bool
 is_recognised before o = has_kind before o (kind_of o.number)
 
 -- ---- the options of a message
 
--- an option, and those that stand before it in its message
+-- An option, and the options before it in its message.
 pub record Placed : Type 0 where
   pub before : List CoapOption
   pub option : CoapOption
 
--- each option of os with those before it: the earlier ones, and those of os up to it
+-- Each option of `os` with the options before it: those in `earlier`, and those before it in `os`.
 abbrev pub placed : List CoapOption → List CoapOption → List Placed
 placed earlier [] = []
 placed earlier (o ∷ os) = record { before = earlier; option = o } ∷ placed (earlier ++ o ∷ []) os
 
--- the recognised ones of os, in order, where the earlier ones stand before them
+-- The recognised options of `os`, in order, if the options in `earlier` come before them.
 unfoldable pub known_behind : List CoapOption → List CoapOption → List CoapOption
 known_behind earlier os = map (λ p. p.option) (filter (λ p. is_recognised p.before p.option) (placed earlier os))
 
--- the recognised options of a message, in order
+-- The recognised options of a message, in order.
 abbrev pub known_options : List CoapOption → List CoapOption
 known_options os = known_behind [] os
 
--- an option with an odd number is critical (RFC 7252 sections 5.4.1, 5.4.6)
+-- An option with an odd number is critical (RFC 7252 sections 5.4.1, 5.4.6).
 abbrev pub is_critical : CoapOption → Bool
 is_critical o = o.number % 2 == 1
 
--- the number of the first of os that is critical and not recognised, where the earlier ones stand before them
+-- The number of the first option of `os` that is critical and not recognised, if the options in `earlier` come before
+-- them. `None` if there is none.
 unfoldable pub first_critical_behind : List CoapOption → List CoapOption → Option ℕ
 first_critical_behind earlier os =
     option_map (λ p. p.option.number) (find (λ p. is_critical p.option && not (is_recognised p.before p.option)) (placed earlier os))
 
--- the number of the first option of a message that is critical and not recognised
+-- The number of the first option of a message that is critical and not recognised. `None` if there is none.
 abbrev pub first_critical : List CoapOption → Option ℕ
 first_critical os = first_critical_behind [] os
 
--- an option, and whether it is recognised
+-- An option, and whether it is recognised.
 pub record CheckedOptionValue : Type 0 where
   pub option : CoapOption
   pub recognised : Bool
 
--- an option among those before it, as the test says
+-- An option, and the result of `is_recognised` for it.
 abbrev pub checked_at : Placed → CheckedOptionValue
 checked_at p = record { option = p.option; recognised = is_recognised p.before p.option }
 
--- each of os, in order, with whether it is recognised, if the earlier ones stand before them
+-- Each option of `os`, in order, and whether it is recognised, if the options in `earlier` come before them.
 unfoldable pub checked_behind : List CoapOption → List CoapOption → List CheckedOptionValue
 checked_behind earlier os = map checked_at (placed earlier os)
 
--- each option of a message, in order, with whether it is recognised
+-- Each option of a message, in order, and whether it is recognised.
 abbrev pub checked_options : List CoapOption → List CheckedOptionValue
 checked_options os = checked_behind [] os
 
--- ---- going from option to option
+-- ---- one option after the other
 
--- an option with this number, where there is one; its value does not matter
+-- One option with this number and an empty value, or no option for `None`. To recognise the next option of an ordered
+-- list, this is enough.
 abbrev pub option_before : Option ℕ → List CoapOption
 option_before None = []
 option_before (Some n) = record { number = n; value = [] } ∷ []

@@ -1,7 +1,7 @@
--- How a call is refused.
+-- Defined by this project: the error that a call returns.
 use Rattle.std.specs.Prelude.{◌≡◌, Option, Some, None, Result, Ok, Err}
 
--- a call is refused with this, or with nothing
+-- A call fails with this error, or succeeds if it is `None`.
 abbrev pub RefusedBy : {T E : Type 0} → Result T E → Option E → Type 0
 RefusedBy (Ok x) refusal = refusal ≡ None
 RefusedBy (Err e) refusal = refusal ≡ Some e

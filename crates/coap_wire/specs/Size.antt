@@ -1,16 +1,19 @@
--- The size that the first bytes of a frame declare, and what a frame is (RFC 8323 section 3.2, RFC 8974 section 2.1).
+-- RFC 8323 section 3.2, RFC 8974 section 2.1: the size that the first bytes of a frame declare, and which bytes are
+-- exactly one frame.
 use Rattle.std.specs.Prelude.{◌≡◌, ℕ, ◌+◌, ◌*◌, ◌%◌, ◌<◌, ◌≤◌, List, [], ◌∷◌, ◌++◌, length, ◌⊎◌}
 use Rattle.coap_wire.specs.Forms.{IsLengthForm, IsOptionForm, greatest_token}
 use Rattle.coap_wire.specs.declared.frame.Declared.{Declared}
 use Rattle.coap_wire.specs.declared.frame.Declared.TheVariants.{Unknown, Size, BadToken}
 
--- the code and the extension of the token's length, or nothing where no byte extends it
+-- The code and the extension of the token length. If the extension is empty, no byte: the size is then known before the
+-- code.
 abbrev pub code_and_extension : ℕ → List ℕ → List ℕ
 code_and_extension code [] = []
 code_and_extension code (e ∷ es) = code ∷ e ∷ es
 
--- The bytes are a first byte, the whole extension of its length, and where bytes extend the token's length the code and these: a
--- token of t bytes is stated, and n bytes of options and payload.
+-- The bytes are the shortest prefix of a frame that states its token length `t` and the length `n` of its body. The
+-- body is the options, the marker and the payload. The prefix is the first byte and the extension of the length. If the
+-- token length has an extension, the code and that extension follow. The token length may be above 64.
 pub record StatesLengths (bytes : List ℕ) (t n : ℕ) : Type 0 where
   pub length_nibble : ℕ
   pub extension : List ℕ
@@ -21,8 +24,8 @@ pub record StatesLengths (bytes : List ℕ) (t n : ℕ) : Type 0 where
   pub token_form : IsOptionForm token_nibble token_extension t
   pub head : bytes ≡ (16 * length_nibble + token_nibble) ∷ (extension ++ code_and_extension code token_extension)
 
--- The bytes state a token that is taken, and so a frame of n bytes: the first byte, the extension of the length, the code, the
--- extension of the token's length, the token, the options and the payload.
+-- The bytes are the shortest prefix of a frame that states its size `n`, and the token length is at most 64. The size
+-- counts the first byte, both extensions, the code, the token and the body.
 pub record IsSizeHead (bytes : List ℕ) (n : ℕ) : Type 0 where
   pub token_length : ℕ
   pub body_length : ℕ
@@ -30,24 +33,25 @@ pub record IsSizeHead (bytes : List ℕ) (n : ℕ) : Type 0 where
   pub short : token_length ≤ greatest_token
   pub size : n ≡ 1 + length lengths.extension + 1 + length lengths.token_extension + token_length + body_length
 
--- s begins so that every frame that begins with it has n bytes
+-- A prefix of `s` states the size `n`. So every frame that begins with `s` has `n` bytes.
 abbrev pub IsDeclaredSize : List ℕ → ℕ → Type 0
 IsDeclaredSize s n = (head more : List ℕ) × (s ≡ head ++ more) × IsSizeHead head n
 
--- a frame: as long as it declares
+-- The bytes `f` are exactly one frame: a prefix of `f` states the length of `f` as the size.
 abbrev pub IsFrame : List ℕ → Type 0
 IsFrame f = IsDeclaredSize f (length f)
 
--- A token length of nibble 15 is known at the frame's first byte, and one of more than 64 bytes at the last byte of its extension.
+-- The bytes `head` are the shortest prefix of a frame that states an invalid token length. For nibble 15 this is the
+-- first byte. For a length above 64 it ends with the last byte of the extension.
 abbrev pub IsTokenLengthFault : List ℕ → Type 0
 IsTokenLengthFault head =
     ((b : ℕ) × (head ≡ b ∷ []) × (b % 16 ≡ 15)) ⊎ ((t n : ℕ) × StatesLengths head t n × (greatest_token < t))
 
--- s begins with bytes that state a token which is not taken
+-- A prefix of `s` states an invalid token length: nibble 15, or more than 64.
 abbrev pub HasBadToken : List ℕ → Type 0
 HasBadToken s = (head more : List ℕ) × (s ≡ head ++ more) × IsTokenLengthFault head
 
--- what the first bytes declare
+-- The first bytes `s` of a frame declare this: an invalid token length, a size, or neither yet.
 abbrev pub Declares : List ℕ → Declared → Type 0
 Declares s BadToken = HasBadToken s
 Declares s (Size n) = IsDeclaredSize s n

@@ -1,4 +1,4 @@
-//! The options and the payload of a message within the bytes that spell it.
+//! The options and the payload of a message, borrowed from the bytes of its frame.
 
 ghost use Rattle.std.specs.Prelude.{◌≡◌, IsOk};
 ghost use Rattle.coap_wire.specs.Prelude.{body_at, body_read, known_options, AreOrdered};
@@ -8,8 +8,8 @@ use crate::reading::payload_of;
 use crate::recognition::Known;
 use std::marker::Model;
 
-/// The options and the payload of a message within the frame that spells it: a `MessageRef` without code and token, in
-/// one slice. Contracts see a `BodyValue`.
+/// Options and payload of a message, borrowed from its frame: a `MessageRef` without code and token, in one slice.
+/// Contracts see a `BodyValue`.
 #[derive(Drop)]
 pub struct Body<'a> {
     bytes: &'a [u8],
@@ -28,7 +28,7 @@ impl<'a> Model for Body<'a> {
 }
 
 impl<'a> Body<'a> {
-    /// Returns the body that these bytes spell.
+    /// Returns the options and the payload that these bytes encode. The bytes must be a well-formed body.
     pub(crate) fn of_bytes(bytes: &'a [u8]) -> Body<'a>
         requires { IsOk (body_at 0 bytes.now) }
         ensures { result ≡ body_read bytes.now }
@@ -36,14 +36,14 @@ impl<'a> Body<'a> {
         Body { bytes }
     }
 
-    /// Returns the recognised options, in order of number (RFC 7252 sections 5.4, 5.10).
+    /// Returns an iterator over the recognised options, in order of number (RFC 7252 sections 5.4, 5.10).
     pub fn known(&self) -> Known<'a>
         ensures { result ≡ known_options self.now.options }
     {
         Known::of_options(self.options())
     }
 
-    /// Returns all options, in order of number.
+    /// Returns an iterator over all options, in order of number.
     fn options(&self) -> Options<'a>
         ensures all { result ≡ self.now.options }
         ensures ordered { AreOrdered 0 self.now.options }
@@ -51,7 +51,7 @@ impl<'a> Body<'a> {
         Options::of_body(self.bytes)
     }
 
-    /// Returns the payload, empty if there is none. This reads past the options again.
+    /// Returns the payload, or an empty slice if there is none. Each call reads past the options again.
     pub fn payload(&self) -> &'a [u8]
         ensures { result.now ≡ self.now.payload }
     {

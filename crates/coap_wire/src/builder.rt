@@ -1,4 +1,4 @@
-//! Builds a message and writes its one spelling.
+//! `MessageBuilder`, which collects the parts of a message and writes its only encoding.
 
 ghost use Rattle.std.specs.Prelude.{◌≡◌, ◌+◌, ◌≤◌, ◌++◌, [], length, OnOk, OnErr};
 ghost use Rattle.coap_wire.specs.Prelude.{last_number as number_of_last, coap_options, Spells, spelling};
@@ -17,21 +17,22 @@ use crate::writing::{
 use arrayvec::ArrayVec;
 use std::marker::Model;
 
-/// The most options that any builder takes.
+/// Maximum number of options of a `MessageBuilder`, whatever its `N`.
 const MAX_OPTIONS: usize = 40;
 
-/// A message that is being built, of at most 40 options.
+/// Builder of a message with at most 40 options.
 pub type Builder<'a> = MessageBuilder<'a, MAX_OPTIONS>;
 
-/// A message that is being built, of at most `N` options, or 40 where that is less. It borrows the token, the options'
-/// values and the payload. Each new one clears the room of its options, so that a message of few options costs less
-/// where `N` is small. Contracts see the `Message`.
+/// Builder of a message with at most `N` options, or 40 if `N` is larger. It borrows the token, the values of the
+/// options and the payload. Contracts see the `Message`.
+///
+/// Each new builder clears the space of its `N` options, so a message with few options costs less if `N` is small.
 #[derive(Drop)]
 pub struct MessageBuilder<'a, const N: usize> {
     token: TokenRef<'a>,
     options: ArrayVec<OptionRef<'a>, N>,
-    /// The length of the spelling of all options: the size of a message is asked for before it is written, and told in
-    /// its head.
+    /// Length of the encoded options in bytes. The size of a message is needed before the options are written: `size`
+    /// returns it, and the head contains the length of the body.
     options_size: u64,
     payload: &'a [u8],
     code: Code,
@@ -50,14 +51,14 @@ impl<'a, const N: usize> Model for MessageBuilder<'a, N> {
 }
 
 impl<'a, const N: usize> MessageBuilder<'a, N> {
-    /// A message with this code and this token, with no options and no payload.
+    /// Creates a builder with this code and token, without options and payload.
     pub fn new(code: Code, token: &'a Token) -> MessageBuilder<'a, N>
         ensures { result ≡ record { code = code; token = token.now.items; options = []; payload = [] } }
     {
         MessageBuilder::to(code, TokenRef::of(token))
     }
 
-    /// The same with the token that lies there.
+    /// Creates a builder like `new`, with a borrowed token.
     pub fn to(code: Code, token: TokenRef<'a>) -> MessageBuilder<'a, N>
         ensures { result ≡ record { code = code; token = token.entry; options = []; payload = [] } }
     {
@@ -70,12 +71,15 @@ impl<'a, const N: usize> MessageBuilder<'a, N> {
         }
     }
 
-    /// Adds an option at the end (RFC 7252 section 3.1).
+    /// Appends an option (RFC 7252 section 3.1). If this fails, the message is unchanged.
     ///
     /// # Errors
     ///
-    /// In this order: `Order` where the number is below that of the last option, `TooLong` where the value has more
-    /// than 65,804 bytes, `Full` where `N` options or 40 are there. The message is then as before.
+    /// The first that applies:
+    ///
+    /// - `Order`: the number is below that of the last option.
+    /// - `TooLong`: the value has more than 65,804 bytes.
+    /// - `Full`: the message has `N` options or 40 options.
     pub fn option(&mut self, number: u16, value: &'a [u8]) -> Result<(), BuildFault>
         ensures answer { RefusedBy result (option_refusal N self.old number value.now) }
         ensures ok { OnOk result (self.new ≡ with_option self.old number value.now) }
@@ -97,11 +101,12 @@ impl<'a, const N: usize> MessageBuilder<'a, N> {
         Ok(())
     }
 
-    /// Sets the payload; an empty one is no payload, and no marker is written for it.
+    /// Sets the payload. An empty one is no payload, and no marker is written for it. If this fails, the message is
+    /// unchanged.
     ///
     /// # Errors
     ///
-    /// `TooLong` above 1,048,576 bytes. The message is then as before.
+    /// - `TooLong`: the payload has more than 1,048,576 bytes.
     pub fn payload(&mut self, payload: &'a [u8]) -> Result<(), BuildFault>
         ensures answer { RefusedBy result (payload_refusal payload.now) }
         ensures ok { OnOk result (self.new ≡ record self.old { payload = payload.now }) }
@@ -114,21 +119,21 @@ impl<'a, const N: usize> MessageBuilder<'a, N> {
         Ok(())
     }
 
-    /// The code.
+    /// Returns the code.
     pub fn code(&self) -> Code
         ensures { result ≡ self.now.code }
     {
         self.code
     }
 
-    /// The token.
+    /// Returns the token.
     pub fn token(&self) -> &TokenRef<'a>
         ensures { result.now ≡ self.now.token }
     {
         &self.token
     }
 
-    /// The same message with another token.
+    /// Returns a builder of the same message with another token.
     pub fn with_token(&self, token: &'a Token) -> MessageBuilder<'a, N>
         ensures { result ≡ record self.now { token = token.now.items } }
     {
@@ -141,7 +146,7 @@ impl<'a, const N: usize> MessageBuilder<'a, N> {
         }
     }
 
-    /// Returns the payload, empty if there is none.
+    /// Returns the payload, or an empty slice if there is none. The encoding ends with these bytes.
     pub fn payload_bytes(&self) -> &'a [u8]
         ensures payload { result.now ≡ self.now.payload }
         ensures last { spelling self.now ≡ front_spelling self.now ++ self.now.payload }
@@ -157,7 +162,7 @@ impl<'a, const N: usize> MessageBuilder<'a, N> {
         self.front_size() + self.payload.len() as u64
     }
 
-    /// Returns the length of the encoding in front of the payload, in bytes.
+    /// Returns the length of the encoding without the payload, in bytes: at most 2,632,440.
     pub fn front_size(&self) -> u64
         ensures size { result ≡ length (front_spelling self.now) }
         ensures whole { result + length self.now.payload ≡ length (spelling self.now) }
@@ -168,7 +173,11 @@ impl<'a, const N: usize> MessageBuilder<'a, N> {
         head_size(token, self.body_size()) + self.options_size + marker_size(self.payload)
     }
 
-    /// Appends the one encoding of the message. There must be room for it.
+    /// Appends the only encoding of the message.
+    ///
+    /// # Preconditions
+    ///
+    /// The sink has space for the encoding.
     pub fn write<S: Sink>(&self, out: &mut S)
         requires { length (spelling self.now) ≤ S.space out.old }
         ensures appended { S.contents out.new ≡ S.contents out.old ++ spelling self.now }
@@ -179,7 +188,11 @@ impl<'a, const N: usize> MessageBuilder<'a, N> {
         out.append(self.payload);
     }
 
-    /// Appends the encoding of the message up to its payload, which follows. There must be room for it.
+    /// Appends the encoding of the message without its payload, which the caller writes next.
+    ///
+    /// # Preconditions
+    ///
+    /// The sink has space for these bytes.
     pub fn write_front<S: Sink>(&self, out: &mut S)
         requires { length (front_spelling self.now) ≤ S.space out.old }
         ensures appended { S.contents out.new ≡ S.contents out.old ++ front_spelling self.now }
@@ -192,7 +205,7 @@ impl<'a, const N: usize> MessageBuilder<'a, N> {
         write_marker(out, self.payload);
     }
 
-    /// The length of the options and the payload.
+    /// Returns the length of the encoded options, the marker and the payload in bytes.
     fn body_size(&self) -> u64
         ensures size { result ≡ length (body_spelling self.now) }
         ensures bound { result ≤ 3680937 }
@@ -206,7 +219,7 @@ impl<'a, const N: usize> MessageBuilder<'a, N> {
     }
 }
 
-/// The number of the last option, or 0 where there is none.
+/// Returns the number of the last option, or 0 if there is none.
 fn last_number(options: &[OptionRef]) -> u16
     ensures { result ≡ number_of_last 0 (coap_options options.now) }
 {
@@ -216,7 +229,7 @@ fn last_number(options: &[OptionRef]) -> u16
     last.number
 }
 
-/// The same options.
+/// Returns a copy of the list of options.
 fn copied<'a, const N: usize>(options: &ArrayVec<OptionRef<'a>, N>) -> ArrayVec<OptionRef<'a>, N>
     ensures { result.items ≡ options.now.items }
 {

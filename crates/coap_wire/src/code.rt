@@ -1,11 +1,11 @@
-//! The code of a message.
+//! The code of a message, with a constant for each code that this project uses.
 
 ghost use Rattle.std.specs.Prelude.{◌≡◌, ℕ};
 ghost use Rattle.coap_wire.specs.Codes.{class_of, detail_of};
 
 use std::marker::Model;
 
-/// A message's code: a class of 3 bits and a detail of 5 bits (RFC 7252 section 3, RFC 8323 section 3.2). Contracts
+/// Code of a message: a class of 3 bits and a detail of 5 bits (RFC 7252 section 3, RFC 8323 section 3.2). Contracts
 /// see its byte, class * 32 + detail.
 #[derive(Clone, Copy, PartialEq, Eq)]
 pub struct Code {
@@ -99,28 +99,30 @@ impl Code {
     /// 7.05, Abort (RFC 8323 section 5.6).
     pub const ABORT: Code = Code { byte: 0xe5 };
 
-    /// The code with this byte. Every byte is a code.
+    /// Returns the code with this byte. Every byte is a code.
     pub const fn new(byte: u8) -> Code
         ensures { result ≡ byte }
     {
         Code { byte }
     }
 
-    /// The byte on the wire.
+    /// Returns the byte that encodes the code.
     pub const fn byte(self) -> u8
         ensures { result ≡ self }
     {
         self.byte
     }
 
-    /// The class, 0 to 7: 0 requests and Empty, 2 to 5 responses, 7 signalling, 1 and 6 reserved.
+    /// Returns the class, 0 to 7.
+    ///
+    /// Class 0 is requests and Empty, 2 to 5 are responses, and 7 is signalling. Classes 1 and 6 are reserved.
     pub const fn class(self) -> u8
         ensures { result ≡ class_of self }
     {
         self.byte / 32
     }
 
-    /// The detail, 0 to 31.
+    /// Returns the detail, 0 to 31.
     pub const fn detail(self) -> u8
         ensures { result ≡ detail_of self }
     {

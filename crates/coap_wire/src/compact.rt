@@ -1,4 +1,4 @@
-//! Builds a message of few and short options, which are encoded at once.
+//! `CompactBuilder`, which builds messages with few and short options and encodes each option when it is added.
 
 ghost use Rattle.std.specs.Prelude.{◌≡◌, ◌+◌, ◌≤◌, ◌++◌, [], length};
 ghost use Rattle.coap_wire.specs.Prelude.{last_number, Spells, spelling, front_spelling, body_spelling, HasSpelling};
@@ -13,23 +13,23 @@ use crate::writing::{head_size, marker_size, write_head, write_marker, write_opt
 use arrayvec::ArrayVec;
 use std::marker::Model;
 
-/// The most bytes that the options of a short message take: enough for each message that a server sends by itself, but
-/// for a response with Location-Path.
+/// Maximum length of the encoded options of a short message, in bytes. Each message that a server itself creates fits,
+/// except a response with Location-Path.
 pub const SHORT_OPTIONS: usize = 48;
 
-/// A short message that is being built.
+/// Builder of a short message.
 pub type ShortBuilder<'a> = CompactBuilder<'a, 'a, SHORT_OPTIONS>;
 
-/// A message that is being built, whose options take at most `N` bytes. Each option is encoded as it is added, so its
+/// Builder of a message whose encoded options have at most `N` bytes. Each option is encoded when it is added, so its
 /// value is not borrowed. The token and the payload are. Contracts see the `Message`.
 ///
-/// A message of few and short options costs less here than with a `Builder`, which takes options of any length.
+/// A message with few and short options costs less than with a `Builder`, which accepts values of up to 65,804 bytes.
 #[derive(Drop)]
 pub struct CompactBuilder<'t, 'p, const N: usize> {
     token: TokenRef<'t>,
     options: ArrayVec<u8, N>,
     payload: &'p [u8],
-    /// The number of the last option, or 0.
+    /// Number of the last option, or 0 if there is none.
     last: u16,
     code: Code,
 }
@@ -47,7 +47,11 @@ impl<'t, 'p, const N: usize> Model for CompactBuilder<'t, 'p, N> {
 }
 
 impl<'t, 'p, const N: usize> CompactBuilder<'t, 'p, N> {
-    /// Creates a message with this code and this token, with no options and no payload.
+    /// Creates a builder with this code and token, without options and payload.
+    ///
+    /// # Preconditions
+    ///
+    /// `N` is at most 65,804.
     pub fn new(code: Code, token: TokenRef<'t>) -> CompactBuilder<'t, 'p, N>
         requires { N ≤ MAX_EXTENDED_LENGTH }
         ensures { result ≡ record { code = code; token = token.entry; options = []; payload = [] } }
@@ -61,11 +65,12 @@ impl<'t, 'p, const N: usize> CompactBuilder<'t, 'p, N> {
         }
     }
 
-    /// Appends an option (RFC 7252 section 3.1), which takes at most 5 bytes beside its value.
+    /// Appends an option (RFC 7252 section 3.1). Its encoding has at most 5 bytes besides the value.
     ///
     /// # Preconditions
     ///
-    /// The number is not below that of the last option, and there is room.
+    /// - The number is not below that of the last option.
+    /// - The encoded options have at most `N` bytes, counting 5 bytes and the value for the new one.
     #[inline]
     pub fn option(&mut self, number: u16, value: &[u8])
         requires order { last_number 0 self.old.options ≤ number }
@@ -76,11 +81,13 @@ impl<'t, 'p, const N: usize> CompactBuilder<'t, 'p, N> {
         write_option(&mut self.options, self.last, number, value);
         self.last = number;
     }
-    /// Appends an option of format uint in the fewest bytes (RFC 7252 section 3.2), at most 9 with its head.
+    /// Appends an option of format uint, with the shortest value (RFC 7252 section 3.2). Its encoding has at most 9
+    /// bytes.
     ///
     /// # Preconditions
     ///
-    /// As `option`.
+    /// - The number is not below that of the last option.
+    /// - The encoded options have at most `N` bytes, counting 9 bytes for the new one.
     #[inline]
     pub fn uint_option(&mut self, number: u16, value: u32)
         requires order { last_number 0 self.old.options ≤ number }
@@ -97,7 +104,11 @@ impl<'t, 'p, const N: usize> CompactBuilder<'t, 'p, N> {
         self.option(number, significant_bytes(&value.to_be_bytes()));
     }
 
-    /// Sets the payload, at most 1,048,576 bytes. An empty one is no payload, and no marker is written for it.
+    /// Sets the payload. An empty one is no payload, and no marker is written for it.
+    ///
+    /// # Preconditions
+    ///
+    /// The payload has at most 1,048,576 bytes.
     pub fn payload(&mut self, payload: &'p [u8])
         requires { length payload.now ≤ LARGEST_MESSAGE }
         ensures { self.new ≡ record self.old { payload = payload.now } }
@@ -119,7 +130,7 @@ impl<'t, 'p, const N: usize> CompactBuilder<'t, 'p, N> {
         &self.token
     }
 
-    /// Returns the payload, empty if there is none.
+    /// Returns the payload, or an empty slice if there is none. The encoding ends with these bytes.
     pub fn payload_bytes(&self) -> &'p [u8]
         ensures payload { result.now ≡ self.now.payload }
         ensures last { spelling self.now ≡ front_spelling self.now ++ self.now.payload }
@@ -135,7 +146,7 @@ impl<'t, 'p, const N: usize> CompactBuilder<'t, 'p, N> {
         self.front_size() + self.payload.len() as u64
     }
 
-    /// Returns the length of the encoding in front of the payload, in bytes: at most 73 beside the options.
+    /// Returns the length of the encoding without the payload, in bytes: at most `N` + 73.
     pub fn front_size(&self) -> u64
         ensures size { result ≡ length (front_spelling self.now) }
         ensures whole { result + length self.now.payload ≡ length (spelling self.now) }
@@ -146,7 +157,11 @@ impl<'t, 'p, const N: usize> CompactBuilder<'t, 'p, N> {
         head_size(token, self.body_size()) + self.options.len() as u64 + marker_size(self.payload)
     }
 
-    /// Appends the encoding of the message up to its payload, which follows. There must be room for it.
+    /// Appends the encoding of the message without its payload, which the caller writes next.
+    ///
+    /// # Preconditions
+    ///
+    /// The sink has space for these bytes.
     pub fn write_front<S: Sink>(&self, out: &mut S)
         requires { length (front_spelling self.now) ≤ S.space out.old }
         ensures appended { S.contents out.new ≡ S.contents out.old ++ front_spelling self.now }
@@ -159,7 +174,11 @@ impl<'t, 'p, const N: usize> CompactBuilder<'t, 'p, N> {
         write_marker(out, self.payload);
     }
 
-    /// Appends the one encoding of the message. There must be room for it.
+    /// Appends the only encoding of the message.
+    ///
+    /// # Preconditions
+    ///
+    /// The sink has space for the encoding.
     pub fn write<S: Sink>(&self, out: &mut S)
         requires { length (spelling self.now) ≤ S.space out.old }
         ensures appended { S.contents out.new ≡ S.contents out.old ++ spelling self.now }
@@ -170,7 +189,7 @@ impl<'t, 'p, const N: usize> CompactBuilder<'t, 'p, N> {
         out.append(self.payload);
     }
 
-    /// Returns the length of the options, the marker and the payload.
+    /// Returns the length of the encoded options, the marker and the payload in bytes.
     fn body_size(&self) -> u64
         ensures size { result ≡ length (body_spelling self.now) }
         ensures bound { result ≤ 1114381 }

@@ -1,57 +1,58 @@
-//! What is wrong with a stream, why bytes spell no message, and why a message cannot be built.
+//! The error types of this crate: malformed frames, malformed messages, and parts that a builder rejects.
 
 use thiserror::Error;
 
-/// What is wrong with a stream, before its frame is whole. The discriminants are the faults' numbers.
+/// Error in the first bytes of a frame, known before the frame is complete. The discriminants are the errors' numbers.
 #[derive(Clone, Copy, Debug, PartialEq, Eq, Error)]
 pub enum FrameFault {
-    /// A token of more than 64 bytes, known at the last byte of its length's extension, or a token length of nibble
-    /// 15, known at the frame's first byte (RFC 8974 section 2.1).
+    /// Token length above 64, or of nibble 15 (RFC 8974 section 2.1). The first is known at the last byte of its
+    /// extension, the second at the first byte of the frame.
     #[error("token length above 64")]
     TokenLength = 1,
-    /// A frame of more bytes than are taken, known at the last byte that states its size: that of the length's
-    /// extension or, where the token's length has one, of that (RFC 8323 section 5.3.1, RFC 8974 section 2.1).
+    /// Frame above the maximum size (RFC 8323 section 5.3.1), known at the last byte that states its size. If the token
+    /// length has an extension (RFC 8974 section 2.1), this is its last byte; otherwise it is the last byte of the
+    /// length.
     #[error("frame too large")]
     TooLarge = 2,
 }
 
-/// The first fault of bytes that spell no message. The discriminants are the faults' numbers.
+/// First error of bytes that encode no message. The discriminants are the errors' numbers.
 #[derive(Clone, Copy, Debug, PartialEq, Eq, Error)]
 pub enum FormatFault {
-    /// A token of more than 64 bytes, or a token length of nibble 15 (RFC 8974 section 2.1).
+    /// Token length above 64, or of nibble 15 (RFC 8974 section 2.1).
     #[error("token length above 64")]
     TokenLength = 1,
-    /// An option delta of 15 in a byte that is no payload marker (RFC 7252 section 3.1).
+    /// Option delta of nibble 15 in a byte that is no payload marker (RFC 7252 section 3.1).
     #[error("option delta 15")]
     OptionDelta = 2,
-    /// An option length of 15 (RFC 7252 section 3.1).
+    /// Option length of nibble 15 (RFC 7252 section 3.1).
     #[error("option length 15")]
     OptionLength = 3,
-    /// The bytes end within an option.
-    #[error("an option is cut")]
+    /// End of the bytes within an option.
+    #[error("truncated option")]
     OptionCut = 4,
-    /// An option number above 65,535.
+    /// Option number above 65,535.
     #[error("option number above 65,535")]
     OptionNumber = 5,
-    /// A payload marker with nothing after it (RFC 7252 section 3).
-    #[error("a payload marker without a payload")]
+    /// Payload marker without a byte after it (RFC 7252 section 3).
+    #[error("payload marker without payload")]
     EmptyPayload = 6,
-    /// No byte at all, or not exactly as many bytes as the frame declares.
+    /// Bytes that are not exactly one frame: none, too few, or more than the first bytes declare.
     #[error("not exactly one frame")]
     NotOneFrame = 7,
 }
 
-/// Why a builder refused a part of a message. The discriminants are the faults' numbers.
+/// Error of a builder that rejects a part of a message. The discriminants are the errors' numbers.
 #[derive(Clone, Copy, Debug, PartialEq, Eq, Error)]
 pub enum BuildFault {
-    /// The option's number is below that of the option before it.
-    #[error("option number below the one before")]
+    /// Option number below that of the last option.
+    #[error("option number below the previous one")]
     Order = 1,
-    /// The option's value has more than 65,804 bytes, or the payload more than 1,048,576.
+    /// Option value of more than 65,804 bytes, or payload of more than 1,048,576 bytes.
     #[error("value or payload too long")]
     TooLong = 2,
-    /// 40 options are there already.
-    #[error("40 options are there")]
+    /// Limit of options reached: the `N` of the builder, or 40.
+    #[error("option limit reached")]
     Full = 3,
 }
 

@@ -1,11 +1,11 @@
-//! The forms of numbers: a nibble and the bytes that extend it.
+//! The encoding of a number as a nibble and extension bytes.
 
 ghost use Rattle.std.specs.Prelude.{◌≡◌, ◌+◌, ◌≤◌, ◌++◌, length};
 ghost use Rattle.coap_wire.specs.Prelude.{length_form, option_form, greatest_length, MAX_EXTENDED_LENGTH};
 
 use crate::sink::Sink;
 
-/// Returns the nibble of the length of a message's options and payload (RFC 8323 section 3.2).
+/// Returns the nibble of the length of a body: options, marker and payload (RFC 8323 section 3.2).
 #[inline]
 pub(crate) fn length_nibble(count: u64) -> u8
     requires { count ≤ greatest_length }
@@ -24,7 +24,7 @@ pub(crate) fn length_nibble(count: u64) -> u8
     15
 }
 
-/// Returns the number of bytes that extend the nibble of a length of options and payload.
+/// Returns the number of bytes that extend the nibble of the length of a body.
 #[inline]
 pub(crate) fn length_extension_size(count: u64) -> u64
     requires { count ≤ greatest_length }
@@ -43,7 +43,7 @@ pub(crate) fn length_extension_size(count: u64) -> u64
     4
 }
 
-/// Writes the bytes that extend the nibble of a length of options and payload.
+/// Writes the bytes that extend the nibble of the length of a body.
 #[inline]
 pub(crate) fn write_length_extension<S: Sink>(out: &mut S, count: u64)
     requires fits { count ≤ greatest_length }

@@ -1,22 +1,22 @@
-//! What is known of options by their numbers.
+//! The table of recognised options: for each number, the range of lengths and whether the option may repeat.
 
 ghost use Rattle.std.specs.Prelude.{◌≡◌};
 ghost use Rattle.coap_wire.specs.Prelude.{kind_of, once, repeated};
 
 use crate::option_numbers;
 
-/// What is known of the options with one number.
+/// Properties of the options with one number.
 #[derive(Clone, Copy, PartialEq, Eq)]
 pub struct OptionKind {
-    /// The least length of the value in bytes (RFC 7252 section 5.4.3).
+    /// Minimum length of the value in bytes (RFC 7252 section 5.4.3).
     pub min: u16,
-    /// The greatest length of the value in bytes.
+    /// Maximum length of the value in bytes (RFC 7252 section 5.4.3).
     pub max: u16,
-    /// Whether a message may have several of them (RFC 7252 section 5.4.5).
+    /// `true` if a message may have several of them (RFC 7252 section 5.4.5).
     pub repeatable: bool,
 }
 
-/// A value of `min` to `max` bytes, in one option of a message at most.
+/// Returns the entry of an option that does not repeat, with a value of `min` to `max` bytes.
 fn single(min: u16, max: u16) -> Option<OptionKind>
     ensures { result ≡ Some (once min max) }
 {
@@ -27,7 +27,7 @@ fn single(min: u16, max: u16) -> Option<OptionKind>
     })
 }
 
-/// A value of `min` to `max` bytes, in any number of options.
+/// Returns the entry of an option that may repeat, with a value of `min` to `max` bytes.
 fn several(min: u16, max: u16) -> Option<OptionKind>
     ensures { result ≡ Some (repeated min max) }
 {
@@ -38,8 +38,8 @@ fn several(min: u16, max: u16) -> Option<OptionKind>
     })
 }
 
-/// What is known of the options with this number (RFC 7252 section 5.10; Observe: RFC 7641 section 2), `None` where
-/// nothing is.
+/// Returns the properties of the options with this number, or `None` if the table does not have the number. The table
+/// is that of RFC 7252 section 5.10, with Observe (RFC 7641 section 2).
 #[tactic(auto, unfolding(crate::specs::Recognition::kind_of))]
 pub fn kind(number: u16) -> Option<OptionKind>
     ensures { result ≡ kind_of number }

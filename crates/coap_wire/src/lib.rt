@@ -4,10 +4,10 @@
 //! - `parse` decodes a frame into a `MessageRef`, which borrows the frame's bytes. `Options`, `Known` and
 //!   `CheckedOptions` iterate over its options.
 //! - `Builder` and `CompactBuilder` encode a message into a `Sink`.
-//! - `declared` returns the size that the first bytes of a frame declare, or the fault that they show.
-//! - `Token`, `Code`, `kind` (the table of options), `uint_value` and `uint_bytes` are the parts of messages. Sizes that
-//!   several crates use are constants here, such as `LARGEST_MESSAGE`.
-//! - `laws` has the theorems on encodings and streams.
+//! - `declared` returns the size that the first bytes of a frame declare, or reports an invalid token length.
+//! - `Token`, `Code`, `kind` (the table of options), `uint_value` and `uint_bytes` are the parts of messages. Sizes
+//!   that several crates use are constants here, such as `LARGEST_MESSAGE`.
+//! - `laws` has the theorems on encodings, streams and options.
 //!
 //! The contracts name the definitions of `specs/Spelling.antt` (encoding), `specs/Reading.antt` (decoding) and
 //! `specs/Stream.antt` (the messages of a stream).

@@ -1,4 +1,4 @@
-//! A message within the bytes that spell it.
+//! `parse`, and the message that it returns.
 
 ghost use Rattle.std.specs.Prelude.{◌≡◌, Ok, IfOk, IfErr};
 ghost use Rattle.coap_wire.specs.Prelude.{Message, body_of, Spells, IsFirstFault, message_of, AreOrdered};
@@ -13,8 +13,8 @@ use crate::recognition::{CheckedOptions, Known, critical_of};
 use crate::token::TokenRef;
 use std::marker::Model;
 
-/// A message within the frame that spells it. Contracts see it as a `Message`: code, token, options and payload.
-// A message is moved where it is read, so its one small field stands last: no byte lies beside an empty place.
+/// Message borrowed from its frame. Contracts see a `Message`: code, token, options and payload.
+// The small field is last, so that there is no padding between fields when a message is moved.
 #[derive(Drop)]
 pub struct MessageRef<'a> {
     token: TokenRef<'a>,
@@ -36,28 +36,28 @@ impl<'a> Model for MessageRef<'a> {
 }
 
 impl<'a> MessageRef<'a> {
-    /// Returns the options and the payload, which borrow the bytes of the frame and not `self`.
+    /// Returns the options and the payload. They borrow the bytes of the frame, not `self`.
     pub fn body(&self) -> Body<'a>
         ensures { result ≡ body_of self.now }
     {
         Body::of_bytes(self.body)
     }
 
-    /// The code.
+    /// Returns the code.
     pub fn code(&self) -> Code
         ensures { result ≡ self.now.code }
     {
         self.code
     }
 
-    /// The token, where it lies in the frame.
+    /// Returns the token, borrowed from the frame.
     pub fn token(&self) -> &TokenRef<'a>
         ensures { result.now ≡ self.now.token }
     {
         &self.token
     }
 
-    /// The options, in order of number.
+    /// Returns an iterator over the options, in order of number.
     pub fn options(&self) -> Options<'a>
         ensures all { result ≡ self.now.options }
         ensures ordered { AreOrdered 0 self.now.options }
@@ -65,29 +65,32 @@ impl<'a> MessageRef<'a> {
         Options::of_body(self.body)
     }
 
-    /// The recognised options, in order of number (RFC 7252 sections 5.4, 5.10): those with a number that `kind` knows
-    /// and a value of a length in its range, and of those that are not repeatable only the first with its number.
+    /// Returns an iterator over the recognised options, in order of number (RFC 7252 sections 5.4, 5.10).
+    ///
+    /// An option is recognised if `kind` has its number and allows the length of its value. An option that is not
+    /// repeatable must also be the first one with its number.
     pub fn known(&self) -> Known<'a>
         ensures { result ≡ known_options self.now.options }
     {
         Known::of_options(self.options())
     }
 
-    /// Returns all options, in order of number, each with whether it is recognised.
+    /// Returns an iterator over all options, in order of number. Each item says whether the option is recognised.
     pub fn checked_options(&self) -> CheckedOptions<'a>
         ensures { result ≡ checked_options self.now.options }
     {
         CheckedOptions::of_options(self.options())
     }
 
-    /// The number of the first critical option that is not recognised (RFC 7252 sections 5.4.1, 5.4.6).
+    /// Returns the number of the first critical option that is not recognised, or `None` if there is none (RFC 7252
+    /// sections 5.4.1, 5.4.6).
     pub fn first_critical(&self) -> Option<u16>
         ensures { result ≡ first_critical self.now.options }
     {
         critical_of(self.options())
     }
 
-    /// The payload, empty where there is none.
+    /// Returns the payload, or an empty slice if there is none.
     pub fn payload(&self) -> &'a [u8]
         ensures { result.now ≡ self.now.payload }
     {
@@ -95,26 +98,36 @@ impl<'a> MessageRef<'a> {
     }
 }
 
-/// Reads the message that the bytes spell (RFC 8323 section 3.2, RFC 7252 section 3.1).
+/// Returns the message that the bytes encode (RFC 8323 section 3.2, RFC 7252 section 3.1).
 ///
 /// # Errors
 ///
-/// The first fault, in this order: `NotOneFrame` for no byte at all; `TokenLength`; `NotOneFrame` where the bytes are
-/// not exactly the frame that they declare; then the options in turn. Within one option: `EmptyPayload`, `OptionDelta`,
-/// `OptionLength`, `OptionCut` for an extension, `OptionNumber`, `OptionCut` for the value.
+/// The first error of the frame, in this order:
+///
+/// - `TokenLength`: the first bytes state a token length above 64, or of nibble 15.
+/// - `NotOneFrame`: there is no byte, or the bytes are not exactly the frame that they declare.
+///
+/// Then the first error of the first malformed option, in this order:
+///
+/// - `EmptyPayload`: the payload marker is the last byte.
+/// - `OptionDelta`: the delta has nibble 15, and the byte is no payload marker.
+/// - `OptionLength`: the length has nibble 15.
+/// - `OptionCut`: the bytes end within an extension of the option.
+/// - `OptionNumber`: the option number is above 65,535.
+/// - `OptionCut`: the bytes end within the value of the option.
 pub fn parse(frame: &[u8]) -> Result<MessageRef<'_>, FormatFault>
-    // What is read is spelled so, and whatever is spelled so is read.
+    // The result is a message if and only if the bytes encode that message.
     ensures found { IfOk result (λ m. Spells frame.now m) }
     ensures only { (m : Message) → Spells frame.now m → result ≡ Ok m }
-    // A fault is the first one.
+    // The error is the first one.
     ensures fault { IfErr result (IsFirstFault frame.now) }
-    // The same as a function of the bytes.
+    // The result as a function of the bytes.
     ensures exact { result ≡ message_of frame.now }
 {
     message_in(frame)
 }
 
-/// Reads a frame from left to right.
+/// Returns the message of a frame, or its first error.
 #[tactic(auto, unfolding(crate::specs::Reading::message_of))]
 fn message_in(frame: &[u8]) -> Result<MessageRef<'_>, FormatFault>
     ensures { result ≡ message_of frame.now }

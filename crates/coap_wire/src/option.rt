@@ -1,13 +1,13 @@
 //! An option of a message (RFC 7252 section 3.1).
 
-/// The byte that stands between the options and the payload (RFC 7252 section 3).
+/// Byte between the options and the payload (RFC 7252 section 3).
 pub(crate) const PAYLOAD_MARKER: u8 = 0xff;
 
-/// An option: its number, and its value within the bytes that it was read from or is written from.
+/// Option with a borrowed value: part of a frame that was read, or bytes that a builder encodes.
 #[derive(Clone, Copy, Default)]
 pub struct OptionRef<'a> {
-    /// The option number, which says what the option means (RFC 7252 section 5.10).
+    /// Option number, which identifies the meaning of the option (RFC 7252 section 5.10).
     pub number: u16,
-    /// The value.
+    /// Value of the option, at most 65,804 bytes if it was read.
     pub value: &'a [u8],
 }

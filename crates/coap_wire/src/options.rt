@@ -7,7 +7,7 @@ use crate::option::{OptionRef, PAYLOAD_MARKER};
 use crate::reading::option_after;
 use std::marker::Model;
 
-/// The options of a message, in order of number. Contracts see the list of those that are left.
+/// Iterator over the options of a message, in order of number. Contracts see the list of the options that are left.
 #[derive(Drop)]
 pub struct Options<'a> {
     base: u16,
@@ -27,7 +27,7 @@ impl<'a> Model for Options<'a> {
 }
 
 impl<'a> Options<'a> {
-    /// The options of a body of which each can be read.
+    /// Returns an iterator over the options of a body, which must be well-formed.
     pub(crate) fn of_body(body: &'a [u8]) -> Options<'a>
         requires { IsOk (body_at 0 body.now) }
         ensures { result ≡ options_in 0 body.now }

@@ -1,4 +1,4 @@
-//! Reads the parts of a frame from left to right.
+//! Functions that decode the parts of a frame, from left to right.
 
 ghost use Rattle.std.specs.Prelude.{◌≡◌, ◌≤◌, length, option_map, IfSome, IfOk};
 ghost use Rattle.coap_wire.specs.Prelude.{greatest_length, MAX_EXTENDED_LENGTH, one_byte_at, two_bytes_at};
@@ -10,7 +10,7 @@ use crate::fault::FormatFault;
 use crate::option::{OptionRef, PAYLOAD_MARKER};
 use crate::token::{MAX_TOKEN, TokenRef};
 
-/// The nibble that means no token length (RFC 8974 section 2.1).
+/// Nibble that encodes no token length (RFC 8974 section 2.1).
 pub(crate) const NO_TOKEN_LENGTH: u8 = 15;
 
 #[tactic(auto, unfolding(crate::specs::Reading::two_bytes_at))]
@@ -40,8 +40,8 @@ fn four_bytes(bytes: &[u8]) -> Option<(u32, &[u8])>
     ))
 }
 
-/// The length that a nibble and the bytes after it mean, and the bytes after its extension, or `None` where the
-/// extension is not all there (RFC 8323 section 3.2).
+/// Returns the length that a nibble and the bytes after it encode, and the bytes after the extension. Returns `None` if
+/// the extension is incomplete (RFC 8323 section 3.2).
 #[tactic(auto, unfolding(crate::specs::Reading::length_at, crate::specs::Reading::one_byte_at))]
 pub(crate) fn length_after(nibble: u8, bytes: &[u8]) -> Option<(u64, &[u8])>
     ensures value { option_map (λ x. (x.0, x.1.now)) result ≡ length_at nibble bytes.now }
@@ -63,7 +63,8 @@ pub(crate) fn length_after(nibble: u8, bytes: &[u8]) -> Option<(u64, &[u8])>
     Some((u64::from(number) + 65805, rest))
 }
 
-/// The option delta or option length that a nibble below 15 and the bytes after it mean (RFC 7252 section 3.1).
+/// Returns the option delta or option length that a nibble below 15 and the bytes after it encode, and the bytes after
+/// the extension. Returns `None` if the extension is incomplete (RFC 7252 section 3.1).
 #[tactic(auto, unfolding(crate::specs::Reading::option_number_at, crate::specs::Reading::one_byte_at))]
 fn option_number_after(nibble: u8, bytes: &[u8]) -> Option<(u32, &[u8])>
     ensures value { option_map (λ x. (x.0, x.1.now)) result ≡ option_number_at nibble bytes.now }
@@ -81,8 +82,8 @@ fn option_number_after(nibble: u8, bytes: &[u8]) -> Option<(u32, &[u8])>
     Some((u32::from(number) + 269, rest))
 }
 
-/// The token's length that a nibble below 15 means, where the code and then `bytes` stand, and the bytes after its
-/// extension (RFC 8974 section 2.1).
+/// Returns the token length that a nibble below 15 encodes, if `bytes` follow the code, and the bytes after the
+/// extension. Returns `None` if the extension is incomplete (RFC 8974 section 2.1).
 pub(crate) fn token_length_after(nibble: u8, bytes: &[u8]) -> Option<(u32, &[u8])>
     ensures value { option_map (λ x. (x.0, x.1.now)) result ≡ token_length_at nibble bytes.now }
     ensures bound { IfSome result (λ x. x.0 ≤ MAX_EXTENDED_LENGTH) }
@@ -91,7 +92,8 @@ pub(crate) fn token_length_after(nibble: u8, bytes: &[u8]) -> Option<(u32, &[u8]
     option_number_after(nibble, bytes)
 }
 
-/// The token, the body and the code of bytes that are exactly one frame.
+/// Returns the token, the body and the code of bytes that are exactly one frame. The body is the options, the marker
+/// and the payload.
 #[tactic(auto, unfolding(crate::specs::Reading::head_at))]
 pub(crate) fn head_of(frame: &[u8]) -> Result<(TokenRef<'_>, &[u8], Code), FormatFault>
     ensures { Gives (λ x. record { code = x.2; token = x.0; body = x.1.now }) result (head_at frame.now) }
@@ -122,7 +124,7 @@ pub(crate) fn head_of(frame: &[u8]) -> Result<(TokenRef<'_>, &[u8], Code), Forma
     Ok((TokenRef::of_bytes(token), body, Code::new(*code)))
 }
 
-/// The delta and the length of an option with this first byte, and the bytes after both extensions.
+/// Returns the delta and the length of an option with this first byte, and the bytes after both extensions.
 #[tactic(auto, unfolding(crate::specs::Reading::option_head_at))]
 fn option_head(first: u8, after: &[u8]) -> Result<(u32, u32, &[u8]), FormatFault>
     ensures value { Gives (λ x. (x.0, x.1, x.2.now)) result (option_head_at first after.now) }
@@ -143,7 +145,7 @@ fn option_head(first: u8, after: &[u8]) -> Result<(u32, u32, &[u8]), FormatFault
     Ok((delta, length, rest))
 }
 
-/// An option with this first byte, whose number counts from `base`, and the bytes after it.
+/// Returns the option with this first byte, and the bytes after it. The option number is `base` plus the delta.
 #[tactic(auto, unfolding(crate::specs::Reading::option_at))]
 pub(crate) fn option_after(
     base: u16,
@@ -164,7 +166,7 @@ pub(crate) fn option_after(
     Ok((OptionRef { number, value }, rest))
 }
 
-/// The payload of a body, of which every option is read.
+/// Returns the payload of a body, after reading all options, or the first error of the body.
 pub(crate) fn payload_of(body: &[u8]) -> Result<&[u8], FormatFault>
     ensures { GivesPayload result (body_at 0 body.now) }
 {

@@ -1,4 +1,5 @@
-//! The recognised options of a message (RFC 7252 section 5.4).
+//! Iterators over the recognised options of a message, and the search for a critical one that is not (RFC 7252 section
+//! 5.4).
 
 ghost use Rattle.std.specs.Prelude.{◌≡◌};
 ghost use Rattle.coap_wire.specs.Prelude.{AreOrdered, is_recognised, option_before, first_critical, coap_option};
@@ -9,7 +10,8 @@ use crate::option::OptionRef;
 use crate::options::Options;
 use std::marker::Model;
 
-/// Whether an option is recognised, where the one before it in the order of numbers has the number `before`.
+/// Returns `true` if an option is recognised. `before` is the number of the option before it in the message, if there
+/// is one.
 #[tactic(auto, unfolding(crate::specs::Recognition::is_recognised))]
 fn recognises(before: Option<u16>, option: &OptionRef) -> bool
     ensures { result ≡ is_recognised (option_before before) (coap_option option.now) }
@@ -24,7 +26,7 @@ fn recognises(before: Option<u16>, option: &OptionRef) -> bool
     kind.repeatable || before != Some(option.number)
 }
 
-/// The number of the first option that is critical and not recognised.
+/// Returns the number of the first critical option that is not recognised, or `None` if there is none.
 pub(crate) fn critical_of(options: Options) -> Option<u16>
     requires { AreOrdered 0 options }
     ensures { result ≡ first_critical options.entry }
@@ -39,7 +41,8 @@ pub(crate) fn critical_of(options: Options) -> Option<u16>
     None
 }
 
-/// The recognised options of a message, in order of number. Contracts see the list of those that are left.
+/// Iterator over the recognised options of a message, in order of number. Contracts see the list of those that are
+/// left.
 #[derive(Drop)]
 pub struct Known<'a> {
     before: Option<u16>,
@@ -59,7 +62,7 @@ impl<'a> Model for Known<'a> {
 }
 
 impl<'a> Known<'a> {
-    /// The recognised ones of all options of a message.
+    /// Returns an iterator over the recognised ones of all options of a message.
     pub(crate) fn of_options(options: Options<'a>) -> Known<'a>
         requires { AreOrdered 0 options }
         ensures { result ≡ known_options options.entry }
@@ -90,17 +93,17 @@ impl<'a> Iterator for Known<'a> {
     }
 }
 
-/// An option of a message, with whether it is recognised.
+/// Option of a message, and whether it is recognised.
 #[derive(Clone, Copy)]
 pub struct CheckedOption<'a> {
-    /// The option.
+    /// Option, recognised or not.
     pub option: OptionRef<'a>,
     /// `true` if the option is recognised.
     pub is_recognised: bool,
 }
 
-/// All options of a message, in order of number, each with whether it is recognised. Contracts see the list of those
-/// that are left.
+/// Iterator over all options of a message, in order of number. Each item says whether the option is recognised.
+/// Contracts see the list of the items that are left.
 #[derive(Drop)]
 pub struct CheckedOptions<'a> {
     before: Option<u16>,
@@ -120,7 +123,7 @@ impl<'a> Model for CheckedOptions<'a> {
 }
 
 impl<'a> CheckedOptions<'a> {
-    /// Returns all options of a message, each with whether it is recognised.
+    /// Returns an iterator over all options of a message.
     pub(crate) fn of_options(options: Options<'a>) -> CheckedOptions<'a>
         requires { AreOrdered 0 options }
         ensures { result ≡ checked_options options.entry }

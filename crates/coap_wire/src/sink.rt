@@ -1,4 +1,5 @@
-//! The sinks that a message is written to: a `Vec<u8>` with reserved room, an `ArrayVec`, and `SliceSink`.
+//! `Sink`, the destination of an encoding, for `Vec<u8>` with reserved capacity, for `ArrayVec`, and for a slice
+//! (`SliceSink`).
 
 ghost use Rattle.std.specs.Prelude.{◌≡◌, ℕ, ◌+◌, ◌-◌, ◌<◌, ◌≤◌, List, [], ◌∷◌, ◌++◌, length, take, drop, vec_len};
 ghost use Rattle.std.specs.Prelude.{vec_capacity};
@@ -6,25 +7,33 @@ ghost use Rattle.std.specs.Prelude.{vec_capacity};
 use arrayvec::ArrayVec;
 use std::marker::Model;
 
-/// Takes bytes one after another, in room that is there already.
+/// Destination of bytes, with space that was allocated before.
 pub trait Sink {
-    /// The bytes that it holds.
+    /// Bytes in the sink.
     ghost contents: { Self → List ℕ };
 
-    /// How many more it can take.
+    /// Number of bytes that can still be appended.
     ghost space: { Self → ℕ };
 
-    /// How many more bytes it can take.
+    /// Returns the number of bytes that can still be appended.
     fn room(&self) -> usize
         ensures { result ≡ space self.now };
 
-    /// Appends a byte. There must be room.
+    /// Appends a byte.
+    ///
+    /// # Preconditions
+    ///
+    /// There is space for the byte.
     fn push(&mut self, byte: u8)
         requires { 0 < space self.old }
         ensures appended { contents self.new ≡ contents self.old ++ byte ∷ [] }
         ensures less_room { space self.new + 1 ≡ space self.old };
 
-    /// Appends a slice. There must be room for all of it.
+    /// Appends a slice.
+    ///
+    /// # Preconditions
+    ///
+    /// There is space for all bytes of the slice.
     fn append(&mut self, bytes: &[u8])
         requires { length bytes.now ≤ space self.old }
         ensures appended { contents self.new ≡ contents self.old ++ bytes.now }
@@ -36,7 +45,7 @@ pub trait Sink {
     }
 }
 
-/// A `Vec<u8>` takes as many bytes as were reserved, and never grows.
+/// A `Vec<u8>` accepts bytes up to its capacity and never grows.
 impl Sink for Vec<u8> {
     ghost contents = { λ v. v.items };
 
@@ -51,7 +60,7 @@ impl Sink for Vec<u8> {
     }
 }
 
-/// An `ArrayVec<u8, N>` takes as many bytes as are free in its array.
+/// An `ArrayVec<u8, N>` accepts bytes until it has `N`.
 impl<const N: usize> Sink for ArrayVec<u8, N> {
     ghost contents = { λ v. v.items };
 
@@ -73,7 +82,7 @@ impl<const N: usize> Sink for ArrayVec<u8, N> {
     }
 }
 
-/// A slice of fixed length, filled from its front. Contracts see the bytes written and the bytes after them.
+/// Slice that is filled from its start. Contracts see the bytes written and the bytes after them.
 #[derive(Drop)]
 pub struct SliceSink<'a> {
     bytes: &'a mut [u8],
@@ -89,7 +98,7 @@ impl<'a> Model for SliceSink<'a> {
 }
 
 impl<'a> SliceSink<'a> {
-    /// Creates a sink over the whole slice, with nothing written yet.
+    /// Creates a sink over the whole slice, with no byte written.
     pub fn new(bytes: &'a mut [u8]) -> SliceSink<'a>
         ensures empty { result.0 ≡ [] }
         ensures after { result.1 ≡ bytes.old }
@@ -114,7 +123,7 @@ impl Sink for SliceSink<'_> {
         self.bytes.len() - self.filled
     }
 
-    // The bytes after what is written stay as they are.
+    // The bytes after the written ones are unchanged.
     fn push(&mut self, byte: u8)
         requires { 0 < length self.old.1 }
         ensures appended { self.new.0 ≡ self.old.0 ++ byte ∷ [] }

@@ -7,13 +7,13 @@ use crate::frame::Declared;
 use crate::reading::{NO_TOKEN_LENGTH, length_after, token_length_after};
 use crate::token::MAX_TOKEN;
 
-/// What the first bytes of a frame declare of its size.
+/// Returns the size of a frame, as far as its first bytes declare it.
 ///
-/// `Size(n)` where the first byte and all bytes that extend its length and the token's are there; only the first 8
-/// bytes are looked at.
+/// The result is a size if `head` has the first byte and the complete extensions of the length and of the token length.
+/// At most 8 bytes are needed.
 pub fn declared(head: &[u8]) -> Declared
     ensures declared { Declares head.now result }
-    // The same as a function of the bytes.
+    // The result as a function of the bytes.
     ensures exact { result ≡ declared_of head.now }
 {
     declared_by(head)

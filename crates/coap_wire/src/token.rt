@@ -1,4 +1,4 @@
-//! The token of a message.
+//! The token of a message, owned (`Token`) or borrowed (`TokenRef`).
 
 ghost use Rattle.std.specs.Prelude.{◌≡◌, ◌≤◌, length, [], nat_eq};
 ghost use Rattle.coap_wire.specs.Prelude.{greatest_token, pointwise};
@@ -7,13 +7,13 @@ use arrayvec::ArrayVec;
 use std::fmt;
 use std::marker::Model;
 
-/// The greatest length of a token that is taken (RFC 8974 section 2.1).
+/// Maximum length of a token that this project accepts, in bytes (RFC 8974 section 2.1).
 pub(crate) const MAX_TOKEN: usize = 64;
 
-/// A token: at most 64 bytes, with equality (RFC 7252 section 5.3.1, RFC 8974 section 2).
+/// Owned token of at most 64 bytes, with equality (RFC 7252 section 5.3.1, RFC 8974 section 2).
 pub type Token = ArrayVec<u8, MAX_TOKEN>;
 
-/// The token of these bytes, at most 64.
+/// Returns the token with these bytes, of which there must be at most 64.
 pub(crate) fn token_of(bytes: &[u8]) -> Token
     requires { length bytes.now ≤ greatest_token }
     ensures { result.items ≡ bytes.now }
@@ -24,14 +24,14 @@ pub(crate) fn token_of(bytes: &[u8]) -> Token
     token
 }
 
-/// The same token.
+/// Returns a copy of a token.
 pub fn copy_of(token: &Token) -> Token
     ensures { result.items ≡ token.now.items }
 {
     token_of(token)
 }
 
-/// A token where it lies: within the frame that it was read from, or in a `Token`. Contracts see its bytes.
+/// Token borrowed from the frame that it was read from, or from a `Token`. Contracts see its bytes.
 #[derive(Drop)]
 pub struct TokenRef<'a> {
     bytes: &'a [u8],
@@ -49,14 +49,14 @@ impl<'a> Model for TokenRef<'a> {
 }
 
 impl<'a> TokenRef<'a> {
-    /// A token of no bytes.
+    /// Returns the token without bytes.
     pub fn empty() -> TokenRef<'a>
         ensures { result ≡ [] }
     {
         TokenRef { bytes: &[] }
     }
 
-    /// A token that lies there.
+    /// Returns a borrow of an owned token.
     pub fn of(token: &'a Token) -> TokenRef<'a>
         ensures { result ≡ token.now.items }
     {
@@ -65,7 +65,7 @@ impl<'a> TokenRef<'a> {
         }
     }
 
-    /// The token of these bytes, at most 64.
+    /// Returns the token with these bytes, of which there must be at most 64.
     pub(crate) fn of_bytes(bytes: &'a [u8]) -> TokenRef<'a>
         requires { length bytes.now ≤ greatest_token }
         ensures { result ≡ bytes.now }
@@ -73,7 +73,7 @@ impl<'a> TokenRef<'a> {
         TokenRef { bytes }
     }
 
-    /// The same token, where it lies.
+    /// Returns another borrow of the same bytes.
     pub fn again(&self) -> TokenRef<'a>
         ensures token { result ≡ self.now }
         ensures short { length self.now ≤ greatest_token }
@@ -81,7 +81,7 @@ impl<'a> TokenRef<'a> {
         TokenRef { bytes: self.bytes }
     }
 
-    /// The bytes, at most 64.
+    /// Returns the bytes of the token, at most 64.
     pub fn bytes(&self) -> &'a [u8]
         ensures bytes { result.now ≡ self.now }
         ensures short { length self.now ≤ greatest_token }
@@ -89,14 +89,14 @@ impl<'a> TokenRef<'a> {
         self.bytes
     }
 
-    /// The same token by itself.
+    /// Returns an owned copy of the token.
     pub fn to_token(&self) -> Token
         ensures { result.items ≡ self.now }
     {
         token_of(self.bytes)
     }
 
-    /// Whether it is this token, byte by byte (RFC 7252 section 5.3.1).
+    /// Returns `true` if the bytes are those of an owned token (RFC 7252 section 5.3.1).
     pub fn is(&self, token: &Token) -> bool
         ensures { result ≡ pointwise nat_eq token.now.items self.now }
     {
@@ -105,7 +105,7 @@ impl<'a> TokenRef<'a> {
 }
 
 impl fmt::Debug for TokenRef<'_> {
-    /// Writes the bytes, as a `Token` is written.
+    /// Writes the bytes in the format of a `Token`.
     fn fmt<W: fmt::Write>(&self, f: &mut fmt::Formatter<W>) -> Result<(), fmt::Error> {
         self.bytes.fmt(f)
     }

@@ -5,13 +5,14 @@ ghost use Rattle.coap_wire.specs.Prelude.{uint_of, bytes_of_uint, without_leadin
 
 use arrayvec::ArrayVec;
 
-/// The most bytes that a number below 2^64 takes.
+/// Maximum length of the encoding of a number below 2^64, in bytes.
 const MAX_UINT_BYTES: usize = 8;
 
-/// The bytes of a number below 2^64: at most 8.
+/// Encoding of a number below 2^64: at most 8 bytes.
 pub type UintBytes = ArrayVec<u8, MAX_UINT_BYTES>;
 
-/// The number that the bytes mean, in network order with leading zero bytes accepted, or `None` above 4 bytes.
+/// Returns the number that the bytes encode in network order, or `None` if there are more than 4 bytes. Leading zero
+/// bytes are accepted.
 pub fn uint_value(bytes: &[u8]) -> Option<u32>
     ensures within { length bytes.now ≤ 4 → result ≡ Some (uint_of bytes.now) }
     ensures above { 4 < length bytes.now → result ≡ None }
@@ -26,7 +27,7 @@ pub fn uint_value(bytes: &[u8]) -> Option<u32>
     }
 }
 
-/// The bytes from the first one that is not 0: the fewest that mean the same number in network order.
+/// Returns the bytes without the leading zero bytes: the shortest encoding of the same number in network order.
 #[tactic(auto, using(crate::proofs::UintLemmas::zeros))]
 pub fn significant_bytes(bytes: &[u8]) -> &[u8]
     ensures rest { result.now ≡ without_leading_zeros bytes.now }
@@ -44,7 +45,7 @@ pub fn significant_bytes(bytes: &[u8]) -> &[u8]
     rest
 }
 
-/// The fewest bytes that mean the number, in network order: none for 0, at most 8.
+/// Returns the shortest encoding of the number in network order: no byte for 0, at most 8 bytes.
 #[tactic(auto, unfolding(crate::specs::Uint::bytes_of_uint))]
 pub fn uint_bytes(number: u64) -> UintBytes
     ensures bytes { result.items ≡ bytes_of_uint number }

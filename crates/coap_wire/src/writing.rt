@@ -1,4 +1,4 @@
-//! Writes the parts of a frame from left to right.
+//! Functions that encode the parts of a frame, and functions that return the length of an encoding.
 
 ghost use Rattle.std.specs.Prelude.{◌≡◌, ℕ, ◌+◌, ◌-◌, ◌≤◌, ◌<◌, List, ◌++◌, length};
 ghost use Rattle.coap_wire.specs.Prelude.{AllByRecursion, AreOrdered, greatest_token, greatest_length};
@@ -13,7 +13,7 @@ use crate::form::{
 use crate::option::{OptionRef, PAYLOAD_MARKER};
 use crate::sink::Sink;
 
-/// Returns the length of an option's encoding, whose number counts from `base`.
+/// Returns the length of the encoding of an option in bytes. The delta is the difference of its number and `base`.
 pub(crate) fn option_size(base: u16, option: &OptionRef) -> u64
     requires ordered { base ≤ option.now.number }
     requires short { length option.now.value.now ≤ MAX_EXTENDED_LENGTH }
@@ -25,8 +25,8 @@ pub(crate) fn option_size(base: u16, option: &OptionRef) -> u64
     1 + option_extension_size(delta) + option_extension_size(count) + u64::from(count)
 }
 
-/// Returns the length of the first byte, the extension of the length, the code, the extension of the token's length and
-/// the token.
+/// Returns the length of a head in bytes. A head is the first byte, the extension of the length, the code, the
+/// extension of the token length, and the token.
 pub(crate) fn head_size(token: usize, body: u64) -> u64
     requires token { token ≤ greatest_token }
     requires body { body ≤ greatest_length }
@@ -36,7 +36,8 @@ pub(crate) fn head_size(token: usize, body: u64) -> u64
     2 + length_extension_size(body) + option_extension_size(token as u32) + token as u64
 }
 
-/// Writes the first byte, the extension of the length, the code, the extension of the token's length and the token.
+/// Writes a head: the first byte, the extension of the length, the code, the extension of the token length, and the
+/// token. `body` is the length of the options, the marker and the payload.
 #[inline]
 pub(crate) fn write_head<S: Sink>(out: &mut S, code: Code, token: &[u8], body: u64)
     requires token { length token.now ≤ greatest_token }
@@ -53,7 +54,7 @@ pub(crate) fn write_head<S: Sink>(out: &mut S, code: Code, token: &[u8], body: u
     out.append(token);
 }
 
-/// Writes an option, whose number counts from `base`.
+/// Writes an option. The delta is the difference of its number and `base`.
 #[inline]
 pub(crate) fn write_option<S: Sink>(out: &mut S, base: u16, number: u16, value: &[u8])
     requires ordered { base ≤ number }
@@ -87,7 +88,7 @@ pub(crate) fn write_options<S: Sink>(out: &mut S, options: &[OptionRef])
     }
 }
 
-/// Returns the length of the marker: 1, or 0 if there is no payload.
+/// Returns the length of the payload marker: 1, or 0 if there is no payload.
 pub(crate) fn marker_size(payload: &[u8]) -> u64
     ensures size { result ≡ length (payload_marker payload.now) }
     ensures bound { result ≤ 1 }
@@ -95,7 +96,7 @@ pub(crate) fn marker_size(payload: &[u8]) -> u64
     u64::from(!payload.is_empty())
 }
 
-/// Writes the marker that a payload follows, or nothing if there is no payload.
+/// Writes the payload marker, or nothing if there is no payload.
 pub(crate) fn write_marker<S: Sink>(out: &mut S, payload: &[u8])
     requires { length (payload_marker payload.now) ≤ S.space out.old }
     ensures appended { S.contents out.new ≡ S.contents out.old ++ payload_marker payload.now }

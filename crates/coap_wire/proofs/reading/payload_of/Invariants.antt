@@ -3,7 +3,7 @@ use Rattle.coap_wire.specs.Prelude.{CoapOption, body_at}
 use Rattle.coap_wire.proofs.BodyLemmas.{with_front}
 use Rattle.coap_wire.proofs.reading.payload_of.Given as goal
 
--- the options read so far, and what is still read
+-- The options read so far, followed by the result for the bytes that are left, are the result for the body.
 abbrev pub invariant-loop-first : goal.invariant-loop-first
 invariant-loop-first l = (front : List CoapOption) × (with_front front (body_at l.base l.rest) ≡ body_at 0 l.body)
 

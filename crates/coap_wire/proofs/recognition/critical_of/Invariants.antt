@@ -2,7 +2,7 @@ use Rattle.std.proofs.Common.{◌≡◌}
 use Rattle.coap_wire.specs.Prelude.{unwrap_or, AreOrdered, first_critical, first_critical_behind, option_before}
 use Rattle.coap_wire.proofs.recognition.critical_of.Given as goal
 
--- no critical option that is not recognised was passed over
+-- Each critical option that was passed is recognised.
 abbrev pub invariant-loop-option : goal.invariant-loop-option
 invariant-loop-option l =
     (goal.iterator-loop-option).can_next l.option-iterator

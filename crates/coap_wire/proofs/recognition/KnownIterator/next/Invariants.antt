@@ -2,7 +2,7 @@ use Rattle.std.proofs.Common.{◌≡◌, length}
 use Rattle.coap_wire.specs.Prelude.{unwrap_or, AreOrdered, known_behind, option_before}
 use Rattle.coap_wire.proofs.recognition.KnownIterator.next.Given as goal
 
--- only options that are not recognised were passed over
+-- No option that was skipped is recognised.
 abbrev pub invariant-loop-option : goal.invariant-loop-option
 invariant-loop-option l =
     AreOrdered (unwrap_or l.self-inside.before 0) l.self-inside.options
