@@ -1,4 +1,4 @@
--- What our end announces as the greatest message that it takes.
+-- The size of the largest message accepted changes only by announcements.
 use Rattle.std.proofs.Common.{◌≡◌, ℕ, Bool, true, false, ◌&&◌, cond, [], ◌∷◌, ◌++◌, refl, ap}
 use Rattle.std.proofs.lemmas.Bool.{leb-true}
 use Rattle.coap_conn.specs.Prelude.{is_open, AllFit, fits, own_csm, Call, doing, may_announce, announces, History}
@@ -9,12 +9,12 @@ own_if : (so : Bool) (h k : History) → k.own_max ≡ h.own_max → (cond so k 
 own_if true h k same = same
 own_if false h k same = refl
 
--- no other call changes it
+-- No other call changes the size.
 pub own_stays : (h : History) (c : Call) → announces c ≡ false → (after h c).own_max ≡ h.own_max
 own_stays h (call.Announce size) other = absurd cc
 own_stays h c other = own_if (doing (link_of h) c).so h (with_deed h (doing (link_of h) c).deed) refl
 
--- it is queued, and in force
+-- The CSM is queued, and the size applies at once.
 pub announced_after : (h : History) (size : ℕ) → may_announce (link_of h) size ≡ true → after h (call.Announce size) ≡ record h { queued = h.queued ++ own_csm size ∷ []; own_max = size }
 announced_after h size may = ap (λ (b : Bool). cond b (record h { queued = h.queued ++ own_csm size ∷ []; own_max = size }) h) may
 
@@ -22,6 +22,6 @@ fits_by : (opened : Bool) (limit size : ℕ) → (opened && fits limit (own_csm 
 fits_by true limit size may = may
 fits_by false limit size may = absurd cc
 
--- and fits the peer
+-- The CSM fits the peer's limit.
 pub announcement_fits : (h : History) (size : ℕ) → may_announce (link_of h) size ≡ true → AllFit (limit_now h) (own_csm size ∷ [])
 announcement_fits h size may = (leb-true _ _ (fits_by (is_open h.phase) (limit_now h) size may), tt)

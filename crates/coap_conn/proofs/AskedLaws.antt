@@ -1,4 +1,4 @@
--- What is outstanding is limited, answers end it, and tokens are given once.
+-- The number of outstanding entries is limited, responses end them, and each token is used once.
 use Rattle.std.proofs.Common.{◌≡◌, ℕ, ◌+◌, ◌<◌, ◌≤◌, Bool, true, false, ◌||◌, ◌&&◌, ◌==◌, cond, List, [], ◌∷◌, length, Option, Some, None, refl, sym, ap, subst, ◌∙◌, arith, inl, inr}
 use Rattle.coap_conn.specs.Prelude.{not, filter, find, is_none, nat_lt, list_any, Message, Reason, Phase, Role}
 use Rattle.coap_conn.specs.Prelude.{Server, Client, Reply, Whole, Bare, Stopped, stop_of, is_waiting}
@@ -26,9 +26,9 @@ use Rattle.coap_conn.proofs.AskingLaws.{none_where, asked_new}
 use Rattle.coap_conn.proofs.RequestLemmas.{react_live}
 use Rattle.coap_conn.proofs.HeldLaws.{react_does}
 
--- ---- no more is outstanding than may be
+-- ---- the limit of outstanding entries
 
--- a message adds nothing
+-- A message adds no entry.
 pub asked_no_more : (s : Standing) (m : Message) → length (react s m).effect.outstanding ≤ length s.outstanding
 asked_no_more s = react_does s (λ e. length e.outstanding ≤ length s.outstanding) (record {
   stays = omega arith;
@@ -40,14 +40,14 @@ asked_no_more s = react_does s (λ e. length e.outstanding ≤ length s.outstand
   ends = λ rest fewer. fewer;
 })
 
--- what is asked adds one where there is room
+-- A request adds an entry only if there is room.
 pub asked_few : (h : History) (m : Message) (e : OutstandingValue) → length h.outstanding ≤ h.limits.outstanding → length (after_asking h m e).outstanding ≤ h.limits.outstanding
 asked_few h m e few =
     cond_both (is_none (asking_refusal (asking_now h) m)) _ h (λ (after : History). length after.outstanding ≤ h.limits.outstanding)
     (λ may. omega (arith, (asked_new (asking_now h) m (none_where (asking_refusal (asking_now h) m) may)).few, length-append h.outstanding (e ∷ [])))
     (λ f. few)
 
--- a call that leaves as much or less
+-- A call keeps the limit if it adds no entry.
 few_if : (so : Bool) (h k : History) → length h.outstanding ≤ h.limits.outstanding → length k.outstanding ≤ length h.outstanding → length (cond so k h).outstanding ≤ h.limits.outstanding
 few_if true h k few fewer = omega (arith, few, fewer)
 few_if false h k few fewer = few
@@ -66,7 +66,7 @@ due_leaves_fewer s None = omega arith
 due_leaves_fewer s (Some (held.Answer token moment)) = omega arith
 due_leaves_fewer s (Some (held.Pong token)) = sent_fewer s (pong_with true token) (pong_with false token) (fit s.limit (pong_with true token) (pong_with false token))
 
--- whatever happens
+-- Every call keeps the limit.
 pub call_few : (h : History) (c : Call) → length h.outstanding ≤ h.limits.outstanding → length (after h c).outstanding ≤ h.limits.outstanding
 call_few h (call.Handle m) few = few_by h (call.Handle m) few (asked_no_more (standing_now h) m)
 call_few h (call.Reject fault) few = few_by h (call.Reject fault) few (omega arith)
@@ -85,7 +85,7 @@ call_few h (call.Written n) few = few
 live_no_stop : (p : Phase) (why : Reason) → stop_of p ≡ None → stop_of p ≡ Some why → ⊥
 live_no_stop p why live over = let bad : ◌≡◌ {A = Option Reason} None (Some why) = sym live ∙ over in cc
 
--- a stop and a Release give up what is outstanding
+-- A stop and a Release drop all outstanding entries.
 pub asked_given_up : (s : Standing) (m : Message) (why : Reason) → stop_of s.phase ≡ None → stop_of (react s m).effect.phase ≡ Some why → (react s m).effect.outstanding ≡ []
 asked_given_up s m why live = react_does s (λ e. stop_of e.phase ≡ Some why → e.outstanding ≡ []) (record {
   stays = λ over. absurd (live_no_stop s.phase why live over);
@@ -97,9 +97,9 @@ asked_given_up s m why live = react_does s (λ e. stop_of e.phase ≡ Some why �
   ends = λ rest fewer over. absurd (live_no_stop s.phase why live over);
 }) m
 
--- ---- what is told of a message
+-- ---- verdicts on messages
 
--- it tells of no response and of no Pong
+-- True if a verdict reports neither a response nor a Pong.
 abbrev is_plain : VerdictValue → Bool
 is_plain verdict.Opened = true
 is_plain verdict.Done = true
@@ -109,7 +109,7 @@ is_plain (verdict.Pong token custody) = false
 is_plain verdict.Stranger = false
 is_plain (verdict.Stopped why) = true
 
--- what holds of each reaction that a message may have
+-- The cases of a proof that P holds for every reaction to a message.
 record ToldCases (s : Standing) (m : Message) (P : Reaction → Type 0) : Type 0 where
   plain : (r : Reaction) → is_plain r.verdict ≡ true → P r
   stranger : P (tells s verdict.Stranger)
@@ -117,7 +117,7 @@ record ToldCases (s : Standing) (m : Message) (P : Reaction → Type 0) : Type 0
   notified : (e : OutstandingValue) → find (is_asked m.token) s.outstanding ≡ Some e → is_last m e ≡ false → P (tells s (verdict.Answer m.token false))
   pong : list_any (is_pinged m.token) s.outstanding ≡ true → P (leaves s (without_pinged m.token s.outstanding) (verdict.Pong m.token (asks_custody m)))
 
--- what is sent tells of neither
+-- The verdict on a message to which a reply is sent reports neither.
 told_plain : (r : Reply) → is_plain (told_of r) ≡ true
 told_plain Whole = refl
 told_plain Bare = refl
@@ -168,18 +168,18 @@ unless_told : (s : Standing) (m : Message) (P : Reaction → Type 0) → ToldCas
 unless_told s m P cases None = live_told s m P cases
 unless_told s m P cases (Some why) = cases.plain _ refl
 
--- what holds of each reaction that a message may have holds of its reaction
+-- P holds for the reaction to a message if it holds in each case.
 react_told : (s : Standing) (m : Message) (P : Reaction → Type 0) → ToldCases s m P → P (react s m)
 unfolding react
 react_told s m P cases = unless_told s m P cases (stop_of s.phase)
 
--- such a verdict is none of a response or a Pong
+-- Such a verdict differs from that on a response or a Pong.
 not_plain : (v w : VerdictValue) → is_plain v ≡ true → is_plain w ≡ false → v ≡ w → ⊥
 not_plain v w plain other same = true≢false (sym plain ∙ ap is_plain same ∙ other)
 
--- ---- what is found
+-- ---- search in a list
 
--- where one test finds an element that passes another test, some element passes that one
+-- If the element found by one test passes another, some element passes the other.
 found_any : {X : Type 0} (p q : X → Bool) (xs : List X) (x : X) → find p xs ≡ Some x → (p x ≡ true → q x ≡ true) → list_any q xs ≡ true
 found_any p q [] x e f = absurd cc
 found_any p q (y ∷ ys) x e f =
@@ -187,26 +187,26 @@ found_any p q (y ∷ ys) x e f =
     (λ passes is. let same : x ≡ y = cc in or_left (q y) (list_any q ys) (subst (λ z. p z ≡ true → q z ≡ true) same f passes))
     (λ other is. or_right (q y) (list_any q ys) (found_any p q ys x is f)) e
 
--- nothing that was taken out is left
+-- No removed element is left.
 pub none_left : {X : Type 0} (p : X → Bool) (xs : List X) → list_any p (filter (λ x. not (p x)) xs) ≡ false
 none_left p [] = refl
 none_left p (x ∷ xs) =
     cond_both (not (p x)) (x ∷ filter (λ y. not (p y)) xs) (filter (λ y. not (p y)) xs) (λ l. list_any p l ≡ false)
     (λ other. or_from (p x) _ (not-true (p x) other) (none_left p xs)) (λ passes. none_left p xs)
 
--- where a notification is a last response, it answers a request
+-- A notification that is the last response matches a request.
 last_of_request : (m : Message) (token : List ℕ) (e : OutstandingValue) → is_notification m ≡ true → is_last m e ≡ true → is_asked token e ≡ true → (is_asked token e && is_request_entry e) ≡ true
 last_of_request m token (Request asked) notifies last is = and_from _ true is refl
 last_of_request m token (Observation asked cancelled) notifies last is = absurd (true≢false (sym notifies ∙ not-true (is_notification m) last))
 last_of_request m token (Ping asked) notifies last is = absurd (true≢false (sym is))
 
--- a response that is not the last one is a notification
+-- A response that is not the last one is a notification.
 more_notified : (m : Message) (e : OutstandingValue) → is_last m e ≡ false → is_notification m ≡ true
 more_notified m (Request asked) more = absurd (true≢false more)
 more_notified m (Observation asked cancelled) more = not-false (is_notification m) more
 more_notified m (Ping asked) more = absurd (true≢false more)
 
--- ---- responses and Pongs answer
+-- ---- responses and Pongs match entries
 
 pub answers_asked : (s : Standing) (m : Message) (token : List ℕ) (last : Bool) → (react s m).verdict ≡ verdict.Answer token last → (token ≡ m.token) × (list_any (is_asked token) s.outstanding ≡ true)
 answers_asked s m token last = react_told s m (λ r. r.verdict ≡ verdict.Answer token last → (token ≡ m.token) × (list_any (is_asked token) s.outstanding ≡ true)) (record {
@@ -246,7 +246,7 @@ request_ended s m token = react_told s m (λ r. r.verdict ≡ verdict.Answer tok
   pong = λ pinged is. absurd cc;
 })
 
--- what a Pong does
+-- The effect of a Pong.
 abbrev PongDoes : Standing → Message → List ℕ → Bool → Effect → Type 0
 PongDoes s m token custody e =
     (token ≡ m.token) × (custody ≡ asks_custody m) × (list_any (is_pinged token) s.outstanding ≡ true) × (e ≡ record (stay s) { outstanding = without_pinged token s.outstanding })
@@ -272,7 +272,7 @@ stranger_stays s m = react_told s m (λ r. r.verdict ≡ verdict.Stranger → r.
   pong = λ pinged is. absurd cc;
 })
 
--- ---- a response and a Pong are told
+-- ---- responses and Pongs that match are reported
 
 other_code : (test : ℕ → Bool) (n k : ℕ) → test n ≡ false → test k ≡ true → (n == k) ≡ false
 other_code test n k here there = false_from_ne_true (n == k) (λ e. true≢false (sym there ∙ ap test (sym (eqb-true n k e)) ∙ here))
@@ -283,7 +283,8 @@ minds_none n other =
     (or_from (n == code.ping) (n == code.pong) (other_code is_signal n code.ping other refl) (other_code is_signal n code.pong other refl))
     (other_code is_signal n code.release other refl)
 
--- while the connection is open a message whose code is neither reserved nor a signal's nor a method is taken as a response
+-- On an open connection, a message is a response if its code is neither reserved nor that of a Signalling Message or a
+-- method.
 response_taken : (s : Standing) (m : Message) → s.phase ≡ phase.Open → is_reserved m.code ≡ false → is_signal m.code ≡ false → is_method m.code ≡ false → live_reaction s m ≡ response_reaction s m
 unfolding live_reaction
 response_taken s m opened reserved signal method =
@@ -322,7 +323,7 @@ answered_verdict : (s : Standing) (m : Message) (found : Option OutstandingValue
 answered_verdict s m None e is = absurd cc
 answered_verdict s m (Some x) e is = cond_both (is_last m x) _ _ (λ (r : Reaction). (last : Bool) × (r.verdict ≡ verdict.Answer m.token last)) (λ f. (true, refl)) (λ f. (false, refl))
 
--- a response to what is outstanding is told as its answer
+-- A response that matches an entry is reported as `Answer`.
 pub response_told : (s : Standing) (m : Message) → s.phase ≡ phase.Open → is_reserved m.code ≡ false → is_signal m.code ≡ false → is_method m.code ≡ false → list_any (is_asked m.token) s.outstanding ≡ true
     → (last : Bool) × ((react s m).verdict ≡ verdict.Answer m.token last)
 response_told s m opened reserved signal method asked =
@@ -330,21 +331,21 @@ response_told s m opened reserved signal method asked =
     let told = answered_verdict s m (find (is_asked m.token) s.outstanding) found.0 found.1 in
     (told.0, ap (λ (r : Reaction). r.verdict) (react_live s m (ap stop_of opened) ∙ response_taken s m opened reserved signal method) ∙ told.1)
 
--- and a Pong to a Ping that is outstanding as its Pong
+-- A Pong that matches a Ping is reported as `Pong`.
 pub pong_told_of : (s : Standing) (m : Message) → s.phase ≡ phase.Open → m.code ≡ code.pong → has_critical_option m ≡ false → list_any (is_pinged m.token) s.outstanding ≡ true → (react s m).verdict ≡ verdict.Pong m.token (asks_custody m)
 pong_told_of s m opened is plain pinged =
     ap (λ (r : Reaction). r.verdict) (react_live s m (ap stop_of opened) ∙ live_reaction_to_pong s m opened is plain ∙ cond-true (list_any (is_pinged m.token) s.outstanding) _ _ pinged)
 
 -- ---- tokens
 
--- different numbers are different tokens
+-- Different numbers give different tokens.
 pub tokens_differ : (one other : ℕ) → one < 18446744073709551615 → other < 18446744073709551615 → next_token one ≡ next_token other → one ≡ other
 tokens_differ one other small other_small same = omega (arith, bytes_are_one (one + 1) (other + 1) (omega (arith, small)) (omega (arith, other_small)) same)
 
 pub token_left : (h : History) (m : Message) → asking_refusal (asking_now h) m ≡ None → h.tokens < 18446744073709551615
 token_left h m may = (asked_new (asking_now h) m may).left
 
--- ---- what gives a token
+-- ---- calls that take a token
 
 tokens_if : (so : Bool) (h k : History) → k.tokens ≡ h.tokens → (cond so k h).tokens ≡ h.tokens
 tokens_if true h k same = same

@@ -1,4 +1,4 @@
--- What the code has outstanding, seen as values: which of it is answered, what is left of it, and what is given a token.
+-- The outstanding entries of the code, as values: matches, removal, and new tokens.
 use Rattle.std.proofs.Common.{◌≡◌, ℕ, ◌+◌, ◌<◌, ◌≤◌, Bool, true, false, not, ◌||◌, cond, List, [], ◌∷◌, ◌++◌, length, map, filter, set, take, drop, get_or, Option, Some, None, refl, sym, ap, ◌∙◌, arith}
 use Rattle.coap_conn.specs.Prelude.{find, option_map, is_none, nat_lt, list_any, Message, spelling, RequestFault}
 use Rattle.coap_conn.specs.Prelude.{NotOpen, NoSuchToken, Outstanding, OutstandingValue, cancelled_by}
@@ -12,7 +12,7 @@ use Rattle.std.proofs.lemmas.List.Edits.{map_over_more}
 use Rattle.std.proofs.lemmas.List.Filters.{length-filter_both}
 use Rattle.coap_conn.specs.Calls as call
 
--- ---- what was looked at is what is outstanding
+-- ---- tests of the code agree with those of values
 
 pub any_of : (test : OutstandingValue → Bool) (entries : List Outstanding)
     → list_any (λ e. test (outstanding_value e)) entries ≡ list_any test (map outstanding_value entries)
@@ -39,7 +39,7 @@ pub values_filtered : (test : OutstandingValue → Bool) (entries : List Outstan
 values_filtered test [] = refl
 values_filtered test (e ∷ entries) = left_step (test (outstanding_value e)) e _ _ (values_filtered test entries)
 
--- ---- one after the other is cancelled
+-- ---- cancellation, one entry after another
 
 pub cancelled_more : (token : List ℕ) (old : List OutstandingValue) (entries : List Outstanding) (i : ℕ) (e new : Outstanding)
     → i < length entries → length entries ≡ length old
@@ -51,7 +51,7 @@ cancelled_more token old entries i e new within long so_far read cancelled =
     ∙ map_over_more (cancelled_by token) old (map outstanding_value entries) i (outstanding_value e) (omega (arith, within, long)) so_far
     (ap outstanding_value read ∙ sym (get_or-map outstanding_value entries i e (outstanding_value e) within))
 
--- ---- a link keeps what is left of what is outstanding
+-- ---- the limit after a removal
 
 pub count_left : (test : OutstandingValue → Bool) (entries : List OutstandingValue) → length (filter test entries) ≤ length entries
 count_left test entries = omega (arith, length-filter_both test (λ e. not (test e)) (λ e. refl) entries)
@@ -67,7 +67,7 @@ open_then : (a : Asking) (P : Type 0) → (token_refusal a ≡ None → P) → n
 unfolding new_refusal
 open_then a P then = cond_both (is_open a.phase) _ _ (λ o. o ≡ None → P) (λ e is. then is) (λ e is. absurd cc)
 
--- where one is given, one more may be outstanding, and a number is left
+-- If a new token can be given, the list is not full and a number is left.
 pub new_room : (a : Asking) → new_refusal a ≡ None → length a.outstanding < a.most
 new_room a =
     open_then a _
@@ -80,13 +80,13 @@ new_number a =
     (λ e. cond_both (nat_lt a.tokens 18446744073709551615) _ _ (λ o. o ≡ None → a.tokens < 18446744073709551615) (λ e is. ltb-true _ _ e) (λ e is. absurd cc))
     (λ e is. absurd cc))
 
--- ---- a message that asks something
+-- ---- requests
 
 pub refused_new : (a : Asking) (m : Message) (fault : RequestFault) → new_refusal a ≡ Some fault → asking_refusal a m ≡ Some fault
 unfolding asking_refusal
 refused_new a m fault is = ap (λ (o : Option RequestFault). else_refusal o (size_refusal a (length (spelling m)))) is
 
--- where a token is given, its size decides
+-- If a new token can be given, the size decides.
 pub refused_size : (a : Asking) (m sent : Message) (o : Option RequestFault)
     → sent ≡ m → new_refusal a ≡ None → size_refusal a (length (spelling sent)) ≡ o → asking_refusal a m ≡ o
 unfolding asking_refusal
@@ -94,7 +94,7 @@ refused_size a m sent o same new size =
     ap (λ (o : Option RequestFault). else_refusal o (size_refusal a (length (spelling m)))) new
     ∙ ap (λ (n : Message). size_refusal a (length (spelling n))) (sym same) ∙ size
 
--- what was queued and what was entered is what the link has afterwards
+-- After a request the link has the queued message and the new entry.
 pub asked_after : (v queued new : LinkValue) (m sent : Message) (e entered : OutstandingValue)
     → asking_refusal (asking_in v) m ≡ None → sent ≡ m → entered ≡ e
     → queued ≡ record v { waiting = v.waiting ++ bytes_of (sent ∷ []) }
@@ -106,9 +106,9 @@ asked_after v queued new m sent e entered allowed same same_entry put enters =
     ∙ ap (λ (one : OutstandingValue). record v { waiting = v.waiting ++ bytes_of (m ∷ []); outstanding = v.outstanding ++ one ∷ []; tokens = v.tokens + 1 }) same_entry
     ∙ ap (λ (o : Option RequestFault). cond (is_none o) (record v { waiting = v.waiting ++ bytes_of (m ∷ []); outstanding = v.outstanding ++ e ∷ []; tokens = v.tokens + 1 }) v) (sym allowed)
 
--- ---- an observation that is cancelled
+-- ---- cancellation of an observation
 
--- where there is one, the size of the message decides
+-- If there is an observation to cancel, the size of the message decides.
 pub size_decides_cancel : (a : Asking) (token : List ℕ) (m sent : Message) (o : Option RequestFault)
     → is_open a.phase ≡ true → has_observation a token ≡ true → sent ≡ m → size_refusal a (length (spelling sent)) ≡ o → cancel_refusal a token m ≡ o
 unfolding cancel_refusal
@@ -117,7 +117,7 @@ size_decides_cancel a token m sent o opened there same size =
     ∙ ap (λ (b : Bool). cond b (size_refusal a (length (spelling m))) (Some NoSuchToken)) there
     ∙ ap (λ (n : Message). size_refusal a (length (spelling n))) (sym same) ∙ size
 
--- what was queued and what was cancelled is what the link has afterwards
+-- After a cancellation the link has the queued message and the cancelled entry.
 pub cancel_after : (v queued : LinkValue) (token : List ℕ) (m sent : Message)
     → cancel_refusal (asking_in v) token (with_token m token) ≡ None → sent ≡ with_token m token
     → queued ≡ record v { waiting = v.waiting ++ bytes_of (sent ∷ []) }

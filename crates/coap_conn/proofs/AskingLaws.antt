@@ -1,11 +1,11 @@
--- What it means that something is asked, or that an observation is cancelled.
+-- Conclusions from the fact that a request or a cancellation is allowed, or is not.
 use Rattle.std.proofs.Common.{◌≡◌, ℕ, ◌<◌, ◌≤◌, Bool, true, false, cond, List, length, Option, Some, None, refl, ap}
 use Rattle.coap_conn.specs.Prelude.{nat_lt, is_none, Message, spelling, is_open, Asking, size_refusal, token_refusal}
 use Rattle.coap_conn.specs.Prelude.{else_refusal, new_refusal, asking_refusal, has_observation, cancel_refusal}
 use Rattle.coap_conn.specs.Prelude.{RequestFault, NotOpen, TooBig, NoRoom, NoSuchToken}
 use Rattle.std.proofs.lemmas.Bool.{cond_both, ltb-true, ltb-false}
 
--- a test whether there is none
+-- A test for `None`.
 pub none_where : {X : Type 0} (o : Option X) → is_none o ≡ true → o ≡ None
 none_where None e = refl
 none_where (Some x) e = absurd cc
@@ -14,9 +14,9 @@ both_none : (one other : Option RequestFault) → else_refusal one other ≡ Non
 both_none None other e = (refl, e)
 both_none (Some fault) other e = absurd cc
 
--- ---- what is not refused
+-- ---- allowed
 
--- the message is within what may be sent, and has room in the queue
+-- The message exceeds neither the largest message that may be sent nor the free bytes of the queue.
 pub record IsRightSize (a : Asking) (size : ℕ) : Type 0 where
   pub within : size ≤ a.limit
   pub room : size ≤ a.free
@@ -27,7 +27,7 @@ right_size a size =
     (λ e. cond_both (nat_lt a.free size) (Some NoRoom) None (λ r. r ≡ None → IsRightSize a size) (λ f is. absurd cc)
     (λ f is. record { within = ltb-false a.limit size e; room = ltb-false a.free size f }))
 
--- the connection is open, one more may be outstanding, and a token is left
+-- The connection is open, the list of outstanding entries is not full, and a token is left.
 pub record HasNew (a : Asking) : Type 0 where
   pub opened : is_open a.phase ≡ true
   pub few : length a.outstanding < a.most
@@ -45,7 +45,7 @@ has_new : (a : Asking) → new_refusal a ≡ None → HasNew a
 unfolding new_refusal
 has_new a = cond_both (is_open a.phase) (token_refusal a) (Some NotOpen) (λ r. r ≡ None → HasNew a) (λ opened. has_token a opened) (λ e is. absurd cc)
 
--- what is asked has a new token, and is of the right size
+-- An allowed request has a new token and is small enough.
 pub asked_new : (a : Asking) (m : Message) → asking_refusal a m ≡ None → HasNew a
 unfolding asking_refusal
 asked_new a m e = has_new a (both_none (new_refusal a) (size_refusal a (length (spelling m))) e).0
@@ -54,7 +54,7 @@ pub asked_size : (a : Asking) (m : Message) → asking_refusal a m ≡ None → 
 unfolding asking_refusal
 asked_size a m e = right_size a (length (spelling m)) (both_none (new_refusal a) (size_refusal a (length (spelling m))) e).1
 
--- so is what cancels
+-- The message of an allowed cancellation is small enough.
 pub cancel_size : (a : Asking) (token : List ℕ) (m : Message) → cancel_refusal a token m ≡ None → IsRightSize a (length (spelling m))
 unfolding cancel_refusal
 cancel_size a token m =
@@ -63,9 +63,9 @@ cancel_size a token m =
     (λ f. right_size a (length (spelling m))) (λ f is. absurd cc))
     (λ e is. absurd cc)
 
--- ---- what is refused
+-- ---- not allowed
 
--- nothing is asked where the connection is not open
+-- No request is allowed if the connection is not open.
 pub not_asked : (a : Asking) (m : Message) → is_open a.phase ≡ false → is_none (asking_refusal a m) ≡ false
 unfolding asking_refusal new_refusal
 not_asked a m closed = ap (λ (b : Bool). is_none (else_refusal (cond b (token_refusal a) (Some NotOpen)) (size_refusal a (length (spelling m))))) closed

@@ -1,4 +1,4 @@
--- What comes first on both sides of a connection.
+-- The first message is a CSM, in both directions.
 use Rattle.std.proofs.Common.{◌≡◌, ℕ, Bool, true, false, cond, ◌==◌, List, [], ◌∷◌, ◌++◌, Option, Some, None, refl, sym, ap, ◌∙◌}
 use Rattle.std.proofs.lemmas.Bool.{cond_both, eqb-true}
 use Rattle.coap_conn.specs.Prelude.{Message, Phase, bad_csm_option, stop_of, is_waiting, Standing, Reaction}
@@ -10,11 +10,11 @@ use Rattle.coap_conn.specs.Verdicts as verdict
 use Rattle.coap_wire.specs.Codes as code
 use Rattle.coap_conn.proofs.RequestLemmas.{react_live, react_asks}
 
--- whatever is queued later stands behind
+-- A message that is queued later does not change the first one.
 pub first_stays : (h : History) (more : List Message) → AnnouncedFirst h → (others : List Message) × (h.queued ++ more ≡ first_csm h.limits.max_message ∷ others)
 first_stays h more first = (first.0 ++ more, ap (λ (q : List Message). q ++ more) first.1)
 
--- and where nothing is queued
+-- The same if nothing is queued.
 pub guarded_first : (does : Bool) (h after : History) → AnnouncedFirst after → AnnouncedFirst h → AnnouncedFirst (cond does after h)
 guarded_first true h after then first = then
 guarded_first false h after then first = first
@@ -27,12 +27,12 @@ deed_first h (Asks m outstanding tokens) first = first_stays h (m ∷ []) first
 deed_first h (Announces size) first = first_stays h (own_csm size ∷ []) first
 deed_first h (Writes n) first = first
 
--- whatever happens
+-- No call changes the first message.
 pub call_first : (h : History) (c : Call) → AnnouncedFirst h → AnnouncedFirst (after h c)
 call_first h c first =
     let d : Doing = doing (link_of h) c in guarded_first d.so h (with_deed h d.deed) (deed_first h d.deed first) first
 
--- ---- while the connection waits
+-- ---- before the peer's first CSM
 
 pub no_request_waiting : (s : Standing) (m : Message) → s.phase ≡ phase.Waiting → (react s m).verdict ≡ verdict.Request → ⊥
 no_request_waiting s m waits asked =
@@ -40,7 +40,7 @@ no_request_waiting s m waits asked =
     let no : ◌≡◌ {A = Bool} false true = bad in
     cc
 
--- what opens a waiting connection
+-- A message that opens a waiting connection is a valid CSM.
 abbrev OpensBy : Message → Reaction → Type 0
 OpensBy m r = r.effect.phase ≡ phase.Open → (m.code ≡ code.csm) × (bad_csm_option m ≡ None)
 

@@ -1,15 +1,15 @@
--- What a connection queued stays queued, and nothing but a write counts bytes as written.
+-- A queued message stays in the history, and only `Written` counts bytes as written.
 use Rattle.std.proofs.Common.{◌≡◌, List, [], ◌++◌, refl, sym, ◌∙◌, append_assoc}
 use Rattle.std.proofs.lemmas.List.{append-nil}
 use Rattle.coap_conn.specs.Prelude.{Message, History}
 
--- more was queued, and as much is written
+-- Messages were added to those queued, and the number of bytes written is the same.
 pub record Grows (h k : History) : Type 0 where
   pub more : List Message
   pub queued : k.queued ≡ h.queued ++ more
   pub written : k.written ≡ h.written
 
--- nothing was queued
+-- No message was queued.
 pub same_queue : (h k : History) → k.queued ≡ h.queued → k.written ≡ h.written → Grows h k
 same_queue h k queued written = record { more = []; queued = queued ∙ sym (append-nil h.queued); written = written }
 

@@ -1,4 +1,4 @@
--- What is due comes first, and a Pong with Custody waits for what is held.
+-- The entry that is due first, and Pongs with Custody that wait for pending entries.
 use Rattle.std.proofs.Common.{◌≡◌, ℕ, zero, suc, ◌+◌, ◌<◌, ◌≤◌, Bool, true, false, cond, ◌&&◌, ◌==◌, List, [], ◌∷◌, ◌++◌, length, get_or, take, drop, min, Option, Some, None, refl, sym, ap, subst, ◌∙◌, arith, inl, inr}
 use Rattle.coap_conn.specs.Prelude.{slice_get, nat_le, nat_lt, option_map, not, find, AllByRecursion, list_any}
 use Rattle.coap_conn.specs.Prelude.{filter_map, cons_option, fold, reduce, position, position_from, remove}
@@ -24,7 +24,7 @@ use Rattle.coap_conn.specs.declared.reason.Reason.TheVariants as reason
 use Rattle.coap_conn.specs.declared.phase.Phase.TheVariants as phase
 use Rattle.coap_conn.proofs.AskedLemmas.{count_left}
 
--- ---- what is made of the moments
+-- ---- the least number of a list
 
 cons_all : {X : Type 0} (P : X → Type 0) (o : Option X) (xs : List X) → ((x : X) → o ≡ Some x → P x) → AllByRecursion P xs → AllByRecursion P (cons_option o xs)
 cons_all P None xs f each = each
@@ -38,7 +38,7 @@ pub cons_parts : {X : Type 0} (P : X → Type 0) (o : Option X) (xs : List X) �
 cons_parts P None xs each = (λ x e. absurd cc, each)
 cons_parts P (Some y) xs each = (λ x e. let same : y ≡ x = cc in subst P same each.0, each.1)
 
--- the least number is at most each, and is one of them
+-- The least number is at most each number of the list.
 fold_least : (a : ℕ) (xs : List ℕ) → (fold min a xs ≤ a) × AllByRecursion (λ x. fold min a xs ≤ x) xs
 fold_least a [] = (omega arith, tt)
 fold_least a (x ∷ xs) = let h = fold_least (min a x) xs in (omega (arith, h.0), (omega (arith, h.0), h.1))
@@ -50,7 +50,7 @@ fold_apart a m (x ∷ xs) apart each e =
     (λ same. elim (cases_lt a x) [ inl less ↦ apart (omega (arith, less, same)) | inr more ↦ each.0 (omega (arith, more, same)) ])
     each.1 e
 
--- the same of the least of a list
+-- The same for `reduce`.
 reduce_least : (m : ℕ) (xs : List ℕ) → reduce min xs ≡ Some m → AllByRecursion (λ x. m ≤ x) xs
 reduce_least m [] e = tt
 reduce_least m (x ∷ xs) e =
@@ -72,7 +72,7 @@ reduce_none : (xs : List ℕ) → reduce min xs ≡ None → xs ≡ []
 reduce_none [] e = refl
 reduce_none (x ∷ xs) e = absurd cc
 
--- ---- the moments that have come
+-- ---- times that have come
 
 come_within : (now other : ℕ) (e : HeldValue) → come now e ≡ Some other → other ≤ now
 come_within now other (Answer token moment) =
@@ -104,15 +104,15 @@ none_come : (now : ℕ) (held : List HeldValue) → filter_map (come now) held �
 none_come now [] e = tt
 none_come now (x ∷ held) e = let parts = cons_none (come now x) (filter_map (come now) held) e in (parts.0, none_come now held parts.1)
 
--- ---- places
+-- ---- positions
 
--- a list around one of its elements
+-- A list is the part before an element, the element, and the part after it.
 split_at : {X : Type 0} (xs : List X) (i : ℕ) (x : X) → slice_get xs i ≡ Some x → xs ≡ take i xs ++ x ∷ drop (suc i) xs
 split_at [] i x e = absurd cc
 split_at (y ∷ xs) zero x e = let same : y ≡ x = cc in ap (λ z. z ∷ xs) same
 split_at (y ∷ xs) (suc i) x e = ap (λ ys. y ∷ ys) (split_at xs i x e)
 
--- nothing before the place that is found passes
+-- No element before the position found passes the test.
 none_before : {X : Type 0} (p : X → Bool) (xs : List X) (i : ℕ) (d : X) → ((k : ℕ) → k < i → p (get_or xs k d) ≡ false) → AllByRecursion (λ x. p x ≡ false) (take i xs)
 none_before p [] zero d none = tt
 none_before p [] (suc i) d none = tt
@@ -130,16 +130,17 @@ none_from p n (x ∷ xs) e = let parts = none_step (p x) n (position_from p (n +
 no_position : {X : Type 0} (p : X → Bool) (xs : List X) → position p xs ≡ None → AllByRecursion (λ x. p x ≡ false) xs
 no_position p xs e = none_from p 0 xs (sym (position_from-zero p xs) ∙ e)
 
--- ---- what is due first
+-- ---- the entry that is due first
 
--- the place of what is due first: an answer of the least moment, or a Pong with nothing before it, or none
+-- This index is that of the entry that is due first: a response of the earliest time, a Pong that no entry precedes, or
+-- none.
 pub record HasIndex (now : ℕ) (held : List HeldValue) (index : Option ℕ) : Type 0 where
   pub answer : (token : List ℕ) (moment : ℕ) → held_at held index ≡ Some (Answer token moment) → IsDueFirst now held token moment (without_at held index)
   pub pong : (token : List ℕ) → held_at held index ≡ Some (Pong token) → held ≡ Pong token ∷ without_at held index
   pub nothing : held_at held index ≡ None → HoldsNothingDue now held × (without_at held index ≡ held)
   pub alone : (token : List ℕ) → held_at held index ≡ Some (Pong token) → AllByRecursion (λ e. come now e ≡ None) held
 
--- an answer of the least moment
+-- The first response of the earliest time is due first.
 answer_found : (now least : ℕ) (held : List HeldValue) (i : ℕ) (e : HeldValue) → reduce min (filter_map (come now) held) ≡ Some least → position (is_answer_at least) held ≡ Some i → slice_get held i ≡ Some e → is_answer_at least e ≡ true →
     (token : List ℕ) (moment : ℕ) → e ≡ Answer token moment → IsDueFirst now held token moment (remove held i)
 answer_found now least held i e come_least found there passes token moment is =
@@ -167,14 +168,14 @@ answer_index_has now least held i e come_least found there passes = record {
   alone = λ token is. let same : e ≡ Pong token = cc in absurd (no_pong_passes least e token passes same);
 }
 
--- an index that is found has its element
+-- A position that is found has the entry that is due first.
 found_has : (now least : ℕ) (held : List HeldValue) (i : ℕ) → reduce min (filter_map (come now) held) ≡ Some least → position (is_answer_at least) held ≡ Some i → HasIndex now held (Some i)
 found_has now least held i come_least found =
     let d : HeldValue = Pong [] in
     let at = position-Some (is_answer_at least) held i d found in
     answer_index_has now least held i (get_or held i d) come_least found (slice_get-get_or held i d at.0) at.1
 
--- where no moment has come
+-- The case in which no response is due.
 pong_index_has : (now : ℕ) (held : List HeldValue) → AllByRecursion (λ e. come now e ≡ None) held → HasIndex now held (pong_index held)
 pong_index_has now [] none = record { answer = λ token moment is. absurd cc; pong = λ token is. absurd cc; nothing = λ is. ((none, refl), refl); alone = λ token is. none }
 pong_index_has now (Answer token moment ∷ held) none = record { answer = λ other at is. absurd cc; pong = λ other is. absurd cc; nothing = λ is. ((none, refl), refl); alone = λ other is. none }
@@ -185,7 +186,7 @@ pong_index_has now (Pong token ∷ held) none = record {
   alone = λ other is. none;
 }
 
--- with the least moment as it is, and the place of its answer
+-- Both cases, by the earliest time and the position of its response.
 index_at : (now : ℕ) (held : List HeldValue) (least : Option ℕ) (found : Option ℕ) → reduce min (filter_map (come now) held) ≡ least → answer_index least held ≡ found → HasIndex now held (else_index found (pong_index held))
 index_at now held None None e f = pong_index_has now held (none_come now held (reduce_none (filter_map (come now) held) e))
 index_at now held None (Some i) e f = absurd cc
@@ -220,13 +221,13 @@ pub due_fewer : (now : ℕ) (held : List HeldValue) (e : HeldValue) → first_du
 unfolding first_due without_due
 due_fewer now held e = fewer_at held (due_index now held) e
 
--- ---- what the effect of a message is
+-- ---- effects of messages
 
--- where a Pong with Custody is queued, nothing is held
+-- If the message is a Pong with Custody, no entry is pending.
 abbrev MayQueue : Standing → Message → Type 0
 MayQueue s m = is_custody_pong m ≡ true → s.held ≡ []
 
--- what holds of each effect that a message may have
+-- The cases of a proof that P holds for every effect of a message.
 pub record EffectCases (s : Standing) (P : Effect → Type 0) : Type 0 where
   pub stays : P (stay s)
   pub opens : P (record (stay s) { phase = phase.Open })
@@ -236,7 +237,7 @@ pub record EffectCases (s : Standing) (P : Effect → Type 0) : Type 0 where
   pub keeps : (token : List ℕ) → length s.held < s.most → P (holds s (Pong token)).effect
   pub ends : (rest : List OutstandingValue) → length rest ≤ length s.outstanding → P (record (stay s) { outstanding = rest })
 
--- the same of a reaction
+-- P holds for the effect of a reaction.
 abbrev Does : (Effect → Type 0) → Reaction → Type 0
 Does P r = P r.effect
 
@@ -248,7 +249,7 @@ sends_does s P cases m less Whole may may_less = cases.queues m may
 sends_does s P cases m less Bare may may_less = cases.queues less may_less
 sends_does s P cases m less Stopped may may_less = cases.stops reason.PeerTooSmall [] refl
 
--- no Abort is a Pong
+-- An Abort is no Pong.
 fitted_abort : (m less : Message) (r : Reply) → is_custody_pong m ≡ false → is_custody_pong less ≡ false → list_any is_custody_pong (fitted m less r) ≡ false
 fitted_abort m less Whole other not_less = rw other refl
 fitted_abort m less Bare other not_less = rw not_less refl
@@ -323,12 +324,12 @@ unless_does : (s : Standing) (P : Effect → Type 0) → EffectCases s P → (m 
 unless_does s P cases m None = live_does s P cases m
 unless_does s P cases m (Some why) = cases.stays
 
--- what holds of each effect that a message may have holds of its effect
+-- P holds for the effect of a message if it holds in each case.
 pub react_does : (s : Standing) (P : Effect → Type 0) → EffectCases s P → (m : Message) → P (react s m).effect
 unfolding react
 react_does s P cases m = unless_does s P cases m (stop_of s.phase)
 
--- ---- a Pong with Custody waits for what is held
+-- ---- Pongs with Custody wait for pending entries
 
 custody_only : (m : Message) → list_any is_custody_pong (m ∷ []) ≡ true → is_custody_pong m ≡ true
 custody_only m e = elim (or_cases (is_custody_pong m) false e) [ inl is ↦ is | inr other ↦ absurd cc ]
@@ -355,7 +356,7 @@ held_few s m few = react_does s (λ e. length e.held ≤ s.most) (record {
   ends = λ rest fewer. few;
 }) m
 
--- what is held stays, and more may come behind it
+-- Pending entries stay in the list, and others may be appended.
 abbrev HoldsMore : Standing → Effect → Type 0
 HoldsMore s e = (more : List HeldValue) × (e.held ≡ s.held ++ more)
 
@@ -373,7 +374,7 @@ held_more s m = react_does s (λ e. stop_of e.phase ≡ None → HoldsMore s e) 
 open_not_released : (p : Phase) (why : Reason) → p ≡ phase.Open → p ≡ phase.Releasing why → ⊥
 open_not_released p why opened releasing = let bad : ◌≡◌ {A = Phase} phase.Open (phase.Releasing why) = sym opened ∙ releasing in cc
 
--- a Release keeps what is held
+-- A Release keeps the pending entries.
 pub held_released : (s : Standing) (m : Message) (why : Reason) → s.phase ≡ phase.Open → (react s m).effect.phase ≡ phase.Releasing why → (react s m).effect.held ≡ s.held
 held_released s m why opened = react_does s (λ e. e.phase ≡ phase.Releasing why → e.held ≡ s.held) (record {
   stays = λ is. refl;
@@ -388,7 +389,7 @@ held_released s m why opened = react_does s (λ e. e.phase ≡ phase.Releasing w
 live_not_stopped : (p : Phase) (why : Reason) → stop_of p ≡ None → p ≡ phase.Stopped why → ⊥
 live_not_stopped p why live stopped = let bad : ◌≡◌ {A = Option Reason} None (Some why) = sym live ∙ ap stop_of stopped in cc
 
--- a stop gives up what is held
+-- A stop drops the pending entries.
 pub held_given_up : (s : Standing) (m : Message) (why : Reason) → stop_of s.phase ≡ None → (react s m).effect.phase ≡ phase.Stopped why → (react s m).effect.held ≡ []
 held_given_up s m why live = react_does s (λ e. e.phase ≡ phase.Stopped why → e.held ≡ []) (record {
   stays = λ is. absurd (live_not_stopped s.phase why live is);

@@ -1,4 +1,4 @@
--- What was announced last counts, and whatever is queued fits.
+-- The last announcement counts, and queued messages fit the peer's limit.
 use Rattle.std.proofs.Common.{◌≡◌, ℕ, ◌≤◌, true, false, ◌&&◌, ◌==◌, List, [], ◌∷◌, ◌++◌, length, min, Option, Some, None, refl, ap, ◌∙◌, arith}
 use Rattle.coap_conn.specs.Prelude.{nat_le, nat_lt, find, AllByRecursion, filter_map, list_any, Message, spelling}
 use Rattle.coap_conn.specs.Prelude.{Reason, Role, Server, Client, Reply, Whole, Bare, Stopped, stop_of, is_waiting}
@@ -56,7 +56,7 @@ pub last_token : (before after : List Message) (m : Message) (n : ℕ) → token
 unfolding announced_token
 last_token before after m n e each = last_counts token_announcement 8 before after m n e each
 
--- ---- whatever is queued fits
+-- ---- queued messages fit
 
 fitted_fit : (limit : ℕ) (m less : Message) → AllFit limit (fitted m less (fit limit m less))
 fitted_fit limit m less =

@@ -1,4 +1,4 @@
--- A link shows its history after each call.
+-- A link represents its history after each call.
 use Rattle.std.proofs.Common.{◌≡◌, ℕ, ◌≤◌, Bool, true, false, cond, List, [], ◌∷◌, ◌++◌, length, drop, Option, Some, None, refl, sym, ap, subst, ◌∙◌, arith}
 use Rattle.coap_conn.specs.Prelude.{unwrap_or, filter_map, Message, spelling, Phase, Role, LimitValues, announcement}
 use Rattle.coap_conn.specs.Prelude.{announced, token_announcement, announced_token, last_or, last_told, HeldValue}
@@ -11,7 +11,7 @@ use Rattle.std.proofs.lemmas.List.Concat.{flat_map-append}
 use Rattle.std.proofs.lemmas.List.Elements.{filter_map-append}
 use Rattle.coap_conn.specs.Calls as call
 
--- ---- what is queued
+-- ---- queued messages
 
 pub bytes_more : (ms ns : List Message) → bytes_of (ms ++ ns) ≡ bytes_of ms ++ bytes_of ns
 bytes_more ms ns = flat_map-append spelling ms ns
@@ -22,17 +22,16 @@ waiting_more h ms is = ap (drop h.written) (bytes_more h.queued ms) ∙ drop-app
 pub history_more : (h : History) (ms : List Message) → IsHistory h → h.written ≤ length (bytes_of (h.queued ++ ms))
 history_more h ms is = omega (arith, is, ap (λ (t : List ℕ). length t) (bytes_more h.queued ms), length-append (bytes_of h.queued) (bytes_of ms))
 
--- the link that shows a history, with other bytes, another phase, where something else is held or outstanding, and with another size
--- and another longest token of the peer
+-- The link that represents a history, with other queued bytes, phase, entries and sizes of the peer.
 abbrev link_at : History → List ℕ → Phase → List HeldValue → List OutstandingValue → ℕ → ℕ → LinkValue
 link_at h waiting phase held outstanding peer_max peer_token =
     record { role = h.role; limits = h.limits; waiting = waiting; phase = phase; own_max = h.own_max; peer_max = peer_max; peer_token = peer_token; held = held; outstanding = outstanding; tokens = h.tokens }
 
--- an effect shows as the same effect
+-- An effect on the link is the same effect on the history.
 effect_of : (h : History) (e : Effect) → IsHistory h → link_with (link_of h) e ≡ link_of (with_effect h e)
 effect_of h e is = ap (λ (w : List ℕ). link_at h w e.phase e.held e.outstanding (announced h.handled) (announced_token h.handled)) (sym (waiting_more h e.queued is))
 
--- ---- what is announced
+-- ---- announcements
 
 last_more : (n x : ℕ) (xs : List ℕ) → last_or n (xs ++ x ∷ []) ≡ x
 last_more n x [] = refl
@@ -43,7 +42,7 @@ module _ (tells : Message → Option ℕ) (base : ℕ) where
   told_by xs m None e = rw e (ap (last_or base) (append-nil xs))
   told_by xs m (Some n) e = rw e (last_more base n xs)
 
-  -- a message more tells what it says, or leaves what was told
+  -- One more message replaces the last number that `tells` gives, if it gives one for the message.
   told_more : (ms : List Message) (m : Message) → last_told tells base (ms ++ m ∷ []) ≡ unwrap_or (tells m) (last_told tells base ms)
   told_more ms m = ap (last_or base) (filter_map-append tells ms (m ∷ [])) ∙ told_by (filter_map tells ms) m (tells m) refl
 
@@ -55,7 +54,7 @@ token_more : (ms : List Message) (m : Message) → announced_token (ms ++ m ∷ 
 unfolding announced_token
 token_more ms m = told_more token_announcement 8 ms m
 
--- with no message the base size is announced
+-- Without messages, the size is the base size.
 pub announced_none : announced [] ≡ 1152
 unfolding announced
 announced_none = refl
@@ -64,7 +63,7 @@ token_none : announced_token [] ≡ 8
 unfolding announced_token
 token_none = refl
 
--- ---- what is done
+-- ---- effects
 
 heard_of : (h : History) (m : Message) (e : Effect) → IsHistory h → link_with_deed (link_of h) (Handles m e) ≡ link_of (with_deed h (Handles m e))
 heard_of h m e is =
@@ -87,7 +86,7 @@ announces_of h size is =
 written_of : (h : History) (n : ℕ) → link_with_deed (link_of h) (Writes n) ≡ link_of (with_deed h (Writes n))
 written_of h n = ap (λ (w : List ℕ). link_at h w h.phase h.held h.outstanding (announced h.handled) (announced_token h.handled)) (drop-drop n h.written (bytes_of h.queued))
 
--- a deed shows as the same deed
+-- An effect of a call on the link is the same effect on the history.
 deed_of : (h : History) (d : Deed) → IsHistory h → link_with_deed (link_of h) d ≡ link_of (with_deed h d)
 deed_of h (Handles m e) is = heard_of h m e is
 deed_of h (Does e) is = effect_of h e is
@@ -96,7 +95,7 @@ deed_of h (Asks m outstanding tokens) is = asked_of h m outstanding tokens is
 deed_of h (Announces size) is = announces_of h size is
 deed_of h (Writes n) is = written_of h n
 
--- and leaves a history
+-- The effect of a call keeps `IsHistory`.
 deed_kept : (h : History) (d : Deed) → IsHistory h → IsWithin (link_of h) d → IsHistory (with_deed h d)
 deed_kept h (Handles m e) is within = history_more h e.queued is
 deed_kept h (Does e) is within = history_more h e.queued is
@@ -105,13 +104,13 @@ deed_kept h (Asks m outstanding tokens) is within = history_more h (m ∷ []) is
 deed_kept h (Announces size) is within = history_more h (own_csm size ∷ []) is
 deed_kept h (Writes n) is within = omega (arith, within, is, length-drop h.written (bytes_of h.queued))
 
--- where it is done
+-- The same if the effect depends on a condition.
 done_shown : (new : LinkValue) (h : History) (so : Bool) (d : Deed) → new ≡ cond so (link_with_deed (link_of h) d) (link_of h)
     → IsHistory h → IsWithin (link_of h) d → LinkShows new (cond so (with_deed h d) h)
 done_shown new h true d same is within = record { is_history = deed_kept h d is within; same = same ∙ deed_of h d is }
 done_shown new h false d same is within = record { is_history = is; same = same }
 
--- ---- each call (what the contracts say of the code's link, for the worlds of the crates above too)
+-- ---- calls (for the contracts of `Link`, and for the models of the crates above)
 
 pub new_shown : (role : Role) (limits : LimitValues) (tokens : ℕ) (new : LinkValue) → new ≡ new_link role limits tokens → LinkShows new (new_history role limits tokens)
 new_shown role limits tokens new is = record {
@@ -120,26 +119,26 @@ new_shown role limits tokens new is = record {
       ∙ ap (link_at (new_history role limits tokens) (bytes_of (first_csm limits.max_message ∷ [])) (new_history role limits tokens).phase [] [] (announced [])) (sym token_none);
 }
 
--- a link that shows a history shows after any call what the history is after it
+-- A link that represents a history represents the history after a call, too.
 pub shows : (v new : LinkValue) (c : Call) → IsWithin v (doing v c).deed → new ≡ link_after v c → (h : History) → LinkShows v h → LinkShows new (after h c)
 shows v new c within is h shown =
     done_shown new h (doing (link_of h) c).so (doing (link_of h) c).deed (is ∙ ap (λ (w : LinkValue). link_after w c) shown.same) shown.is_history
     (subst (λ (w : LinkValue). IsWithin w (doing w c).deed) shown.same within)
 
--- the link that a history leaves does so too, and what it is then is the link that the history leaves after the call
+-- The same for the link that `link_of` gives.
 pub shown_after : (h : History) (c : Call) → IsWithin (link_of h) (doing (link_of h) c).deed → IsHistory h → LinkShows (link_after (link_of h) c) (after h c)
 shown_after h c within is = shows (link_of h) (link_after (link_of h) c) c within refl h (record { is_history = is; same = refl })
 
 pub after_link : (h : History) (c : Call) → IsWithin (link_of h) (doing (link_of h) c).deed → IsHistory h → link_of (after h c) ≡ link_after (link_of h) c
 after_link h c within is = sym (shown_after h c within is).same
 
--- ---- what calls leave as it is
+-- ---- parts that calls leave unchanged
 
--- what a link has stays where nothing changes, or what changes leaves it
+-- A part of a link is unchanged if the effect leaves it unchanged, or if there is none.
 pub stays_so : {A : Type 0} (part : LinkValue → A) (does : Bool) (l now : LinkValue) → part now ≡ part l → part (cond does now l) ≡ part l
 stays_so part true l now same = same
 stays_so part false l now same = refl
 
--- limits and sizes stay where the input ends
+-- The end of input changes neither limits nor sizes.
 pub end_sizes : (l : LinkValue) (cut : Bool) → sizes_of (link_after l (call.End cut)) ≡ sizes_of l
 end_sizes l cut = stays_so sizes_of (takes_messages l.phase) l _ refl

@@ -1,4 +1,4 @@
--- What the code holds, seen as values: which of them is due first, and what is left without one.
+-- The pending entries of the code, as values: the entry that is due first, and removal.
 use Rattle.std.proofs.Common.{◌≡◌, ℕ, suc, ◌+◌, ◌<◌, Bool, true, false, not, cond, List, [], ◌∷◌, ◌++◌, length, map, take, drop, remove, slice_get, position, Option, Some, None, refl, sym, ap, subst, ◌∙◌, arith}
 use Rattle.coap_conn.specs.Prelude.{IfSome, nat_lt, option_map, filter_map, cons_option, position_or_len, Held}
 use Rattle.coap_conn.specs.Prelude.{HeldValue, Answer, Pong, least_come, is_answer_at, answer_index, pong_index}
@@ -10,13 +10,13 @@ use Rattle.std.proofs.lemmas.List.Recursion.{is_position_or_len}
 use Rattle.std.proofs.lemmas.Option.{slice_get-map}
 use Rattle.coap_conn.specs.Calls as call
 
--- ---- what was looked at is what is held
+-- ---- tests of the code agree with those of values
 
 pub moments_of : (moment : HeldValue → Option ℕ) (held : List Held) → filter_map (λ e. moment (held_value e)) held ≡ filter_map moment (map held_value held)
 moments_of moment [] = refl
 moments_of moment (e ∷ held) = ap (cons_option (moment (held_value e))) (moments_of moment held)
 
--- the first place at which a test of values passes
+-- The first position at which a test of values passes.
 place_step : (passes : Bool) (n : ℕ) → cond (not passes) (1 + n) 0 ≡ cond passes 0 (1 + n)
 place_step true n = refl
 place_step false n = refl
@@ -29,7 +29,7 @@ place_of test held =
     ap (λ (n : ℕ). cond (nat_lt n (length held)) (Some n) None) (sym (place_or_len test held))
     ∙ ap (λ (n : ℕ). cond (nat_lt (position_or_len test (map held_value held)) n) (Some (position_or_len test (map held_value held))) None) (sym (length-map held held_value))
 
--- ---- what is due is there
+-- ---- the index is within the list
 
 abbrev pub IsIndexOf : List HeldValue → Option ℕ → Type 0
 IsIndexOf held i = IfSome i (λ i. i < length held)
@@ -52,12 +52,12 @@ pub due_inside : (now : ℕ) (held : List HeldValue) → IsIndexOf held (due_ind
 unfolding due_index
 due_inside now held = else_inside held (answer_index (least_come now held) held) (pong_index held) (answer_inside (least_come now held) held) (pong_inside held)
 
--- the same of what the code holds
+-- The same for the entries of the code.
 pub due_within : (now : ℕ) (held : List Held) → IfSome (due_index now (map held_value held)) (λ i. i < length held)
 due_within now held =
     subst (λ (n : ℕ). IfSome (due_index now (map held_value held)) (λ i. i < n)) (length-map held held_value) (due_inside now (map held_value held))
 
--- ---- one is taken out
+-- ---- removal
 
 pub held_without : (held : List Held) (i : ℕ) → map held_value (remove held i) ≡ remove (map held_value held) i
 held_without held i = map-append held_value (take i held) (drop (suc i) held) ∙ (λ j. sym (take-map held_value i held) j ++ sym (drop-map held_value (suc i) held) j)
@@ -65,7 +65,7 @@ held_without held i = map-append held_value (take i held) (drop (suc i) held) �
 pub held_at_index : (held : List Held) (i : ℕ) (e : Held) → slice_get held i ≡ Some e → slice_get (map held_value held) i ≡ Some (held_value e)
 held_at_index held i e there = slice_get-map held_value held i ∙ ap (option_map held_value) there
 
--- ---- what is due, from its index
+-- ---- the entry that is due, by its index
 
 pub first_at_index : (now : ℕ) (held : List HeldValue) (i : ℕ) (e : HeldValue) → due_index now held ≡ Some i → slice_get held i ≡ Some e → first_due now held ≡ Some e
 unfolding first_due
@@ -83,7 +83,7 @@ pub nothing_out : (now : ℕ) (held : List HeldValue) → due_index now held ≡
 unfolding without_due
 nothing_out now held is = ap (without_at held) is
 
--- ---- what a link does with it
+-- ---- the link after a due entry
 
 link_after_due : (v : LinkValue) (now : ℕ) (first : Option HeldValue) (rest : List HeldValue) → first_due now v.held ≡ first → without_due now v.held ≡ rest
     → link_after v (call.Due now) ≡ link_with v (due_effect (record (standing_in v) { held = rest }) first)

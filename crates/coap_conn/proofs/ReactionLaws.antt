@@ -1,4 +1,4 @@
--- What a message does on a connection, case by case: what holds of each case holds of the reaction.
+-- The reaction to a message, case by case: a property of each case is a property of the reaction.
 use Rattle.std.proofs.Common.{◌≡◌, ℕ, Bool, true, false, List, [], ◌∷◌, Option, Some, None, refl, ap, ◌∙◌, ◌≤◌, arith, length, nat_lt, ◌&&◌, ◌==◌, not, ◌/◌}
 use Rattle.coap_conn.specs.Prelude.{AllByRecursion, Message, Phase, Reply, Whole, Bare, Stopped, Role, Server, Client}
 use Rattle.coap_conn.specs.Prelude.{Reason, stop_of, answers, is_waiting, abort_of, has_critical_option, fit}
@@ -14,16 +14,16 @@ use Rattle.coap_conn.specs.declared.phase.Phase.TheVariants as phase
 use Rattle.coap_conn.specs.declared.reason.Reason.TheVariants as reason
 use Rattle.coap_conn.specs.Verdicts as verdict
 
--- ---- what is queued
+-- ---- queued messages
 
 abbrev pub IsNoResponse : Message → Type 0
 IsNoResponse m = is_response m ≡ false
 
--- a message that is no Pong with Custody
+-- Holds if a message is no Pong with Custody.
 abbrev pub IsNoPong : Message → Type 0
 IsNoPong m = is_custody_pong m ≡ false
 
--- neither a response nor a Pong with Custody
+-- Holds if a message is neither a response nor a Pong with Custody.
 abbrev pub IsPlain : Message → Type 0
 IsPlain m = IsNoResponse m × IsNoPong m
 
@@ -35,9 +35,9 @@ abort_plain limit why = grind arith
 pub abort_one : (limit : ℕ) (o : Option Message) → length (abort_fitted limit o) ≤ 1
 abort_one limit o = grind arith
 
--- ---- what a message does
+-- ---- effects of a message
 
--- a stop that a message can make, where there is one
+-- The number of messages that a stop handles, or 1 if there is no stop.
 abbrev pub message_stop : Option Reason → ℕ
 message_stop None = 1
 message_stop (Some why) = message_reason why
@@ -45,8 +45,8 @@ message_stop (Some why) = message_reason why
 abbrev pub StopsAtMost : Phase → Type 0
 StopsAtMost p = message_stop (stop_of p) ≡ 1
 
--- What may be sent at once where a message came: nothing that is a response where the server got a request, and a Pong with Custody
--- only where a Ping asked for it.
+-- Holds if `n` may be sent at once after `m`. A server sends no response by itself and nothing after a request. A Pong
+-- with Custody follows only a Ping with Custody.
 pub record MayFollow (s : Standing) (m n : Message) : Type 0 where
   pub plain : s.role ≡ Server → IsNoResponse n × (is_asking m ≡ false)
   pub pong : is_custody_pong n ≡ true → ((m.code == code.ping) ≡ true) × (asks_custody m ≡ true) × (n.token ≡ m.token)
@@ -57,8 +57,8 @@ client_may s m n client no_pong = grind arith
 pong_allowed : (s : Standing) (m : Message) → (m.code == code.ping) ≡ true → (custody : Bool) → (custody ≡ true → asks_custody m ≡ true) → MayFollow s m (pong_with custody m.token)
 pong_allowed s m ping custody asks = let other : is_asking m ≡ false = grind arith in grind arith
 
--- What holds of each reaction that a message may have where messages are taken: a request is left to the server's caller, and a Ping
--- that asks for Custody may be held.
+-- The cases of a proof that P holds for every reaction to a message that is accepted. A server leaves requests to its
+-- caller, and a Pong with Custody may become pending.
 pub record LiveCases (s : Standing) (m : Message) (P : Reaction → Type 0) : Type 0 where
   pub asked : P (tells s verdict.Request)
   pub stands : (now : Phase) (outstanding : List OutstandingValue) (what : VerdictValue) → is_asking m ≡ false → (StopsAtMost s.phase → StopsAtMost now) → (answers now ≡ false → answers s.phase ≡ false)
@@ -76,14 +76,14 @@ module _ (s : Standing) (m : Message) (P : Reaction → Type 0) (cases : LiveCas
   sends_so n less Bare may bare = cases.queues less verdict.Done bare
   sends_so n less Stopped may bare = cases.stops reason.PeerTooSmall [] (verdict.Stopped reason.PeerTooSmall) tt (omega arith) refl
 
-  -- the phase stays
+  -- The phase is unchanged.
   leaves_so : is_asking m ≡ false → (outstanding : List OutstandingValue) (what : VerdictValue) → P (leaves s outstanding what)
   leaves_so other outstanding what = cases.stands s.phase outstanding what other (λ is. is) (λ off. off)
 
   tells_so : is_asking m ≡ false → (what : VerdictValue) → P (tells s what)
   tells_so other what = leaves_so other s.outstanding what
 
-  -- a code that is no method's asks for nothing
+  -- A message whose code is no method is no request.
   code_differs : (c : ℕ) → is_method c ≡ false → (m.code == c) ≡ true → is_asking m ≡ false
   code_differs c other same = and_left (is_method m.code) (not (m.code == code.empty)) (ap is_method (eqb-true m.code c same) ∙ other)
 
@@ -127,8 +127,8 @@ module _ (s : Standing) (m : Message) (P : Reaction → Type 0) (cases : LiveCas
       (λ e. cond_both (m.code == code.csm) _ _ P (λ is. grind (arith, aborts_so, cases.stands phase.Open s.outstanding, code_differs code.csm refl is))
       (λ e. cond_both (is_waiting s.phase) _ _ P (λ e. aborts_so reason.CsmExpected refl) (λ now. open_so now)))))
 
--- What holds of each effect that a message may have: the server's own answers come from the caller, and a Ping that asks for Custody
--- may be held.
+-- The cases of a proof that P holds for every effect of a message. A server leaves responses to its caller, and a Pong
+-- with Custody may become pending.
 pub record ReactionCases (s : Standing) (m : Message) (P : Effect → Type 0) : Type 0 where
   pub stays : P (stay s)
   pub stands : (now : Phase) (outstanding : List OutstandingValue) → (StopsAtMost s.phase → StopsAtMost now) → P (record (stay s) { phase = now; outstanding = outstanding })
@@ -136,7 +136,7 @@ pub record ReactionCases (s : Standing) (m : Message) (P : Effect → Type 0) : 
   pub queues : (n : Message) → (s.role ≡ Server → IsNoResponse n) → P (record (stay s) { queued = n ∷ [] })
   pub keeps : (m.code == code.ping) ≡ true → asks_custody m ≡ true → 1 ≤ length s.held → P (holds s (Pong m.token)).effect
 
--- what holds of each effect that a message may have holds of its effect
+-- P holds for the effect of a message if it holds in each case.
 pub react_so : (s : Standing) (m : Message) (P : Effect → Type 0) (cases : ReactionCases s m P) → P (react s m).effect
 unfolding react
 react_so s m P cases = by (stop_of s.phase)

@@ -1,4 +1,4 @@
--- A request changes nothing, and can be answered at once.
+-- A request changes nothing, and the caller can respond at once.
 use Rattle.std.proofs.Common.{◌≡◌, ℕ, Bool, true, false, ◌&&◌, ◌==◌, cond, List, [], ◌++◌, Option, Some, None, refl, ap, ◌∙◌}
 use Rattle.coap_conn.specs.Prelude.{if◌then◌else◌, length, nat_lt, unwrap_or, is_none, find, list_any, Message}
 use Rattle.coap_conn.specs.Prelude.{Reason, Phase, Role, Server, Client, Reply, Whole, Bare, Stopped, stop_of}
@@ -17,7 +17,7 @@ use Rattle.coap_wire.specs.Codes as code
 use Rattle.coap_conn.specs.Verdicts as verdict
 use Rattle.coap_conn.specs.Calls as call
 
--- ---- what messages do where they are taken
+-- ---- messages that are accepted
 
 pub react_live : (s : Standing) (m : Message) → stop_of s.phase ≡ None → react s m ≡ live_reaction s m
 unfolding react
@@ -30,8 +30,7 @@ handled_is v m live =
 
 -- ---- requests
 
--- where it is a request, nothing is queued, the connection is open as before, what is held or outstanding stays, and nothing is
--- announced
+-- For a request nothing is queued, the phase and all entries are unchanged, and the message announces nothing.
 pub record IsQuiet (s : Standing) (m : Message) (e : Effect) : Type 0 where
   pub nothing : e.queued ≡ []
   pub same : e.phase ≡ s.phase
@@ -41,7 +40,7 @@ pub record IsQuiet (s : Standing) (m : Message) (e : Effect) : Type 0 where
   pub announces : announcement m ≡ None
   pub tells_none : token_announcement m ≡ None
 
--- what a reaction is that says so
+-- The effect is such if the verdict is `Request`.
 abbrev Asks : Standing → Message → Reaction → Type 0
 Asks s m r = r.verdict ≡ verdict.Request → IsQuiet s m r.effect
 
@@ -70,12 +69,12 @@ ping_asks : (s : Standing) (m : Message) → Asks s m (ping_reaction s m)
 ping_asks s m =
     cond_both (asks_custody m && nat_lt 0 (length s.held)) _ _ (Asks s m) (λ e. late_pong_asks s m) (λ e is. absurd (told_no_request (fit s.limit (pong_of m) (without_options (pong_of m))) is))
 
--- a response is none
+-- The verdict on a response is not `Request`.
 answered_asks : (s : Standing) (m : Message) (e : Option OutstandingValue) → Asks s m (answered s m e)
 answered_asks s m None = λ is. absurd cc
 answered_asks s m (Some e) = cond_both (is_last m e) _ _ (Asks s m) (λ e is. absurd cc) (λ e is. absurd cc)
 
--- nor is a Pong
+-- The verdict on a Pong is not `Request`.
 pong_asks : (s : Standing) (m : Message) → Asks s m (pong_reaction s m)
 pong_asks s m = cond_both (list_any (is_pinged m.token) s.outstanding) _ _ (Asks s m) (λ e is. absurd cc) (λ e is. absurd cc)
 
@@ -117,7 +116,7 @@ stays_by v m e true quiet =
     ∙ ap (λ (n : Option ℕ). record v { peer_token = unwrap_or n v.peer_token }) quiet.tells_none
 stays_by v m e false quiet = refl
 
--- a request leaves the link as it is
+-- A request leaves the link unchanged.
 pub request_stays : (v : LinkValue) (m : Message) → (react (standing_in v) m).verdict ≡ verdict.Request → link_after v (call.Handle m) ≡ v
 request_stays v m asked = stays_by v m (react (standing_in v) m).effect (takes_messages v.phase) (react_asks (standing_in v) m asked)
 
@@ -127,6 +126,6 @@ answering_at phase.Open live e = refl
 answering_at (phase.Releasing why) live e = absurd cc
 answering_at (phase.Stopped why) live e = absurd cc
 
--- which may then answer it
+-- The link may then send a response.
 pub request_answering : (v : LinkValue) (m : Message) → IsLive v.phase → (react (standing_in v) m).verdict ≡ verdict.Request → IsAnswering v.phase
 request_answering v m live asked = answering_at v.phase live (react_asks (standing_in v) m asked).not_waiting

@@ -1,4 +1,4 @@
--- The ghost steps of `ring::contiguous`: a mutable slice becomes a shared one, and the ring ends as it was.
+-- The ghost steps of `ring::contiguous`: a mutable slice becomes a shared one, and the ring is unchanged at the end.
 use Rattle.std.proofs.Common.{◌≡◌, ℕ, List, ◌∷◌, [], MutBor, w8, length, drop, ap, ◌∙◌, take_at}
 use seplogic.Ra.Ura.{Ura}
 use base.Fraction.{full_share}

@@ -1,4 +1,4 @@
--- The messages of the connection itself are small.
+-- The CSM and the Release of the local endpoint are small.
 use Rattle.std.proofs.Common.{◌≡◌, ℕ, zero, suc, ◌+◌, ◌-◌, ◌≤◌, ltb, List, [], ◌∷◌, ◌++◌, length, refl, ap, ◌∙◌, arith}
 use Rattle.coap_conn.specs.Prelude.{w64, to_be_bytes, CoapOption, Message, length_form, option_form, token_form}
 use Rattle.coap_conn.specs.Prelude.{spelling, option_spelling, body_spelling, head_spelling, bytes_of_uint}

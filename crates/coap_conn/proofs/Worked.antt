@@ -1,4 +1,4 @@
--- What the words for what is held and what is outstanding give on plain values.
+-- Examples of the definitions of pending and outstanding entries, with plain values.
 use Rattle.std.proofs.Common.{◌≡◌, ℕ, true, false, List, [], ◌∷◌, Some, None, refl}
 use Rattle.coap_conn.specs.Prelude.{CoapOption, Message, spelling, bytes_of_uint, known_behind, is_recognised}
 use Rattle.coap_conn.specs.Prelude.{kind_of, first_critical_behind, Server, Client, TooMany, TooBig, NoRoom}
@@ -12,9 +12,9 @@ use Rattle.coap_conn.specs.declared.phase.Phase.TheVariants as phase
 use Rattle.coap_conn.specs.Outstanding.{Request}
 use Rattle.coap_conn.specs.Verdicts as verdict
 
--- ---- what is due first
+-- ---- the entry that is due first
 
--- of two answers with the least moment the earlier one
+-- Of two responses with the earliest time, the first one is due.
 least_first : (a b c : List ℕ) → first_due 9 (Answer a 5 ∷ Answer b 3 ∷ Answer c 3 ∷ []) ≡ Some (Answer b 3)
 unfolding first_due due_index
 least_first a b c = refl
@@ -23,7 +23,7 @@ least_taken : (a b c : List ℕ) → without_due 9 (Answer a 5 ∷ Answer b 3 �
 unfolding without_due due_index
 least_taken a b c = refl
 
--- a Pong that nothing stands before, where no moment has come
+-- A Pong that no entry precedes is due if no response is.
 pong_first : (p a : List ℕ) → first_due 9 (Pong p ∷ Answer a 12 ∷ []) ≡ Some (Pong p)
 unfolding first_due due_index
 pong_first p a = refl
@@ -32,7 +32,7 @@ pong_taken : (p a : List ℕ) → without_due 9 (Pong p ∷ Answer a 12 ∷ []) 
 unfolding without_due due_index
 pong_taken p a = refl
 
--- behind an answer whose moment has not come it waits
+-- A Pong waits for a response that precedes it, although that is not due yet.
 pong_waits : (a p : List ℕ) → first_due 9 (Answer a 12 ∷ Pong p ∷ []) ≡ None
 unfolding first_due due_index
 pong_waits a p = refl
@@ -41,7 +41,7 @@ none_let_go : (a p : List ℕ) → without_due 9 (Answer a 12 ∷ Pong p ∷ [])
 unfolding without_due due_index
 none_let_go a p = refl
 
--- an answer whose moment has come stands before a Pong that came earlier
+-- A response that is due precedes a Pong that is earlier in the list.
 answer_before_pong : (p a : List ℕ) → first_due 9 (Pong p ∷ Answer a 3 ∷ []) ≡ Some (Answer a 3)
 unfolding first_due due_index
 answer_before_pong p a = refl
@@ -50,7 +50,7 @@ pong_left : (p a : List ℕ) → without_due 9 (Pong p ∷ Answer a 3 ∷ []) �
 unfolding without_due due_index
 pong_left p a = refl
 
--- its moment has come at that very moment, and not before
+-- A response is due at exactly its time, and not before.
 due_at_its_moment : (a : List ℕ) → first_due 9 (Answer a 9 ∷ []) ≡ Some (Answer a 9)
 unfolding first_due due_index
 due_at_its_moment a = refl
@@ -61,11 +61,11 @@ not_before a = refl
 
 -- ---- Pings with Custody
 
--- a server that is open to messages of 1,152 bytes
+-- A server on an open connection that sends messages of up to 1,152 bytes.
 abbrev server : List HeldValue → ℕ → Standing
 server held most = record { role = Server; phase = phase.Open; limit = 1152; held = held; most = most; outstanding = [] }
 
--- a Ping with the token 7 and an empty Custody
+-- A Ping with the token 7 and Custody.
 abbrev custody_ping : Message
 custody_ping = record { code = 226; token = 7 ∷ []; options = record { number = 2; value = [] } ∷ []; payload = [] }
 
@@ -78,22 +78,22 @@ plain_pong = record { code = 227; token = 7 ∷ []; options = []; payload = [] }
 abbrev is_done : Effect → Reaction
 is_done e = record { effect = e; verdict = verdict.Done }
 
--- with nothing held the Pong has Custody
+-- If no entry is pending, the Pong has Custody.
 pong_at_once : react (server [] 2) custody_ping ≡ is_done (record { queued = custody_pong ∷ []; phase = phase.Open; held = []; outstanding = [] })
 unfolding react live_reaction spelling
 pong_at_once = refl
 
--- with one held and room for two it is held
+-- If one entry is pending and the limit is 2, the Pong becomes pending.
 pong_held : (a : List ℕ) (moment : ℕ) → react (server (Answer a moment ∷ []) 2) custody_ping ≡ is_done (record { queued = []; phase = phase.Open; held = Answer a moment ∷ Pong (7 ∷ []) ∷ []; outstanding = [] })
 unfolding react live_reaction spelling
 pong_held a moment = refl
 
--- with one held and room for no more it has no Custody
+-- If one entry is pending and the limit is 1, the Pong has no Custody.
 pong_without_custody : (a : List ℕ) (moment : ℕ) → react (server (Answer a moment ∷ []) 1) custody_ping ≡ is_done (record { queued = plain_pong ∷ []; phase = phase.Open; held = Answer a moment ∷ []; outstanding = [] })
 unfolding react live_reaction spelling
 pong_without_custody a moment = refl
 
--- when its turn has come the Pong that was held has Custody
+-- A Pong that was pending has Custody when it is due.
 held_pong_sent : (a : List ℕ) → due_effect (server (Answer a 12 ∷ []) 2) (Some (Pong (7 ∷ []))) ≡ record { queued = custody_pong ∷ []; phase = phase.Open; held = Answer a 12 ∷ []; outstanding = [] }
 unfolding spelling
 held_pong_sent a = refl
@@ -103,114 +103,115 @@ held_pong_sent a = refl
 abbrev bare_message : ℕ → Message
 bare_message code = record { code = code; token = []; options = []; payload = [] }
 
--- a Release keeps what is held
+-- A Release keeps the pending entries.
 release_keeps : (a p : List ℕ) (moment : ℕ) →
     react (server (Answer a moment ∷ Pong p ∷ []) 2) (bare_message 228) ≡ record { effect = record { queued = []; phase = phase.Releasing reason.PeerRelease; held = Answer a moment ∷ Pong p ∷ []; outstanding = [] }; verdict = verdict.Stopped reason.PeerRelease }
 unfolding react live_reaction
 release_keeps a p moment = refl
 
--- an Abort gives it up
+-- An Abort drops them.
 abort_gives_up : (a p : List ℕ) (moment : ℕ) →
     react (server (Answer a moment ∷ Pong p ∷ []) 2) (bare_message 229) ≡ record { effect = record { queued = []; phase = phase.Stopped reason.PeerAbort; held = []; outstanding = [] }; verdict = verdict.Stopped reason.PeerAbort }
 unfolding react live_reaction
 abort_gives_up a p moment = refl
 
--- ---- what is outstanding
+-- ---- outstanding entries
 
--- a client that is open to messages of 1,152 bytes
+-- A client on an open connection that sends messages of up to 1,152 bytes.
 abbrev client : List OutstandingValue → Standing
 client outstanding = record { role = Client; phase = phase.Open; limit = 1152; held = []; most = 0; outstanding = outstanding }
 
--- a message with the token 1
+-- A message with the token 1.
 abbrev response : ℕ → List CoapOption → Message
 response code options = record { code = code; token = 1 ∷ []; options = options; payload = [] }
 
--- an Observe with this value
+-- An Observe option with this value.
 abbrev observe : List ℕ → CoapOption
 observe value = record { number = 6; value = value }
 
--- nothing is queued, this is outstanding, and the caller is told this
+-- Nothing is queued, these entries are outstanding, and this is the verdict.
 abbrev leaves_open : List OutstandingValue → VerdictValue → Reaction
 leaves_open outstanding what = record { effect = record { queued = []; phase = phase.Open; held = []; outstanding = outstanding }; verdict = what }
 
--- a response to what was not asked
+-- A response that matches no entry.
 response_to_nothing : react (client (Request (2 ∷ []) ∷ Ping (1 ∷ []) ∷ [])) (response 69 []) ≡ leaves_open (Request (2 ∷ []) ∷ Ping (1 ∷ []) ∷ []) verdict.Stranger
 unfolding react live_reaction
 response_to_nothing = refl
 
--- a response to a request, of which others stay
+-- A response to a request. The other request stays outstanding.
 response_to_request : react (client (Request (2 ∷ []) ∷ Request (1 ∷ []) ∷ [])) (response 69 []) ≡ leaves_open (Request (2 ∷ []) ∷ []) (verdict.Answer (1 ∷ []) true)
 unfolding react live_reaction
 response_to_request = refl
 
--- a request has one response, also where that has an Observe
+-- A request expects one response, even if that has Observe.
 observe_to_request : react (client (Request (1 ∷ []) ∷ [])) (response 69 (observe (5 ∷ []) ∷ [])) ≡ leaves_open [] (verdict.Answer (1 ∷ []) true)
 unfolding react live_reaction
 observe_to_request = refl
 
--- behind a notification others may come
+-- After a notification others may follow.
 notified : react (client (Observation (1 ∷ []) false ∷ [])) (response 69 (observe (5 ∷ []) ∷ [])) ≡ leaves_open (Observation (1 ∷ []) false ∷ []) (verdict.Answer (1 ∷ []) false)
 unfolding react live_reaction is_notification known_behind is_recognised kind_of first_critical_behind
 notified = refl
 
--- also behind one that comes after it was cancelled
+-- The same after a cancellation.
 notified_cancelled : react (client (Observation (1 ∷ []) true ∷ [])) (response 69 (observe [] ∷ [])) ≡ leaves_open (Observation (1 ∷ []) true ∷ []) (verdict.Answer (1 ∷ []) false)
 unfolding react live_reaction is_notification known_behind is_recognised kind_of first_critical_behind
 notified_cancelled = refl
 
--- a response with no Observe is the last one
+-- A response without Observe is the last one.
 last_without_observe : react (client (Observation (1 ∷ []) false ∷ [])) (response 69 []) ≡ leaves_open [] (verdict.Answer (1 ∷ []) true)
 unfolding react live_reaction is_notification known_behind
 last_without_observe = refl
 
--- so is one of another class than 2, here a 4.04
+-- A response of another class than 2 is the last one, here 4.04.
 last_by_class : react (client (Observation (1 ∷ []) false ∷ [])) (response 132 (observe (5 ∷ []) ∷ [])) ≡ leaves_open [] (verdict.Answer (1 ∷ []) true)
 unfolding react live_reaction is_notification
 last_by_class = refl
 
--- one whose Observe is too long, so that it is not recognised
+-- A response whose Observe is too long is the last one, since that Observe is not recognised.
 last_by_length : react (client (Observation (1 ∷ []) false ∷ [])) (response 69 (observe (0 ∷ 0 ∷ 0 ∷ 5 ∷ []) ∷ [])) ≡ leaves_open [] (verdict.Answer (1 ∷ []) true)
 unfolding react live_reaction is_notification known_behind is_recognised kind_of
 last_by_length = refl
 
--- and one with a critical option that is not recognised, here 9
+-- A response with an unrecognised critical option is the last one, here option 9.
 last_by_critical : react (client (Observation (1 ∷ []) false ∷ [])) (response 69 (observe (5 ∷ []) ∷ record { number = 9; value = [] } ∷ [])) ≡ leaves_open [] (verdict.Answer (1 ∷ []) true)
 unfolding react live_reaction is_notification known_behind is_recognised kind_of first_critical_behind
 last_by_critical = refl
 
--- a Pong answers the Ping, and not the request with the same token
+-- A Pong matches the Ping, and not the request with the same token.
 pong_to_ping : react (client (Request (1 ∷ []) ∷ Ping (1 ∷ []) ∷ [])) (response 227 []) ≡ leaves_open (Request (1 ∷ []) ∷ []) (verdict.Pong (1 ∷ []) false)
 unfolding react live_reaction
 pong_to_ping = refl
 
--- with Custody
+-- A Pong with Custody.
 custody_to_ping : react (client (Ping (1 ∷ []) ∷ [])) (response 227 (record { number = 2; value = [] } ∷ [])) ≡ leaves_open [] (verdict.Pong (1 ∷ []) true)
 unfolding react live_reaction
 custody_to_ping = refl
 
--- a Pong to a Ping that was not sent
+-- A Pong that matches no Ping.
 pong_to_nothing : react (client (Request (1 ∷ []) ∷ Ping (2 ∷ []) ∷ [])) (response 227 []) ≡ leaves_open (Request (1 ∷ []) ∷ Ping (2 ∷ []) ∷ []) verdict.Stranger
 unfolding react live_reaction
 pong_to_nothing = refl
 
--- a Release gives up what is outstanding, and keeps what is held
+-- A Release drops the outstanding entries and keeps the pending ones.
 release_gives_up : (a : List ℕ) (moment : ℕ) →
     react (record (client (Request (1 ∷ []) ∷ Ping (2 ∷ []) ∷ [])) { held = Answer a moment ∷ [] }) (bare_message 228)
     ≡ record { effect = record { queued = []; phase = phase.Releasing reason.PeerRelease; held = Answer a moment ∷ []; outstanding = [] }; verdict = verdict.Stopped reason.PeerRelease }
 unfolding react live_reaction
 release_gives_up a moment = refl
 
--- ---- what is asked
+-- ---- requests and cancellations
 
--- the observation with the token is cancelled, and nothing else changes
+-- Only the observation with the token is cancelled.
 one_cancelled : with_cancelled (1 ∷ []) (Request (1 ∷ []) ∷ Observation (2 ∷ []) false ∷ Observation (1 ∷ []) false ∷ []) ≡ Request (1 ∷ []) ∷ Observation (2 ∷ []) false ∷ Observation (1 ∷ []) true ∷ []
 one_cancelled = refl
 
--- an open connection whose last token has this number, with room for two, messages of 20 bytes, and this much room in the queue
+-- An open connection with this number of the last token and these free bytes. The limits are 2 outstanding entries and
+-- messages of 20 bytes.
 abbrev asking : List OutstandingValue → ℕ → ℕ → Asking
 asking outstanding tokens free = record { phase = phase.Open; outstanding = outstanding; most = 2; tokens = tokens; limit = 20; free = free }
 
--- GET under the token 1, of 3 bytes
+-- A GET with the token 1, of 3 bytes.
 abbrev get : Message
 get = response 1 []
 
@@ -242,12 +243,12 @@ cancels : cancel_refusal (asking (Observation (1 ∷ []) false ∷ Ping [] ∷ [
 unfolding cancel_refusal spelling
 cancels = refl
 
--- what was cancelled is not cancelled again
+-- An observation is not cancelled twice.
 cancelled_once : cancel_refusal (asking (Observation (1 ∷ []) true ∷ Request (1 ∷ []) ∷ []) 1 3) (1 ∷ []) get ≡ Some NoSuchToken
 unfolding cancel_refusal
 cancelled_once = refl
 
--- the first token, the one of number 256, and the last
+-- The first token, that of number 256, and the last one.
 first_token : next_token 0 ≡ 1 ∷ []
 unfolding bytes_of_uint
 first_token = refl
@@ -260,7 +261,7 @@ greatest_token : next_token 18446744073709551614 ≡ 255 ∷ 255 ∷ 255 ∷ 255
 unfolding bytes_of_uint
 greatest_token = refl
 
--- ---- another size that we announce
+-- ---- announcements of another size
 
 announces_2000 : spelling (own_csm 2000) ≡ 0x30 ∷ 0xe1 ∷ 0x22 ∷ 0x07 ∷ 0xd0 ∷ []
 unfolding spelling bytes_of_uint

@@ -1,4 +1,4 @@
--- What may happen on a connection, call by call; what each call does, and when; and the link after it (RFC 8323 sections 3.3 and 5).
+-- RFC 8323 sections 3.3 and 5: the calls on a connection, the effect of each, and the link after it.
 use Rattle.std.specs.Prelude.{ℕ, ◌+◌, ◌≤◌, Bool, true, false, ◌&&◌, List, [], ◌∷◌, ◌++◌, length, drop, is_none, if◌then◌else◌}
 use Rattle.coap_wire.specs.Message.{Message}
 use Rattle.coap_wire.specs.Codes as code
@@ -15,10 +15,19 @@ use Rattle.coap_conn.specs.Asking.{asking_refusal, cancel_refusal, next_token, w
 use Rattle.coap_conn.specs.Reaction.{Standing, Effect, stop, abort, send, react, due_effect}
 use Rattle.coap_conn.specs.LinkValue.{LinkValue, can_hold, standing_in, asking_in, bytes_of, own_csm, limit_in, link_with, link_heard}
 
--- A call, with what it is handed: a message that came is handled; the bytes behind the messages have a fault; the input ends, within a
--- frame where it was cut; a response is sent; an answer is held until its moment; what is due first at a moment is taken out; our end
--- releases the connection; a request is sent, which asks for an observation or not; an observation is cancelled by a message; a Ping is
--- sent, with Custody or not; our end announces another size as the greatest message that it takes; so many bytes were written.
+-- A call with its arguments:
+-- - `Handle`: a message was received.
+-- - `Reject`: the bytes after the last whole message are malformed.
+-- - `End`: the input ends, within a frame if `cut`.
+-- - `Reply`: a response is sent.
+-- - `Hold`: a response is delayed until `moment`.
+-- - `Due`: the entry that is due first at `now` is removed from the pending list.
+-- - `Release`: the local endpoint releases the connection.
+-- - `Request`: a request is sent, for an observation if `observe`.
+-- - `Cancel`: an observation is cancelled by the message `m`.
+-- - `Ping`: a Ping is sent, with Custody if `custody`.
+-- - `Announce`: the local endpoint announces another Max-Message-Size.
+-- - `Written`: the first `n` queued bytes were written.
 pub data Call : Type 0 where
   Handle : (m : Message) → Call
   Reject : (fault : Fault) → Call
@@ -33,8 +42,13 @@ pub data Call : Type 0 where
   Announce : (size : ℕ) → Call
   Written : (n : ℕ) → Call
 
--- What is done: a message is handled, with its effect; an effect alone; one more is held; a message is queued, and this is outstanding
--- and so many tokens were given; our Capabilities and Settings are queued with this size, which is in force; bytes were written.
+-- The effect of a call:
+-- - `Handles`: the message `m` was handled, with the effect `e`.
+-- - `Does`: the effect `e`, without a message that was handled.
+-- - `Holds`: the entry `e` is appended to the pending list.
+-- - `Asks`: the message `m` is queued, and the outstanding entries and the number of the last token become these.
+-- - `Announces`: a CSM with this size is queued, and the size applies at once.
+-- - `Writes`: `n` bytes were written.
 pub data Deed : Type 0 where
   Handles : (m : Message) (e : Effect) → Deed
   Does : (e : Effect) → Deed
@@ -43,44 +57,48 @@ pub data Deed : Type 0 where
   Announces : (size : ℕ) → Deed
   Writes : (n : ℕ) → Deed
 
--- what a call does, where this is so; else nothing
+-- The effect of a call: `deed` if `so` is true, otherwise none.
 pub record Doing : Type 0 where
   pub so : Bool
   pub deed : Deed
 
+-- The effect `deed` if `so` is true.
 abbrev pub where_so : Bool → Deed → Doing
 where_so so deed = record { so = so; deed = deed }
 
--- ---- parts of what is done
+-- ---- parts of effects
 
--- why the end of input stops a connection: it was cut within a frame, or not
+-- The reason of a stop at the end of input, which is within a frame if the argument is true.
 abbrev pub end_reason : Bool → Reason
 end_reason true = Cut
 end_reason false = Ended
 
--- Release, which has no option of ours (RFC 8323 section 5.5)
+-- A Release, which has no options (RFC 8323 section 5.5).
 abbrev pub release : Message
 release = record { code = code.release; token = []; options = []; payload = [] }
 
--- without what is due first
+-- The state without the pending entry that is due first at `now`.
 abbrev pub standing_due : ℕ → Standing → Standing
 standing_due now s = record s { held = without_due now s.held }
 
--- a message of ours is sent as it fits, or less of it, where any is sent
+-- The effect of sending `m`, or `less` if `m` is too large, in the phases that send responses. In other phases there is
+-- none.
 abbrev pub sends_one : LinkValue → Message → Message → Doing
 sends_one v m less = where_so (answers v.phase) (Does (send (standing_in v) m less))
 
--- a message with the next token is sent, and what it asks is outstanding, where it is not refused
+-- The effect of sending `m`, which has the next token, after which `e` is outstanding. There is none if
+-- `asking_refusal` gives an error.
 abbrev pub asks_one : LinkValue → Message → OutstandingValue → Doing
 asks_one v m e = where_so (is_none (asking_refusal (asking_in v) m)) (Asks m (v.outstanding ++ e ∷ []) (v.tokens + 1))
 
--- our Capabilities and Settings with this size may be sent
+-- True if a CSM with this size may be sent: the connection is open, and the CSM fits the peer's limit.
 abbrev pub may_announce : LinkValue → ℕ → Bool
 may_announce v size = is_open v.phase && fits (limit_in v) (own_csm size)
 
--- ---- what a call does
+-- ---- the effect of a call
 
--- messages, faults and the end of input count where messages are taken
+-- The effect of a call. Messages, malformed bytes and the end of input have an effect only in phases that accept
+-- messages.
 abbrev pub doing : LinkValue → Call → Doing
 doing v (Handle m) = where_so (takes_messages v.phase) (Handles m (react (standing_in v) m).effect)
 doing v (Reject fault) = where_so (takes_messages v.phase) (Does (abort (standing_in v) (reject_reason fault)))
@@ -96,8 +114,9 @@ doing v (Ping custody) = asks_one v (ping_with custody (next_token v.tokens)) (o
 doing v (Announce size) = where_so (may_announce v size) (Announces size)
 doing v (Written n) = where_so true (Writes n)
 
--- ---- the link after it
+-- ---- the link after a call
 
+-- The link after an effect.
 abbrev pub link_with_deed : LinkValue → Deed → LinkValue
 link_with_deed v (Handles m e) = link_heard v m e
 link_with_deed v (Does e) = link_with v e
@@ -106,14 +125,15 @@ link_with_deed v (Asks m outstanding tokens) = record v { waiting = v.waiting ++
 link_with_deed v (Announces size) = record v { waiting = v.waiting ++ bytes_of (own_csm size ∷ []); own_max = size }
 link_with_deed v (Writes n) = record v { waiting = drop n v.waiting }
 
+-- The link after an effect, if there is one.
 abbrev pub link_done : LinkValue → Doing → LinkValue
 link_done v d = if d.so then link_with_deed v d.deed else v
 
--- the link after a call
+-- The link after a call.
 abbrev pub link_after : LinkValue → Call → LinkValue
 link_after v c = link_done v (doing v c)
 
--- no more bytes are written than wait
+-- Holds if an effect writes no more bytes than are queued.
 abbrev pub IsWithin : LinkValue → Deed → Type 0
 IsWithin v (Writes n) = n ≤ length v.waiting
 IsWithin v other = Unit {0}

@@ -1,4 +1,4 @@
--- A link as the code holds it, and what is seen of it.
+-- Defined by this project: the value of a `Link`, its invariant, and the terms in which contracts refer to it.
 use Rattle.std.specs.Prelude.{◌≡◌, ◌⊎◌, ℕ, ◌-◌, ◌<◌, ◌≤◌, ◌^◌, Bool, true, ◌&&◌, List, [], ◌∷◌, ◌++◌, length, unwrap_or, nat_lt, ◌==◌}
 use Rattle.std.specs.List.{flat_map}
 use Rattle.coap_wire.specs.Message.{CoapOption, Message}
@@ -19,8 +19,9 @@ use Rattle.coap_conn.specs.Asking.{Asking}
 use Rattle.coap_conn.specs.Reaction.{Standing, Effect, csm_reaction, live_reaction}
 use Rattle.coap_wire.specs.declared.sizes.TheConstants.{BASE_MESSAGE_SIZE}
 
--- waiting are the bytes to be written, own_max the greatest message that we take, as announced last, peer_max the one that the peer
--- takes, peer_token its longest token, held what is sent later, outstanding what was asked; tokens is the number of the last token given
+-- The value of a `Link`. `waiting` are the bytes queued for writing. `own_max` is the size of the largest message
+-- accepted, as announced last. `peer_max` and `peer_token` are the size of the largest message and the length of the
+-- longest token that the peer accepts. `held` are the pending entries, and `tokens` is the number of the last token.
 pub record LinkValue : Type 0 where
   pub role : Role
   pub limits : LimitValues
@@ -33,8 +34,9 @@ pub record LinkValue : Type 0 where
   pub outstanding : List OutstandingValue
   pub tokens : ℕ
 
--- what a link keeps: no more waits than the queue has room for, no more is held or outstanding than may be, and nothing is held where
--- nothing is answered
+-- The invariant of `Link`. The queued bytes, the pending entries and the outstanding entries stay within their limits.
+-- `max_sent` is at most the size of the queue, and `peer_max` fits in 32 bits. Entries are pending only in phases that
+-- send responses.
 pub record IsLink (v : LinkValue) : Type 0 where
   pub within : length v.waiting ≤ v.limits.queue
   pub enough : v.limits.max_sent ≤ v.limits.queue
@@ -43,85 +45,87 @@ pub record IsLink (v : LinkValue) : Type 0 where
   pub few_asked : length v.outstanding ≤ v.limits.outstanding
   pub answering : (v.held ≡ []) ⊎ (answers v.phase ≡ true)
 
--- ---- what is seen of it
+-- ---- properties
 
--- the bytes for which there is room
+-- The number of bytes that can still be queued.
 abbrev pub free_in : LinkValue → ℕ
 free_in v = v.limits.queue - length v.waiting
 
--- there is room for the greatest message sent
+-- Holds if the queue has room for a message of `max_sent` bytes.
 abbrev pub IsReady : LinkValue → Type 0
 IsReady v = v.limits.max_sent ≤ free_in v
 
--- nothing more is to be written: no message is taken any more, nothing is held, and no byte waits
+-- True if nothing is left to write: no message is accepted, no entry is pending, and no byte is queued.
 abbrev pub is_finished : LinkValue → Bool
 is_finished v = is_over v.phase && (length v.held == 0 && length v.waiting == 0)
 
--- there is room for one more that is held
+-- True if the pending list is not full.
 abbrev pub can_hold : LinkValue → Bool
 can_hold v = nat_lt (length v.held) v.limits.pending
 
--- the greatest message that may be sent
+-- The size of the largest message that may be sent.
 abbrev pub limit_in : LinkValue → ℕ
 limit_in v = size_limit v.limits.max_sent v.peer_max
 
--- what only an announcement changes: the limits, and the largest message that is taken
+-- The parts of a link that only an announcement changes: its limits, and the size of the largest message accepted.
 abbrev pub sizes_of : LinkValue → LimitValues × ℕ
 sizes_of l = (l.limits, l.own_max)
 
--- what decides what a message does
+-- The state that decides the reaction to a message.
 abbrev pub standing_in : LinkValue → Standing
 standing_in v = record { role = v.role; phase = v.phase; limit = limit_in v; held = v.held; most = v.limits.pending; outstanding = v.outstanding }
 
--- what decides whether something is asked
+-- The state that decides whether a request may be sent.
 abbrev pub asking_in : LinkValue → Asking
 asking_in v = record { phase = v.phase; outstanding = v.outstanding; most = v.limits.outstanding; tokens = v.tokens; limit = limit_in v; free = free_in v }
 
--- ---- what is queued
+-- ---- queued messages
 
--- the spellings of messages, one after the other
+-- The encodings of messages, one after another.
 abbrev pub bytes_of : List Message → List ℕ
 bytes_of ms = flat_map spelling ms
 
--- our Capabilities and Settings: Max-Message-Size with these bytes, and nothing else (RFC 8323 section 5.3.1)
+-- The CSM with Max-Message-Size alone, whose value is these bytes (RFC 8323 section 5.3.1).
 abbrev pub csm_with : List ℕ → Message
 csm_with size = record { code = code.csm; token = []; options = record { number = option.max_message_size; value = size } ∷ []; payload = [] }
 
--- the same, where they mean this size
+-- The CSM that announces this size.
 abbrev pub own_csm : ℕ → Message
 own_csm M = csm_with (bytes_of_uint M)
 
--- the longest token that we take, as an option (RFC 8974 section 2.2.1)
+-- The option that announces the longest token accepted (RFC 8974 section 2.2.1).
 abbrev pub own_token_length : CoapOption
 own_token_length = record { number = option.extended_token_length; value = greatest_token ∷ [] }
 
--- our first Capabilities and Settings have it too
+-- The first CSM, which also has that option.
 abbrev pub first_csm_with : List ℕ → Message
 first_csm_with size = record (csm_with size) { options = (csm_with size).options ++ own_token_length ∷ [] }
 
+-- The first CSM, which announces this size and the longest token accepted.
 abbrev pub first_csm : ℕ → Message
 first_csm M = first_csm_with (bytes_of_uint M)
 
--- a new link: our first Capabilities and Settings wait
+-- A new link, with the first CSM queued.
 abbrev pub new_link : Role → LimitValues → ℕ → LinkValue
 new_link role limits tokens =
     record { role = role; limits = limits; waiting = bytes_of (first_csm limits.max_message ∷ []); phase = Waiting; own_max = limits.max_message; peer_max = BASE_MESSAGE_SIZE; peer_token = base_token; held = []; outstanding = []; tokens = tokens }
 
--- an effect
+-- The link after an effect.
 abbrev pub link_with : LinkValue → Effect → LinkValue
 link_with v e = record v { waiting = v.waiting ++ bytes_of e.queued; phase = e.phase; held = e.held; outstanding = e.outstanding }
 
--- a message was handled, with this effect
+-- The link after a message with this effect. The sizes that the message announces become those of the peer.
 abbrev pub link_heard : LinkValue → Message → Effect → LinkValue
 link_heard v m e =
     record (link_with v e) { peer_max = unwrap_or (announcement m) v.peer_max; peer_token = unwrap_or (token_announcement m) v.peer_token }
 
--- ---- a message that is taken
+-- ---- messages in phases that accept them
 
+-- The link after a message, in a phase that accepts messages.
 abbrev pub link_handled : LinkValue → Message → LinkValue
 link_handled v m = link_heard v m (live_reaction (standing_in v) m).effect
 
--- the same of Capabilities and Settings
+-- The link after a CSM, in a phase that accepts messages.
 abbrev pub link_after_csm : LinkValue → Message → LinkValue
 link_after_csm v m =
     record (link_with v (csm_reaction (standing_in v) (bad_csm_option m)).effect) { peer_max = unwrap_or (csm_size m) v.peer_max; peer_token = unwrap_or (csm_token m) v.peer_token }

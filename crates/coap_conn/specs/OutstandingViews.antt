@@ -1,9 +1,10 @@
--- How what the code's link has outstanding is seen in contracts.
+-- Defined by this project: the value of an `Outstanding` in contracts.
 use Rattle.coap_conn.specs.Outstanding.{OutstandingValue}
 use Rattle.coap_conn.specs.Outstanding as value
 use Rattle.coap_conn.specs.declared.asked.Outstanding.{Outstanding}
 use Rattle.coap_conn.specs.declared.asked.Outstanding.TheVariants.{Request, Observation, Ping}
 
+-- The value of an outstanding entry, with the token as a list of bytes.
 abbrev pub outstanding_value : Outstanding → OutstandingValue
 outstanding_value (Request token) = value.Request token.items
 outstanding_value (Observation token cancelled) = value.Observation token.items cancelled

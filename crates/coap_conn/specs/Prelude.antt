@@ -1,4 +1,4 @@
--- What the contracts and the proofs of the crate name, passed on from one place. Declares nothing.
+-- Re-exports the names that the contracts and proofs of this crate use. Declares nothing.
 
 -- ---- std and the kit's crates
 pub use Rattle.std.specs.Borrow.{sem, follows_so}

@@ -1,4 +1,4 @@
--- What a message does on a connection (RFC 8323 sections 3.3, 3.4 and 5, RFC 7252 section 12.1).
+-- RFC 8323 sections 3.3, 3.4 and 5, RFC 7252 section 12.1: the reaction of a connection to a received message.
 use Rattle.std.specs.Prelude.{ℕ, ◌/◌, Bool, true, false, not, ◌&&◌, ◌||◌, List, [], ◌∷◌, ◌++◌, length, Option, Some, None, nat_lt, find, ◌==◌, if◌then◌else◌}
 use Rattle.std.specs.List.{list_any}
 use Rattle.coap_wire.specs.Message.{CoapOption, Message}
@@ -21,8 +21,8 @@ use Rattle.coap_conn.specs.Outstanding.{OutstandingValue, is_asked, is_last, is_
 use Rattle.coap_conn.specs.Verdicts.{VerdictValue}
 use Rattle.coap_conn.specs.Verdicts as verdict
 
--- what a connection stands on: which end this is, how it stands, the greatest message that may be sent, what is held and how much
--- may be, and what is outstanding
+-- The state that decides a reaction. `limit` is the size of the largest message that may be sent, `held` are the
+-- pending entries, and `most` is their limit.
 pub record Standing : Type 0 where
   pub role : Role
   pub phase : Phase
@@ -31,167 +31,177 @@ pub record Standing : Type 0 where
   pub most : ℕ
   pub outstanding : List OutstandingValue
 
--- what is queued, and what the connection stands on afterwards
+-- The effect of a reaction: the messages queued, and the state after it.
 pub record Effect : Type 0 where
   pub queued : List Message
   pub phase : Phase
   pub held : List HeldValue
   pub outstanding : List OutstandingValue
 
+-- A reaction: its effect, and the verdict that the caller receives.
 pub record Reaction : Type 0 where
   pub effect : Effect
   pub verdict : VerdictValue
 
 -- ---- effects
 
--- nothing changes
+-- No change.
 abbrev pub stay : Standing → Effect
 stay s = record { queued = []; phase = s.phase; held = s.held; outstanding = s.outstanding }
 
--- The one way to stop: these messages are the last that are queued, and whatever is held or outstanding is given up.
+-- A stop of the connection, the only one defined. These messages are the last ones queued, and all pending and
+-- outstanding entries are dropped.
 abbrev pub stop : Standing → Reason → List Message → Effect
 stop s why farewell = record { queued = farewell; phase = phase.Stopped why; held = []; outstanding = [] }
 
--- a stop with the Abort for its reason, where there is one, as it fits
+-- A stop with the Abort for its reason, if there is one, reduced to fit the peer's limit.
 abbrev pub abort : Standing → Reason → Effect
 abort s why = stop s why (abort_fitted s.limit (abort_of why))
 
--- a message of ours that was made to fit, or that stops the connection
+-- The effect of sending `m` with this result: `m` is queued, or `less` in its place, or the connection stops.
 abbrev pub send_as : Standing → Message → Message → Reply → Effect
 send_as s m less reply.Whole = record (stay s) { queued = m ∷ [] }
 send_as s m less reply.Bare = record (stay s) { queued = less ∷ [] }
 send_as s m less reply.Stopped = stop s PeerTooSmall []
 
+-- The effect of sending `m`, or `less` if `m` is too large. If both are too large, the connection stops.
 abbrev pub send : Standing → Message → Message → Effect
 send s m less = send_as s m less (fit s.limit m less)
 
 -- ---- parts of reactions
 
--- nothing changes, and the caller is told this
+-- No change, and this verdict.
 abbrev pub tells : Standing → VerdictValue → Reaction
 tells s what = record { effect = stay s; verdict = what }
 
--- nothing is queued, and the connection stands so
+-- Another phase, and this verdict. No message is queued.
 abbrev pub becomes : Standing → Phase → VerdictValue → Reaction
 becomes s now what = record { effect = record (stay s) { phase = now }; verdict = what }
 
+-- A stop with the Abort for its reason, and the verdict `Stopped`.
 abbrev pub aborts : Standing → Reason → Reaction
 aborts s why = record { effect = abort s why; verdict = verdict.Stopped why }
 
--- what the caller is told of what was sent
+-- The verdict on a message to which a reply was sent with this result.
 abbrev pub told_of : Reply → VerdictValue
 told_of reply.Whole = verdict.Done
 told_of reply.Bare = verdict.Done
 told_of reply.Stopped = verdict.Stopped PeerTooSmall
 
+-- The reply `m` to a message, or `less` if `m` is too large, and the verdict on that message.
 abbrev pub sends : Standing → Message → Message → Reaction
 sends s m less = record { effect = send s m less; verdict = told_of (fit s.limit m less) }
 
 -- ---- codes
 
--- class 1 or 6
+-- True if a code has class 1 or 6, which are reserved.
 abbrev pub is_reserved : ℕ → Bool
 is_reserved byte = byte / 32 == 1 || byte / 32 == 6
 
--- class 7
+-- True if a code has class 7, which is that of Signalling Messages.
 abbrev pub is_signal : ℕ → Bool
 is_signal byte = byte / 32 == 7
 
--- class 0, but for Empty, which comes before: the methods of requests
+-- True if a code has class 0, which is that of methods. Empty is tested before.
 abbrev pub is_method : ℕ → Bool
 is_method byte = byte / 32 == 0
 
--- a message is a request: its code is a method's and not Empty
+-- True if a message is a request: its code is that of a method, and not Empty.
 abbrev pub is_asking : Message → Bool
 is_asking m = is_method m.code && not (m.code == code.empty)
 
--- the codes of responses have the classes 2, 4 and 5; Signalling Messages have class 7
+-- True if a message is a response: its code has class 2, 4 or 5.
 abbrev pub is_response : Message → Bool
 is_response m = code.class_of m.code == 2 || (code.class_of m.code == 4 || code.class_of m.code == 5)
 
--- Ping, Pong and Release
+-- True if a critical option stops the connection in messages with this code: Ping, Pong and Release.
 abbrev pub minds_critical_options : ℕ → Bool
 minds_critical_options byte = byte == code.ping || byte == code.pong || byte == code.release
 
--- ---- the messages
+-- ---- messages
 
--- Capabilities and Settings: the first option that may not be there stops the connection, else it is open
+-- The reaction to a CSM. The first option that a CSM must not have, given by its number, stops the connection.
+-- Otherwise the connection is open.
 abbrev pub csm_reaction : Standing → Option ℕ → Reaction
 csm_reaction s (Some number) = aborts s (BadCsm number)
 csm_reaction s None = becomes s phase.Open (if is_waiting s.phase then verdict.Opened else verdict.Done)
 
--- a Ping or a Pong has Custody where an empty one is there
+-- True if a Ping or a Pong has Custody, which is an empty option (RFC 8323 section 5.4.1).
 abbrev pub asks_custody : Message → Bool
 asks_custody m = list_any (λ o. o.number == option.custody && length o.value == 0) m.options
 
+-- The options of a Ping or a Pong, with Custody or without.
 abbrev pub custody_options : Bool → List CoapOption
 custody_options true = record { number = option.custody; value = [] } ∷ []
 custody_options false = []
 
--- a Pong to the Ping with this token, with Custody or not
+-- The Pong to the Ping with this token, with Custody or without.
 abbrev pub pong_with : Bool → List ℕ → Message
 pong_with custody token = record { code = code.pong; token = token; options = custody_options custody; payload = [] }
 
--- the Pong to a Ping where nothing is held: with Custody where it was asked
+-- The Pong to a Ping if no entry is pending: with Custody if the Ping has it.
 abbrev pub pong_of : Message → Message
 pong_of m = pong_with (asks_custody m) m.token
 
--- a Pong with Custody
+-- True if a message is a Pong with Custody.
 abbrev pub is_custody_pong : Message → Bool
 is_custody_pong m = m.code == code.pong && asks_custody m
 
--- one more is held, and the caller is told that the message is dealt with
+-- The reaction that appends this entry to the pending list, and the verdict `Done`.
 abbrev pub holds : Standing → HeldValue → Reaction
 holds s e = record { effect = record (stay s) { held = s.held ++ e ∷ [] }; verdict = verdict.Done }
 
--- a Pong that must wait: it is held where there is room, and else it is sent without Custody
+-- The reaction to a Ping with Custody if entries are pending: the Pong is appended to the pending list. If the list is
+-- full, the Pong is sent at once without Custody.
 abbrev pub late_pong : Standing → Message → Reaction
 late_pong s m = if nat_lt (length s.held) s.most then holds s (Pong m.token) else sends s (pong_with false m.token) (pong_with false m.token)
 
--- A Ping: a Pong with Custody says that all requests before it were answered, so it waits for what is held (RFC 8323 section
--- 5.4.1).
+-- The reaction to a Ping. A Pong with Custody says that all requests before the Ping were answered, so it waits for the
+-- pending entries (RFC 8323 section 5.4.1).
 abbrev pub ping_reaction : Standing → Message → Reaction
 ping_reaction s m = if asks_custody m && nat_lt 0 (length s.held) then late_pong s m else sends s (pong_of m) (without_options (pong_of m))
 
--- 5.01, Not Implemented
+-- The response 5.01 (Not Implemented) to a request.
 abbrev pub not_implemented : Message → Message
 not_implemented m = record { code = code.not_implemented; token = m.token; options = []; payload = [] }
 
--- a request is answered by the caller at the server, and is not implemented at the client
+-- The reaction to a request. At a server the caller responds; at a client the response is 5.01.
 abbrev pub request_reaction : Standing → Message → Role → Reaction
 request_reaction s m Server = tells s verdict.Request
 request_reaction s m Client = sends s (not_implemented m) (bare_response (not_implemented m))
 
--- Release: no more is taken, and what is outstanding is answered no more. What is held is still sent (RFC 8323 section 5.5).
+-- The reaction to a Release. No more messages are accepted, and outstanding entries are dropped. Pending entries are
+-- still sent (RFC 8323 section 5.5).
 abbrev pub release_reaction : Standing → Reaction
 release_reaction s = record { effect = record (stay s) { phase = phase.Releasing PeerRelease; outstanding = [] }; verdict = verdict.Stopped PeerRelease }
 
--- ---- answers to what is outstanding
+-- ---- responses and Pongs
 
--- this is outstanding from now on
+-- The reaction that leaves these entries outstanding, and this verdict.
 abbrev pub leaves : Standing → List OutstandingValue → VerdictValue → Reaction
 leaves s outstanding what = record { effect = record (stay s) { outstanding = outstanding }; verdict = what }
 
--- a response to this, where it is outstanding: it goes with the last response
+-- The reaction to a response that matches this entry, or none. The last response removes the entry.
 abbrev pub answered : Standing → Message → Option OutstandingValue → Reaction
 answered s m None = tells s verdict.Stranger
 answered s m (Some e) =
     if is_last m e then leaves s (without_asked m.token s.outstanding) (verdict.Answer m.token true)
     else tells s (verdict.Answer m.token false)
 
--- a response answers the request or the observation with its token, and nothing where there is none (RFC 7252 section 5.3.2)
+-- The reaction to a response, which matches the request or observation with its token, or none (RFC 7252 section
+-- 5.3.2).
 abbrev pub response_reaction : Standing → Message → Reaction
 response_reaction s m = answered s m (find (is_asked m.token) s.outstanding)
 
--- a Pong answers the Ping with its token, and nothing where there is none (RFC 8323 section 5.4)
+-- The reaction to a Pong, which matches the Ping with its token, or none (RFC 8323 section 5.4).
 abbrev pub pong_reaction : Standing → Message → Reaction
 pong_reaction s m =
     if list_any (is_pinged m.token) s.outstanding
     then leaves s (without_pinged m.token s.outstanding) (verdict.Pong m.token (asks_custody m))
     else tells s verdict.Stranger
 
--- a message that is neither Empty nor reserved nor Abort nor Capabilities and Settings, while the connection is open: the
--- first of these that holds
+-- The reaction of an open connection to a message that is neither Empty nor CSM nor Abort, and whose code is not
+-- reserved. The first case that applies decides.
 abbrev pub open_reaction : Standing → Message → Reaction
 open_reaction s m =
     if minds_critical_options m.code && has_critical_option m then aborts s BadSignalOption
@@ -202,7 +212,8 @@ open_reaction s m =
     else (if is_method m.code then request_reaction s m s.role
     else response_reaction s m)))))
 
--- What a message does while the connection waits or is open: the first of these that holds. No Abort answers an Abort.
+-- The reaction to a message in the phases `Waiting` and `Open`. The first case that applies decides. An Abort is not
+-- answered by an Abort.
 unfoldable pub live_reaction : Standing → Message → Reaction
 live_reaction s m =
     if is_reserved m.code then aborts s ReservedCode
@@ -212,18 +223,19 @@ live_reaction s m =
     else (if is_waiting s.phase then aborts s CsmExpected
     else open_reaction s m))))
 
--- a message changes nothing where none is taken any more
+-- The reaction to a message, which changes nothing if there is a reason to accept none.
 abbrev pub reaction_unless : Standing → Message → Option Reason → Reaction
 reaction_unless s m None = live_reaction s m
 reaction_unless s m (Some why) = tells s (verdict.Stopped why)
 
--- What a message does.
+-- The reaction to a message.
 unfoldable pub react : Standing → Message → Reaction
 react s m = reaction_unless s m (stop_of s.phase)
 
--- ---- what is due
+-- ---- due entries
 
--- what was due first was taken out: an answer is sent by the caller, and a Pong, which has Custody, is queued as it fits
+-- The effect after an entry that was due is removed. A response is sent by the caller. A Pong is sent with Custody, or
+-- without if only that fits.
 abbrev pub due_effect : Standing → Option HeldValue → Effect
 due_effect s None = stay s
 due_effect s (Some (Answer token moment)) = stay s

@@ -1,4 +1,5 @@
--- Why a connection stops, and the Abort that tells the peer so (RFC 8323 section 5.6).
+-- RFC 8323 section 5.6: the Abort that a connection sends when it stops. Defined by this project: the numbers of the
+-- reasons.
 use Rattle.std.specs.Prelude.{ℕ, List, [], ◌∷◌, Option, Some, None, codes, option_map, unwrap_or}
 use Rattle.coap_wire.specs.Message.{CoapOption, Message}
 use Rattle.coap_wire.specs.Uint.{bytes_of_uint}
@@ -7,6 +8,7 @@ use Rattle.coap_conn.specs.SignalOptions as option
 use Rattle.coap_conn.specs.declared.reason.Reason.{Reason}
 use Rattle.coap_conn.specs.declared.reason.Reason.TheVariants.{Format, TooLarge, TokenLength, ReservedCode, CsmExpected, BadCsm, BadSignalOption, PeerAbort, PeerRelease, PeerTooSmall, Ended, Cut, ReleasedHere}
 
+-- The number of a reason.
 abbrev pub reason_number : Reason → ℕ
 reason_number Format = 1
 reason_number TooLarge = 2
@@ -22,7 +24,7 @@ reason_number Ended = 11
 reason_number Cut = 12
 reason_number ReleasedHere = 13
 
--- the text of the Abort, where one is sent
+-- The text of the Abort for a reason, if one is sent.
 abbrev pub abort_text : Reason → Option (List ℕ)
 abort_text Format = Some (codes "bad message")
 abort_text TooLarge = Some (codes "message too large")
@@ -38,7 +40,7 @@ abort_text Ended = None
 abort_text Cut = None
 abort_text ReleasedHere = None
 
--- the number that Abort tells
+-- The option number that the Abort for a reason reports.
 abbrev pub number_told : Reason → Option ℕ
 number_told Format = None
 number_told TooLarge = None
@@ -54,23 +56,24 @@ number_told Ended = None
 number_told Cut = None
 number_told ReleasedHere = None
 
--- Bad-CSM-Option with this value, where there is a number (RFC 8323 section 5.6)
+-- The option Bad-CSM-Option with this value, if there is a number (RFC 8323 section 5.6).
 abbrev pub told_options : Option ℕ → List ℕ → List CoapOption
 told_options None value = []
 told_options (Some number) value = record { number = option.bad_csm_option; value = value } ∷ []
 
+-- The options of an Abort that reports this number, if there is one.
 abbrev pub abort_options : Option ℕ → List CoapOption
 abort_options number = told_options number (bytes_of_uint (unwrap_or number 0))
 
--- an Abort with these options and this text
+-- The Abort with these options and this text.
 abbrev pub abort_with : List CoapOption → List ℕ → Message
 abort_with options text = record { code = code.abort; token = []; options = options; payload = text }
 
--- the Abort for a reason, where one is sent
+-- The Abort for a reason, if one is sent.
 abbrev pub abort_of : Reason → Option Message
 abort_of why = option_map (abort_with (abort_options (number_told why))) (abort_text why)
 
--- the number of messages handled where a connection stops: none if the reason is a fault of the bytes, otherwise one
+-- The number of messages that a stop for a reason handles: 0 if the bytes are malformed, otherwise 1.
 abbrev pub message_reason : Reason → ℕ
 message_reason Format = 0
 message_reason TooLarge = 0

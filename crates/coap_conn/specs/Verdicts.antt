@@ -1,4 +1,4 @@
--- What a message was, apart from where its token lies.
+-- Defined by this project: the value of a `Verdict`, with the token as a list of bytes.
 use Rattle.std.specs.Prelude.{ℕ, Bool, true, false, List}
 use Rattle.coap_conn.specs.declared.reason.Reason.{Reason}
 
@@ -11,7 +11,7 @@ pub data VerdictValue : Type 0 where
   Stranger : VerdictValue
   Stopped : Reason → VerdictValue
 
--- it is a request, which the caller answers
+-- True if the message is a request, to which the caller responds.
 abbrev pub is_request : VerdictValue → Bool
 is_request Opened = false
 is_request Done = false

@@ -1,5 +1,5 @@
-//! Outstanding requests, observations and Pings. This module also decides which entry a response matches, and if the
-//! response is the last one of that entry.
+//! Outstanding requests, observations and Pings. This module also decides which entry a response matches, and whether
+//! the response is the last one to that entry.
 
 ghost use Rattle.std.specs.Prelude.{◌≡◌, ◌≤◌, length, map, find, option_map, vec_capacity, ◌<◌, ◌++◌, ◌∷◌, [], not};
 ghost use Rattle.std.specs.Prelude.{nat_lt, IfOk};
@@ -11,24 +11,24 @@ ghost use Rattle.coap_conn.specs.Prelude.{outstanding_value, cancelled_by};
 use coap_wire::option_numbers::OBSERVE;
 use coap_wire::{MessageRef, Token, TokenRef};
 
-/// Something that was asked. Contracts see an `OutstandingValue`.
+/// Entry of the outstanding list. In contracts its value is an `OutstandingValue`.
 #[derive(Drop)]
 pub(crate) enum Outstanding {
-    /// A request, which one response answers.
+    /// Request with this token, which expects one response.
     Request(Token),
-    /// An observation, which is answered until a response ends it (RFC 7641).
+    /// Observation, which expects responses until one of them ends it (RFC 7641).
     Observation {
-        /// The request's token.
+        /// Token of the request.
         token: Token,
-        /// Whether it was cancelled.
+        /// `true` after a cancellation was sent.
         cancelled: bool,
     },
-    /// A Ping (RFC 8323 section 5.4).
+    /// Ping with this token (RFC 8323 section 5.4).
     Ping(Token),
 }
 
 impl Outstanding {
-    /// Whether a response with this token answers it.
+    /// Returns `true` if a response with this token matches the entry.
     fn is_asked(&self, token: &TokenRef) -> bool
         ensures { result ≡ asks token.now (outstanding_value self.now) }
     {
@@ -39,7 +39,7 @@ impl Outstanding {
         }
     }
 
-    /// Whether a Pong with this token answers it.
+    /// Returns `true` if a Pong with this token matches the entry.
     fn is_pinged(&self, token: &TokenRef) -> bool
         ensures { result ≡ pings token.now (outstanding_value self.now) }
     {
@@ -50,7 +50,7 @@ impl Outstanding {
         }
     }
 
-    /// Whether it is an observation with this token that was not cancelled.
+    /// Returns `true` if the entry is an observation with this token that was not cancelled.
     fn may_cancel(&self, token: &TokenRef) -> bool
         ensures { result ≡ cancellable token.now (outstanding_value self.now) }
     {
@@ -64,7 +64,7 @@ impl Outstanding {
         }
     }
 
-    /// Whether a response is its last one.
+    /// Returns `true` if a response that matches the entry is the last one to it.
     fn is_last(&self, response: &MessageRef) -> bool
         ensures { result ≡ is_last_of response.now (outstanding_value self.now) }
     {
@@ -75,7 +75,7 @@ impl Outstanding {
         }
     }
 
-    /// It was cancelled, where it is an observation with this token.
+    /// Marks the entry as cancelled if it is an observation with this token.
     fn cancel(&mut self, token: &TokenRef)
         ensures { outstanding_value self.new ≡ cancelled_by token.now (outstanding_value self.old) }
     {
@@ -94,7 +94,7 @@ impl Outstanding {
     }
 }
 
-/// Whether a response is the last one to the first of these that has its token, `None` where there is none.
+/// Returns `true` if a response is the last one to the first entry that it matches, or `None` if it matches no entry.
 pub(crate) fn last_in(entries: &[Outstanding], response: &MessageRef) -> Option<bool>
     ensures { result
         ≡ option_map (is_last_of response.now) (find (asks response.now.token) (map outstanding_value entries.now)) }
@@ -105,21 +105,21 @@ pub(crate) fn last_in(entries: &[Outstanding], response: &MessageRef) -> Option<
     Some(entry.is_last(response))
 }
 
-/// Whether one of these is a Ping with this token.
+/// Returns `true` if an entry is a Ping with this token.
 pub(crate) fn has_ping_in(entries: &[Outstanding], token: &TokenRef) -> bool
     ensures { result ≡ list_any (pings token.now) (map outstanding_value entries.now) }
 {
     entries.iter().any(|entry| entry.is_pinged(token))
 }
 
-/// Whether one of these is an observation with this token that was not cancelled.
+/// Returns `true` if an entry is an observation with this token that was not cancelled.
 pub(crate) fn may_cancel_in(entries: &[Outstanding], token: &TokenRef) -> bool
     ensures { result ≡ list_any (cancellable token.now) (map outstanding_value entries.now) }
 {
     entries.iter().any(|entry| entry.may_cancel(token))
 }
 
-/// The observation with this token was cancelled.
+/// Marks the observation with this token as cancelled.
 pub(crate) fn cancel_in(entries: &mut Vec<Outstanding>, token: &TokenRef)
     ensures cancelled { map outstanding_value entries.new.items
         ≡ with_cancelled token.now (map outstanding_value entries.old.items) }
@@ -131,7 +131,7 @@ pub(crate) fn cancel_in(entries: &mut Vec<Outstanding>, token: &TokenRef)
     }
 }
 
-/// All stay but the requests and observations with this token.
+/// Removes the requests and observations with this token.
 pub(crate) fn forget_asked_in(entries: &mut Vec<Outstanding>, token: &TokenRef)
     ensures others { map outstanding_value entries.new.items
         ≡ without_asked token.now (map outstanding_value entries.old.items) }
@@ -141,7 +141,7 @@ pub(crate) fn forget_asked_in(entries: &mut Vec<Outstanding>, token: &TokenRef)
     entries.retain(|entry| !entry.is_asked(token));
 }
 
-/// All stay but the Pings with this token.
+/// Removes the Pings with this token.
 pub(crate) fn forget_pinged_in(entries: &mut Vec<Outstanding>, token: &TokenRef)
     ensures others { map outstanding_value entries.new.items
         ≡ without_pinged token.now (map outstanding_value entries.old.items) }
@@ -151,8 +151,8 @@ pub(crate) fn forget_pinged_in(entries: &mut Vec<Outstanding>, token: &TokenRef)
     entries.retain(|entry| !entry.is_pinged(token));
 }
 
-/// Whether others may come behind a response: it is 2.xx, has Observe, and all its critical options are recognised (RFC
-/// 7641 sections 3.2 and 4.2).
+/// Returns `true` if a response is a notification, so that others may follow. Its code is 2.xx, it has Observe, and all
+/// its critical options are recognised (RFC 7641 sections 3.2 and 4.2).
 #[tactic(auto, unfolding(crate::specs::Outstanding::is_notification))]
 fn is_notification(response: &MessageRef) -> bool
     ensures { result ≡ notifies response.now }
@@ -160,7 +160,7 @@ fn is_notification(response: &MessageRef) -> bool
     response.code().class() == 2 && has_observe(response) && response.first_critical().is_none()
 }
 
-/// Whether a response has an Observe that is recognised (RFC 7641 section 2).
+/// Returns `true` if a response has an Observe option that is recognised (RFC 7641 section 2).
 fn has_observe(response: &MessageRef) -> bool
     ensures { result ≡ observe_in response.now }
 {

@@ -1,4 +1,4 @@
-//! The options of Signalling Messages (RFC 8323 section 5).
+//! Options of Signalling Messages (RFC 8323 section 5).
 
 ghost use Rattle.std.specs.Prelude.{◌≡◌, Some, None, option_map, find, IfOk, IfErr, OnOk};
 ghost use Rattle.coap_conn.specs.Prelude.{uint_of, coap_option, is_bad, first_size as first_size_in};
@@ -8,33 +8,34 @@ ghost use Rattle.coap_conn.specs.Prelude.{token_told, asks_custody as custody_as
 
 use coap_wire::{MAX_EXTENDED_LENGTH, MessageRef, OptionRef, uint_value};
 
-/// Max-Message-Size, an option of Capabilities and Settings (RFC 8323 section 5.3.1).
+/// Max-Message-Size, an option of CSM (RFC 8323 section 5.3.1).
 pub(crate) const MAX_MESSAGE_SIZE: u16 = 2;
 
-/// Extended-Token-Length, an option of Capabilities and Settings (RFC 8974 section 2.2.1).
+/// Extended-Token-Length, an option of CSM (RFC 8974 section 2.2.1).
 pub(crate) const EXTENDED_TOKEN_LENGTH: u16 = 6;
 
-/// The longest token of a peer that has told none, and the least that it may tell.
+/// Length of the longest token that a peer accepts if it has announced none, and the smallest length that it can
+/// announce.
 pub(crate) const BASE_TOKEN: u32 = 8;
 
 /// Custody, an option of Ping and Pong (RFC 8323 section 5.4.1).
 pub(crate) const CUSTODY: u16 = 2;
 
-/// Whether it has a critical option: those with odd numbers are (RFC 8323 section 5.2).
+/// Returns `true` if a message has a critical option, which has an odd number (RFC 8323 section 5.2).
 pub(crate) fn has_critical_option(message: &MessageRef) -> bool
     ensures { result ≡ critical_option_in message.now }
 {
     message.options().any(|option| option.number % 2 == 1)
 }
 
-/// Whether a Ping or a Pong has Custody: where an empty option 2 is there.
+/// Returns `true` if a Ping or a Pong has Custody, which is an empty option 2.
 pub(crate) fn asks_custody(message: &MessageRef) -> bool
     ensures { result ≡ custody_asked message.now }
 {
     message.options().any(|option| option.number == CUSTODY && option.value.is_empty())
 }
 
-/// The first Max-Message-Size, if there is one.
+/// Returns the first Max-Message-Size of a message, if there is one.
 fn first_size<'a>(message: &MessageRef<'a>) -> Option<OptionRef<'a>>
     ensures { option_map coap_option result ≡ first_size_in message.now }
 {
@@ -43,8 +44,8 @@ fn first_size<'a>(message: &MessageRef<'a>) -> Option<OptionRef<'a>>
         .find(|option| option.number == MAX_MESSAGE_SIZE)
 }
 
-/// The number of the first option that Capabilities and Settings may not have: a critical one, or Max-Message-Size
-/// where the first one is too long.
+/// Returns the number of the first option that a CSM must not have: a critical one, or a Max-Message-Size if `is_long`
+/// is `true`.
 fn bad_option(message: &MessageRef, is_long: bool) -> Option<u16>
     ensures { result ≡ option_map (λ o. o.number) (find (is_bad is_long) message.now.options) }
 {
@@ -53,11 +54,12 @@ fn bad_option(message: &MessageRef, is_long: bool) -> Option<u16>
     Some(bad.number)
 }
 
-/// What Capabilities and Settings announce as the greatest message, if they say it.
+/// Returns the Max-Message-Size that a CSM announces, or `None` if it announces none.
 ///
 /// # Errors
 ///
-/// The number of the first option that they may not have.
+/// Returns the number of the first option that a CSM must not have. Such an option is critical, or a Max-Message-Size
+/// if the first of them is longer than 4 bytes.
 pub(crate) fn announced_size(message: &MessageRef) -> Result<Option<u32>, u16>
     ensures bad { IfErr result (λ number. bad_option_in message.now ≡ Some number) }
     ensures good { OnOk result (bad_option_in message.now ≡ None) }
@@ -76,7 +78,7 @@ pub(crate) fn announced_size(message: &MessageRef) -> Result<Option<u32>, u16>
     }
 }
 
-/// The first Extended-Token-Length, if there is one.
+/// Returns the first Extended-Token-Length of a message, if there is one.
 fn first_token_length<'a>(message: &MessageRef<'a>) -> Option<OptionRef<'a>>
     ensures { option_map coap_option result ≡ first_token_length_in message.now }
 {
@@ -85,8 +87,8 @@ fn first_token_length<'a>(message: &MessageRef<'a>) -> Option<OptionRef<'a>>
         .find(|option| option.number == EXTENDED_TOKEN_LENGTH)
 }
 
-/// What the value of Extended-Token-Length tells: nothing where it has more than 3 bytes or is below 8, and the longest
-/// token that a message can have where it is above that.
+/// Returns the length that a value of Extended-Token-Length announces, at most that of the longest token of a message.
+/// Returns `None` if the value has more than 3 bytes or is below 8.
 fn token_length(value: &[u8]) -> Option<u32>
     ensures { result ≡ told_length value.now }
 {
@@ -105,7 +107,7 @@ fn token_length(value: &[u8]) -> Option<u32>
     }
 }
 
-/// What Capabilities and Settings tell as the longest token that the peer takes.
+/// Returns the length of the longest token that a CSM announces, or `None` if it announces none.
 pub(crate) fn announced_token(message: &MessageRef) -> Option<u32>
     ensures { result ≡ token_told (first_token_length_in message.now) }
 {

@@ -1,4 +1,4 @@
-//! What holds of every connection, each as the contract of a function that does nothing.
+//! Theorems on every connection, each as the contract of a function that does nothing.
 
 ghost use Rattle.std.specs.Prelude.{◌≡◌, ℕ, ◌+◌, ◌<◌, ◌≤◌, ◌&&◌, List, [], ◌∷◌, ◌++◌, length, Bool, true, false};
 ghost use Rattle.std.specs.Prelude.{Option, Some, None};
@@ -18,9 +18,9 @@ ghost use Rattle.coap_wire.specs.Codes as code;
 ghost use Rattle.coap_conn.specs.Verdicts as verdict;
 ghost use Rattle.coap_conn.specs.declared.phase.Phase.TheVariants.{Waiting, Open, Releasing, Stopped};
 
-/// The greatest message that the peer takes is the one that it announced last, and 1,152 bytes where it announced none
-/// (RFC 8323 section 5.3.1). The longest token is the one that it told last, and 8 bytes where it told none (RFC 8974
-/// section 2.2.1).
+/// States that the last announcement of the peer counts. Its Max-Message-Size is the last one announced, or 1,152 bytes
+/// if there is none (RFC 8323 section 5.3.1). Its longest token is the last one announced, or 8 bytes if there is none
+/// (RFC 8974 section 2.2.1).
 pub fn last_announcement_counts()
     ensures none { (ms : List Message) → AllByRecursion (λ m. announcement m ≡ None) ms → announced ms ≡ BASE_MESSAGE_SIZE }
     ensures last { (before after : List Message) (m : Message) (n : ℕ) → announcement m ≡ Some n →
@@ -31,7 +31,7 @@ pub fn last_announcement_counts()
         AllByRecursion (λ m. token_announcement m ≡ None) after → announced_token (before ++ m ∷ after) ≡ n }
 {}
 
-/// Whatever is queued is at most as great as the peer takes at that moment, and as our greatest message.
+/// States that each message, at the time when it is queued, fits `max_sent` and the peer's Max-Message-Size.
 pub fn what_is_queued_fits()
     ensures new { (role : Role) (limits : LimitValues) (tokens : ℕ) → AreInRange limits →
         AllFit (limit_now (new_history role limits tokens)) (new_history role limits tokens).queued }
@@ -48,15 +48,16 @@ pub fn what_is_queued_fits()
         AllFit (limit_now h) (m ∷ []) }
 {}
 
-/// Our Capabilities and Settings are the first message queued, and stay so, whatever happens (RFC 8323 section 5.3).
+/// States that the first message queued is the local endpoint's CSM, and that no call changes this (RFC 8323 section
+/// 5.3).
 pub fn own_announcement_comes_first()
     ensures new { (role : Role) (limits : LimitValues) (tokens : ℕ) → AnnouncedFirst (new_history role limits tokens) }
     ensures call { (h : History) (c : Call) → AnnouncedFirst h → AnnouncedFirst (after h c) }
     ensures sent { (h : History) (m less : Message) → AnnouncedFirst h → AnnouncedFirst (after_send h m less) }
 {}
 
-/// The greatest message that we take is what our end announced last, and at first the limit: no other call changes it
-/// (RFC 8323 section 5.3.1).
+/// States that the largest message accepted has the size announced last, and at first that of the limits. Only
+/// `Announce` changes the size (RFC 8323 section 5.3.1).
 pub fn own_size_is_announced()
     ensures new { (role : Role) (limits : LimitValues) (tokens : ℕ)
         → (new_history role limits tokens).own_max ≡ limits.max_message }
@@ -65,8 +66,8 @@ pub fn own_size_is_announced()
     ensures others { (h : History) (c : Call) → announces c ≡ false → (after h c).own_max ≡ h.own_max }
 {}
 
-/// Before the peer's Capabilities and Settings no request is handled, and nothing but they open the connection (RFC
-/// 8323 section 3.3).
+/// States that no message is taken as a request before the peer's CSM. Only a valid CSM opens the connection (RFC 8323
+/// section 3.3).
 pub fn peer_announces_before_requests()
     ensures request { (s : Standing) (m : Message) → s.phase ≡ Waiting → (react s m).verdict ≡ Request → ⊥ }
     ensures opens_by_code { (s : Standing) (m : Message) → s.phase ≡ Waiting → (react s m).effect.phase ≡ Open →
@@ -75,8 +76,8 @@ pub fn peer_announces_before_requests()
         bad_csm_option m ≡ None }
 {}
 
-/// Nothing follows a stop: where no message is taken any more, nothing has an effect but a response, what is held, and
-/// bytes that are written; and on a connection that stopped no response is sent either.
+/// States that nothing follows a stop. If no message is accepted, only `Reply`, `Due` and `Written` can have an effect.
+/// In phase `Stopped` no response is queued either.
 pub fn nothing_follows_a_stop()
     ensures call { (h : History) (c : Call) (why : Reason) → needs_live c ≡ true → stop_of h.phase ≡ Some why →
         after h c ≡ h }
@@ -85,8 +86,9 @@ pub fn nothing_follows_a_stop()
     ensures sent { (h : History) (m less : Message) (why : Reason) → h.phase ≡ Stopped why → after_send h m less ≡ h }
 {}
 
-/// What is due comes first: of the answers whose moments have come the one of the least moment, the earliest of equals;
-/// else a Pong that nothing stands before; and nothing only where nothing is due. It is held no more then.
+/// States which entry is due first, and that it is removed from the list. Responses whose time has come precede Pongs:
+/// the earliest time first, and of equal times the first entry. Otherwise a Pong is due that no entry precedes. No
+/// entry is returned only if none is due.
 pub fn what_is_due_comes_first()
     ensures answer { (now : ℕ) (held : List HeldValue) (token : List ℕ) (moment : ℕ) →
         first_due now held ≡ Some (Answer token moment) → IsDueFirst now held token moment (without_due now held) }
@@ -100,9 +102,9 @@ pub fn what_is_due_comes_first()
         length held ≡ 1 + length (without_due now held) }
 {}
 
-/// A message has a Pong with Custody queued at once only where nothing is held (RFC 8323 section 5.4.1); else its Pong
-/// waits for what is held. No more is held than may be, a message leaves what is held in place, and where it stops the
-/// connection gives it up.
+/// States that a Pong with Custody is queued at once only if no entry is pending (RFC 8323 section 5.4.1). The number
+/// of pending entries stays within its limit. A message only appends to the list, a Release leaves it unchanged, and a
+/// message that stops the connection empties it.
 pub fn custody_waits_for_what_is_held()
     ensures at_once { (s : Standing) (m : Message) → list_any is_custody_pong (react s m).effect.queued ≡ true →
         s.held ≡ [] }
@@ -115,8 +117,8 @@ pub fn custody_waits_for_what_is_held()
         (react s m).effect.phase ≡ Stopped why → (react s m).effect.held ≡ [] }
 {}
 
-/// No more is outstanding than may be, whatever happens: a message adds nothing, and what is asked adds one where there
-/// is room. A stop and the peer's Release give it up.
+/// States that the number of outstanding entries stays within its limit. A message adds none, and a cancellation leaves
+/// their number unchanged. A stop and the peer's Release empty the list.
 pub fn outstanding_is_limited()
     ensures message { (s : Standing) (m : Message) → length (react s m).effect.outstanding ≤ length s.outstanding }
     ensures call { (h : History) (c : Call) → length h.outstanding ≤ h.limits.outstanding →
@@ -127,9 +129,9 @@ pub fn outstanding_is_limited()
         stop_of (react s m).effect.phase ≡ Some why → (react s m).effect.outstanding ≡ [] }
 {}
 
-/// A response answers the request or observation that has its token, and none where there is none; a Pong answers a
-/// Ping so. Behind the last response nothing has the token any more; behind another one, which is a notification, all
-/// is as before (RFC 7252 section 5.3.2, RFC 7641 section 3.6).
+/// States which outstanding entry a response or a Pong matches: that with its token (RFC 7252 section 5.3.2). After the
+/// last response no request or observation has the token. Any other response is a notification and changes nothing (RFC
+/// 7641 section 3.6). A response or Pong that matches an entry is reported, and one that matches none changes nothing.
 pub fn answers_end_what_was_asked()
     ensures answer { (s : Standing) (m : Message) (token : List ℕ) (last : Bool) →
         (react s m).verdict ≡ verdict.Answer token last →
@@ -156,8 +158,8 @@ pub fn answers_end_what_was_asked()
         (react s m).verdict ≡ verdict.Pong m.token (asks_custody m) }
 {}
 
-/// A token is given once: its number is one more than the last one, and different numbers of 64 bits are different
-/// tokens (RFC 7252 section 5.3.1). Nothing but what is asked gives one.
+/// States that tokens do not repeat (RFC 7252 section 5.3.1). The number of a token is one more than that of the last
+/// token, and different numbers of 64 bits give different tokens. Only requests and Pings take a new token.
 pub fn tokens_are_new()
     ensures different { (one other : ℕ) → one < 18446744073709551615 → other < 18446744073709551615 →
         next_token one ≡ next_token other → one ≡ other }

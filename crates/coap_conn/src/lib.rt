@@ -1,8 +1,7 @@
-//! One side of a CoAP connection over a reliable transport, client or server: its Signalling Messages and its output
-//! queue (RFC 8323 sections 3.3, 3.4 and 5).
+//! One end of a CoAP connection over a reliable transport, at a server or a client (RFC 8323 sections 3.3, 3.4 and 5).
 //!
-//! - `Link` is that side. It handles each received message (`Verdict`), queues messages that fit the peer's
-//!   Max-Message-Size, and keeps the requests that wait for a response or for the time of one.
+//! - `Link` is that end. It processes each received message and returns its `Verdict`. It queues messages that fit the
+//!   peer's Max-Message-Size, and keeps delayed responses and outstanding requests.
 //! - `OutQueue` has the bytes that are to be written. `Limits` are the limits of a connection.
 //! - `Phase`, `Reason` and the types of `phase.rt` are the states of a link and the results of its calls.
 //! - `laws` has the theorems on all histories of a link.

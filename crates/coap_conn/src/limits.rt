@@ -1,4 +1,4 @@
-//! The limits of a connection.
+//! Limits of a connection: sizes in bytes, and numbers of entries.
 
 ghost use Rattle.std.specs.Prelude.{◌≡◌, ◌≤◌, IfOk};
 ghost use Rattle.coap_conn.specs.Prelude.{RefusedBy, limits_of, limit_refusal, AreInRange};
@@ -11,26 +11,27 @@ use coap_wire::{BASE_MESSAGE_SIZE, LARGEST_MESSAGE, LARGEST_QUEUE, LARGEST_SENT_
 use std::marker::Model;
 use thiserror::Error;
 
-/// Which limit is out of its range: the first one. The discriminants are the faults' numbers.
+/// Error of `Limits::new` and `LimitsBuilder::build`: the first limit that is out of range. The discriminant is its
+/// number.
 #[derive(Clone, Copy, Debug, PartialEq, Eq, Error)]
 pub enum LimitFault {
-    /// The greatest message taken is 1,152 to 1,048,576 bytes.
-    #[error("the greatest message taken is 1,152 to 1,048,576 bytes")]
+    /// `max_message` is not between 1,152 and 1,048,576 bytes.
+    #[error("max_message must be between 1,152 and 1,048,576 bytes")]
     MaxMessage = 1,
-    /// The greatest message sent is 1,152 to 65,536 bytes.
-    #[error("the greatest message sent is 1,152 to 65,536 bytes")]
+    /// `max_sent` is not between 1,152 and 65,536 bytes.
+    #[error("max_sent must be between 1,152 and 65,536 bytes")]
     MaxSent = 2,
-    /// The output queue has the greatest message sent to 4,194,304 bytes.
-    #[error("the queue has the greatest message sent to 4,194,304 bytes")]
+    /// `queue` is not between `max_sent` and 4,194,304 bytes.
+    #[error("queue size must be between max_sent and 4,194,304 bytes")]
     Queue = 3,
-    /// At most 256 held answers.
-    #[error("at most 256 held answers")]
+    /// `pending` is above 256.
+    #[error("pending limit must be at most 256")]
     Pending = 4,
-    /// At most 256 observers.
-    #[error("at most 256 observers")]
+    /// `observers` is above 256.
+    #[error("observer limit must be at most 256")]
     Observers = 5,
-    /// 1 to 256 outstanding requests.
-    #[error("1 to 256 outstanding requests")]
+    /// `outstanding` is not between 1 and 256.
+    #[error("outstanding limit must be between 1 and 256")]
     Outstanding = 6,
 }
 
@@ -46,7 +47,7 @@ const _: () = prove!(LimitFault::Observers as u8 == 5);
 
 const _: () = prove!(LimitFault::Outstanding as u8 == 6);
 
-/// The limits of one connection. Contracts see its values by name.
+/// Limits of one connection, each within its range. In contracts its value is a `LimitValues`, with the fields below.
 #[derive(Clone, Copy, Debug, PartialEq, Eq)]
 pub struct Limits {
     max_message: usize,
@@ -72,12 +73,21 @@ impl Model for Limits {
 }
 
 impl Limits {
-    /// The limits with these values: bytes of the greatest message taken and of the greatest one sent, bytes of the
-    /// output queue, held answers, observers, outstanding requests.
+    /// Creates limits from these values. `Limits::builder` sets them by name.
+    ///
+    /// Sizes are in bytes: of the largest message that is accepted at first, of the largest that is sent, and of the
+    /// output queue. The others are numbers of entries: delayed responses and Pongs, observers, outstanding requests.
     ///
     /// # Errors
     ///
-    /// The first value that is out of its range, in the order of the parameters.
+    /// Returns the first of these that applies, in the order of the parameters:
+    ///
+    /// - `MaxMessage`: `max_message` is not between 1,152 and 1,048,576.
+    /// - `MaxSent`: `max_sent` is not between 1,152 and 65,536.
+    /// - `Queue`: `queue` is not between `max_sent` and 4,194,304.
+    /// - `Pending`: `pending` is above 256.
+    /// - `Observers`: `observers` is above 256.
+    /// - `Outstanding`: `outstanding` is not between 1 and 256.
     pub fn new(
         max_message: usize,
         max_sent: usize,
@@ -118,7 +128,8 @@ impl Limits {
         })
     }
 
-    /// The bytes of the greatest message taken at first, which is the Max-Message-Size that we announce at open.
+    /// Returns the size in bytes of the largest message that is accepted at first. The first CSM announces this size as
+    /// Max-Message-Size (RFC 8323 section 5.3.1).
     pub fn max_message(&self) -> usize
         ensures value { result ≡ self.now.max_message }
         ensures ranges { AreInRange self.now }
@@ -128,7 +139,7 @@ impl Limits {
         self.max_message
     }
 
-    /// The bytes of the greatest message sent.
+    /// Returns the size in bytes of the largest message that is sent.
     pub fn max_sent(&self) -> usize
         ensures value { result ≡ self.now.max_sent }
         ensures low { BASE_MESSAGE_SIZE ≤ result }
@@ -137,7 +148,7 @@ impl Limits {
         self.max_sent
     }
 
-    /// The bytes of the output queue.
+    /// Returns the size in bytes of the output queue.
     pub fn queue(&self) -> usize
         ensures value { result ≡ self.now.queue }
         ensures low { self.now.max_sent ≤ result }
@@ -146,7 +157,7 @@ impl Limits {
         self.queue
     }
 
-    /// How many answers are held at most.
+    /// Returns the maximum number of delayed responses and Pongs.
     pub fn pending(&self) -> usize
         ensures value { result ≡ self.now.pending }
         ensures high { result ≤ 256 }
@@ -154,7 +165,7 @@ impl Limits {
         self.pending
     }
 
-    /// How many observers there are at most.
+    /// Returns the maximum number of observers.
     pub fn observers(&self) -> usize
         ensures value { result ≡ self.now.observers }
         ensures high { result ≤ 256 }
@@ -162,7 +173,7 @@ impl Limits {
         self.observers
     }
 
-    /// How many requests are outstanding at most.
+    /// Returns the maximum number of outstanding requests, observations and Pings.
     pub fn outstanding(&self) -> usize
         ensures value { result ≡ self.now.outstanding }
         ensures low { 1 ≤ result }

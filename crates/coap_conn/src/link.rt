@@ -1,7 +1,7 @@
-//! One side of a connection.
+//! One end of a connection, without framing.
 //!
-//! Each call that changes a `Link` has two kinds of clauses. The exact ones are `after`, `answer` and `err`. The clause
-//! `shows` has the meaning: the history of messages after the call.
+//! The clauses `after`, `answer` and `err` of a call state its exact effect on the `Link`. The clause `shows` states
+//! its meaning: which history of messages the link represents after the call.
 
 mod asking;
 mod heard;
@@ -19,8 +19,8 @@ use coap_wire::BASE_MESSAGE_SIZE;
 use std::alloc::{AllocError, Global};
 use std::marker::Model;
 
-/// One side of a connection: what was announced, how it stands, what is held and outstanding, and the bytes that wait
-/// to be written. Contracts see a `LinkValue`, and which history of messages it shows.
+/// One end of a connection: its phase, the announced sizes, the pending and outstanding entries, and the bytes queued
+/// for writing. In contracts its value is a `LinkValue`, and `LinkShows` relates it to a history of messages.
 #[derive(Drop)]
 pub struct Link {
     role: Role,
@@ -30,9 +30,9 @@ pub struct Link {
     own_max: usize,
     peer_max: u32,
     peer_token: u32,
-    /// What is sent later. Its room is reserved once.
+    /// Delayed responses and Pongs. The memory is reserved once.
     pending: Vec<Held>,
-    /// What is outstanding. Its room is reserved once.
+    /// Outstanding requests, observations and Pings. The memory is reserved once.
     asked: Vec<Outstanding>,
     tokens: u64,
 }
@@ -57,12 +57,12 @@ impl Link {
     ghost use Rattle.coap_conn.specs.Calls as call;
     ghost use Rattle.coap_conn.specs.contracts.link.Link.{the_row};
 
-    /// A new connection, with our Capabilities and Settings queued. The room of its queue, of what it holds and of what
-    /// is outstanding is reserved here. The first token that it gives is the number after `tokens_from`.
+    /// Creates a link in phase `Waiting`, with the first CSM queued. The memory of the queue, of the pending list and
+    /// of the outstanding list is reserved here. The first token is the number `tokens_from` + 1.
     ///
     /// # Errors
     ///
-    /// Where the room is refused.
+    /// Returns `AllocError` if allocation fails.
     pub fn open(
         alloc: Global,
         role: Role,
@@ -90,8 +90,8 @@ impl Link {
         })
     }
 
-    /// Returns all queued bytes in one slice. They are copied together if they wrap around the end of the queue's ring:
-    /// `parts` costs no copy.
+    /// Returns all queued bytes in one slice. If they wrap around the end of the queue's ring, they are moved first;
+    /// `parts` moves none.
     pub fn front<'a>(&'a mut self) -> &'a [u8]
         ensures* unchanged { sem 𝓛 (follows_so the_row the_row self.entry.ghost_name none (λ _ _. ⊤)
             (λ l. l ≡ self.old)) }
@@ -107,7 +107,11 @@ impl Link {
         self.queue.parts()
     }
 
-    /// The first so many bytes were written, and wait no more.
+    /// Removes the first `count` bytes from the queue, after the caller has written them.
+    ///
+    /// # Preconditions
+    ///
+    /// `count` is at most the number of queued bytes.
     pub fn written(&mut self, count: usize)
         requires { count ≤ length self.old.waiting }
         ensures after { self.new ≡ link_after self.old (call.Written count) }
@@ -116,7 +120,7 @@ impl Link {
         self.queue.written(count);
     }
 
-    /// How many bytes wait.
+    /// Returns the number of bytes queued for writing.
     pub fn waiting(&self) -> usize
         ensures count { result ≡ length self.now.waiting }
         ensures kept { IsLink self.now }
@@ -124,50 +128,52 @@ impl Link {
         self.queue.waiting()
     }
 
-    /// How many bytes more can be queued.
+    /// Returns the number of bytes that can still be queued.
     pub fn free(&self) -> usize
         ensures { result ≡ free_in self.now }
     {
         self.queue.free()
     }
 
-    /// Whether there is room for the greatest message sent.
+    /// Returns `true` if the queue has room for a message of `max_sent` bytes.
     pub fn ready(&self) -> bool
         ensures { IsTrue result ↔ IsReady self.now }
     {
         self.limits.max_sent() <= self.queue.free()
     }
 
-    /// How it stands.
+    /// Returns the phase of the connection.
     pub fn phase(&self) -> Phase
         ensures { result ≡ self.now.phase }
     {
         self.phase
     }
 
-    /// The greatest message that we take, as we announced it last: at first that of the limits (RFC 8323 section
-    /// 5.3.1).
+    /// Returns the size in bytes of the largest message that is accepted. This is the Max-Message-Size announced last,
+    /// at first that of the limits (RFC 8323 section 5.3.1).
     pub fn own_max(&self) -> usize
         ensures { result ≡ self.now.own_max }
     {
         self.own_max
     }
 
-    /// The greatest message that the peer takes, as it announced it last, or 1,152 bytes (RFC 8323 section 5.3.1).
+    /// Returns the Max-Message-Size in bytes that the peer announced last, or 1,152 if there is none (RFC 8323 section
+    /// 5.3.1).
     pub fn peer_max(&self) -> u32
         ensures { result ≡ self.now.peer_max }
     {
         self.peer_max
     }
 
-    /// The bytes of the longest token that the peer takes, as it told it last, or 8 (RFC 8974 section 2.2.1).
+    /// Returns the length in bytes of the longest token that the peer accepts, as it announced last. The length is 8 if
+    /// the peer has announced none (RFC 8974 section 2.2.1).
     pub fn peer_token(&self) -> u32
         ensures { result ≡ self.now.peer_token }
     {
         self.peer_token
     }
 
-    /// How many answers and Pongs are held.
+    /// Returns the number of pending entries: delayed responses and Pongs.
     pub fn pending(&self) -> usize
         ensures count { result ≡ length self.now.held }
         ensures within { length self.now.held ≤ self.now.limits.pending }
@@ -175,15 +181,15 @@ impl Link {
         self.pending.len()
     }
 
-    /// The least moment, in seconds, of a held answer that lies behind this one: what is held waits for it, where there
-    /// is room.
+    /// Returns the earliest time, in seconds and after `now`, at which a pending response is due. The caller uses it as
+    /// the deadline of its next call of `due`.
     pub fn next_moment(&self, now: u64) -> Option<u64>
         ensures { result ≡ moment_next now self.now.held }
     {
         next_of(&self.pending, now)
     }
 
-    /// How many requests, observations and Pings are outstanding.
+    /// Returns the number of outstanding requests, observations and Pings.
     pub fn outstanding(&self) -> usize
         ensures count { result ≡ length self.now.outstanding }
         ensures within { length self.now.outstanding ≤ self.now.limits.outstanding }
@@ -191,15 +197,15 @@ impl Link {
         self.asked.len()
     }
 
-    /// Whether nothing more is to be written: it stopped, or its peer released it and nothing is held, and no byte
-    /// waits. A request that the caller has yet to answer is not counted.
+    /// Returns `true` if nothing is left to write: no more messages are accepted, no entry is pending, and no byte is
+    /// queued. A request that the caller has not answered yet does not count.
     pub fn finished(&self) -> bool
         ensures { result ≡ is_finished self.now }
     {
         self.phase.stop().is_some() && self.pending.is_empty() && self.queue.waiting() == 0
     }
 
-    /// The greatest message that may be sent.
+    /// Returns the size in bytes of the largest message that may be sent: the smaller of `max_sent` and `peer_max`.
     fn limit(&self) -> usize
         ensures { result ≡ limit_in self.now }
     {

@@ -1,5 +1,5 @@
-//! The messages that a connection sends of itself: the Capabilities and Settings Message (CSM), Ping, Pong, Release,
-//! Abort and bare responses.
+//! Messages that a link sends by itself: the Capabilities and Settings Message (CSM), Ping, Pong, Release, Abort and
+//! bare responses.
 
 ghost use Rattle.std.specs.Prelude.{◌≡◌, ◌≤◌, ◌∷◌, ◌++◌, [], length, option_copied};
 ghost use Rattle.coap_conn.specs.Prelude.{abort_text as text_for, abort_with as abort_message, number_told};
@@ -15,7 +15,7 @@ use coap_wire::{Code, MessageBuilder, ShortBuilder, Token, TokenRef, UintBytes, 
 /// Bad-CSM-Option, an option of Abort (RFC 8323 section 5.6).
 const BAD_CSM_OPTION: u16 = 2;
 
-/// The longest token that we take, as the one byte of Extended-Token-Length (RFC 8974 section 2.2.1).
+/// Length of the longest token that is accepted, as the one byte of Extended-Token-Length (RFC 8974 section 2.2.1).
 const OWN_TOKEN_LENGTH: [u8; 1] = [64];
 
 /// Returns the CSM with a Max-Message-Size of these bytes, and nothing else (RFC 8323 section 5.3.1).
@@ -28,7 +28,7 @@ fn csm_with(size: &UintBytes) -> ShortBuilder<'static>
     csm
 }
 
-/// Returns the first CSM: with the length of the longest token that is accepted too (RFC 8974 section 2.2.1).
+/// Returns the first CSM, which also announces the longest token that is accepted (RFC 8974 section 2.2.1).
 fn first_csm_with(size: &UintBytes) -> ShortBuilder<'static>
     ensures { result ≡ first_csm_of size.now.items }
 {
@@ -37,7 +37,7 @@ fn first_csm_with(size: &UintBytes) -> ShortBuilder<'static>
     csm
 }
 
-/// The bytes of our Capabilities and Settings with this size.
+/// Returns the size in bytes of a CSM with this Max-Message-Size.
 pub(crate) fn announcement_size(max_message: usize) -> u64
     ensures { result ≡ length (spelling (own_csm max_message)) }
 {
@@ -45,8 +45,8 @@ pub(crate) fn announcement_size(max_message: usize) -> u64
     csm_with(&size).size()
 }
 
-/// Queues our first Capabilities and Settings, with this size and the longest token that we take (RFC 8323 section 5.3,
-/// RFC 8974 section 2.2.1).
+/// Queues the first CSM, with this Max-Message-Size and the longest token that is accepted (RFC 8323 section 5.3, RFC
+/// 8974 section 2.2.1).
 pub(crate) fn announce_first(queue: &mut OutQueue, max_message: usize)
     requires { 32 ≤ free_of queue.old }
     ensures csm { queue.new
@@ -58,7 +58,7 @@ pub(crate) fn announce_first(queue: &mut OutQueue, max_message: usize)
     queue.put_compact(&csm);
 }
 
-/// Queues our Capabilities and Settings with this size alone.
+/// Queues a CSM with this Max-Message-Size alone.
 pub(crate) fn announce(queue: &mut OutQueue, max_message: usize)
     requires { 24 ≤ free_of queue.old }
     ensures csm { queue.new ≡ record queue.old { waiting = queue.old.waiting ++ bytes_of (own_csm max_message ∷ []) } }
@@ -69,7 +69,7 @@ pub(crate) fn announce(queue: &mut OutQueue, max_message: usize)
     queue.put_compact(&csm);
 }
 
-/// Queues Release.
+/// Queues a Release.
 pub(crate) fn queue_release(queue: &mut OutQueue)
     requires { 2 ≤ free_of queue.old }
     ensures queued { queue.new ≡ record queue.old { waiting = queue.old.waiting ++ bytes_of (release ∷ []) } }
@@ -79,7 +79,7 @@ pub(crate) fn queue_release(queue: &mut OutQueue)
     queue.put_compact(&release);
 }
 
-/// Returns the Pong to the Ping with this token, with Custody or not (RFC 8323 section 5.4).
+/// Returns the Pong to the Ping with this token, with Custody or without (RFC 8323 section 5.4).
 pub(crate) fn pong_to<'a>(token: &TokenRef<'a>, custody: bool) -> ShortBuilder<'a>
     ensures { result ≡ pong_with custody token.now }
 {
@@ -90,7 +90,7 @@ pub(crate) fn pong_to<'a>(token: &TokenRef<'a>, custody: bool) -> ShortBuilder<'
     pong
 }
 
-/// A Ping with this token, with Custody or not (RFC 8323 section 5.4).
+/// Returns a Ping with this token, with Custody or without (RFC 8323 section 5.4).
 pub(crate) fn ping_to<'a>(token: &'a Token, custody: bool) -> MessageBuilder<'a, 1>
     ensures { result ≡ ping_with custody token.now.items }
 {
@@ -103,8 +103,8 @@ pub(crate) fn ping_to<'a>(token: &'a Token, custody: bool) -> MessageBuilder<'a,
     ping
 }
 
-/// Returns the response that is sent in place of one that is too large, with this code and token: a code other than
-/// 2.01, 2.02 and 2.04 becomes 5.00.
+/// Returns the response that replaces one that is too large, with its token. The codes 2.01, 2.02 and 2.04 stay, and
+/// any other code becomes 5.00.
 pub(crate) fn bare_of<'a>(code: Code, token: &TokenRef<'a>) -> ShortBuilder<'a>
     ensures { result
         ≡ bare_response (record { code = code; token = token.now; options = []; payload = [] }) }
@@ -117,7 +117,7 @@ pub(crate) fn bare_of<'a>(code: Code, token: &TokenRef<'a>) -> ShortBuilder<'a>
     ShortBuilder::new(bare, token.again())
 }
 
-/// The number that Bad-CSM-Option tells.
+/// Returns the number that Bad-CSM-Option reports, if the reason is `BadCsm`.
 pub(crate) fn bad_csm_number(reason: Reason) -> Option<u16>
     ensures { result ≡ number_told reason }
 {
@@ -127,7 +127,7 @@ pub(crate) fn bad_csm_number(reason: Reason) -> Option<u16>
     }
 }
 
-/// The text of the Abort for a reason, where one is sent.
+/// Returns the text of the Abort for a reason, or `None` if no Abort is sent.
 pub(crate) fn abort_text(reason: Reason) -> Option<&'static [u8]>
     ensures { option_copied result ≡ text_for reason }
 {
@@ -148,7 +148,8 @@ pub(crate) fn abort_text(reason: Reason) -> Option<&'static [u8]>
     }
 }
 
-/// Returns the Abort with this text, and with Bad-CSM-Option if there is a number (RFC 8323 section 5.6).
+/// Returns an Abort with this text. If there is a number, the Abort has Bad-CSM-Option with the value `bytes`, at most
+/// 8 bytes (RFC 8323 section 5.6).
 pub(crate) fn abort_with<'a>(number: Option<u16>, bytes: &[u8], text: &'a [u8]) -> ShortBuilder<'a>
     requires short { length bytes.now ≤ 8 }
     requires small { length text.now ≤ 100 }

@@ -1,4 +1,4 @@
-//! What a connection holds: answers that are sent later, and Pongs that wait for them (RFC 8323 section 5.4.1).
+//! Entries of the pending list: delayed responses, and Pongs with Custody that wait for them (RFC 8323 section 5.4.1).
 
 ghost use Rattle.std.specs.Prelude.{◌≡◌, ℕ, List, map, option_map, filter_map, position, ◌≤◌, ◌<◌, ◌++◌, ◌∷◌, []};
 ghost use Rattle.std.specs.Prelude.{length, not, nat_lt, IfOk, IfSome, Some, slice_get, ◌==◌, remove};
@@ -9,22 +9,22 @@ ghost use Rattle.coap_conn.specs.Prelude.{to_come as moment_to_come, held_value}
 
 use coap_wire::Token;
 
-/// What is held. Contracts see a `HeldValue`.
+/// Entry of the pending list. In contracts its value is a `HeldValue`.
 #[derive(Drop)]
 pub(crate) enum Held {
-    /// The answer to a request, which is due at a moment.
+    /// Response to a request, due at a time.
     Answer {
-        /// The request's token.
+        /// Token of the request.
         token: Token,
-        /// The moment in seconds.
+        /// Time in seconds at which the response is due.
         moment: u64,
     },
-    /// A Pong with Custody, which is due when nothing is held that came before it.
+    /// Pong with Custody to the Ping with this token, due when no entry precedes it in the list.
     Pong(Token),
 }
 
 impl Held {
-    /// The moment of an answer, where it has come.
+    /// Returns the time of a response that is due at `now` or earlier.
     fn come(&self, now: u64) -> Option<u64>
         ensures { result ≡ moment_come now (held_value self.now) }
     {
@@ -34,7 +34,7 @@ impl Held {
         }
     }
 
-    /// The moment of an answer, where it lies behind this one.
+    /// Returns the time of a response that is due after `now`.
     fn to_come(&self, now: u64) -> Option<u64>
         ensures { result ≡ moment_to_come now (held_value self.now) }
     {
@@ -44,7 +44,7 @@ impl Held {
         }
     }
 
-    /// Whether it is an answer that is due at this moment.
+    /// Returns `true` if the entry is a response that is due at exactly this time.
     fn is_answer_at(&self, due: u64) -> bool
         ensures { result ≡ is_answer_due_at due (held_value self.now) }
     {
@@ -55,8 +55,8 @@ impl Held {
     }
 }
 
-/// Returns the index of the entry that is due first at a time: of the responses whose time has come, the one with the
-/// least time, the earliest of equals; otherwise a Pong with no entry before it.
+/// Returns the index of the entry that is due first at `now`. Responses whose time has come precede Pongs: the earliest
+/// time first, and of equal times the first entry. Otherwise a Pong is due if it is the first entry of the list.
 pub(crate) fn due_in(held: &[Held], now: u64) -> Option<usize>
     ensures first { result ≡ index_due now (map held_value held.now) }
     ensures within { IfSome result (λ i. i < length held.now) }
@@ -67,7 +67,7 @@ pub(crate) fn due_in(held: &[Held], now: u64) -> Option<usize>
     }
 }
 
-/// The index of the first answer of the least moment that has come.
+/// Returns the index of the response that is due first at `now`: of the earliest time, the first entry.
 fn answer_in(held: &[Held], now: u64) -> Option<usize>
     ensures { result ≡ index_of_answer (least_moment now (map held_value held.now)) (map held_value held.now) }
 {
@@ -75,21 +75,21 @@ fn answer_in(held: &[Held], now: u64) -> Option<usize>
     held.iter().position(|one| one.is_answer_at(least))
 }
 
-/// The least moment of an answer that has come.
+/// Returns the earliest time of the responses that are due at `now`.
 fn least_come(held: &[Held], now: u64) -> Option<u64>
     ensures { result ≡ least_moment now (map held_value held.now) }
 {
     held.iter().filter_map(|one| one.come(now)).min()
 }
 
-/// Returns the least time of a response that is after this one.
+/// Returns the earliest time, after `now`, at which a response is due.
 pub(crate) fn next_of(held: &[Held], now: u64) -> Option<u64>
     ensures { result ≡ moment_next now (map held_value held.now) }
 {
     held.iter().filter_map(|one| one.to_come(now)).min()
 }
 
-/// The index of a Pong with nothing before it.
+/// Returns the index of a Pong that no entry precedes, which is 0.
 fn pong_in(held: &[Held]) -> Option<usize>
     ensures { result ≡ pong_index (map held_value held.now) }
 {

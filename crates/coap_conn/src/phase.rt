@@ -1,4 +1,4 @@
-//! How a connection stands, and what its calls answer.
+//! States of a connection, and the results and errors of its calls.
 
 ghost use Rattle.std.specs.Prelude.{◌≡◌};
 ghost use Rattle.coap_conn.specs.Prelude.{stop_of, reject_of_frame, reject_reason};
@@ -7,31 +7,31 @@ use crate::reason::Reason;
 use coap_wire::{FrameFault, Token, TokenRef};
 use thiserror::Error;
 
-/// Which end of the connection this is.
+/// End of the connection.
 #[derive(Clone, Copy, PartialEq, Eq)]
 pub enum Role {
-    /// It answers requests.
+    /// End that responds to requests.
     Server,
-    /// It sends them.
+    /// End that sends requests.
     Client,
 }
 
-/// How a connection stands.
+/// State of a connection.
 #[derive(Clone, Copy, Debug, PartialEq, Eq)]
 pub enum Phase {
-    /// The peer's Capabilities and Settings have not come (RFC 8323 section 3.3).
+    /// State before the peer's first CSM (RFC 8323 section 3.3).
     Waiting,
-    /// They have.
+    /// State after the peer's first CSM, until the connection stops or is released.
     Open,
-    /// The peer released the connection: nothing more is taken, and what is pending is still answered (RFC 8323 section
+    /// State after the peer's Release: no message is accepted, and pending entries are still sent (RFC 8323 section
     /// 5.5).
     Releasing(Reason),
-    /// Nothing more is taken or queued. What waits is still written.
+    /// Final state: no message is accepted or queued. Queued bytes are still written.
     Stopped(Reason),
 }
 
 impl Phase {
-    /// Why no message is taken any more, where none is.
+    /// Returns the reason for which no message is accepted, or `None` in the phases `Waiting` and `Open`.
     pub fn stop(self) -> Option<Reason>
         ensures { result ≡ stop_of self }
     {
@@ -44,70 +44,71 @@ impl Phase {
     }
 }
 
-/// What a message was.
+/// Result of processing a received message.
 #[derive(Debug, Drop)]
 pub enum Verdict<'m> {
-    /// The peer's first Capabilities and Settings: the connection is open.
+    /// First CSM of the peer: the connection is open.
     Opened,
-    /// It is dealt with.
+    /// Message that the link has handled; the caller has nothing to do.
     Done,
-    /// A request, which the caller answers.
+    /// Request, to which the caller responds.
     Request,
-    /// The response to an outstanding request.
+    /// Response to an outstanding request or observation.
     Answer {
-        /// The request's token, where it lies in the response.
+        /// Token of the request, borrowed from the response.
         token: TokenRef<'m>,
-        /// Whether it is the last one, so that the request is outstanding no more.
+        /// `true` if this is the last response, and the request is no longer outstanding.
         last: bool,
     },
-    /// The Pong to an outstanding Ping.
+    /// Pong to an outstanding Ping.
     Pong {
-        /// The Ping's token, where it lies in the Pong.
+        /// Token of the Ping, borrowed from the Pong.
         token: TokenRef<'m>,
-        /// Whether it has Custody (RFC 8323 section 5.4.1).
+        /// `true` if the Pong has Custody (RFC 8323 section 5.4.1).
         custody: bool,
     },
-    /// A response or a Pong to nothing that is outstanding. It is ignored.
+    /// Response or Pong that matches nothing outstanding. The link ignores it.
     Stranger,
-    /// It stopped the connection, or released it.
+    /// Message that stopped the connection, or the peer's Release.
     Stopped(Reason),
 }
 
-/// What was due of what is held. It is held no more.
+/// Pending entry that was due; `Link::due` has removed it from the list.
 #[derive(Debug, Drop)]
 pub enum Due {
-    /// The answer to the request with this token, which the caller sends.
+    /// Response to the request with this token, which the caller sends.
     Answer(Token),
-    /// A Pong with Custody, which was queued as it fits, or the connection stopped (RFC 8323 section 5.4.1).
+    /// Pong with Custody, which the link has queued as it fits the peer's limit, or which has stopped the connection
+    /// (RFC 8323 section 5.4.1).
     Pong,
-    /// Nothing: nothing has changed.
+    /// No entry; the link is unchanged.
     Nothing,
 }
 
-/// No room for another answer to be held.
+/// Error of `Link::hold`: the pending list has reached its limit.
 #[derive(Clone, Copy, Debug, PartialEq, Eq, Error)]
-#[error("no room for another answer")]
+#[error("pending list is full")]
 pub struct Full;
 
-/// What became of a message that was to be sent.
+/// Result of sending a message that may exceed the peer's limit.
 #[derive(Clone, Copy, Debug, PartialEq, Eq)]
 pub enum Reply {
-    /// It was queued.
+    /// The message was queued.
     Whole,
-    /// It is too large for the peer: a smaller one was queued in its place.
+    /// The message exceeds the peer's limit; a reduced one was queued in its place.
     Bare,
-    /// Even that one is too large: the connection stopped.
+    /// Even the reduced message exceeds the peer's limit; the connection stopped.
     Stopped,
 }
 
-/// What is wrong with the bytes behind the messages so far.
+/// Kind of malformed input, in the bytes after the last whole message.
 #[derive(Clone, Copy, PartialEq, Eq)]
 pub enum Reject {
-    /// A frame that spells no message.
+    /// Malformed message.
     Format,
-    /// A frame of more bytes than our Max-Message-Size.
+    /// Frame of more bytes than the Max-Message-Size that the local endpoint announced.
     TooLarge,
-    /// A token length above 64, or of nibble 15.
+    /// Token length above 64, or with nibble 15.
     TokenLength,
 }
 
@@ -134,7 +135,7 @@ impl From<Reject> for Reason {
     }
 }
 
-/// Why Release was not sent. The discriminants are the faults' numbers.
+/// Error of `Link::release`. The discriminant is its number.
 #[derive(Clone, Copy, Debug, PartialEq, Eq, Error)]
 pub enum SendFault {
     /// The connection is not open.
@@ -143,8 +144,8 @@ pub enum SendFault {
     /// The queue has no room for the message.
     #[error("no room in the queue")]
     NoRoom = 2,
-    /// The peer takes no message as small as this one.
-    #[error("the peer takes no message as small as this one")]
+    /// The message exceeds the Max-Message-Size of the peer.
+    #[error("message exceeds the Max-Message-Size of the peer")]
     PeerTooSmall = 3,
 }
 
@@ -154,25 +155,25 @@ const _: () = prove!(SendFault::NoRoom as u8 == 2);
 
 const _: () = prove!(SendFault::PeerTooSmall as u8 == 3);
 
-/// Why a request, a cancellation or a Ping was not sent. The discriminants are the faults' numbers.
+/// Error of `Link::request`, `Link::cancel` and `Link::ping`. The discriminant is its number.
 #[derive(Clone, Copy, Debug, PartialEq, Eq, Error)]
 pub enum RequestFault {
     /// The connection is not open.
     #[error("the connection is not open")]
     NotOpen = 1,
-    /// As many are outstanding as may be.
-    #[error("as many requests as may be are outstanding")]
+    /// The number of outstanding entries has reached its limit.
+    #[error("too many outstanding requests")]
     TooMany = 2,
-    /// The message is greater than what the peer takes, or than our greatest message.
-    #[error("the message is greater than what may be sent")]
+    /// The message exceeds `max_sent` or the Max-Message-Size of the peer.
+    #[error("message exceeds max_sent or the Max-Message-Size of the peer")]
     TooBig = 3,
     /// The queue has no room for the message.
     #[error("no room in the queue")]
     NoRoom = 4,
-    /// Every token was given.
-    #[error("every token was given")]
+    /// No token is left.
+    #[error("no token left")]
     TokensSpent = 5,
-    /// No observation with this token is outstanding, or it was cancelled.
+    /// No observation with this token is outstanding, or it was cancelled before.
     #[error("no such observation")]
     NoSuchToken = 6,
 }

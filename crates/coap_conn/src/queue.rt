@@ -1,4 +1,4 @@
-//! The output queue: bytes queued for writing.
+//! Output queue of a connection: bytes that are queued for writing.
 
 ghost use Rattle.std.specs.Prelude.{◌≡◌, ◌≤◌, ◌++◌, IfOk, [], ⊤, length, drop, if◌then◌else◌};
 ghost use Rattle.coap_conn.specs.Prelude.{sem, follows_so, none, spelling, front_spelling, IsQueue, IsNextPart};
@@ -13,14 +13,14 @@ use coap_wire::{CompactBuilder, MessageBuilder, SHORT_OPTIONS, Sink};
 use std::alloc::{AllocError, Global};
 use std::marker::Model;
 
-/// The bytes of the array in which a message is encoded up to its payload: 48 of options and at most 73 of all else.
+/// Size of the array in which a message is encoded up to its payload: 48 bytes of options, and at most 73 of all else.
 const FRONT: usize = 128;
 
-/// A queue of bytes to be written, in a ring whose room is reserved once. Contracts see a `QueueValue`: the capacity of
-/// the queue, and the queued bytes.
+/// Queue of bytes for writing, in a ring buffer whose memory is reserved once. In contracts its value is a
+/// `QueueValue`: the capacity of the queue, and the queued bytes.
 ///
-/// A message is appended in at most two steps: what comes before its payload, encoded in an array on the stack, and its
-/// payload. A message whose options do not fit that array is appended in more steps.
+/// A message is appended in at most two steps: first the part before its payload, encoded in an array on the stack,
+/// then its payload. A message whose options do not fit that array is appended in more steps.
 #[derive(Drop)]
 pub struct OutQueue {
     ring: HeapCircularBuffer<u8>,
@@ -39,11 +39,15 @@ impl Model for OutQueue {
 }
 
 impl OutQueue {
-    /// Creates an empty queue of 1,152 to 4,194,304 bytes.
+    /// Creates an empty queue of this size.
     ///
     /// # Errors
     ///
-    /// `AllocError` if allocation fails.
+    /// Returns `AllocError` if allocation fails.
+    ///
+    /// # Preconditions
+    ///
+    /// `bytes` is between 1,152 and 4,194,304.
     pub fn new(alloc: Global, bytes: usize) -> Result<OutQueue, AllocError>
         requires low { BASE_MESSAGE_SIZE ≤ bytes }
         requires high { bytes ≤ LARGEST_QUEUE }
@@ -54,7 +58,7 @@ impl OutQueue {
         })
     }
 
-    /// Returns the number of bytes that can be queued.
+    /// Returns the number of bytes that can still be queued.
     pub fn free(&self) -> usize
         ensures { result ≡ free_of self.now }
     {
@@ -69,8 +73,8 @@ impl OutQueue {
         self.ring.len()
     }
 
-    /// Returns all queued bytes in one slice. If they wrap around the end of the ring, they are moved first: `parts` moves
-    /// none.
+    /// Returns all queued bytes in one slice. If they wrap around the end of the ring, they are moved first; `parts`
+    /// moves none.
     pub fn front<'a>(&'a mut self) -> &'a [u8]
         ensures* unchanged { sem 𝓛 (follows_so the_row the_row self.entry.ghost_name none (λ _ _. ⊤)
             (λ q. q ≡ self.old)) }
@@ -123,8 +127,8 @@ impl OutQueue {
         let _ = &self.ring;
     }
 
-    /// Queues the encoding of a message if it has at most `limit` bytes, and returns whether it has. There must be room
-    /// for that many.
+    /// Queues the encoding of a message and returns `true`, if the encoding has at most `limit` bytes. Otherwise queues
+    /// nothing and returns `false`. There must be room for `limit` bytes.
     #[inline]
     pub(crate) fn offer<const N: usize>(
         &mut self,
@@ -143,11 +147,11 @@ impl OutQueue {
         let payload = message.payload_bytes();
         let mut front: ArrayVec<u8, FRONT> = ArrayVec::new();
         message.write_front(&mut front);
-        // The size is known once the message is encoded.
+        // The size is known only after encoding.
         if front.len() + payload.len() > limit {
             return false;
         }
-        // A short payload goes with it in one append.
+        // A short payload is appended in the same step.
         if payload.len() <= front.remaining_capacity() {
             front.append(payload);
             self.extend(&front);
@@ -158,7 +162,7 @@ impl OutQueue {
         true
     }
 
-    /// As `offer`, for a message whose options may not fit the array.
+    /// Does the same as `offer`, for a message whose options may not fit the array.
     fn offer_long<const N: usize>(&mut self, message: &CompactBuilder<N>, limit: usize) -> bool
         requires { limit ≤ free_of self.old }
         ensures fits { result ≡ message_fits limit message.now }
@@ -172,12 +176,12 @@ impl OutQueue {
         true
     }
 
-    /// Appends bytes, for which there must be room.
+    /// Appends bytes. There must be room for them.
     fn extend(&mut self, bytes: &[u8])
         requires { length bytes.now ≤ free_of self.old }
         ensures { self.new ≡ record self.old { waiting = self.old.waiting ++ bytes.now } }
     {
-        // Parts of a message are often empty: these cost no call.
+        // Parts of a message are often empty; this saves the call.
         if bytes.is_empty() {
             return;
         }
@@ -185,6 +189,10 @@ impl OutQueue {
     }
 
     /// Removes the first `count` bytes, after the caller has written them. No byte is moved.
+    ///
+    /// # Preconditions
+    ///
+    /// `count` is at most the number of queued bytes.
     pub fn written(&mut self, count: usize)
         requires { count ≤ length self.old.waiting }
         ensures { self.new ≡ record self.old { waiting = drop count self.old.waiting } }
@@ -194,7 +202,8 @@ impl OutQueue {
     }
 }
 
-/// Returns the first of two slices that is not empty: of the `parts` of a queue, the one to be written next.
+/// Returns the first of two slices that is not empty, or an empty one if both are. Of the `parts` of a queue, this
+/// slice is written next.
 pub fn first_part<'a>(parts: (&'a [u8], &'a [u8])) -> &'a [u8]
     ensures { IsNextPart (parts.entry.0.now ++ parts.entry.1.now) result.now }
 {

@@ -1,41 +1,42 @@
-//! Why a connection stops.
+//! Reasons for which a connection stops.
 
 ghost use Rattle.std.specs.Prelude.{◌≡◌};
 ghost use Rattle.coap_conn.specs.Prelude.{reason_number};
 
-/// Why a connection stopped, or why its peer released it.
+/// Reason for which a connection stopped, or for which the peer released it.
 #[derive(Clone, Copy, Debug, PartialEq, Eq)]
 pub enum Reason {
-    /// 1: a frame that spells no message (RFC 8323 section 3.2).
+    /// 1: malformed message (RFC 8323 section 3.2).
     Format,
-    /// 2: a frame of more bytes than our Max-Message-Size (RFC 8323 section 5.3.1).
+    /// 2: message of more bytes than the Max-Message-Size that the local endpoint announced (RFC 8323 section 5.3.1).
     TooLarge,
-    /// 3: a token length above 64, or of nibble 15 (RFC 8974 section 2.1).
+    /// 3: token length above 64, or with nibble 15 (RFC 8974 section 2.1).
     TokenLength,
-    /// 4: a message whose code has the reserved class 1 or 6 (RFC 7252 section 12.1).
+    /// 4: message whose code has the reserved class 1 or 6 (RFC 7252 section 12.1).
     ReservedCode,
-    /// 5: another message before the peer's Capabilities and Settings (RFC 8323 section 3.3).
+    /// 5: message other than a CSM before the peer's first CSM (RFC 8323 section 3.3).
     CsmExpected,
-    /// 6: Capabilities and Settings with an option that is not understood, and its number (RFC 8323 section 5.3).
+    /// 6: CSM with an option of this number that is critical, or that is a Max-Message-Size of more than 4 bytes (RFC
+    /// 8323 section 5.3).
     BadCsm(u16),
-    /// 7: a Ping, Pong or Release with a critical option (RFC 8323 section 5.2).
+    /// 7: Ping, Pong or Release with a critical option (RFC 8323 section 5.2).
     BadSignalOption,
-    /// 8: the peer sent Abort (RFC 8323 section 5.6).
+    /// 8: Abort received from the peer (RFC 8323 section 5.6).
     PeerAbort,
-    /// 9: the peer sent Release (RFC 8323 section 5.5).
+    /// 9: Release received from the peer (RFC 8323 section 5.5).
     PeerRelease,
-    /// 10: the peer takes no message as small as what had to be sent.
+    /// 10: message that exceeds the Max-Message-Size of the peer, even in its reduced form.
     PeerTooSmall,
-    /// 11: the end of input, with no byte of a frame left.
+    /// 11: end of input, after a whole frame.
     Ended,
-    /// 12: the end of input within a frame.
+    /// 12: end of input within a frame.
     Cut,
-    /// 13: Release was sent (RFC 8323 section 5.5).
+    /// 13: Release sent by the local endpoint (RFC 8323 section 5.5).
     ReleasedHere,
 }
 
 impl Reason {
-    /// Its number, 1 to 13.
+    /// Returns the number of the reason, 1 to 13.
     pub const fn number(self) -> u8
         ensures { result ≡ reason_number self }
     {

@@ -1,2 +1,2 @@
--- The view of a `Rest` in contracts: its bytes and its invariant.
+-- Defined by this project: the value of a `Rest` in contracts.
 pub mod RestViews

@@ -1,4 +1,4 @@
-//! Where bytes come from and go to.
+//! Readers and writers of bytes: the traits `Source` and `Outlet`, and their implementations for those of std.
 
 ghost use Rattle.std.specs.Prelude.{◌≡◌, ◌≤◌, ℕ, Bool, List, [], ◌∷◌, length, take, Option, None, is_none, IfSome};
 ghost use Rattle.std.specs.Prelude.{IfNone, ◌||◌, false};
@@ -6,49 +6,50 @@ ghost use Rattle.coap_io.specs.Prelude.{Told, HasGiven, pieces_read, AddsBytes, 
 
 use std::io::{Read, Write};
 
-/// A source of bytes.
+/// Reader of bytes, such as standard input.
 pub trait Source {
-    /// What it tells: the pieces that its reads gave so far, in order, of which the one that found the end is empty;
-    /// and the bytes that are left.
+    /// Chunks that the reads returned so far, in order, and the bytes left to read, each if the source records them. A
+    /// read that found the end gives an empty chunk.
     ghost told: { Self → Told };
 
-    /// Whether a read has failed.
+    /// `true` if a read has failed.
     ghost is_failed: { Self → Bool };
 
-    /// Reads up to as many bytes as the buffer has, `Some(0)` at the end, and `None` where reading fails.
+    /// Reads at most `buffer.len()` bytes to the start of `buffer`, and returns their number: 0 at the end of input.
+    /// Returns `None` if reading fails.
     fn read(&mut self, buffer: &mut [u8]) -> Option<usize>
         ensures within { IfSome result (λ n. n ≤ length buffer.new) }
         ensures given { IfSome result (λ n. HasGiven (told self.old) (told self.new) (pieces_read buffer.new n)) }
         ensures nothing { IfNone result (HasGiven (told self.old) (told self.new) []) }
         ensures failure { is_failed self.new ≡ (is_failed self.old || is_none result) };
 
-    /// Whether a read has failed.
+    /// Returns `true` if a read has failed.
     fn failed(&self) -> bool
         ensures { result ≡ is_failed self.now };
 }
 
-/// A place to which bytes are written.
+/// Writer of bytes, such as standard output.
 pub trait Outlet {
-    /// The bytes written so far, where it tells.
+    /// Bytes written so far, if the outlet records them.
     ghost written: { Self → Option (List ℕ) };
 
-    /// Whether a write has failed: gave no count, or took none of at least one byte.
+    /// `true` if a write has failed: it returned no number, or 0 for at least one byte.
     ghost is_failed: { Self → Bool };
 
-    /// Writes some of the bytes from their front and answers how many, or `None` where writing fails.
+    /// Writes a prefix of `bytes` and returns its length. Returns `None` if writing fails.
     fn write(&mut self, bytes: &[u8]) -> Option<usize>
         ensures within { IfSome result (λ n. n ≤ length bytes.now) }
         ensures taken { IfSome result (λ n. AddsBytes (written self.old) (written self.new) (take n bytes.now)) }
         ensures nothing { IfNone result (AddsBytes (written self.old) (written self.new) []) }
         ensures failure { is_failed self.new ≡ (is_failed self.old || is_failed_write result bytes.now) };
 
-    /// Whether a write has failed.
+    /// Returns `true` if a write has failed.
     fn failed(&self) -> bool
         ensures { result ≡ is_failed self.now };
 }
 
-/// A reader of std as a source. It tells what bytes are left where the reader does. A read that a signal interrupts
-/// has failed.
+/// `Source` over a reader of std. The bytes left to read are recorded if the reader records them. A read that a signal
+/// interrupts has failed.
 #[derive(Drop)]
 pub struct ReadSource<R> {
     reader: R,
@@ -56,7 +57,7 @@ pub struct ReadSource<R> {
 }
 
 impl<R: Read> ReadSource<R> {
-    /// The reader as a source that has not failed.
+    /// Creates a source that has not failed.
     pub fn new(reader: R) -> ReadSource<R>
         ensures works { ⟦<ReadSource<R> as Source>⟧.is_failed result ≡ false }
         ensures told { ⟦<ReadSource<R> as Source>⟧.told result
@@ -89,7 +90,8 @@ impl<R: Read> Source for ReadSource<R> {
     }
 }
 
-/// A writer of std as an outlet. It tells what the writer tells. A write that a signal interrupts has failed.
+/// `Outlet` over a writer of std. The bytes written are recorded if the writer records them. A write that a signal
+/// interrupts has failed.
 #[derive(Drop)]
 pub struct WriteOutlet<W> {
     writer: W,
@@ -97,7 +99,7 @@ pub struct WriteOutlet<W> {
 }
 
 impl<W: Write> WriteOutlet<W> {
-    /// The writer as an outlet that has not failed.
+    /// Creates an outlet that has not failed.
     pub fn new(writer: W) -> WriteOutlet<W>
         ensures works { ⟦<WriteOutlet<W> as Outlet>⟧.is_failed result ≡ false }
         ensures written { ⟦<WriteOutlet<W> as Outlet>⟧.written result ≡ W.contents writer }

@@ -1,10 +1,10 @@
-//! The traits through which a server and a client reach the outside: bytes, connections and the time.
+//! The traits through which a server and a client access the outside: bytes, connections and the time.
 //!
-//! - `Source` and `Outlet` are one input and one output, such as standard input and standard output. `ReadSource` and
+//! - `Source` is a reader and `Outlet` a writer, such as standard input and standard output. `ReadSource` and
 //!   `WriteOutlet` implement them for every reader and writer of std.
-//! - `Wire` is one connection. `Ready` says whether a read or a write of it may succeed now.
-//! - `Door` accepts connections and waits until one of them is ready. `Polled` makes a door of a listener that cannot
-//!   wait (`Wires`).
+//! - `Wire` is one transport connection. `Ready` says whether a read or a write of it may succeed now.
+//! - `Door` is a listener: it accepts connections and waits until one of them is ready. `Polled` makes a door of a
+//!   listener that cannot wait (`Wires`).
 //! - `Clock` returns the time, in seconds.
 //!
 //! The ghost members of these traits are the bytes and calls so far, if the implementation records them. The contract

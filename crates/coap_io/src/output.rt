@@ -1,4 +1,4 @@
-//! Writes whole slices to an outlet.
+//! Functions that write whole slices to an outlet.
 
 ghost use Rattle.std.specs.Prelude.{◌≡◌, ◌++◌, false, OnOk, OnErr, is_err};
 ghost use Rattle.coap_io.specs.Prelude.{AddsBytes, WritesPart};
@@ -6,16 +6,20 @@ ghost use Rattle.coap_io.specs.Prelude.{AddsBytes, WritesPart};
 use crate::device::Outlet;
 use thiserror::Error;
 
-/// That a write failed.
+/// Error of `write_all` and `write_parts`: a write failed.
 #[derive(Clone, Copy, Debug, PartialEq, Eq, Error)]
 #[error("cannot write")]
 pub struct WriteFailed;
 
-/// Writes the bytes of two slices, one after the other.
+/// Writes the bytes of two slices to an outlet, one after the other.
 ///
 /// # Errors
 ///
-/// Returns `WriteFailed` if a write fails; the outlet then has a prefix of these bytes.
+/// - `WriteFailed`: a write failed. Only a prefix of the bytes was written, not all of them.
+///
+/// # Preconditions
+///
+/// No write to the outlet has failed before.
 pub fn write_parts<W: Outlet>(
     writer: &mut W,
     first: &[u8],
@@ -32,11 +36,15 @@ pub fn write_parts<W: Outlet>(
     Ok(())
 }
 
-/// Writes these bytes, until none is left.
+/// Writes all bytes of a slice to an outlet.
 ///
 /// # Errors
 ///
-/// Where a write failed: the outlet has a part of the bytes then.
+/// - `WriteFailed`: a write failed. Only a prefix of the bytes was written, not all of them.
+///
+/// # Preconditions
+///
+/// No write to the outlet has failed before.
 pub fn write_all<W: Outlet>(writer: &mut W, bytes: &[u8]) -> Result<(), WriteFailed>
     requires { W.is_failed writer.old ≡ false }
     ensures ok { OnOk result (AddsBytes (W.written writer.old) (W.written writer.new) bytes.now) }

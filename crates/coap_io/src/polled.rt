@@ -1,21 +1,21 @@
-//! A door that never waits, over a source that only hands out wires.
+//! `Polled`, a door over a listener that hands out connections but cannot wait for them.
 
 ghost use Rattle.std.specs.Prelude.{Some, true};
 
 use crate::wire::{Door, Got, Ready, Wait, Wire};
 
-/// Hands out wires, one for each connection that a peer opens. It knows neither which of them are ready nor how to
-/// wait; `Polled` makes a door of it.
+/// Listener that cannot wait: hands out wires, one for each connection that a peer opens. A `Wires` does not know which
+/// of them are ready. `Polled` makes a door of it.
 pub trait Wires {
-    /// The wires that it hands out.
+    /// Type of the wires that it hands out.
     type Wire: Wire + Drop;
 
-    /// Returns the next wire, if a peer has opened a connection that was not handed out yet. It never waits.
+    /// Returns the next wire, if a peer has opened a connection that was not handed out yet. Never blocks.
     fn next(&mut self) -> Option<Self::Wire>;
 }
 
-/// A wire whose reads and writes are always tried, since nobody knows whether it is ready. `Tried` records what its
-/// wire records, and reports that it is always ready.
+/// Wire that always reports that it is ready, since its readiness is unknown. So its reads and writes are always tried.
+/// `Tried` records what the inner wire records.
 #[derive(Drop)]
 pub struct Tried<W>(pub W);
 
@@ -51,8 +51,9 @@ impl<W> Ready for Tried<W> {
     }
 }
 
-/// A door over a source of wires, which never waits. A server behind it uses a processor all the time; a transport that
-/// can wait has a `Door` of its own. `Polled` records no calls, so no clause says which connections it hands out.
+/// Door over a listener that cannot wait, so that `wait` returns at once. A server with such a door keeps a processor
+/// busy all the time. A transport that can wait has a `Door` of its own. `Polled` records no calls, so no clause states
+/// which connections it hands out.
 #[derive(Drop)]
 pub struct Polled<D>(pub D);
 

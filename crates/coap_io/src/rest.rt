@@ -1,4 +1,4 @@
-//! Bytes read from a wire that no connection has taken yet.
+//! Read buffer of a connection: bytes read from a wire that are not accepted yet.
 
 ghost use Rattle.std.specs.Prelude.{◌≡◌, ◌≤◌, length, ◌==◌, ◌-◌, [], ◌∷◌, drop, IfOk};
 ghost use Rattle.coap_io.specs.Prelude.{AddsBytes, TellsMore, count_passed, READ_SIZE};
@@ -7,10 +7,10 @@ use crate::wire::{Got, Wire};
 use std::alloc::{AllocError, Global};
 use std::marker::Model;
 
-/// The most bytes that one read takes.
+/// Maximum number of bytes of one read.
 pub const READ_SIZE: usize = 16_384;
 
-/// The bytes read from a wire that are not taken yet. Contracts see these bytes.
+/// Read buffer of a connection. In contracts its value is the list of bytes that were read and are not accepted yet.
 #[derive(Drop)]
 pub struct Rest {
     buffer: Vec<u8>,
@@ -31,11 +31,11 @@ impl Model for Rest {
 }
 
 impl Rest {
-    /// Nothing was read. The room of 16,384 bytes is reserved once.
+    /// Creates an empty buffer. The memory of 16,384 bytes is reserved once.
     ///
     /// # Errors
     ///
-    /// Where that room is refused.
+    /// Returns `AllocError` if allocation fails.
     pub fn new(alloc: Global) -> Result<Rest, AllocError>
         ensures { IfOk result (λ r. r ≡ []) }
     {
@@ -46,21 +46,25 @@ impl Rest {
         })
     }
 
-    /// Whether all that was read is taken.
+    /// Returns `true` if all bytes that were read have been accepted.
     pub fn is_empty(&self) -> bool
         ensures { result ≡ (length self.now == 0) }
     {
         self.from == self.to
     }
 
-    /// The bytes that are not taken yet.
+    /// Returns the bytes that are not accepted yet.
     pub fn bytes(&self) -> &[u8]
         ensures { result.now ≡ self.now }
     {
         &self.buffer[self.from..self.to]
     }
 
-    /// The first so many bytes were taken.
+    /// Removes the first `count` bytes, after they were accepted.
+    ///
+    /// # Preconditions
+    ///
+    /// `count` is at most the number of bytes in the buffer.
     pub fn advance(&mut self, count: usize)
         requires { count ≤ length self.old }
         ensures { self.new ≡ drop count self.old }
@@ -68,7 +72,7 @@ impl Rest {
         self.from += count;
     }
 
-    /// The bytes are given up.
+    /// Removes all bytes.
     pub fn clear(&mut self)
         ensures { self.new ≡ [] }
     {
@@ -76,7 +80,8 @@ impl Rest {
         self.to = 0;
     }
 
-    /// Reads once, into a buffer of 16,384 bytes, in place of the bytes that were there.
+    /// Replaces the bytes in the buffer with those of one read from the wire: at most 16,384, and none unless the
+    /// result is `Bytes`.
     pub fn read<W: Wire>(&mut self, wire: &mut W) -> Got
         ensures count { length self.new ≡ count_passed result }
         ensures gave { AddsBytes (W.given wire.old) (W.given wire.new) self.new }

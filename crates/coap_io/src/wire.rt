@@ -1,39 +1,39 @@
-//! What connections and moments come from: wires, the door that hands them out, and the clock.
+//! Transport connections, the listener that hands them out, and the clock.
 
 ghost use Rattle.std.specs.Prelude.{◌≡◌, ℕ, Bool, List, [], ◌∷◌, length, Option, None};
 ghost use Rattle.coap_io.specs.Prelude.{AddsBytes, TellsMore, DoorCall, Asked, Waited, IsWithin, IsTold, bytes_passed};
 ghost use Rattle.coap_io.specs.Prelude.{Got, wait_at_most};
 
-/// What a read or a write of a wire came to.
+/// Result of a read or a write of a wire.
 #[derive(Clone, Copy, Debug, PartialEq, Eq)]
 pub enum Got {
-    /// So many bytes, at least 1, were passed on.
+    /// Number of bytes read or written, at least 1.
     Bytes(usize),
-    /// None now: the caller may try again later.
+    /// No byte now: the caller may try again later.
     Later,
-    /// The peer sends nothing more. A write that answers so has failed.
+    /// End of the bytes that the peer sends. A write with this result has failed.
     End,
-    /// The wire has failed.
+    /// Failure of the wire.
     Failed,
 }
 
-/// One connection of a transport that gives and takes bytes in order (RFC 8323 section 3). The wires of a door never
-/// wait; that of a client may wait in `read`.
+/// Transport connection, which delivers bytes in order (RFC 8323 section 3). The wires of a door never block; that of a
+/// client may block in `read`.
 pub trait Wire {
-    /// The bytes that its reads gave so far, in order, where it tells.
+    /// Bytes that the reads returned so far, in order, if the wire records them.
     ghost given: { Self → Option (List ℕ) };
 
-    /// The bytes that its writes took so far, in order, where it tells.
+    /// Bytes that the writes accepted so far, in order, if the wire records them.
     ghost written: { Self → Option (List ℕ) };
 
-    /// What its reads and writes came to so far, in order, where it tells.
+    /// Results of the reads and writes so far, in order, if the wire records them.
     ghost answers: { Self → Option (List Got) } = { λ _. None };
 
-    /// The length of the buffer of each read so far, in order, if the wire tells.
+    /// Length of the buffer of each read so far, in order, if the wire records them.
     ghost rooms: { Self → Option (List ℕ) } = { λ _. None };
 
-    /// Reads at least 1 byte and at most as many as the buffer has, into the front of the buffer. `Later` where no byte
-    /// is there now, `End` where the peer sends nothing more, `Failed` where reading fails.
+    /// Reads at least 1 and at most `buffer.len()` bytes to the start of `buffer`. Returns `Later` if no byte is
+    /// available now, `End` if the peer sends nothing more, and `Failed` if reading fails.
     fn read(&mut self, buffer: &mut [u8]) -> Got
         ensures within { IsWithin (length buffer.new) result }
         ensures gave { AddsBytes (given self.old) (given self.new) (bytes_passed buffer.new result) }
@@ -41,8 +41,8 @@ pub trait Wire {
         ensures answered { TellsMore (answers self.old) (answers self.new) (result ∷ []) }
         ensures had_room { TellsMore (rooms self.old) (rooms self.new) (length buffer.new ∷ []) };
 
-    /// Writes at least 1 of the bytes, from their front. `Later` where none can be taken now, `Failed` where writing
-    /// fails; `End` means the same as `Failed`.
+    /// Writes a prefix of `bytes`, at least 1 byte. Returns `Later` if no byte can be written now, and `Failed` or
+    /// `End` if writing fails.
     fn write(&mut self, bytes: &[u8]) -> Got
         ensures within { IsWithin (length bytes.now) result }
         ensures wrote { AddsBytes (written self.old) (written self.new) (bytes_passed bytes.now result) }
@@ -51,37 +51,36 @@ pub trait Wire {
         ensures no_read { TellsMore (rooms self.old) (rooms self.new) [] };
 }
 
-/// Whether a wire is ready, as far as its owner knows without asking the system. `Tried` has it for any wire.
+/// Readiness of a wire, as far as its owner knows it without a system call. `Tried` implements it for any wire.
 pub trait Ready {
-    /// Whether a read may come to something, if the wire tells.
+    /// `true` if a read may return something other than `Later`, if the wire records its readiness.
     ghost readable: { Self → Option Bool } = { λ _. None };
 
-    /// Whether a write may come to something, if the wire tells.
+    /// `true` if a write may return something other than `Later`, if the wire records its readiness.
     ghost writable: { Self → Option Bool } = { λ _. None };
 
-    /// Whether a read may come to something else than `Later`. No read is tried where it may not.
+    /// Returns `true` if a read may return something other than `Later`. Otherwise no read is tried.
     fn may_read(&self) -> bool
         ensures { IsTold (readable self.now) result };
 
-    /// Whether a write may come to something else than `Later`. No write is tried where it may not.
+    /// Returns `true` if a write may return something other than `Later`. Otherwise no write is tried.
     fn may_write(&self) -> bool
         ensures { IsTold (writable self.now) result };
 }
 
-/// How long a door may wait.
+/// Longest time that a door may wait.
 #[derive(Clone, Copy, Debug, PartialEq, Eq)]
 pub enum Wait {
-    /// Not at all.
+    /// No wait.
     No,
-    /// Until this moment, in seconds, at the most.
+    /// Wait until this time, in seconds.
     Until(u64),
-    /// Until a wire or the door is ready.
+    /// Wait without a limit, until a wire or the door is ready.
     Forever,
 }
 
 impl Wait {
-    /// Returns this wait, but at most until a moment, in seconds. A program that has something of its own to do at that
-    /// moment waits so.
+    /// Returns this wait, but until `moment`, in seconds, at most. A program uses it if it has other work at that time.
     pub fn at_most(self, moment: u64) -> Wait
         ensures { result ≡ wait_at_most moment self }
     {
@@ -93,31 +92,32 @@ impl Wait {
     }
 }
 
-/// What hands out wires, one for each connection that a peer opens. `Polled` makes a door of what does nothing else.
+/// Listener, which hands out a wire for each connection that a peer opens. `Polled` makes a door of a listener that
+/// cannot wait.
 pub trait Door {
-    /// The wires that it hands out.
+    /// Type of the wires that it hands out.
     type Wire: Wire + Ready + Drop;
 
-    /// The calls that the door had so far, in order, if it tells.
+    /// Calls of the door so far, in order, if it records them.
     ghost calls: { Self → Option (List (DoorCall Self.Wire)) } = { λ _. None };
 
-    /// The next wire, where a peer has opened a connection that was not handed out yet. It never waits.
+    /// Returns the next wire, if a peer has opened a connection that was not handed out yet. Never blocks.
     fn next(&mut self) -> Option<Self::Wire>
         ensures { TellsMore (calls self.old) (calls self.new) (Asked result ∷ []) };
 
-    /// Learns which wires are ready, and before that waits until one is that was not, or, where another connection may
-    /// be opened (`opens`), until a peer opens one: as long as it is told at the most, and not at all where a peer
-    /// waits already.
+    /// Waits until a wire becomes ready, at most as long as `wait` says, and learns which wires are ready. With
+    /// `opens`, a peer that opens a connection ends the wait too, and the wait is zero if such a peer is waiting
+    /// already.
     fn wait(&mut self, wait: Wait, opens: bool)
         ensures { TellsMore (calls self.old) (calls self.new) (Waited wait opens ∷ []) };
 }
 
-/// What tells the moment.
+/// Clock that gives the time in seconds.
 pub trait Clock {
-    /// The moments that it gave so far, in order, where it tells.
+    /// Times that the clock returned so far, in order, if it records them.
     ghost moments: { Self → Option (List ℕ) } = { λ _. None };
 
-    /// The moment, in seconds.
+    /// Returns the time, in seconds.
     fn now(&mut self) -> u64
         ensures { TellsMore (moments self.old) (moments self.new) (result ∷ []) };
 }

@@ -1,12 +1,12 @@
--- Bytes by their hexadecimal digits, in worked values.
+-- Bytes written as hexadecimal digits, for examples.
 use Rattle.std.specs.Prelude.{ℕ, ◌+◌, ◌-◌, ◌*◌, List, [], ◌∷◌, nat_lt, codes, if◌then◌else◌}
 use Prim.Native.String.{String}
 
--- the value of a digit, 0 to 9 or a to f, in ASCII
+-- The value of a digit in ASCII, 0 to 9 or a to f.
 abbrev digit : ℕ → ℕ
 digit c = if nat_lt c 58 then c - 48 else c - 87
 
--- two digits a byte
+-- The bytes of pairs of digits.
 abbrev bytes_by : List ℕ → List ℕ
 bytes_by [] = []
 bytes_by (c ∷ []) = []

@@ -21,7 +21,7 @@ use Rattle.coap_text.specs.Words.{parts, decimal_value, hex_value}
 
 -- ---- parts between separators
 
--- what `position` answers
+-- The result of `position`.
 abbrev pub first_place : (ℕ → Bool) → List ℕ → Option ℕ
 first_place p xs = cond (ltb (position_or_len p xs) (length xs)) (Some (position_or_len p xs)) None
 
@@ -41,7 +41,7 @@ first_part separator bytes at e =
 
 -- ---- numbers
 
--- digits are text
+-- Digits are UTF-8.
 
 digits_are_ascii : (word : List ℕ) → list_all is_ascii_digit word ≡ true → IsAscii word
 digits_are_ascii [] all = IsAscii-nil
@@ -55,7 +55,7 @@ pub text_read : {E : Type 0} (P : E → Type 0) (word : List ℕ) (r : Result (B
 text_read P word (Ok s) all cases = (s, refl, cases.0)
 text_read P word (Err e) all cases = absurd (cases.0 (IsUtf8-from_ascii word (digits_are_ascii word all)))
 
--- the number that was read of digits
+-- The number that digits mean.
 
 digits_alike : (word : List ℕ) → list_all is_ascii_digit word ≡ all_ascii_digits word
 digits_alike [] = refl

@@ -20,8 +20,8 @@ pub fn split_once(bytes: &[u8], separator: u8) -> Option<(&[u8], &[u8])>
 /// The maximum number of digits of a number.
 const MAX_DIGITS: usize = 20;
 
-/// Returns the number that a word of 1 to 20 decimal digits means, if the number fits in 64 bits. Leading zeros count as
-/// digits. Returns `None` for any other word.
+/// Returns the number that a word of 1 to 20 decimal digits means, if the number fits in 64 bits. Leading zeros count
+/// as digits. Returns `None` for any other word.
 pub fn number_in(word: &[u8]) -> Option<u64>
     ensures { result ≡ spec.decimal_value word.now }
 {

@@ -1,4 +1,4 @@
-//! Builds limits by their names.
+//! A builder of `Limits`, which sets each limit by its name.
 
 ghost use Rattle.std.specs.Prelude.{◌≡◌, IfOk};
 ghost use Rattle.coap_conn.specs.Prelude.{RefusedBy, limit_refusal, default_limits};
@@ -7,8 +7,8 @@ use super::{LimitFault, Limits};
 use coap_wire::{DEFAULT_QUEUE, LARGEST_SENT_MESSAGE};
 use std::marker::Model;
 
-/// A builder of `Limits`. Each limit has its default until it is set; `build` checks them. Contracts see the values by
-/// name.
+/// Builder of `Limits`. Each limit has its default until it is set; `build` checks the ranges. In contracts its value
+/// is a `LimitValues`.
 #[derive(Clone, Copy, Debug)]
 pub struct LimitsBuilder {
     max_message: usize,
@@ -69,7 +69,7 @@ impl LimitsBuilder {
         }
     }
 
-    /// Sets the size of the output queue, in bytes: that of the largest message sent to 4,194,304, by default 131,072.
+    /// Sets the size of the output queue, in bytes: `max_sent` to 4,194,304, by default 131,072.
     pub fn queue(self, bytes: usize) -> LimitsBuilder
         ensures { result ≡ record self { queue = bytes } }
     {
@@ -109,11 +109,11 @@ impl LimitsBuilder {
         }
     }
 
-    /// Returns the limits.
+    /// Returns the limits, if each is within its range.
     ///
     /// # Errors
     ///
-    /// The first limit that is out of its range, in the order of the methods, as `Limits::new`.
+    /// Returns the first limit that is out of its range, in the order of the methods, as `Limits::new` does.
     pub fn build(self) -> Result<Limits, LimitFault>
         ensures answer { RefusedBy result (limit_refusal self) }
         ensures ok { IfOk result (λ l. l ≡ self) }

@@ -1,4 +1,4 @@
-//! What a link asks.
+//! Outgoing requests, observation cancellations and Pings.
 
 ghost use Rattle.std.specs.Prelude.{◌≡◌, ◌<◌, ◌+◌, ◌++◌, ◌∷◌, [], length, IfOk, OnOk, OnErr};
 ghost use Rattle.coap_conn.specs.Prelude.{bytes_of_uint, spelling, RefusedBy, History, after, LinkShows, bytes_of};
@@ -14,15 +14,20 @@ use crate::phase::{Phase, RequestFault};
 use coap_wire::{Builder, MessageBuilder, Token, TokenRef, copy_of, uint_bytes};
 
 impl Link {
-    /// Sends a request under a new token, in place of the one that it has, and answers that token. The request is
-    /// outstanding until a response with this token ends it; with `observe` a notification does not (RFC 7252 section
-    /// 5.3.1, RFC 7641 section 3.1).
+    /// Queues a request under a new token, which replaces that of `message`, and returns the token.
+    ///
+    /// The request is outstanding until a response with this token ends it. With `observe`, a notification does not end
+    /// it (RFC 7252 section 5.3.1, RFC 7641 section 3.1).
     ///
     /// # Errors
     ///
-    /// In this order: `NotOpen` where the connection is not open, `TooMany` where as many are outstanding as may be,
-    /// `TokensSpent` where every token was given, `TooBig` where the message is greater than what may be sent, `NoRoom`
-    /// where fewer bytes are free. Nothing has changed then.
+    /// Returns the first of these that applies; the link is then unchanged:
+    ///
+    /// - `NotOpen`: the phase is not `Open`.
+    /// - `TooMany`: the number of outstanding entries has reached its limit.
+    /// - `TokensSpent`: no token is left.
+    /// - `TooBig`: the message exceeds `max_sent` or the Max-Message-Size of the peer.
+    /// - `NoRoom`: the message exceeds the free space of the queue.
     pub fn request(&mut self, message: &Builder, observe: bool) -> Result<Token, RequestFault>
         ensures answer { RefusedBy result (asking_refusal (asking_in self.old)
             (with_token message.now (next_token self.old.tokens))) }
@@ -45,14 +50,17 @@ impl Link {
         Ok(token)
     }
 
-    /// Sends a message under the token of an observation, in place of the one that it has, and the observation counts
-    /// as cancelled. It stays outstanding until a response ends it (RFC 7641 section 3.6).
+    /// Queues a message that cancels the observation with this token, which replaces that of `message`. The observation
+    /// stays outstanding until a response ends it (RFC 7641 section 3.6).
     ///
     /// # Errors
     ///
-    /// In this order: `NotOpen` where the connection is not open, `NoSuchToken` where no observation with this token is
-    /// outstanding or it was cancelled, `TooBig` where the message is greater than what may be sent, `NoRoom` where
-    /// fewer bytes are free. Nothing has changed then.
+    /// Returns the first of these that applies; the link is then unchanged:
+    ///
+    /// - `NotOpen`: the phase is not `Open`.
+    /// - `NoSuchToken`: no observation with this token is outstanding, or it was cancelled before.
+    /// - `TooBig`: the message exceeds `max_sent` or the Max-Message-Size of the peer.
+    /// - `NoRoom`: the message exceeds the free space of the queue.
     #[tactic(auto, unfolding(crate::specs::Asking::cancel_refusal))]
     pub fn cancel(&mut self, token: &Token, message: &Builder) -> Result<(), RequestFault>
         ensures answer { RefusedBy result (cancel_refusal (asking_in self.old) token.now.items
@@ -74,12 +82,12 @@ impl Link {
         Ok(())
     }
 
-    /// Sends a Ping under a new token, with Custody or not, and answers that token (RFC 8323 section 5.4). The Ping is
-    /// outstanding until its Pong comes.
+    /// Queues a Ping under a new token, with Custody if `custody` is set, and returns the token (RFC 8323 section 5.4).
+    /// The Ping is outstanding until its Pong is received.
     ///
     /// # Errors
     ///
-    /// As `request`. Nothing has changed then.
+    /// Returns the same errors as `request`; the link is then unchanged.
     pub fn ping(&mut self, custody: bool) -> Result<Token, RequestFault>
         ensures answer { RefusedBy result (asking_refusal (asking_in self.old)
             (ping_with custody (next_token self.old.tokens))) }
@@ -95,12 +103,11 @@ impl Link {
         Ok(token)
     }
 
-    /// Whether a request may be sent now, whatever its size.
+    /// Checks that a request or a Ping may be sent now, whatever its size.
     ///
     /// # Errors
     ///
-    /// In this order: `NotOpen` where the connection is not open, `TooMany` where as many are outstanding as may be,
-    /// `TokensSpent` where every token was given.
+    /// Returns `NotOpen`, `TooMany` or `TokensSpent`, in this order and as `request` does.
     pub fn may_ask(&self) -> Result<(), RequestFault>
         ensures { RefusedBy result (new_refusal (asking_in self.now)) }
     {
@@ -108,12 +115,11 @@ impl Link {
         Ok(())
     }
 
-    /// Whether the observation with this token may be cancelled now, whatever the size of the message.
+    /// Checks that the observation with this token may be cancelled now, whatever the size of the message.
     ///
     /// # Errors
     ///
-    /// In this order: `NotOpen` where the connection is not open, `NoSuchToken` where no observation with this token is
-    /// outstanding or it was cancelled.
+    /// Returns `NotOpen` or `NoSuchToken`, in this order and as `cancel` does.
     #[tactic(auto, unfolding(crate::specs::Asking::observation_refusal))]
     pub fn may_cancel(&self, token: &Token) -> Result<(), RequestFault>
         ensures { RefusedBy result (observation_refusal (asking_in self.now) token.now.items) }
@@ -127,11 +133,11 @@ impl Link {
         Ok(())
     }
 
-    /// The token behind the last one that was given.
+    /// Returns the token of the number after that of the last token.
     ///
     /// # Errors
     ///
-    /// In this order: `NotOpen`, `TooMany`, `TokensSpent`.
+    /// Returns `NotOpen`, `TooMany` or `TokensSpent`, in this order and as `request` does.
     #[tactic(auto, unfolding(crate::specs::Asking::new_refusal))]
     fn next_token(&self) -> Result<Token, RequestFault>
         ensures answer { RefusedBy result (new_refusal (asking_in self.now)) }
@@ -149,12 +155,11 @@ impl Link {
         Ok(token_numbered(self.tokens + 1))
     }
 
-    /// Queues a message that asks something.
+    /// Queues a request, a cancellation or a Ping.
     ///
     /// # Errors
     ///
-    /// In this order: `TooBig` where it is greater than what may be sent, `NoRoom` where fewer bytes are free. Nothing
-    /// has changed then.
+    /// Returns `TooBig` or `NoRoom`, in this order and as `request` does; the link is then unchanged.
     fn queue_asked<const N: usize>(
         &mut self,
         message: &MessageBuilder<N>,
@@ -175,7 +180,7 @@ impl Link {
         Ok(())
     }
 
-    /// This is outstanding, under the token behind the last one that was given.
+    /// Appends an outstanding entry, whose token is the next one. The list must not be full, and a token must be left.
     fn enter(&mut self, one: Outstanding)
         requires room { length self.old.outstanding < self.old.limits.outstanding }
         requires token { self.old.tokens < 18446744073709551615 }
@@ -191,7 +196,7 @@ impl Link {
     }
 }
 
-/// The token of a number: its bytes, as few as possible.
+/// Returns the token that encodes a number in the fewest bytes.
 fn token_numbered(number: u64) -> Token
     ensures { result.items ≡ bytes_of_uint number }
 {

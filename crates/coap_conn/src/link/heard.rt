@@ -1,4 +1,4 @@
-//! What a link hears: messages, bytes that have a fault, and the end of input.
+//! Input of a link: received messages, malformed bytes, and the end of input.
 
 ghost use Rattle.std.specs.Prelude.{◌≡◌, if◌then◌else◌};
 ghost use Rattle.coap_conn.specs.Prelude.{bad_csm_option, IsLive, IsAnswering, is_waiting as waits};
@@ -22,23 +22,30 @@ use crate::reason::Reason;
 use coap_wire::{Code, MessageRef, ShortBuilder};
 
 impl Link {
-    /// Handles a message (RFC 8323 sections 3.3, 3.4 and 5). There must be room for the greatest message sent, and the
-    /// connection must take messages. Where it is a request, the caller answers it by `reply` or holds its answer by
-    /// `hold` before it hands over the next message.
+    /// Processes a received message (RFC 8323 sections 3.3, 3.4 and 5). If the result is `Request`, the caller responds
+    /// by `reply`, or delays the response by `hold`, before it passes in the next message.
+    ///
+    /// # Preconditions
+    ///
+    /// The queue has room for a message of `max_sent` bytes, and the phase is `Waiting` or `Open`.
     pub fn on<'m>(&mut self, message: &MessageRef<'m>) -> Verdict<'m>
         requires ready { IsReady self.old }
         requires live { IsLive self.old.phase }
         ensures verdict { verdict_value result ≡ (react (standing_in self.old) message.now).verdict }
         ensures after { self.new ≡ link_after self.old (call.Handle message.now) }
         ensures shows { (h : History) → LinkShows self.old h → LinkShows self.new (after h (call.Handle message.now)) }
-        // A request changes nothing, and can be answered at once.
+        // After a request the link is unchanged, and the preconditions of `reply` hold.
         ensures unchanged { verdict_value result ≡ verdict.Request → self.new ≡ self.old }
         ensures asked { verdict_value result ≡ verdict.Request → IsReady self.new × IsAnswering self.new.phase }
     {
         self.handle(message)
     }
 
-    /// Stops on bytes that have a fault, with the Abort for it. The conditions are those of `on`.
+    /// Stops the connection because of malformed input, and queues the Abort for it.
+    ///
+    /// # Preconditions
+    ///
+    /// The queue has room for a message of `max_sent` bytes, and the phase is `Waiting` or `Open`.
     pub fn reject(&mut self, fault: Reject)
         requires ready { IsReady self.old }
         requires live { IsLive self.old.phase }
@@ -48,7 +55,8 @@ impl Link {
         self.abort(Reason::from(fault));
     }
 
-    /// Stops as the input ends, within a frame where it was cut. Nothing changes where no message is taken any more.
+    /// Stops the connection at the end of input. With `cut`, the input ended within a frame. Nothing changes if the
+    /// phase is `Releasing` or `Stopped`.
     pub fn end(&mut self, cut: bool)
         ensures after { self.new ≡ link_after self.old (call.End cut) }
         ensures shows { (h : History) → LinkShows self.old h → LinkShows self.new (after h (call.End cut)) }
@@ -58,7 +66,7 @@ impl Link {
         }
     }
 
-    /// Handles a message that is taken.
+    /// Processes a message on a connection that accepts messages.
     #[tactic(auto, unfolding(crate::specs::Reaction::live_reaction))]
     fn handle<'m>(&mut self, message: &MessageRef<'m>) -> Verdict<'m>
         requires { IsReady self.old }
@@ -84,7 +92,7 @@ impl Link {
         self.on_open(message)
     }
 
-    /// Handles Capabilities and Settings (RFC 8323 section 5.3).
+    /// Processes a CSM (RFC 8323 section 5.3).
     fn on_csm<'m>(&mut self, message: &MessageRef<'m>) -> Verdict<'m>
         requires { IsReady self.old }
         ensures verdict { verdict_value result
@@ -105,7 +113,7 @@ impl Link {
         }
     }
 
-    /// The connection is open.
+    /// Sets the phase `Open`. Returns `Opened` if the phase was `Waiting`, and `Done` otherwise.
     fn open_now(&mut self) -> Verdict<'static>
         ensures verdict { verdict_value result ≡ (if waits self.old.phase then verdict.Opened else verdict.Done) }
         ensures after { self.new ≡ record self.old { phase = phase.Open } }
@@ -119,7 +127,7 @@ impl Link {
         }
     }
 
-    /// Handles any other message on an open connection.
+    /// Processes any other message on an open connection.
     fn on_open<'m>(&mut self, message: &MessageRef<'m>) -> Verdict<'m>
         requires { IsReady self.old }
         ensures verdict { verdict_value result ≡ (open_reaction (standing_in self.old) message.now).verdict }
@@ -145,7 +153,8 @@ impl Link {
         }
     }
 
-    /// Answers a Ping, or holds its Pong, where it asks for Custody and something is held.
+    /// Queues the Pong to a Ping. If the Ping has Custody and an entry is pending, the Pong is appended to the pending
+    /// list. If that list is full, the Pong is sent at once without Custody.
     fn on_ping<'m>(&mut self, message: &MessageRef<'m>) -> Verdict<'m>
         requires { IsReady self.old }
         ensures verdict { verdict_value result ≡ (ping_reaction (standing_in self.old) message.now).verdict }
@@ -163,7 +172,7 @@ impl Link {
         Verdict::Done
     }
 
-    /// Handles a Pong: the Ping with its token ends (RFC 8323 section 5.4).
+    /// Processes a Pong: removes the outstanding Ping with its token (RFC 8323 section 5.4).
     fn on_pong<'m>(&mut self, message: &MessageRef<'m>) -> Verdict<'m>
         ensures verdict { verdict_value result ≡ (pong_reaction (standing_in self.old) message.now).verdict }
         ensures after { self.new ≡ link_with self.old (pong_reaction (standing_in self.old) message.now).effect }
@@ -178,7 +187,8 @@ impl Link {
         }
     }
 
-    /// The peer releases the connection: what is outstanding is answered no more (RFC 8323 section 5.5).
+    /// Processes a Release: drops all outstanding entries, since no response is accepted after it (RFC 8323 section
+    /// 5.5).
     fn on_release(&mut self) -> Verdict<'static>
         ensures verdict { verdict_value result ≡ (release_reaction (standing_in self.old)).verdict }
         ensures after { self.new ≡ link_with self.old (release_reaction (standing_in self.old)).effect }
@@ -188,8 +198,8 @@ impl Link {
         Verdict::Stopped(Reason::PeerRelease)
     }
 
-    /// Handles a response: the request or observation with its token ends by the last one (RFC 7252 section 5.3.2, RFC
-    /// 7641 section 4.2).
+    /// Processes a response: if it is the last one, removes the request or observation with its token (RFC 7252 section
+    /// 5.3.2, RFC 7641 section 4.2).
     fn on_response<'m>(&mut self, message: &MessageRef<'m>) -> Verdict<'m>
         ensures verdict { verdict_value result ≡ (response_reaction (standing_in self.old) message.now).verdict }
         ensures after { self.new ≡ link_with self.old (response_reaction (standing_in self.old) message.now).effect }
@@ -206,7 +216,7 @@ impl Link {
         }
     }
 
-    /// Handles a request: the caller answers it at the server, and at the client it is not implemented.
+    /// Processes a request. A server leaves the response to the caller; a client responds with 5.01 (Not Implemented).
     fn on_request<'m>(&mut self, message: &MessageRef<'m>) -> Verdict<'m>
         requires { IsReady self.old }
         ensures verdict { verdict_value result
@@ -220,7 +230,8 @@ impl Link {
         }
     }
 
-    /// Answers a request that is not implemented. (Apart from `on_request`, since a function clears all its locals.)
+    /// Queues a 5.01 response to a request. (A separate function: a function clears all its locals, so these would slow
+    /// down its caller.)
     fn refuse<'m>(&mut self, message: &MessageRef<'m>) -> Verdict<'m>
         requires { IsReady self.old }
         ensures verdict { verdict_value result
@@ -234,21 +245,21 @@ impl Link {
     }
 }
 
-/// Whether a code has the reserved class 1 or 6 (RFC 7252 section 12.1).
+/// Returns `true` if a code has the reserved class 1 or 6 (RFC 7252 section 12.1).
 fn is_reserved(code: Code) -> bool
     ensures { result ≡ reserved code }
 {
     code.class() == 1 || code.class() == 6
 }
 
-/// Whether a message with this code must have no critical option: Ping, Pong and Release.
+/// Returns `true` if a critical option stops the connection in messages with this code: Ping, Pong and Release.
 fn minds_critical_options(code: Code) -> bool
     ensures { result ≡ minds_critical code }
 {
     code == Code::PING || code == Code::PONG || code == Code::RELEASE
 }
 
-/// Whether the peer's Capabilities and Settings have not come.
+/// Returns `true` if the peer's first CSM has not been received.
 fn is_waiting(phase: Phase) -> bool
     ensures { result ≡ waits phase }
 {

@@ -1,4 +1,4 @@
-//! What a link holds, and takes out as it is due.
+//! Pending entries of a link: adding a delayed response, and removing the entry that is due.
 
 ghost use Rattle.std.specs.Prelude.{◌≡◌, ℕ, List, true, IsTrue, IsFalse, OnOk, OnErr};
 ghost use Rattle.coap_conn.specs.Prelude.{IsAnswering, is_open, AnAnswer, due_told, first_due, due_value, History};
@@ -11,11 +11,16 @@ use crate::phase::{Due, Full};
 use coap_wire::{Token, TokenRef};
 
 impl Link {
-    /// Holds the answer to the request with this token until a moment, in seconds. The connection must be open.
+    /// Appends a delayed response to the pending list, which is due at `moment`, in seconds. `token` is that of its
+    /// request.
     ///
     /// # Errors
     ///
-    /// `Full` where as many are held as may be. Nothing has changed then.
+    /// - `Full`: the pending list has reached its limit. The link is unchanged.
+    ///
+    /// # Preconditions
+    ///
+    /// The phase is `Open`.
     pub fn hold(&mut self, token: Token, moment: u64) -> Result<(), Full>
         requires open { is_open self.old.phase ≡ true }
         ensures held { OnOk result (IsTrue (can_hold self.old)) }
@@ -32,16 +37,22 @@ impl Link {
         Ok(())
     }
 
-    /// Takes out what is due first at a moment, in seconds: of the held answers whose moments have come the one of the
-    /// least moment, the earliest of equals, which the caller sends by `reply`; else a Pong with nothing held before
-    /// it, which is queued with Custody as it fits the peer, or the connection stops (RFC 8323 section 5.4.1). There
-    /// must be room for the greatest message sent.
+    /// Removes the entry that is due first at `now`, in seconds, from the pending list, and returns it.
+    ///
+    /// Responses whose time has come precede Pongs: the earliest time first, and of equal times the first entry. The
+    /// caller sends such a response by `reply`. If no response is due, a Pong that is the first entry is due. The link
+    /// queues this Pong with Custody (RFC 8323 section 5.4.1), or without it if only that fits the peer's limit. If
+    /// neither fits, the connection stops.
+    ///
+    /// # Preconditions
+    ///
+    /// The queue has room for a message of `max_sent` bytes.
     pub fn due(&mut self, now: u64) -> Due
         requires ready { IsReady self.old }
         ensures due { due_value result ≡ due_told (first_due now self.old.held) }
         ensures after { self.new ≡ link_after self.old (call.Due now) }
         ensures shows { (h : History) → LinkShows self.old h → LinkShows self.new (after h (call.Due now)) }
-        // An answer can be sent at once.
+        // If a response is due, the preconditions of `reply` hold.
         ensures answer { (token : List ℕ) → due_value result ≡ AnAnswer token →
             IsReady self.new × IsAnswering self.new.phase }
     {

@@ -1,4 +1,4 @@
-//! What a link sends, as it fits the peer, and how it stops.
+//! Output of a link: responses, CSM and Release, reduced to fit the peer's limit, and the end of a connection.
 
 ghost use Rattle.std.specs.Prelude.{◌≡◌, ◌++◌, false, true, [], OnOk, OnErr};
 ghost use Rattle.coap_conn.specs.Prelude.{Message, RefusedBy, fit, fits, fitted, bare_response, IsAnswering, stop};
@@ -18,13 +18,19 @@ use crate::phase::{Phase, Reply, SendFault, Verdict};
 use crate::reason::Reason;
 use coap_wire::{Code, CompactBuilder, MessageBuilder, ShortBuilder, TokenRef, uint_bytes};
 
-/// The bytes of Release.
+/// Size in bytes of a Release.
 const RELEASE_SIZE: usize = 2;
 
 impl Link {
-    /// Sends a response as it fits the peer: whole, or else its bare code and token, where a code other than 2.01, 2.02
-    /// and 2.04 becomes 5.00, or else the connection stops. There must be room for the greatest message sent, and the
-    /// connection must be open or releasing.
+    /// Queues a response, reduced if it does not fit the peer's limit: the smaller of `max_sent` and `peer_max`.
+    ///
+    /// A response that does not fit is replaced by a bare one, which has its token and a code alone. The codes 2.01,
+    /// 2.02 and 2.04 stay, and any other code becomes 5.00. If the bare response does not fit either, the connection
+    /// stops.
+    ///
+    /// # Preconditions
+    ///
+    /// The queue has room for a message of `max_sent` bytes, and the phase is `Open` or `Releasing`.
     pub fn reply<const N: usize>(&mut self, response: &MessageBuilder<N>) -> Reply
         requires ready { IsReady self.old }
         requires answering { IsAnswering self.old.phase }
@@ -39,7 +45,11 @@ impl Link {
         self.reply_bare(response.code(), response.token())
     }
 
-    /// As `reply`, for a response with compact options.
+    /// Queues a response with compact options, as `reply` does.
+    ///
+    /// # Preconditions
+    ///
+    /// As `reply`.
     #[inline]
     pub fn reply_compact<const N: usize>(&mut self, response: &CompactBuilder<N>) -> Reply
         requires ready { IsReady self.old }
@@ -55,16 +65,20 @@ impl Link {
         self.reply_bare(response.code(), response.token())
     }
 
-    /// Whether the peer takes our Capabilities and Settings with this size.
+    /// Returns `true` if a CSM with this Max-Message-Size fits the peer's limit.
     pub fn takes_announcement(&self, size: u32) -> bool
         ensures { result ≡ fits (limit_in self.now) (own_csm size) }
     {
         announcement_size(size as usize) <= self.limit() as u64
     }
 
-    /// Announces another size as the greatest message that we take, which is in force from now on (RFC 8323 section
-    /// 5.3.1). The connection must be open, there must be room for the greatest message sent, and the peer must take
-    /// the announcement.
+    /// Queues a CSM that announces another Max-Message-Size, in bytes. The new size applies at once (RFC 8323 section
+    /// 5.3.1).
+    ///
+    /// # Preconditions
+    ///
+    /// The phase is `Open`, the queue has room for a message of `max_sent` bytes, and `takes_announcement` returns
+    /// `true` for this size.
     pub fn announce(&mut self, size: u32)
         requires ready { IsReady self.old }
         requires open { self.old.phase ≡ Open }
@@ -76,12 +90,16 @@ impl Link {
         self.own_max = size as usize;
     }
 
-    /// Sends Release and stops (RFC 8323 section 5.5). What is held is given up.
+    /// Queues a Release and stops the connection (RFC 8323 section 5.5). All pending and outstanding entries are
+    /// dropped.
     ///
     /// # Errors
     ///
-    /// In this order: `NotOpen` where the connection is not open, `NoRoom` where fewer than 2 bytes are free,
-    /// `PeerTooSmall` where less than 2 bytes may be sent. Nothing has changed then.
+    /// Returns the first of these that applies; the link is then unchanged:
+    ///
+    /// - `NotOpen`: the phase is not `Open`.
+    /// - `NoRoom`: fewer than 2 bytes of the queue are free.
+    /// - `PeerTooSmall`: the peer accepts no message of 2 bytes.
     pub fn release(&mut self) -> Result<(), SendFault>
         ensures answer { RefusedBy result (release_refusal self.old) }
         ensures after { OnOk result (self.new ≡ link_after self.old call.Release) }
@@ -102,7 +120,7 @@ impl Link {
         Ok(())
     }
 
-    /// Queues a message if it fits the peer, else `less` if that fits, else neither.
+    /// Queues `whole` if it fits the peer's limit, otherwise `less` if that fits, and otherwise nothing.
     fn queue_fitted(&mut self, whole: &ShortBuilder, less: &ShortBuilder) -> Reply
         requires { IsReady self.old }
         ensures reply { result ≡ fit (limit_in self.old) whole.now less.now }
@@ -119,7 +137,7 @@ impl Link {
         Reply::Stopped
     }
 
-    /// Sends a message if it fits the peer, else `less` if that fits, else stops.
+    /// Queues `whole` if it fits the peer's limit, otherwise `less` if that fits, and otherwise stops the connection.
     fn send(&mut self, whole: &ShortBuilder, less: &ShortBuilder) -> Reply
         requires { IsReady self.old }
         ensures reply { result ≡ fit (limit_in self.old) whole.now less.now }
@@ -136,8 +154,9 @@ impl Link {
         reply
     }
 
-    /// Sends the bare response with this code and token in place of one that does not fit the peer, or stops if that
-    /// does not fit either. (Apart from `reply`, since a function clears all its locals.)
+    /// Queues the bare response with this code and token in place of one that does not fit the peer's limit. If the
+    /// bare response does not fit either, stops the connection. (A separate function: a function clears all its locals,
+    /// so these would slow down `reply`.)
     fn reply_bare(&mut self, code: Code, token: &TokenRef) -> Reply
         requires { IsReady self.old }
         ensures reply { (response : Message) → response.code ≡ code → response.token ≡ token.now →
@@ -156,7 +175,7 @@ impl Link {
         Reply::Stopped
     }
 
-    /// Sends the answer to a message.
+    /// Queues the reply to a received message, as `send` does, and returns the verdict on that message.
     pub(super) fn answer(&mut self, whole: &ShortBuilder, less: &ShortBuilder) -> Verdict<'static>
         requires { IsReady self.old }
         ensures verdict { verdict_value result ≡ told_of (fit (limit_in self.old) whole.now less.now) }
@@ -169,8 +188,8 @@ impl Link {
         }
     }
 
-    /// Sends a Pong to the Ping with this token, with Custody or not. (Apart from its callers, since a function clears
-    /// all its locals.)
+    /// Queues the Pong to the Ping with this token, with Custody or without. (A separate function: a function clears
+    /// all its locals, so these would slow down its callers.)
     pub(super) fn pong(&mut self, token: &TokenRef, custody: bool) -> Verdict<'static>
         requires { IsReady self.old }
         ensures verdict { verdict_value result
@@ -185,7 +204,8 @@ impl Link {
         self.answer(&pong, &plain)
     }
 
-    /// The one way to stop, behind what was queued for it. Whatever is held or outstanding is given up.
+    /// Stops the connection and drops all pending and outstanding entries. Bytes in the queue are still written. No
+    /// other function sets the phase `Stopped`.
     pub(super) fn stop(&mut self, reason: Reason) -> Verdict<'static>
         ensures verdict { verdict_value result ≡ verdict.Stopped reason }
         ensures after { self.new ≡ link_with self.old (stop (standing_in self.old) reason []) }
@@ -196,7 +216,8 @@ impl Link {
         Verdict::Stopped(reason)
     }
 
-    /// Stops with the Abort for the reason, where there is one, as it fits the peer.
+    /// Queues the Abort for the reason, if it has one, without its text if only that fits the peer's limit. Then stops
+    /// the connection.
     pub(super) fn abort(&mut self, reason: Reason) -> Verdict<'static>
         requires { IsReady self.old }
         ensures verdict { verdict_value result ≡ verdict.Stopped reason }

@@ -1,4 +1,4 @@
--- What devices passed on, one call after another.
+-- Records of devices, over calls one after another.
 use Rattle.std.proofs.Common.{◌≡◌, ◌≢◌, ℕ, Bool, false, ◌||◌, List, [], ◌∷◌, ◌++◌, length, take, Option, Some, None, ap, subst, ◌∙◌, append_assoc, arith}
 use Rattle.std.proofs.KnownBytes.{Consumes-nil, Consumes-trans}
 use Rattle.std.proofs.lemmas.List.{append-nil, take-take}
@@ -19,7 +19,7 @@ bytes_none a = told_none a
 pub bytes_then : (a b c : Option (List ℕ)) (xs ys : List ℕ) → AddsBytes a b xs → AddsBytes b c ys → AddsBytes a c (xs ++ ys)
 bytes_then a b c xs ys p q = told_then a b c xs ys p q
 
--- The last of all pieces is empty: it is the last of the first ones, behind which nothing more was read, or of the others.
+-- If the last of all chunks is empty, it is the last of `ys`, or the last of `xs` and `ys` has none.
 end_found : (left : List ℕ) (c : Option (List ℕ)) (xs ys : List (List ℕ)) → (FoundEnd xs → left ≡ []) → Consumes (Some left) c (concat ys)
     → (FoundEnd ys → IsAtEnd c) → FoundEnd (xs ++ ys) → IsAtEnd c
 end_found left c [] ys first rest second found = second found
@@ -42,13 +42,13 @@ given_then a b c xs ys p q = record {
   end = end_then a.remaining b.remaining c.remaining xs ys p.fewer p.end q.fewer q.end;
 }
 
--- a write of a prefix of the bytes passes on a prefix of them
+-- A write of a prefix of the queued bytes passes on a prefix of them.
 pub part_written : (waiting part : List ℕ) (got : Got) (before after : Option (List ℕ)) → part ≡ take (length part) waiting → IsWithin (length part) got
     → AddsBytes before after (bytes_passed part got) → AddsBytes before after (bytes_passed waiting got)
 part_written waiting part (Bytes n) before after front within added =
     subst (AddsBytes before after) (ap (λ (xs : List ℕ). take n xs) front ∙ take-take n (length part) waiting within.1) added
 part_written waiting part other before after front within added = added
 
--- a write of some bytes has not failed
+-- A write of at least one byte has not failed.
 pub not_failed_write : (n : ℕ) (bytes : List ℕ) (old new : Bool) → n ≢ 0 → old ≡ false → new ≡ (old || is_failed_write (Some n) bytes) → new ≡ false
 not_failed_write n bytes old new some works is = grind arith

@@ -1,10 +1,13 @@
--- How the bytes read from a wire that are not taken yet are seen in contracts.
+-- Defined by this project: the value of a `Rest` in contracts, which is the bytes read from a wire and not accepted
+-- yet.
 use Rattle.std.specs.Prelude.{◌≡◌, ℕ, ◌≤◌, ◌-◌, List, length, take, drop}
 use Rattle.coap_io.specs.declared.rest.Rest.TheInside.{Inside}
 use Rattle.coap_io.specs.declared.rest.TheConstants.{READ_SIZE}
 
+-- The value of a `Rest`: the bytes of its buffer between `from` and `to`.
 abbrev pub rest_value : Inside → List ℕ
 rest_value r = take (r.to - r.from) (drop r.from r.buffer.items)
 
+-- The invariant of `Rest`: both positions are within the buffer, which has `READ_SIZE` bytes.
 abbrev pub is_rest : Inside → Type 0
 is_rest r = (r.from ≤ r.to) × (r.to ≤ length r.buffer.items) × (length r.buffer.items ≡ READ_SIZE)

@@ -9,7 +9,7 @@ use Rattle.coap_conn.proofs.PendingLemmas.{first_at_index, nothing_first, nothin
 use Rattle.coap_conn.proofs.PendingLemmas.{held_without, held_at_index}
 use Rattle.coap_conn.proofs.link.Link.due.Goals as goal
 
--- ---- nothing is due
+-- ---- no entry is due
 
 pub returns-in_default-clause-due : goal.returns-in_default-clause-due
 returns-in_default-clause-due c =
@@ -26,7 +26,7 @@ returns-in_default-clause-after c =
 pub returns-in_default-clause-shows : goal.returns-in_default-clause-shows
 returns-in_default-clause-shows c = shows c.args.self.now _ (call.Due c.args.now) tt (returns-in_default-clause-after c)
 
--- ---- an answer is due
+-- ---- a response is due
 
 pub returns-in-Answer-clause-due : goal.returns-in-Answer-clause-due
 returns-in-Answer-clause-due c =

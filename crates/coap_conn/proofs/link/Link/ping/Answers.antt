@@ -17,7 +17,7 @@ returns-in_err-queue_asked-clause-answer c =
     let same = c.ping_to.ensures ∙ ap (ping_with c.args.custody) c.in_ok-token.ensures.token in
     rw (p.1, p.2) (refused_size (asking_in c.args.self.now) _ c.ping_to.result _ same c.in_ok-token.ensures.answer c.in_err-queue_asked.ensures.answer)
 
--- ---- it is outstanding
+-- ---- the Ping is outstanding
 
 pub enter-requires-clause-room : goal.enter-requires-clause-room
 enter-requires-clause-room c =
@@ -29,7 +29,7 @@ enter-requires-clause-token c =
     let number = new_number (asking_in c.args.self.now) c.in_ok-token.ensures.answer in
     subst (λ (v : LinkValue). v.tokens < 18446744073709551615) (sym c.in_ok-queue_asked.ensures.after) number
 
--- ---- it was sent
+-- ---- the Ping was sent
 
 pub returns-clause-answer : goal.returns-clause-answer
 returns-clause-answer c =

@@ -19,7 +19,7 @@ returns-in_err-queue_asked-clause-answer c =
     let same = c.with_token.ensures ∙ ap (with_token c.args.message.now) c.in_ok-token.ensures.token in
     rw (p.1, p.2) (refused_size (asking_in c.args.self.now) _ c.with_token.result _ same c.in_ok-token.ensures.answer c.in_err-queue_asked.ensures.answer)
 
--- ---- it is outstanding
+-- ---- the request is outstanding
 
 pub enter-requires-clause-room : goal.enter-requires-clause-room
 enter-requires-clause-room c =
@@ -31,7 +31,7 @@ enter-requires-clause-token c =
     let number = new_number (asking_in c.args.self.now) c.in_ok-token.ensures.answer in
     subst (λ (v : LinkValue). v.tokens < 18446744073709551615) (sym c.in_ok-queue_asked.ensures.after) number
 
--- ---- it was sent
+-- ---- the request was sent
 
 pub returns-clause-answer : goal.returns-clause-answer
 returns-clause-answer c =
