@@ -24,7 +24,7 @@ abbrev pub more_of : Option Side → ℕ
 more_of None = 0
 more_of (Some s) = length s.history.held + length s.observers
 
--- The world after all bytes that are queued on a connection were written. Settling may then have queued further bytes.
+-- The world after all queued bytes of a connection were written. Settling may then have queued further bytes.
 abbrev pub written_once : LimitValues → ℕ → World → World
 written_once limits id w = step limits w (step.Written id (length (waiting_of (side_of id w.sides))))
 
@@ -50,8 +50,8 @@ flushed_after limits id w (s ∷ ss) = flushed_after limits id (flushed limits i
 abbrev pub only_id : ConfigValues → ℕ
 only_id c = c.starts.ids + 1
 
--- The messages of these bytes, the bytes left over, and the error that ended them. The largest message accepted is that
--- of the configuration.
+-- The stream of these bytes: its messages, the bytes left over, and the error that ended it, if any. A message has at
+-- most the configured size.
 abbrev pub stream_of : ConfigValues → List ℕ → Stream
 stream_of c bytes = split c.limits.max_message bytes
 

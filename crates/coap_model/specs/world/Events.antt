@@ -72,11 +72,12 @@ unfoldable pub sizes_on : ℕ → ℕ → List Event → Sizes
 sizes_on M id [] = always M
 sizes_on M id (e ∷ es) = sizes_first (length (taken_in id e)) M (sizes_on (size_by id e M) id es)
 
--- The messages of all bytes accepted on a connection, the bytes left over, and the error that ended them.
+-- The stream of all bytes accepted on a connection: its messages, the bytes left over, and the error that ended it, if
+-- any.
 abbrev pub stream_on : ℕ → ℕ → List Event → Stream
 stream_on M id events = sized_split (sizes_on M id events) (taken_on id events)
 
--- The same, together with the largest message that the connection accepts after the events.
+-- This stream, together with the largest message that the connection accepts after the events.
 abbrev pub spelled_on : ℕ → ℕ → List Event → Stream × ℕ
 spelled_on M id events = (stream_on M id events, size_on M id events)
 
@@ -92,8 +93,8 @@ beyond id before after =
     map (step.Handled id) (drop (length before.messages) after.messages) ++ new_fault id before.fault after.fault
 
 -- The steps of an event that follows earlier events. `Took` makes a step for each message that its bytes complete, and
--- then one for a new error, if there is one. Every other event makes one step. That of `Ended` also says whether bytes
--- are left after the last message.
+-- then one for a new error, if any. Every other event makes one step. That of `Ended` also says whether bytes are left
+-- after the last message.
 unfoldable pub steps_by : ℕ → List Event → Event → List Step
 steps_by M earlier (Opened id) = step.Opened id ∷ []
 steps_by M earlier (Took id bytes) = beyond id (stream_on M id earlier) (stream_on M id (earlier ++ Took id bytes ∷ []))

@@ -104,7 +104,7 @@ abbrev pub side_replied : StoreValue → ℕ → History → List Observer → M
 side_replied store now h others m None = side_answered store now h others m (prompt_answer store now m)
 side_replied store now h others m (Some seconds) = side_with (after h (call.Hold m.token (moment_after now seconds))) others
 
--- The message is a request that the server must answer.
+-- The message is a request that the server must answer, by the reaction of the connection.
 abbrev pub asks_answer : Side → Message → Bool
 asks_answer s m = is_request (react (standing_now s.history) m).verdict
 
@@ -115,11 +115,12 @@ side_handled store now s m =
     if asks_answer s m then side_replied store now (after s.history (call.Handle m)) (without_token m.token s.observers) m (held_for (after s.history (call.Handle m)) (answer_of store now m).hold)
     else with_history s (after s.history (call.Handle m))
 
--- The connection after a message; unchanged if it does not handle messages now.
+-- The connection after it received a message; unchanged if it does not handle messages now.
 unfoldable pub side_after : StoreValue → ℕ → Side → Message → Side
 side_after store now s m = if handles s then side_handled store now s m else s
 
--- The change that a message makes in the store. It does not depend on whether the response could be sent.
+-- The change that a message makes in the store; none if it is not handled or is no request. The change does not depend
+-- on whether the response could be sent.
 unfoldable pub change_after : StoreValue → ℕ → Side → Message → Change
 change_after store now s m = if handles s && asks_answer s m then (prompt_answer store now m).change else Nothing
 
@@ -166,8 +167,8 @@ side_released s = if is_none (release_refusal (link_of s.history)) then with_his
 abbrev pub next_due : StoreValue → ℕ → Side → Option Observer
 next_due store now s = if has_room s then find (is_due store now) s.observers else None
 
--- The connection after the notification m was sent to the first observer that is due. Its entry is kept if `stays`
--- holds and m was sent whole; otherwise it is removed.
+-- The connection after the notification m was sent to the first observer that is due. Its entry records the current
+-- state if `stays` holds and m was sent whole; otherwise it is removed.
 abbrev pub notified_so : StoreValue → ℕ → Side → Observer → Message → Bool → Side
 notified_so store now s o m stays =
     side_with (after s.history (call.Reply m)) (first_becomes (is_due store now) (left_of store now o (stays && is_whole (fit (limit_now s.history) m (bare_response m)))) s.observers)

@@ -20,12 +20,12 @@ texts : Say (
     ∷ (codes "drain 1 12" ++ newline ∷ [], Ok (event.Drain 1 (Some 12) ∷ []))  -- drain 12 bytes
     ∷ (codes "drain 1" ++ newline ∷ [], Ok (event.Drain 1 None ∷ []))  -- drain everything
     ∷ (codes "put /a - -" ++ newline ∷ [], Ok (event.Put (codes "a" ∷ []) None [] ∷ []))  -- no format, no bytes
-    ∷ (codes "put /a%2Fb 50 7b" ++ newline ∷ [], Ok (event.Put (codes "a/b" ∷ []) (Some 50) (123 ∷ []) ∷ []))  -- percent-encoded slash
+    ∷ (codes "put /a%2Fb 50 7b" ++ newline ∷ [], Ok (event.Put (codes "a/b" ∷ []) (Some 50) (123 ∷ []) ∷ []))  -- slash
     ∷ (codes "remove /a" ++ newline ∷ [], Ok (event.Remove (codes "a" ∷ []) (codes "/a") ∷ []))  -- remove
     ∷ (codes "put / 0 00" ++ newline ∷ [], Ok (event.Put [] (Some 0) (0 ∷ []) ∷ []))  -- root path
     ∷ (codes "put // - -" ++ newline ∷ [], Ok (event.Put ([] ∷ [] ∷ []) None [] ∷ []))  -- two empty segments
     ∷ (codes "put /50% - -" ++ newline ∷ [], Ok (event.Put (codes "50%" ∷ []) None [] ∷ []))  -- percent without digits
-    ∷ (codes "end 1" ++ newline ∷ codes "release 02" ++ newline ∷ codes "drop 3" ++ newline ∷ codes "status 4" ++ newline ∷ [], Ok (event.End 1 ∷ event.Release 2 ∷ event.Drop 3 ∷ event.Status 4 ∷ []))  -- other events
+    ∷ (codes "end 1" ++ newline ∷ codes "release 02" ++ newline ∷ codes "drop 3" ++ newline ∷ codes "status 4" ++ newline ∷ [], Ok (event.End 1 ∷ event.Release 2 ∷ event.Drop 3 ∷ event.Status 4 ∷ []))  -- others
     ∷ (codes "#x" ++ newline ∷ [], Ok [])  -- comment
     ∷ (newline ∷ [], Ok [])  -- empty line
     ∷ (codes "tick 18446744073709551615" ++ newline ∷ [], Ok (event.Tick 18446744073709551615 ∷ []))  -- largest number
@@ -41,7 +41,7 @@ texts : Say (
     ∷ (codes "put /. - -" ++ newline ∷ [], Err 1)  -- segment of a dot
     ∷ (codes "open", Err 1)  -- no newline at the end
     ∷ (newline ∷ codes "#x", Err 2)  -- no newline after the comment
-    ∷ (codes "open" ++ newline ∷ newline ∷ codes "opens" ++ newline ∷ codes "open", Err 3)  -- the third line is the first malformed one
+    ∷ (codes "open" ++ newline ∷ newline ∷ codes "opens" ++ newline ∷ codes "open", Err 3)  -- third line
     ∷ [])
 unfolding said_by_parts events_in event_in says_nothing event_of event_alone event_with_one event_with_two number_event remove_event in_event drain_event put_event decimal_value hex_value payload_value format_value segments_of path_value key_for is_path percent_decode decode_pairs
 texts = refl
