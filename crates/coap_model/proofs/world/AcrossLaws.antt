@@ -29,7 +29,7 @@ pub record HoldsOf (R : Side → Side → Type 0) (w : World) (st : Step) (id : 
   -- It also holds if settling follows.
   pub told : (store : StoreValue) (now : ℕ) (s t : Side) → R s t → R s (settled_once store now t)
 
--- It holds between the connection before a step and after it, or from a new connection if the step opened it.
+-- The relation holds between the connection before a step and after it, or from a new connection if the step opened it.
 abbrev pub HoldsFrom : (Side → Side → Type 0) → LimitValues → World → Step → ℕ → Side → Type 0
 HoldsFrom R limits w st id t = ((s : Side) × (side_of id w.sides ≡ Some s) × R s t) ⊎ ((side_of id w.sides ≡ None) × (st ≡ world.Opened id) × R (new_side limits) t)
 

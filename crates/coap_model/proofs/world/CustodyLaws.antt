@@ -160,7 +160,7 @@ pub held_when_asked : (store : StoreValue) (now : ℕ) (s : Side) (m : Message) 
 unfolding side_after
 held_when_asked store now s m seconds does asks is = grind (arith, asked_quiet s m asks)
 
--- The possible effects of a message: it is no request; its response is delayed; or its response is sent at once.
+-- The possible cases of a message: no request, a request with a delayed response, and one with an immediate response.
 pub handled_cases : (store : StoreValue) (now : ℕ) (s : Side) (m : Message) (P : Side → Type 0)
     → (asks_answer s m ≡ false → P (with_history s (after s.history (call.Handle m))))
     → (asks_answer s m ≡ true → (moment : ℕ) → asks_held m (Answer m.token moment) ≡ true → P (side_with (holding (after s.history (call.Handle m)) ((after s.history (call.Handle m)).held ++ Answer m.token moment ∷ [])) (without_token m.token s.observers)))

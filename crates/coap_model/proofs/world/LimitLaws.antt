@@ -188,7 +188,7 @@ kept_within c es id s ranges accepted there =
 
 -- ---- a message that announces a size queues nothing
 
--- It is a CSM whose options are all allowed.
+-- The message is a CSM whose options are all allowed.
 announces : (m : Message) (n : ℕ) → announcement m ≡ Some n → (m.code ≡ code.csm) × (bad_csm_option m ≡ None)
 announces m n e =
     let is = there_where (m.code == code.csm) (csm_size m) n e in
