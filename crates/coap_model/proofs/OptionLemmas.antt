@@ -1,4 +1,4 @@
--- What may be there.
+-- Lemmas on optional values.
 use Rattle.std.proofs.Common.{◌≡◌, ℕ, zero, suc, ◌<◌, Bool, true, false, List, [], ◌∷◌, length, Option, Some, None, refl, arith, option_map, is_some, slice_get, if◌then◌else◌}
 
 pub there_is : {A : Type 0} (o : Option A) → is_some o ≡ true → (x : A) × (o ≡ Some x)
@@ -12,7 +12,7 @@ there_is_none (Some x) e = absurd cc
 pub same_there : {A : Type 0} (x y : A) → Some x ≡ Some y → x ≡ y
 same_there x y e = cc
 
--- what is there where this is so
+-- An optional value that is kept only if a flag is true: if it is absent, so is the result.
 pub none_made_where : {A : Type 0} (so : Bool) (o : Option A) → o ≡ None → (if so then o else None) ≡ None
 none_made_where true o none = none
 none_made_where false o none = refl
@@ -21,7 +21,7 @@ pub some_where : {A : Type 0} (so : Bool) (o : Option A) (x : A) → (if so then
 some_where true o x some = some
 some_where false o x some = absurd cc
 
--- what a function makes of what may be there
+-- If the image of an optional value is absent, the value is absent.
 pub none_made : {A B : Type 0} (f : A → B) (o : Option A) → option_map f o ≡ None → o ≡ None
 none_made f None e = refl
 none_made f (Some x) e = absurd cc
@@ -30,7 +30,7 @@ pub one_made : {A B : Type 0} (f : A → B) (o : Option A) (y : B) → option_ma
 one_made f None y e = absurd cc
 one_made f (Some x) y e = (x, refl, cc)
 
--- what a list has at an index within it
+-- A list has an element at each index below its length.
 pub there_at : {A : Type 0} (xs : List A) (i : ℕ) → i < length xs → (x : A) × (slice_get xs i ≡ Some x)
 there_at [] i within = absurd (omega arith)
 there_at (x ∷ xs) zero within = (x, refl)

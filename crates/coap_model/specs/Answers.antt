@@ -1,4 +1,4 @@
--- The errors of a server's calls: their numbers, and the errors of a connection that they come from.
+-- Defined by this project: numbers of `TakeFault`, and the `ReleaseFault` that each error of a link becomes.
 use Rattle.std.specs.Prelude.{ℕ}
 use Rattle.coap_conn.specs.declared.phase.SendFault.{SendFault}
 use Rattle.coap_conn.specs.declared.phase.SendFault.TheVariants as send
@@ -7,12 +7,13 @@ use Rattle.coap_model.specs.declared.answers.TakeFault.TheVariants as taken
 use Rattle.coap_model.specs.declared.answers.ReleaseFault.{ReleaseFault}
 use Rattle.coap_model.specs.declared.answers.ReleaseFault.TheVariants as releasing
 
+-- The error of `release` for an error of the link.
 abbrev pub release_fault : SendFault → ReleaseFault
 release_fault send.NotOpen = releasing.NotOpen
 release_fault send.NoRoom = releasing.NoRoom
 release_fault send.PeerTooSmall = releasing.PeerTooSmall
 
--- the number of a fault
+-- The number of an error of `take`.
 abbrev pub take_number : TakeFault → ℕ
 take_number taken.NoSuch = 1
 take_number (taken.Memory bytes) = 2

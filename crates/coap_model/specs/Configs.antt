@@ -1,16 +1,25 @@
--- Configurations, and why they are refused.
+-- Defined by this project: configurations of a server, and the error for one that is out of range.
 use Rattle.std.specs.Prelude.{ℕ, ◌≤◌, Option, Some, None, nat_le, if◌then◌else◌}
 use Rattle.coap_conn.specs.Limits.{LimitValues, default_limits, is_within}
 use Rattle.coap_model.specs.declared.config.ConfigFault.{ConfigFault}
 use Rattle.coap_model.specs.declared.config.ConfigFault.TheVariants as config
 use Rattle.coap_wire.specs.declared.sizes.TheConstants.{LARGEST_MESSAGE, LARGEST_SENT_MESSAGE}
 
--- where a server's counts begin: the moment, the version of the last representation, the last connection's number
+-- The values at which the counts of a server begin.
+-- - `moment`: its start time, in seconds.
+-- - `versions`: the version before the first one.
+-- - `ids`: the connection id before the first one.
 pub record StartValues : Type 0 where
   pub moment : ℕ
   pub versions : ℕ
   pub ids : ℕ
 
+-- A configuration.
+-- - `limits`: the limits of each connection.
+-- - `connections`, `dynamic_max`: the largest numbers of connections and of dynamic resources.
+-- - `rep_max`: the size of the largest representation, in bytes.
+-- - `turns`: the largest number of turns of a run.
+-- - `starts`: the values at which the counts begin.
 pub record ConfigValues : Type 0 where
   pub limits : LimitValues
   pub connections : ℕ
@@ -19,14 +28,17 @@ pub record ConfigValues : Type 0 where
   pub turns : ℕ
   pub starts : StartValues
 
+-- The configuration with these values.
 abbrev pub config_of : (limits : LimitValues) (connections dynamic_max rep_max turns : ℕ) (starts : StartValues) → ConfigValues
 config_of limits connections dynamic_max rep_max turns starts =
     record { limits = limits; connections = connections; dynamic_max = dynamic_max; rep_max = rep_max; turns = turns; starts = starts }
 
--- the configuration that has the limits of both programs, no resource of a client, and all turns
+-- The default configuration. It has default limits, 16 connections, no dynamic resource, representations of at most
+-- 65,536 bytes, 10^12 turns, and counts that begin at 0.
 abbrev pub default_config : ConfigValues
 default_config = config_of default_limits 16 0 LARGEST_SENT_MESSAGE 1000000000000 (record { moment = 0; versions = 0; ids = 0 })
 
+-- Each value is in its range. The limits have a condition of their own (`AreInRange`).
 pub record IsConfigInRange (c : ConfigValues) : Type 0 where
   pub connections_low : 1 ≤ c.connections
   pub connections_high : c.connections ≤ 256
@@ -35,7 +47,8 @@ pub record IsConfigInRange (c : ConfigValues) : Type 0 where
   pub turns_low : 1 ≤ c.turns
   pub turns_high : c.turns ≤ 1000000000000
 
--- the first value out of its range
+-- The error for the first value that is out of its range; `None` if all are in range. The limits are checked elsewhere
+-- (`limit_refusal`).
 abbrev pub config_refusal : ConfigValues → Option ConfigFault
 config_refusal c =
     if is_within 1 c.connections 256

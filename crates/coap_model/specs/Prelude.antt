@@ -1,6 +1,6 @@
--- What the contracts and the proofs of the crate name, passed on from one place. Declares nothing.
+-- Names that the contracts and proofs of this crate use, re-exported from one file. Declares nothing.
 
--- ---- std and the kit's crates
+-- ---- std and the crates that come with Rattle
 pub use Rattle.std.specs.Fmt.{decimal}
 unfoldable pub use Rattle.std.specs.Fmt.{digits}
 pub use Rattle.std.specs.List.{AllByRecursion, list_any, filter_map, reduce, remove}

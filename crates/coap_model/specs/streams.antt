@@ -1,2 +1,2 @@
--- The output that a server with one connection queues for the bytes of its input.
+-- The output of a server with one connection, for the bytes of its input.
 pub mod Output

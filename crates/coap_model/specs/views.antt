@@ -1,2 +1,2 @@
--- The view of a configuration in contracts.
+-- The values that contracts see for configurations.
 pub mod ConfigViews

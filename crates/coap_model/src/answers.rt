@@ -6,20 +6,20 @@ ghost use Rattle.coap_model.specs.Answers.{release_fault, take_number};
 use coap_conn::{Phase, Reason, SendFault};
 use thiserror::Error;
 
-/// The number of a connection. Numbers count up, and none is given twice.
+/// Id of a connection. Ids ascend, and none is used twice.
 pub type ConnId = u64;
 
-/// Why no connection is opened. The discriminants are the faults' numbers.
+/// Error of opening a connection. The discriminants are the numbers of the errors.
 #[derive(Clone, Copy, Debug, PartialEq, Eq, Error)]
 pub enum OpenFault {
-    /// As many connections are there as the configuration allows.
-    #[error("as many connections as may be are there")]
+    /// The server has as many connections as its configuration allows.
+    #[error("connection limit reached")]
     Full = 1,
-    /// Every number was given.
-    #[error("no connection number is left")]
+    /// The last connection has the largest id, 2^64 - 1.
+    #[error("no connection id left")]
     IdsSpent = 2,
-    /// Memory was refused.
-    #[error("memory was refused")]
+    /// Allocation failed.
+    #[error("out of memory")]
     Memory = 3,
 }
 
@@ -29,48 +29,49 @@ const _: () = prove!(OpenFault::IdsSpent as u8 == 2);
 
 const _: () = prove!(OpenFault::Memory as u8 == 3);
 
-/// No connection has this number.
+/// Error of a call that names a connection: no connection has this id.
 #[derive(Clone, Copy, Debug, PartialEq, Eq, Error)]
 #[error("no such connection")]
 pub struct NoSuch;
 
-/// What was taken of a piece.
+/// Result of offering an input slice to a connection.
 #[derive(Clone, Copy, Debug, PartialEq, Eq)]
 pub struct Taken {
-    /// How many bytes.
+    /// Number of bytes that were accepted.
     pub bytes: usize,
-    /// What was handled.
+    /// Effect of the accepted bytes.
     pub handled: Handled,
 }
 
-/// What a `take` handled.
+/// Effect of the bytes that a `take` accepted.
 #[derive(Clone, Copy, Debug, PartialEq, Eq)]
 pub enum Handled {
-    /// No message.
+    /// No message was handled.
     Nothing,
-    /// One message.
+    /// One message was handled.
     Message,
-    /// A message, a fault, or what came of the message ended the connection, or the peer released it.
+    /// The connection no longer accepts messages: a message, its response or malformed input stopped it, or the peer
+    /// released it.
     Stopped(Reason),
 }
 
-/// Why a piece is not taken. The faults' numbers are 1 and 2.
+/// Error of offering an input slice to a connection. The numbers of the errors are 1 and 2.
 #[derive(Clone, Copy, Debug, PartialEq, Eq, Error)]
 pub enum TakeFault {
-    /// No connection has this number.
+    /// No connection has this id.
     #[error("no such connection")]
     NoSuch,
-    /// Memory was refused for a representation that a message stores. So many bytes of the piece are taken: those
-    /// before the message's last one. Nothing was handled, and the caller may offer that byte again.
-    #[error("memory was refused")]
+    /// Allocation failed for a representation that a message stores. Nothing was handled. The bytes before the last
+    /// byte of the message were accepted, and the caller may offer that last byte again.
+    #[error("out of memory")]
     Memory {
-        /// How many bytes of the piece are taken.
+        /// Number of bytes of the slice that were accepted.
         bytes: usize,
     },
 }
 
 impl TakeFault {
-    /// Returns the fault's number, 1 or 2.
+    /// Returns the number of the error, 1 or 2.
     pub const fn number(self) -> u8
         ensures { result ≡ take_number self }
     {
@@ -81,14 +82,14 @@ impl TakeFault {
     }
 }
 
-/// Why written bytes are not accepted. The discriminants are the faults' numbers.
+/// Error of reporting written bytes. The discriminants are the numbers of the errors.
 #[derive(Clone, Copy, Debug, PartialEq, Eq, Error)]
 pub enum WrittenFault {
-    /// No connection has this number.
+    /// No connection has this id.
     #[error("no such connection")]
     NoSuch = 1,
-    /// Fewer bytes wait.
-    #[error("fewer bytes wait")]
+    /// The count exceeds the number of queued bytes.
+    #[error("count exceeds the number of queued bytes")]
     TooMany = 2,
 }
 
@@ -96,25 +97,25 @@ const _: () = prove!(WrittenFault::NoSuch as u8 == 1);
 
 const _: () = prove!(WrittenFault::TooMany as u8 == 2);
 
-/// A moment before that of the server.
+/// Error of setting the time: it is earlier than the current time of the server.
 #[derive(Clone, Copy, Debug, PartialEq, Eq, Error)]
-#[error("the moment goes back")]
+#[error("time is earlier than the current time of the server")]
 pub struct Backwards;
 
-/// Why a connection is not released. The discriminants are the faults' numbers.
+/// Error of releasing a connection. The discriminants are the numbers of the errors.
 #[derive(Clone, Copy, Debug, PartialEq, Eq, Error)]
 pub enum ReleaseFault {
-    /// No connection has this number.
+    /// No connection has this id.
     #[error("no such connection")]
     NoSuch = 1,
     /// The connection is not open.
-    #[error("the connection is not open")]
+    #[error("connection is not open")]
     NotOpen = 2,
-    /// The queue has no room for the message.
+    /// The output queue has no room for the Release.
     #[error("no room in the queue")]
     NoRoom = 3,
-    /// The peer takes no message as small as this one.
-    #[error("the peer takes no message as small as this one")]
+    /// The Release exceeds the Max-Message-Size of the peer.
+    #[error("message exceeds the Max-Message-Size of the peer")]
     PeerTooSmall = 4,
 }
 
@@ -138,29 +139,29 @@ impl From<SendFault> for ReleaseFault {
     }
 }
 
-/// Why a size is not announced on a connection. The discriminants are the faults' numbers.
+/// Error of announcing a size. The discriminants are the numbers of the errors.
 #[derive(Clone, Copy, Debug, PartialEq, Eq, Error)]
 pub enum AnnounceFault {
-    /// No connection has this number.
+    /// No connection has this id.
     #[error("no such connection")]
     NoSuch = 1,
     /// The connection is not open.
-    #[error("the connection is not open")]
+    #[error("connection is not open")]
     NotOpen = 2,
-    /// The size is below the one that was announced last.
-    #[error("the size is below the one announced last")]
+    /// The size is below the one announced last.
+    #[error("size is below the one announced last")]
     Lower = 3,
-    /// The size is above 1,048,576 bytes.
-    #[error("the size is above 1048576")]
+    /// The size exceeds 1,048,576 bytes.
+    #[error("size exceeds 1,048,576 bytes")]
     TooLarge = 4,
-    /// The queue has no room for the greatest message sent.
+    /// The output queue has no room for the largest message that the server sends.
     #[error("no room in the queue")]
     NoRoom = 5,
-    /// Memory was refused for the room of a greater message.
-    #[error("memory was refused")]
+    /// Allocation failed for the buffer of a larger message.
+    #[error("out of memory")]
     Memory = 6,
-    /// The peer takes no message as great as the announcement.
-    #[error("the peer takes no message as great as this one")]
+    /// The announcement exceeds the Max-Message-Size of the peer.
+    #[error("message exceeds the Max-Message-Size of the peer")]
     PeerTooSmall = 7,
 }
 
@@ -178,21 +179,21 @@ const _: () = prove!(AnnounceFault::Memory as u8 == 6);
 
 const _: () = prove!(AnnounceFault::PeerTooSmall as u8 == 7);
 
-/// How a connection is.
+/// Snapshot of one connection.
 #[derive(Clone, Copy, Debug, PartialEq, Eq)]
 pub struct Status {
-    /// How it stands.
+    /// Phase of the connection.
     pub phase: Phase,
-    /// The bytes kept of an unfinished message.
+    /// Number of bytes kept of an unfinished message.
     pub kept: usize,
-    /// The bytes that wait to be written.
+    /// Number of bytes queued for writing.
     pub waiting: usize,
-    /// The answers and Pongs that are held.
+    /// Number of pending responses and Pongs.
     pub pending: usize,
-    /// The observers.
+    /// Number of observers.
     pub observers: usize,
-    /// The bytes of the greatest message that the peer takes.
+    /// Largest message that the peer accepts, in bytes.
     pub peer_max: u32,
-    /// Whether nothing more is to be written.
+    /// `true` if nothing more will be written.
     pub finished: bool,
 }

@@ -1,4 +1,4 @@
-//! The configuration of a server.
+//! `Config`, the configuration of a server, and `Starts`, the values at which its counts begin.
 
 ghost use Rattle.std.specs.Prelude.{◌≡◌, ◌≤◌, ◌*◌, ◌-◌, ◌^◌, min, IfOk};
 ghost use Rattle.coap_model.specs.Prelude.{RefusedBy, config_of, config_refusal, start_values};
@@ -12,20 +12,20 @@ use coap_wire::LARGEST_MESSAGE;
 use std::marker::Model;
 use thiserror::Error;
 
-/// Which value is out of its range: the first one. The discriminants are the faults' numbers.
+/// Error of `Config::new`: the first value that is out of its range. The discriminants are the numbers of the errors.
 #[derive(Clone, Copy, Debug, PartialEq, Eq, Error)]
 pub enum ConfigFault {
-    /// 1 to 256 connections.
-    #[error("1 to 256 connections")]
+    /// The number of connections is not 1 to 256.
+    #[error("number of connections must be between 1 and 256")]
     Connections = 1,
-    /// At most 1,000 dynamic resources.
-    #[error("at most 1,000 dynamic resources")]
+    /// The limit of dynamic resources exceeds 1,000.
+    #[error("number of dynamic resources must be at most 1,000")]
     Dynamic = 2,
-    /// A representation has at most 1,048,576 bytes.
-    #[error("a representation has at most 1,048,576 bytes")]
+    /// The limit of a representation exceeds 1,048,576 bytes.
+    #[error("representation size must be at most 1,048,576 bytes")]
     Representation = 3,
-    /// 1 to 1,000,000,000,000 turns.
-    #[error("1 to 1,000,000,000,000 turns")]
+    /// The number of turns is not 1 to 1,000,000,000,000.
+    #[error("number of turns must be between 1 and 1,000,000,000,000")]
     Turns = 4,
 }
 
@@ -37,24 +37,25 @@ const _: () = prove!(ConfigFault::Representation as u8 == 3);
 
 const _: () = prove!(ConfigFault::Turns as u8 == 4);
 
-/// Where a server's counts begin.
+/// Values at which the counts of a server begin.
 #[derive(Clone, Copy, Debug, Default, PartialEq, Eq)]
 pub struct Starts {
-    /// The moment, in seconds.
+    /// Time at which the server starts, in seconds.
     pub moment: u64,
-    /// The version before that of the first representation stored.
+    /// Version before the first one: the first representation stored gets the next number.
     pub versions: u64,
-    /// The number before that of the first connection.
+    /// Connection id before the first one: the first connection gets the next number.
     pub ids: u64,
 }
 
-/// How many versions a second has, so that a server that starts again gives none that it gave before.
+/// Number of versions for each second. A server that starts again then begins above the versions that it gave before.
 const VERSIONS_A_SECOND: u64 = 65_536;
 
 impl Starts {
-    /// Returns where the counts of a server begin that starts at this moment, in seconds since the epoch. A version is an
-    /// ETag, and the versions begin at 65,536 times the moment (at most 2^64 - 1): so a server that starts again gives no
-    /// ETag that it gave before, unless it changed its resources more than 65,536 times a second.
+    /// Returns the start values of a server that starts at this time, in seconds since the epoch. The ids begin at 0.
+    ///
+    /// Versions begin at 65,536 times the time, and at most at 2^64 - 1. The version of a representation is its ETag. A
+    /// server that starts again therefore repeats no ETag, unless it stored more than 65,536 representations a second.
     pub fn at(moment: u64) -> Starts
         ensures moment { result.moment ≡ moment }
         ensures versions { result.versions ≡ min (moment * 65_536) (2 ^ 64 - 1) }
@@ -68,7 +69,7 @@ impl Starts {
     }
 }
 
-/// The configuration of a server. Contracts see its values by name.
+/// Configuration of a server. Contracts name its values as the fields of `ConfigValues`.
 #[derive(Clone, Copy, Debug, PartialEq, Eq)]
 pub struct Config {
     limits: Limits,
@@ -94,12 +95,23 @@ impl Model for Config {
 }
 
 impl Config {
-    /// The configuration with these values: the limits of each connection, connections, dynamic resources, bytes of a
-    /// representation, turns of a run, and where the counts begin.
+    /// Returns the configuration with these values.
+    ///
+    /// - `limits`: the limits of each connection.
+    /// - `connections`: the largest number of connections, 1 to 256.
+    /// - `dynamic_max`: the largest number of dynamic resources, at most 1,000.
+    /// - `rep_max`: the largest representation, at most 1,048,576 bytes.
+    /// - `turns`: the largest number of turns (iterations of the event loop) of a run, 1 to 1,000,000,000,000.
+    /// - `starts`: the values at which the counts begin.
     ///
     /// # Errors
     ///
-    /// The first value that is out of its range, in the order of the parameters.
+    /// The first of these that applies:
+    ///
+    /// - `Connections`: `connections` is out of its range.
+    /// - `Dynamic`: `dynamic_max` is out of its range.
+    /// - `Representation`: `rep_max` is out of its range.
+    /// - `Turns`: `turns` is out of its range.
     pub fn new(
         limits: Limits,
         connections: usize,
@@ -135,14 +147,14 @@ impl Config {
         })
     }
 
-    /// The limits of each connection.
+    /// Returns the limits of each connection.
     pub fn limits(&self) -> Limits
         ensures { result ≡ self.now.limits }
     {
         self.limits
     }
 
-    /// How many connections there are at most.
+    /// Returns the largest number of connections.
     pub fn connections(&self) -> usize
         ensures value { result ≡ self.now.connections }
         ensures low { 1 ≤ result }
@@ -151,7 +163,7 @@ impl Config {
         self.connections
     }
 
-    /// How many dynamic resources there are at most.
+    /// Returns the largest number of dynamic resources.
     pub fn dynamic_max(&self) -> usize
         ensures value { result ≡ self.now.dynamic_max }
         ensures high { result ≤ 1000 }
@@ -159,7 +171,7 @@ impl Config {
         self.dynamic_max
     }
 
-    /// The bytes of the greatest representation.
+    /// Returns the size of the largest representation, in bytes.
     pub fn rep_max(&self) -> usize
         ensures value { result ≡ self.now.rep_max }
         ensures high { result ≤ LARGEST_MESSAGE }
@@ -167,7 +179,7 @@ impl Config {
         self.rep_max
     }
 
-    /// How many turns a run takes at most.
+    /// Returns the largest number of turns of a run.
     pub fn turns(&self) -> u64
         ensures value { result ≡ self.now.turns }
         ensures low { 1 ≤ result }
@@ -176,14 +188,14 @@ impl Config {
         self.turns
     }
 
-    /// Where the counts begin.
+    /// Returns the values at which the counts begin.
     pub fn starts(&self) -> Starts
         ensures { start_values result ≡ self.now.starts }
     {
         self.starts
     }
 
-    /// The moment at which it starts, in seconds.
+    /// Returns the time at which the server starts, in seconds.
     pub fn moment(&self) -> u64
         ensures { result ≡ self.now.starts.moment }
     {

@@ -1,4 +1,5 @@
-//! Theorems on the events of a server, each as the contract of a function that does nothing.
+//! Theorems on the events of a server. Each is the contract of a function that does nothing. `World` and `Side` are the
+//! server and one connection in the model (`specs/world`).
 
 ghost use Rattle.std.specs.Prelude.{◌≡◌, ℕ, Bool, ◌<◌, ◌≤◌, List, [], ◌∷◌, ◌++◌, length, true, false, Some, None};
 ghost use Rattle.coap_model.specs.Prelude.{AllByRecursion, Message, StreamFault, LimitValues, AreInRange, AllFit};
@@ -15,8 +16,11 @@ ghost use Rattle.coap_model.specs.Prelude.{WasToldLast, HaveOwnTokens, asked_lat
 ghost use Rattle.coap_conn.specs.Calls as call;
 ghost use Rattle.coap_model.specs.world.World.{Opened};
 
-/// What is queued fits: a step only adds to what a connection has queued, and each message that it adds is at most as
-/// great as may be sent on the connection after the step; so is all that is queued where the step opened it.
+/// States that a step queues only messages that fit the limit after the step.
+///
+/// The limit (`limit_now`) is the largest message that may be sent on the connection. A step appends messages to those
+/// that a connection has queued and changes no other. If the step opens the connection and the limits are in range, all
+/// its queued messages fit.
 pub fn what_is_queued_fits()
     ensures more { (limits : LimitValues) (w : World) (st : Step) (id : ℕ) (s t : Side) → side_of id w.sides ≡ Some s →
         side_of id (step limits w st).sides ≡ Some t →
@@ -26,12 +30,14 @@ pub fn what_is_queued_fits()
         AllFit (limit_now t.history) t.history.queued }
 {}
 
-/// A connection sees the others through the store alone. What it sees of any steps is its own steps, the moments and
-/// the changes of the store, with nothing of who made them; after what it sees, the connection, the store and the
-/// moment are what they are after all the steps. The same holds of events, and events that look the same to a
-/// connection leave it the same. What it sees of accepted events is a list of accepted events itself: its own ones, the
-/// moments, and the changes of the store, whoever made them. It is opened first among these, so that it may have
-/// another number there, and is the same in all else.
+/// States that other connections affect a connection through the store alone.
+///
+/// The *view* of a connection (`view_of`) lists its own steps, the changes of the time, and the changes of the store.
+/// It omits who changed the store. After the view, the connection, the store and the time are the same as after all the
+/// steps. The same holds of events, and events with the same view leave the connection the same.
+///
+/// The view of accepted events (`view_events`) is itself a list of accepted events. There the connection is the first
+/// that is opened, so it may have another id. Everything else is the same.
 pub fn a_connection_sees_others_through_the_store_alone()
     ensures seen { (limits : LimitValues) (id : ℕ) (w : World) (ss : List Step) → AreSeen id (view_of limits id w ss) }
     ensures side { (c : ConfigValues) (id : ℕ) (ss : List Step) →
@@ -66,9 +72,12 @@ pub fn a_connection_sees_others_through_the_store_alone()
         side_of id (world_after c events).sides ≡ side_of id (world_after c others).sides }
 {}
 
-/// The limits are kept, after any events: on each connection no more bytes wait than the queue holds, and no more
-/// answers and Pongs are held and there are no more observers than the limits allow; and after events that were
-/// accepted, fewer bytes are kept of an unfinished message than the greatest one has, as our end announced it last.
+/// States that no limit is exceeded, after any events.
+///
+/// - `waiting`: the queued bytes of a connection do not exceed the size of its output queue.
+/// - `observers`, `held`: the observers and the pending entries do not exceed their limits.
+/// - `kept`: after accepted events, an unfinished message has fewer bytes than the largest message that the connection
+///   accepts.
 pub fn limits_are_kept()
     ensures waiting { (c : ConfigValues) (events : List Event) (id : ℕ) (s : Side) → AreInRange c.limits →
         side_of id (world_after c events).sides ≡ Some s → length (waiting_on s) ≤ c.limits.queue }
@@ -81,18 +90,22 @@ pub fn limits_are_kept()
         length (kept_on s (stream_on c.limits.max_message id events).rest) < s.history.own_max }
 {}
 
-/// After events that were accepted, the greatest message that a connection takes is the one that was announced last on
-/// it, and at first that of the limits (RFC 8323 section 5.3.1).
+/// States that the largest message that a connection accepts is the one that the server announced last on it.
+///
+/// Before any announcement, the limits of the configuration apply (RFC 8323 section 5.3.1). The events must be accepted
+/// ones.
 pub fn the_size_announced_last_is_in_force()
     ensures { (c : ConfigValues) (events : List Event) (id : ℕ) (s : Side) → AreAccepted c events →
         side_of id (world_after c events).sides ≡ Some s →
         s.history.own_max ≡ size_on c.limits.max_message id events }
 {}
 
-/// Each observer was told what it holds, after any events: of all responses ever queued on the connection with its
-/// token, the last one has Observe and is the 2.05 with the state that the observer was told last, or the 2.03 with
-/// that state's ETag; where no request on the connection that is answered late had that token. No two observers of a
-/// connection have one token.
+/// States that each observer was last sent the state that its entry records, after any events.
+///
+/// - `told`: consider all responses with the observer's token that were ever queued on its connection. The last one has
+///   Observe. It is the 2.05 with the recorded state, or the 2.03 with the ETag of that state. Observers whose token a
+///   request for a delayed response has also used are exempt.
+/// - `tokens`: no two observers of a connection have the same token.
 pub fn observers_were_told_last()
     ensures told { (c : ConfigValues) (events : List Event) (id : ℕ) (s : Side) →
         side_of id (world_after c events).sides ≡ Some s →
@@ -102,11 +115,17 @@ pub fn observers_were_told_last()
         side_of id (world_after c events).sides ≡ Some s → HaveOwnTokens s.observers }
 {}
 
-/// A Pong with Custody says that every request handled before its Ping was answered (RFC 8323 section 5.4.1): after any
-/// events what is held stands in the order of the messages that asked for it, and such a Pong is queued at once only
-/// where nothing is held, later only where it is the first that is held, and by nothing else that happens to a
-/// connection. An answer that a message asks to be held is held behind the others, where there is room, and when it is
-/// due first it is sent. If a client reuses a token, the order may be matched in several ways.
+/// States when delayed responses and Pongs with Custody are queued.
+///
+/// By RFC 8323 section 5.4.1, a Pong with Custody says that every request handled before its Ping was answered.
+///
+/// - `order`: after any events, the pending entries are in the order of the messages that asked for them. If a client
+///   reuses a token, more than one assignment of entries to messages is possible.
+/// - `at_once`: a message queues such a Pong only if no entry is pending.
+/// - `later`: settling queues such a Pong only if a Pong is the first pending entry.
+/// - `held`: a response that is to be delayed is appended to the pending list, if the list has room.
+/// - `sent`: settling sends a delayed response that is due first.
+/// - `faulted`, `ended`, `released`, `announced`, `written`: nothing else queues such a Pong.
 pub fn custody_comes_last()
     ensures order { (c : ConfigValues) (events : List Event) (id : ℕ) (s : Side) →
         side_of id (world_after c events).sides ≡ Some s → StandFor s.history.handled s.history.held }
@@ -128,11 +147,14 @@ pub fn custody_comes_last()
     ensures written { (s : Side) (n : ℕ) → QueuesCustody s (side_written s n) → ⊥ }
 {}
 
-/// A Pong with Custody follows all answers (RFC 8323 section 5.4.1), after any events, on connections that have stopped
-/// too: wherever one stands in what a connection has queued, it answers a Ping that was handled and asked for it, and
-/// each request handled before that Ping has an answer of its own among the messages queued before the Pong. An answer
-/// is a response with the request's token, one sent bare and a 5.03 too; no two requests have the same one. Responses
-/// with one token are not distinguished, so a notification may count as an answer.
+/// States that a Pong with Custody follows the responses to all requests before its Ping (RFC 8323 section 5.4.1).
+///
+/// Take any Pong with Custody among the messages that a connection has queued, after any events, even if the connection
+/// has stopped. The server handled a Ping that asked for this Pong. Each request handled before that Ping has its own
+/// response among the messages queued before the Pong.
+///
+/// A response counts if it has the token of the request, even if it is bare or a 5.03. No two requests share one
+/// response. Responses with the same token are not distinguished, so a notification may count as one.
 pub fn a_pong_with_custody_follows_all_answers()
     ensures { (c : ConfigValues) (events : List Event) (id : ℕ) (s : Side) (before : List Message) (pong : Message)
         (behind : List Message) →
@@ -142,11 +164,16 @@ pub fn a_pong_with_custody_follows_all_answers()
         FollowsAnswers s.history.handled pong before }
 {}
 
-/// What is held is lost by nothing: it stays in its place over each message, which adds at most one entry behind it
-/// that it asks for, over a fault, the end of input, our Release, an announcement and what was written, and while observers are told,
-/// unless the connection stops; and where something held is due first and there is room, exactly this is held no more:
-/// an answer is sent as it fits the peer, a Pong is queued with Custody as it fits. So, by `custody_comes_last`, an
-/// answer that is held before a Pong with Custody is queued before it, unless the connection stops.
+/// States that every pending entry is kept until it is sent, unless the connection stops.
+///
+/// - `message`: a message keeps the pending entries in their places, and appends at most one that it asks for.
+/// - `faulted`, `ended`, `released`, `announced`, `written`, `told`: an error, the end of input, a Release, an
+///   announcement, written bytes and notifications keep them too.
+/// - `taken`: settling removes exactly the entry that is due first.
+/// - `answer`, `pong`: this entry is then sent as it fits the peer's limit: a response, or a Pong with Custody.
+///
+/// By `custody_comes_last`, a delayed response pending before a Pong with Custody is therefore queued before it, unless
+/// the connection stops.
 pub fn what_is_held_is_sent()
     ensures message { (store : StoreValue) (now : ℕ) (s : Side) (m : Message) →
         KeepsHeldOver m s (side_after store now s m) }

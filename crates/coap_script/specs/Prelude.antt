@@ -1,6 +1,6 @@
--- What the contracts and the proofs of the crate name, passed on from one place. Declares nothing.
+-- Names that the contracts and proofs of this crate use, re-exported from one file. Declares nothing.
 
--- ---- std and the kit's crates
+-- ---- std and the crates that come with Rattle
 pub use Rattle.arrayvec.specs.ArrayVec.{array_vec_len}
 unfoldable pub use Rattle.hex.specs.Hex.{decode_pairs}
 unfoldable pub use Rattle.percent_encoding.specs.Percent.{percent_decode}

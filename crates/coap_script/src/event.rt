@@ -1,65 +1,65 @@
-//! What happens to a server.
+//! `Event`, one line of a script.
 
 use coap_store::PathKey;
 
-/// What happens to a server of several connections, as a line of a script names it.
+/// Event of a server with several connections, as a line of a script names it. It may fail when it is run.
 #[derive(Drop)]
 pub enum Event {
     /// A connection is opened.
     Open,
-    /// Bytes come in on a connection.
+    /// Bytes arrive on a connection.
     In {
-        /// The connection's number.
+        /// Id of the connection.
         connection: u64,
-        /// At least one byte.
+        /// The bytes, at least one.
         bytes: Vec<u8>,
     },
-    /// Bytes that wait on a connection are written.
+    /// Bytes queued on a connection are written.
     Drain {
-        /// The connection's number.
+        /// Id of the connection.
         connection: u64,
-        /// How many are written at most, all where it is `None`.
+        /// Largest number of bytes to write; `None` for all.
         most: Option<u64>,
     },
-    /// The moment changes.
+    /// The time changes.
     Tick {
-        /// The moment, in seconds.
+        /// New time, in seconds.
         moment: u64,
     },
     /// A resource is stored.
     Put {
-        /// Where.
+        /// Path of the resource.
         path: PathKey,
-        /// Its Content-Format, where it has one.
+        /// Content-Format of the resource, if it has one.
         format: Option<u16>,
-        /// Its bytes, which may be none.
+        /// Bytes of the resource; there may be none.
         payload: Vec<u8>,
     },
     /// A resource is removed.
     Remove {
-        /// From where.
+        /// Path of the resource.
         path: PathKey,
-        /// The path's text, as written.
+        /// Text of the path, as it is in the script.
         text: Vec<u8>,
     },
     /// The input of a connection ends.
     End {
-        /// The connection's number.
+        /// Id of the connection.
         connection: u64,
     },
-    /// Our Release is sent on a connection.
+    /// The server sends a Release on a connection.
     Release {
-        /// The connection's number.
+        /// Id of the connection.
         connection: u64,
     },
     /// A connection is dropped.
     Drop {
-        /// The connection's number.
+        /// Id of the connection.
         connection: u64,
     },
-    /// The status of a connection is asked.
+    /// The status of a connection is reported.
     Status {
-        /// The connection's number.
+        /// Id of the connection.
         connection: u64,
     },
 }

@@ -6,11 +6,11 @@
 //!   results.
 //! - `scripts_go_on_behind_whole_lines` is a theorem: a text is read line by line.
 //!
-//! The contracts name the definitions of `specs/script/`: `Script` for what a text says, `Lines` for the lines.
+//! The contracts name the definitions of `specs/script/`: `Script` for the meaning of a text, `Lines` for the lines.
 //!
 //! This crate runs no event and contains no server. `Server::replay` runs the events of a script and writes their lines
-//! (`coap_server_engine/src/replay.rt`). The functions of `coap_text` read decimal numbers and hexadecimal bytes. Continue with
-//! `scripts.rt`.
+//! (`coap_server_engine/src/replay.rt`). The functions of `coap_text` read decimal numbers and hexadecimal bytes.
+//! Continue with `scripts.rt`.
 #![tactic(auto)]
 
 mod event;

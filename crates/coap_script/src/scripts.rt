@@ -1,4 +1,4 @@
-//! Scripts: texts whose lines name events.
+//! Reads scripts: texts whose lines name events.
 
 ghost use Rattle.std.specs.Prelude.{◌≡◌};
 ghost use Rattle.coap_script.specs.Prelude.{IsScript, fault_number};
@@ -15,19 +15,19 @@ pub use laws::scripts_go_on_behind_whole_lines;
 use std::alloc::Global;
 use thiserror::Error;
 
-/// Why a text is no script.
+/// Error of `script`.
 #[derive(Clone, Copy, Debug, PartialEq, Eq, Error)]
 pub enum ScriptFault {
-    /// A line names no event. Its number, from 1; empty lines and comments count.
+    /// A line names no event. The field is the number of the line, from 1; empty lines and comments count.
     #[error("no event: line {0}")]
     Line(u64),
-    /// Memory was refused.
+    /// Allocation failed.
     #[error("no memory")]
     Memory,
 }
 
 impl ScriptFault {
-    /// Its number, 1 or 2.
+    /// Returns the number of the error, 1 or 2.
     pub const fn number(self) -> u8
         ensures { result ≡ fault_number self }
     {
@@ -38,13 +38,16 @@ impl ScriptFault {
     }
 }
 
-/// The events that the lines of a text name, in order. Each line ends with a newline; an empty line, and one that
-/// begins with `#`, names none.
+/// Returns the events that the lines of a text name, in order.
+///
+/// Each line ends with a newline. An empty line names no event, and neither does a comment: a line that begins with
+/// `#`.
 ///
 /// # Errors
 ///
-/// `Line` at the first line that is none of these, what stands behind the last newline included, and `Memory` where
-/// memory is refused.
+/// - `Line`: a line is neither an event nor empty nor a comment, or bytes follow the last newline. The first such line
+///   is reported.
+/// - `Memory`: allocation failed.
 pub fn script(alloc: Global, text: &[u8]) -> Result<Vec<Event>, ScriptFault>
     ensures { IsScript text.now result }
 {

@@ -1,4 +1,4 @@
--- A flush leaves nothing that waits, and where nothing waits it leaves the world.
+-- A flush leaves no queued bytes. If none are queued, a flush changes nothing.
 use Rattle.std.proofs.Common.{◌≡◌, ℕ, zero, suc, ◌+◌, ◌≤◌, List, [], ◌∷◌, ◌++◌, length, map, Option, Some, refl, sym, ap, subst, ◌∙◌, ◌⊎◌, inl, inr, arith, nat_le, append_assoc}
 use Rattle.coap_model.specs.Prelude.{AllByRecursion, Message, LimitValues, bytes_of, StoreValue, is_due, Side}
 use Rattle.coap_model.specs.Prelude.{waiting_on, side_written, settled_once, settled_within, settled, HearsAll}
@@ -21,53 +21,53 @@ use Rattle.coap_model.proofs.world.LimitLaws.{step_fits}
 
 -- ---- one write
 
--- a write leaves the observers
+-- A write does not change the observers.
 written_observers : (s : Side) (n : ℕ) → (side_written s n).observers ≡ s.observers
 unfolding side_written
 written_observers s n = cond_both (nat_le n (length (waiting_on s))) _ _ (λ (t : Side). t.observers ≡ s.observers) (λ does. refl) (λ fails. refl)
 
--- where all that waits is written, nothing waits
+-- After all queued bytes were written, none are queued.
 written_empties : (s : Side) → waiting_on (side_written s (length (waiting_on s))) ≡ []
 unfolding side_written
 written_empties s =
     let n : ℕ = length (waiting_on s) in
     rw (le-leb n n (omega arith)) (drop_all (s.history.written + n) (bytes_of s.history.queued) (omega (arith, length-drop s.history.written (bytes_of s.history.queued))))
 
--- where nothing is written, the connection stays as it is
+-- Writing zero bytes does not change the connection.
 none_written : (s : Side) → side_written s 0 ≡ s
 unfolding side_written
 none_written s = rw (le-leb 0 (length (waiting_on s)) (omega arith), add-zero) refl
 
--- ---- how much is left to be sent
+-- ---- the number of messages still to be sent
 
--- settling leaves no more
+-- Settling does not increase the number.
 within_left : (turns : ℕ) (store : StoreValue) (now : ℕ) (s : Side) → left_on store now (settled_within turns store now s) ≤ left_on store now s
 unfolding settled_within
 within_left zero store now s = omega arith
 within_left (suc turns) store now s = grind (arith, once_less store now s, at_rest (suc turns) store now s, within_left turns store now (settled_once store now s))
 
--- and less, where anything is sent
+-- If settling sends anything, the number decreases.
 within_less : (turns : ℕ) (store : StoreValue) (now : ℕ) (s : Side) → left_on store now s ≤ turns → IsAtRest store now s ⊎ (left_on store now (settled_within turns store now s) + 1 ≤ left_on store now s)
 unfolding settled_within
 within_less zero store now s few = grind (arith, once_less store now s)
 within_less (suc turns) store now s few = grind (arith, once_less store now s, within_left turns store now (settled_once store now s))
 
--- no more is left than is held, and observe, together
+-- The number is at most that of pending entries and observers together.
 left_within : (store : StoreValue) (now : ℕ) (s : Side) → left_on store now s ≤ more_of (Some s)
 left_within store now s = omega (arith, count_within (is_due store now) s.observers)
 
--- settling sends nothing, or leaves less
+-- Settling sends nothing, or the number decreases.
 settled_less : (store : StoreValue) (now : ℕ) (s : Side) → IsAtRest store now s ⊎ (left_on store now (settled store now s) + 1 ≤ left_on store now s)
 unfolding settled
 settled_less store now s = within_less (more_of (Some s)) store now s (left_within store now s)
 
--- ---- a connection in one turn
+-- ---- a connection in one round of a flush
 
--- all that waits on it is written, and then it settles
+-- The connection after all its queued bytes were written and it settled.
 abbrev side_once : StoreValue → ℕ → Side → Side
 side_once store now s = settled store now (side_written s (length (waiting_on s)))
 
--- nothing waits on it, and nothing is to be sent
+-- No bytes are queued, and nothing is due.
 abbrev IsFlushedAndAtRest : StoreValue → ℕ → Side → Type 0
 IsFlushedAndAtRest store now s = (waiting_on s ≡ []) × IsAtRest store now s
 
@@ -75,7 +75,7 @@ once_stays : (store : StoreValue) (now : ℕ) (s : Side) → IsFlushedAndAtRest 
 unfolding settled
 once_stays store now s rests = rw (rests.0, none_written) (at_rest (more_of (Some s)) store now s rests.1)
 
--- after a turn nothing waits, or less is left
+-- After a round no bytes are queued, or fewer messages are to be sent.
 once_turn : (store : StoreValue) (now : ℕ) (s : Side) → IsFlushedAndAtRest store now (side_once store now s) ⊎ (left_on store now (side_once store now s) + 1 ≤ left_on store now s)
 unfolding settled
 once_turn store now s =
@@ -87,7 +87,7 @@ once_turn store now s =
       | inr less ↦ inr (omega (arith, less, same))
     ]
 
--- where nothing is held and nobody observes, a turn leaves that so, and how the connection stands
+-- If nothing is pending and there is no observer, a round leaves this so and does not change the phase.
 once_alone : (store : StoreValue) (now : ℕ) (s : Side) → more_of (Some s) ≡ 0 → (more_of (Some (side_once store now s)) ≡ 0) × ((side_once store now s).history.phase ≡ s.history.phase)
 unfolding settled settled_within
 once_alone store now s none =
@@ -97,10 +97,11 @@ once_alone store now s none =
     let stays : side_once store now s ≡ u = ap (λ (turns : ℕ). settled_within turns store now u) none_left in
     (ap (λ (t : Side). more_of (Some t)) stays ∙ none_left, ap (λ (t : Side). t.history.phase) stays ∙ written_between (λ h k. k.phase ≡ h.phase) (λ h. refl) (λ h n within. refl) s n)
 
--- ---- a world, turn by turn
+-- ---- a world, round by round
 
--- What so many turns of a flush make of a world and of a connection there: more is queued on it, and no message was handled; it stands as it
--- did where it held nothing and nobody observed; and nothing waits and nothing is to be sent, or less is left.
+-- The effect of a number of rounds of a flush on a world and a connection in it. More is queued on the connection, and
+-- no message was handled. The phase is the same if nothing was pending and nobody observed. Finally no bytes are queued
+-- and nothing is due, or fewer messages are to be sent.
 pub record IsLeft (id turns : ℕ) (w : World) (s : Side) (v : World) : Type 0 where
   pub side : Side
   pub there : side_of id v.sides ≡ Some side
@@ -138,26 +139,26 @@ turns_leave limits id (suc turns) w s there =
       ];
     }
 
--- as many turns as a flush has on this connection
+-- The number of rounds that a flush has on this connection.
 pub flushed_so : (limits : LimitValues) (id : ℕ) (w : World) (s : Side) → side_of id w.sides ≡ Some s → flushed limits id w ≡ written_times limits id (suc (more_of (Some s))) w
 unfolding flushed
 flushed_so limits id w s there = ap (λ (o : Option Side). written_times limits id (suc (more_of o)) w) there
 
--- A flush leaves nothing that waits: no more turns are needed than is held, and observe, together, and one.
+-- A flush leaves no queued bytes: one round more than the number of pending entries and observers is enough.
 pub flush_leaves : (limits : LimitValues) (id : ℕ) (w : World) (s : Side) → side_of id w.sides ≡ Some s → (left : IsLeft id (suc (more_of (Some s))) w s (flushed limits id w)) × (waiting_on left.side ≡ [])
 flush_leaves limits id w s there =
     let turns : ℕ = suc (more_of (Some s)) in
     let left = subst (IsLeft id turns w s) (sym (flushed_so limits id w s there)) (turns_leave limits id turns w s there) in
     (left, elim left.rests [ inl rests ↦ rests.0 | inr few ↦ absurd (omega (arith, few, left_within (flushed limits id w).store (flushed limits id w).now s)) ])
 
--- ---- where nothing waits
+-- ---- no queued bytes
 
--- where a change leaves each, it leaves all
+-- A change that keeps each element keeps the list.
 pub map_stays : {A : Type 0} (f : A → A) (xs : List A) → AllByRecursion (λ x. f x ≡ x) xs → map f xs ≡ xs
 map_stays f [] each = refl
 map_stays f (x ∷ xs) each = cc (each.0, map_stays f xs each.1)
 
--- in a world in which no change is lost, a step that does nothing leaves it
+-- In a world in which no change is lost, a step without an effect of its own changes nothing.
 pub idle_step : (limits : LimitValues) (w : World) (st : Step) → AllHear w → acted limits w st ≡ w → step limits w st ≡ w
 unfolding step
 idle_step limits w st hear idle =
@@ -165,18 +166,18 @@ idle_step limits w st hear idle =
     (λ p hears. ap (λ (s : Side). record p { side = s }) (side_at_rest_stays w.store w.now p.side hears)) w.sides hear in
     ap all_settled idle ∙ ap (λ (ps : List Place). record w { sides = ps }) (map_stays (settled_place w.store w.now) w.sides stays)
 
--- Where nothing waits, a turn leaves the world.
+-- If no bytes are queued, a round does not change the world.
 quiet_once : (limits : LimitValues) (id : ℕ) (w : World) (s : Side) → AllHear w → side_of id w.sides ≡ Some s → waiting_on s ≡ [] → written_once limits id w ≡ w
 unfolding acted
 quiet_once limits id w s hear there none = rw (there, none) (idle_step limits w (world.Written id 0) hear (simp (none_written, places_unchanged)))
 
--- what holds at a number, and goes on by one, holds from there on
+-- A property of a number that passes on to the next number holds of all larger numbers.
 pub from_there_on : (P : ℕ → Type 0) (few many : ℕ) → few ≤ many → P few → ((n : ℕ) → P n → P (suc n)) → P many
 from_there_on P few zero within first on = let same : few ≡ 0 = omega (arith, within) in subst P same first
 from_there_on P few (suc many) within first on =
     elim (cases_eq few (suc many)) [ inl same ↦ subst P same first | inr apart ↦ on many (from_there_on P few many (omega (arith, within, apart)) first on) ]
 
--- And so do further turns of a flush.
+-- Further rounds of a flush do not change it either.
 pub times_further : (limits : LimitValues) (id turns most : ℕ) (w : World) (t : Side) → AllHear w → side_of id (written_times limits id turns w).sides ≡ Some t → waiting_on t ≡ [] → turns ≤ most → written_times limits id turns w ≡ written_times limits id most w
 unfolding written_times
 times_further limits id turns most w t hear there none within =
@@ -184,7 +185,7 @@ times_further limits id turns most w t hear there none within =
     let hears : AllHear v = from_there_on (λ n. AllHear (written_times limits id n w)) 0 turns (omega arith) hear (λ n is. step_hears limits (written_times limits id n w) _) in
     from_there_on (λ n. v ≡ written_times limits id n w) turns most within refl (λ n same. sym (quiet_once limits id v t hears there none) ∙ ap (written_once limits id) same)
 
--- And so does a flush.
+-- A flush does not change it either.
 pub quiet_flush : (limits : LimitValues) (id : ℕ) (w : World) (s : Side) → AllHear w → side_of id w.sides ≡ Some s → waiting_on s ≡ [] → flushed limits id w ≡ w
 unfolding flushed written_times
 quiet_flush limits id w s hear there none = sym (times_further limits id 0 (suc (more_of (side_of id w.sides))) w s hear there none (omega arith))

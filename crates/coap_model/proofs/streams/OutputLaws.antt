@@ -1,5 +1,5 @@
--- The world of one connection whose bytes are taken with a flush behind each step: it goes on with more bytes, what is written only
--- grows, and a connection that has stopped stays as it is.
+-- The world of one connection whose input steps are each followed by a flush. More input continues this world, the
+-- output only grows, and a stopped connection does not change.
 use Rattle.std.proofs.Common.{◌≡◌, ℕ, false, List, [], ◌∷◌, ◌++◌, map, Some, None, refl, sym, ap, subst, ◌∙◌, ◌==◌, append_assoc, length, is_none}
 use Rattle.coap_model.specs.Prelude.{AllByRecursion, Message, StreamFault, Stream, split_on, Reason, takes_messages}
 use Rattle.coap_model.specs.Prelude.{stop_of, LimitValues, bytes_of, ConfigValues, Side, side_after, change_after}
@@ -23,36 +23,37 @@ use Rattle.coap_model.proofs.world.LimitLaws.{step_fits}
 use Rattle.coap_model.proofs.world.StepLaws.{steps_of_more, spelled_by, spelled_then, spelled_same, first_spelled, taken_here, each_beyond}
 use Rattle.coap_model.proofs.world.CutLaws.{cut_steps}
 
--- ---- what bytes bring about
+-- ---- steps of input bytes
 
--- a message of a connection, or the fault of its bytes
+-- The step is a message of this connection or the error of its input.
 pub data IsOfBytes (id : ℕ) : Step → Type 0 where
   OfMessage : (m : Message) → IsOfBytes id (world.Handled id m)
   OfFault : (fault : StreamFault) → IsOfBytes id (world.Faulted id fault)
 
--- the connection is there behind it
+-- The connection exists after such a step.
 stays_there : (limits : LimitValues) (id : ℕ) (w : World) (st : Step) (s : Side) → IsOfBytes id st → side_of id w.sides ≡ Some s → (t : Side) × (side_of id (step limits w st).sides ≡ Some t)
 stays_there limits id w st s (OfMessage m) there = let then = handled_there limits w id m s there in (settled then.0 w.now (side_after w.store w.now s m), then.1)
 stays_there limits id w st s (OfFault fault) there = (settled w.store w.now (side_faulted s fault), faulted_there limits w id fault s there)
 
 -- ---- a connection that has stopped
 
--- numbers are distinct, so that it is enough that the one connection stays
+-- Ids are distinct, so it is enough that this connection does not change.
 one_stays : (id : ℕ) (f : Side → Side) (s : Side) (ps : List Place) → AreDistinct ps → side_of id ps ≡ Some s → f s ≡ s → map (changed_at id f) ps ≡ ps
 one_stays id f s ps distinct there stays =
     map_stays (changed_at id f) ps
     (of_each (λ n t. changed_at id f (record { id = n; side = t }) ≡ record { id = n; side = t }) ps distinct
     (λ n t at. cond_both (n == id) _ _ (λ (p : Place). p ≡ record { id = n; side = t }) (λ same. let here = eqb-true n id same in cc) (λ apart. refl)))
 
--- where it takes no message, nothing changes
+-- If the connection no longer accepts messages, nothing changes.
 nothing_acted : (limits : LimitValues) (id : ℕ) (w : World) (st : Step) (s : Side) → AreDistinct w.sides → side_of id w.sides ≡ Some s → takes_messages s.history.phase ≡ false → IsOfBytes id st → acted limits w st ≡ w
 unfolding acted side_after change_after side_faulted
 nothing_acted limits id w st s distinct there over (OfMessage m) = rw (one_stays id (λ t. side_after w.store w.now t m) s w.sides distinct there (rw over), there, over) refl
 nothing_acted limits id w st s distinct there over (OfFault fault) = rw (one_stays id (λ t. side_faulted t fault) s w.sides distinct there (rw over)) refl
 
--- ---- what a flush behind each step leaves
+-- ---- the state after each step and its flush
 
--- A connection is there that was this one, and more was queued on it; nothing waits on it. Numbers are distinct, and no change is lost.
+-- The connection exists and continues the earlier one: more was queued on it. No bytes are queued, ids are distinct,
+-- and no change is lost.
 pub record IsWrittenOut (id : ℕ) (s : Side) (w : World) : Type 0 where
   pub side : Side
   pub there : side_of id w.sides ≡ Some side
@@ -62,7 +63,7 @@ pub record IsWrittenOut (id : ℕ) (s : Side) (w : World) : Type 0 where
   pub distinct : AreDistinct w.sides
   pub hears : AllHear w
 
--- so it is behind a flush
+-- This holds after a flush.
 written_out : (limits : LimitValues) (id : ℕ) (w : World) (s t : Side) (more : List Message) → side_of id w.sides ≡ Some t → AreDistinct w.sides → t.history.queued ≡ s.history.queued ++ more → IsWrittenOut id s (flushed limits id w)
 unfolding flushed written_times
 written_out limits id w s t more there distinct queued =
@@ -100,7 +101,7 @@ unfolding flushed_after
 after_then limits id w [] ts = refl
 after_then limits id w (s ∷ ss) ts = after_then limits id (flushed limits id (step limits w s)) ss ts
 
--- ---- what the bytes of the only connection spell
+-- ---- the stream of the only connection
 
 module _ (c : ConfigValues) where
   abbrev M : ℕ
@@ -109,7 +110,7 @@ module _ (c : ConfigValues) where
   abbrev id : ℕ
   id = only_id c
 
-  -- it is opened
+  -- The connection is opened.
   abbrev opening : List Event
   opening = Opened id ∷ []
 
@@ -119,7 +120,7 @@ module _ (c : ConfigValues) where
   pub nothing_yet : spelled_on M id opening ≡ (stream_of c [], M)
   nothing_yet = spelled_same M id [] (Opened id) refl (λ N. refl) ∙ first_spelled M id ∙ ap (λ (s : Stream). (s, M)) (sym no_bytes_spell)
 
-  -- events behind which these bytes were spelled, and more bytes behind them
+  -- Events after which the stream has these bytes, and more bytes after them.
   module _ (es : List Event) (bytes more : List ℕ) (spelled : spelled_on M id es ≡ (stream_of c bytes, M)) where
     pub spelled_more : spelled_on M id (es ++ Took id more ∷ []) ≡ (stream_of c (bytes ++ more), M)
     spelled_more =
@@ -131,9 +132,9 @@ module _ (c : ConfigValues) where
     unfolding steps_by
     steps_taken = cc (ap (λ (s : Stream × ℕ). s.0) spelled, ap (λ (s : Stream × ℕ). s.0) spelled_more)
 
-  -- ---- the world for bytes
+  -- ---- the world for input bytes
 
-  -- the world goes on with the steps that more bytes make
+  -- The steps that more bytes make continue the world.
   pub world_goes_on : (xs ys : List ℕ) → world_for c (xs ++ ys) ≡ flushed_after c.limits id (world_for c xs) (beyond id (stream_of c xs) (stream_of c (xs ++ ys)))
   unfolding world_for
   world_goes_on xs ys =
@@ -142,14 +143,14 @@ module _ (c : ConfigValues) where
       (cut_steps M opening [] id xs ys ∙ steps_of_more M fed (Took id ys) ∙ ap (λ (ss : List Step). steps_for c xs ++ ss) (steps_taken fed xs ys (spelled_more opening [] xs nothing_yet)))
       ∙ after_then c.limits id (new_world c) (steps_for c xs) (beyond id (stream_of c xs) (stream_of c (xs ++ ys)))
 
-  -- what more bytes bring about
+  -- More bytes make only steps of input bytes.
   beyond_are : (xs ys : List ℕ) → AllByRecursion (IsOfBytes id) (beyond id (stream_of c xs) (stream_of c (xs ++ ys)))
   beyond_are xs ys = each_beyond (IsOfBytes id) id (stream_of c xs) (stream_of c (xs ++ ys)) OfMessage OfFault
 
   more_written_out : (xs ys : List ℕ) (s : Side) → IsWrittenOut id s (world_for c xs) → IsWrittenOut id s (world_for c (xs ++ ys))
   more_written_out xs ys s before = subst (IsWrittenOut id s) (sym (world_goes_on xs ys)) (after_bytes c.limits id (world_for c xs) _ s (beyond_are xs ys) before)
 
-  -- the world in which the connection was opened: it has announced itself
+  -- The world in which the connection was opened: its CSM is queued.
   abbrev world_opened : World
   world_opened = step c.limits (new_world c) (world.Opened id)
 
@@ -157,38 +158,38 @@ module _ (c : ConfigValues) where
   unfolding step acted side_of settled settled_within
   opened_alone = first_there id (record { id = id; side = new_side c.limits }) [] refl
 
-  -- For no bytes it is the one in which that was written.
+  -- For no input, the world is the one in which the CSM was written.
   pub world_for_none : world_for c [] ≡ flushed c.limits id world_opened
   unfolding world_for flushed_after steps_of steps_behind steps_by
   world_for_none =
       ap (flushed_after c.limits id (new_world c))
       (steps_of_more M opening (Took id []) ∙ ap (λ (ss : List Step). world.Opened id ∷ ss) (steps_taken opening [] [] nothing_yet ∙ ap (λ (s : Stream). beyond id s s) no_bytes_spell))
 
-  -- the connection is there, and nothing waits on it
+  -- The connection exists, and no bytes are queued on it.
   pub world_for_written : (bytes : List ℕ) → IsWrittenOut id (new_side c.limits) (world_for c bytes)
   world_for_written bytes =
       let new : Side = new_side c.limits in
       more_written_out [] bytes new
       (subst (IsWrittenOut id new) (sym world_for_none) (written_out c.limits id world_opened new new [] opened_alone (step_distinct c.limits (new_world c) (world.Opened id) tt) (sym (append-nil new.history.queued))))
 
-  -- ---- what comes of it
+  -- ---- the outcome
 
   pub outcome_there : (bytes : List ℕ) (s : Side) → side_for c bytes ≡ Some s → outcome c bytes ≡ outcome_on (Some s)
   unfolding outcome
   outcome_there bytes s there = ap outcome_on there
 
-  -- it takes messages until something stops it
+  -- The connection accepts messages until it stops.
   pub takes_unless_stopped : (bytes : List ℕ) → takes_messages (world_for_written bytes).side.history.phase ≡ is_none (outcome c bytes).stop
   takes_unless_stopped bytes = let all = world_for_written bytes in ap (λ (o : Outcome). is_none o.stop) (sym (outcome_there bytes all.side all.there))
 
-  -- at first no message was handled, and nothing stops the connection
+  -- At first no message was handled, and the connection has not stopped.
   pub outcome_at_first : ((outcome c []).messages ≡ 0) × ((outcome c []).stop ≡ None)
   outcome_at_first =
       let left = flush_leaves c.limits id world_opened (new_side c.limits) opened_alone in
       let is = outcome_there [] left.0.side (ap (λ (w : World). side_of id w.sides) world_for_none ∙ left.0.there) in
       (ap (λ (o : Outcome). o.messages) is ∙ ap length left.0.handled, ap (λ (o : Outcome). o.stop) is ∙ ap stop_of (left.0.alone refl).1)
 
-  -- What is written for bytes stands in front of what is written for more.
+  -- The output for some bytes is a prefix of the output for more bytes.
   pub output_grows : (xs ys : List ℕ) → (more : List ℕ) × (stdio_output c (xs ++ ys) ≡ stdio_output c xs ++ more)
   output_grows xs ys =
       let all = world_for_written xs in
@@ -197,7 +198,7 @@ module _ (c : ConfigValues) where
       let now = more_written_out xs ys s before in
       (bytes_of now.more, cc (outcome_there xs s all.there, outcome_there (xs ++ ys) now.side now.there, now.queued, bytes_more s.history.queued now.more))
 
-  -- Behind what stops the connection, nothing changes.
+  -- After the connection has stopped, more bytes change nothing.
   pub stopped_output : (xs ys : List ℕ) (why : Reason) → (outcome c xs).stop ≡ Some why → world_for c (xs ++ ys) ≡ world_for c xs
   stopped_output xs ys why stopped =
       let over = takes_unless_stopped xs ∙ ap is_none stopped in

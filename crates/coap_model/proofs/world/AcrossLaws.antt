@@ -1,5 +1,5 @@
--- A relation between a connection before and after: where it holds of whatever happens to one, it holds across settling and
--- across any step. So what each of these keeps of a connection is kept by any events.
+-- A relation between a connection before and after. If it holds across every effect on a connection, it holds across
+-- settling and across each step. So a property that every effect keeps is kept by all events.
 use Rattle.std.proofs.Common.{◌≡◌, ℕ, List, Bool, cond, ◌++◌, [], ◌∷◌, map, Option, Some, None, refl, sym, subst, ◌∙◌, ◌⊎◌, inl, inr, is_none}
 use Rattle.std.proofs.lemmas.Bool.{cases_eq, cond_both}
 use Rattle.coap_model.specs.Prelude.{Message, StreamFault, Server, LimitValues, History, new_history, StoreValue}
@@ -17,7 +17,7 @@ use Rattle.coap_wire.proofs.NumberLaws.{none_or_some}
 
 -- ---- a step
 
--- it holds of all that a step does to the connection with this number
+-- The relation holds across every effect that a step has on the connection with this id.
 pub record HoldsOf (R : Side → Side → Type 0) (w : World) (st : Step) (id : ℕ) : Type 0 where
   pub same : (s : Side) → R s s
   pub handled : (m : Message) → st ≡ world.Handled id m → (s : Side) → R s (side_after w.store w.now s m)
@@ -26,14 +26,14 @@ pub record HoldsOf (R : Side → Side → Type 0) (w : World) (st : Step) (id : 
   pub ended : (s : Side) (cut : Bool) → R s (side_ended s cut)
   pub released : (s : Side) → R s (side_released s)
   pub announced : (size : ℕ) → st ≡ world.Announced id size → (s : Side) → R s (side_announced s size)
-  -- and of what settles further
+  -- It also holds if settling follows.
   pub told : (store : StoreValue) (now : ℕ) (s t : Side) → R s t → R s (settled_once store now t)
 
--- it holds of the connection before a step and the one after it, or of a new one where the step opened it
+-- The relation holds between the connection before a step and after it, or from a new connection if the step opened it.
 abbrev pub HoldsFrom : (Side → Side → Type 0) → LimitValues → World → Step → ℕ → Side → Type 0
 HoldsFrom R limits w st id t = ((s : Side) × (side_of id w.sides ≡ Some s) × R s t) ⊎ ((side_of id w.sides ≡ None) × (st ≡ world.Opened id) × R (new_side limits) t)
 
--- the world with a new connection
+-- The world with a new connection.
 abbrev pub opened_world : LimitValues → World → ℕ → World
 opened_world limits w id = record w { sides = w.sides ++ record { id = id; side = new_side limits } ∷ []; ids = id }
 
@@ -41,7 +41,7 @@ module _ (R : Side → Side → Type 0) (limits : LimitValues) (w : World) (st :
   same_across : (t : Side) → side_of id w.sides ≡ Some t → HoldsFrom R limits w st id t
   same_across t e = inl (t, e, holds.same t)
 
-  -- where the step changes the connection with a number, it is known only of that one
+  -- If the step changes only the connection with one id, the relation is known only of that one.
   changed_across : (at : ℕ) (f : Side → Side) (t : Side) → (at ≡ id → (s : Side) → R s (f s)) → side_of id (map (changed_at at f) w.sides) ≡ Some t → HoldsFrom R limits w st id t
   changed_across at f t go e =
       elim (cases_eq at id) [
@@ -91,7 +91,7 @@ module _ (R : Side → Side → Type 0) (limits : LimitValues) (w : World) (st :
       let From : Side → Type 0 = HoldsFrom R limits w st id in
       subst From made.2 (settled_keeps From did.store did.now (once_across did.store did.now) made.0 (acted_across st refl made.0 made.1))
 
--- ---- what a step does to a connection that is there
+-- ---- the effect of a step on an existing connection
 
 pub settles_there : (id : ℕ) (store : StoreValue) (now : ℕ) (f : Side → Side) (ps : List Place) (s : Side) → side_of id ps ≡ Some s → side_of id (map (settled_place store now) (map (changed_at id f) ps)) ≡ Some (settled store now (f s))
 settles_there id store now f ps s there = rw (all_there id (settled store now) (map (changed_at id f) ps), changed_here id f ps, there) refl
@@ -121,7 +121,7 @@ module _ (limits : LimitValues) (w : World) (id : ℕ) where
 
 -- ---- a relation between histories
 
--- each part of what happens keeps it
+-- Every part of an effect keeps the relation.
 pub record KeepsAll (R : History → History → Type 0) : Type 0 where
   pub composes : Composes R
   pub hears : Hears R
@@ -155,13 +155,14 @@ module _ (R : History → History → Type 0) (keeps : KeepsAll R) where
         keeps.composes.then s.history t.history _ is (once_between R R keeps.composes.same keeps.composes.then keeps.replies keeps.lets_go keeps.pongs store now t);
   }
 
--- ---- what steps keep, events keep
+-- ---- properties kept by steps are kept by events
 
 pub world_keeps : (c : ConfigValues) (P : World → Type 0) → ((w : World) (st : Step) → P w → P (world.step c.limits w st)) → P (new_world c) → (es : List Event) → P (world_after c es)
 unfolding world_after
 world_keeps c P keeps first es = steps_keep P c.limits keeps (new_world c) (steps_of c.limits.max_message es) first
 
--- what a new connection has and is kept where the relation holds, each connection has, if the relation holds of whatever happens to one
+-- A property of a new connection that the relation keeps holds of every connection after any events, if the relation
+-- holds across every effect.
 pub kept_by : (c : ConfigValues) (R : Side → Side → Type 0) (P : Side → Type 0) → P (new_side c.limits) → ((s t : Side) → R s t → P s → P t) → ((w : World) (st : Step) (id : ℕ) → HoldsOf R w st id)
     → (es : List Event) (id : ℕ) (s : Side) → side_of id (world_after c es).sides ≡ Some s → P s
 kept_by c R P first keeps holds =
@@ -170,11 +171,11 @@ kept_by c R P first keeps holds =
       | inr new ↦ keeps (new_side c.limits) t new.2 first
     ]) (λ id s there. absurd (none_or_some s (sym (nobody id) ∙ there)))
 
--- what is kept composes
+-- Keeping a property composes.
 pub keeping_composes : (P : History → Type 0) → Composes (λ h k. P h → P k)
 keeping_composes P = record { same = λ h is. is; then = λ h k g one two is. two (one is) }
 
--- the same of what each part of what happens keeps of a history
+-- The same for a property of a history that every part of an effect keeps.
 pub kept_history : (c : ConfigValues) (P : History → Type 0) → P (new_history Server c.limits 0) → KeepsAll (λ h k. P h → P k)
     → (es : List Event) (id : ℕ) (s : Side) → side_of id (world_after c es).sides ≡ Some s → P s.history
 kept_history c P first keeps = kept_by c (Between (λ h k. P h → P k)) (λ s. P s.history) first (λ s t kept. kept) (all_across (λ h k. P h → P k) keeps)

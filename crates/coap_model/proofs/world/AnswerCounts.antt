@@ -1,4 +1,5 @@
--- Of each token as many responses are queued or held as requests with it were handled: what is said of that, and what follows of it.
+-- For each token, as many responses are queued or pending as requests with it were handled: the counts, and
+-- consequences of this statement.
 use Rattle.std.proofs.Common.{◌≡◌, ℕ, ◌+◌, ◌≤◌, Bool, true, false, ◌&&◌, List, [], ◌∷◌, ◌++◌, refl, ap, ◌∙◌, append_assoc, arith, sym, inl, inr}
 use Rattle.coap_model.specs.Prelude.{AllByRecursion, Message, HeldValue, Answer, Pong, is_custody_pong, same_bytes}
 use Rattle.coap_model.specs.Prelude.{responds, asks_held, is_asking, HasResponse, HaveOwnAnswers}
@@ -20,7 +21,7 @@ pub count_more : {A : Type 0} (p : A → Bool) (xs ys : List A) → count p (xs 
 count_more p [] ys = omega arith
 count_more p (x ∷ xs) ys = omega (arith, count_more p xs ys)
 
--- how many of each token there are
+-- A number for each token.
 abbrev pub Tally : Type 0
 Tally = List ℕ → ℕ
 
@@ -30,7 +31,7 @@ AtMost n k = (token : List ℕ) → n token ≤ k token
 abbrev pub plus : Tally → Tally → Tally
 plus n k token = n token + k token
 
--- requests, responses, and answers that are held
+-- Requests, responses and delayed responses with a token.
 abbrev pub asks_with : List ℕ → Message → Bool
 asks_with token m = is_asking m && same_bytes m.token token
 
@@ -49,7 +50,7 @@ held_back es token = count (awaits token) es
 
 -- ---- a Ping that was handled
 
--- a Ping that asks for this was handled, and of each token at most as many requests before it as this
+-- A Ping that asks for this Pong was handled. For each token, at most n requests were handled before it.
 pub record IsBehind (ms : List Message) (n : Tally) (token : List ℕ) : Type 0 where
   pub earlier : List Message
   pub ping : Message
@@ -68,20 +69,20 @@ still_behind ms more ns n k grown grows token is = record {
   few = λ t. omega (arith, is.few t, grows t);
 }
 
--- ---- what stands in a row
+-- ---- items in a row
 
--- Things in a row: what is claimed of one that is a Pong with Custody, by what its token has to be, and which ones are, or will be, a
--- response with a token.
+-- Items in a row. `Claims` states the claim about an item that is a Pong with Custody. `counts` says which items are,
+-- or will be, a response with a token.
 pub record RowOf (A : Type 0) : Type 1 where
   pub Claims : A → (List ℕ → Type 0) → Type 0
   pub to : (x : A) (P Q : List ℕ → Type 0) → ((token : List ℕ) → P token → Q token) → Claims x P → Claims x Q
   pub counts : List ℕ → A → Bool
 
--- the messages that are queued
+-- The queued messages.
 abbrev pub queue : RowOf Message
 queue = record { Claims = λ q P. is_custody_pong q ≡ true → P q.token; to = λ q P Q go is pong. go q.token (is pong); counts = responds }
 
--- what is held
+-- The pending entries.
 abbrev pub IfPong : HeldValue → (List ℕ → Type 0) → Type 0
 IfPong (Answer token moment) P = Unit {0}
 IfPong (Pong token) P = P token
@@ -93,7 +94,8 @@ module _ {A : Type 0} (row : RowOf A) where
   abbrev tally_of : List A → Tally
   tally_of xs token = count (row.counts token) xs
 
-  -- each Pong with Custody is behind the requests before its Ping, where so many responses stand before the first of these things
+  -- Each Pong with Custody follows the responses to the requests before its Ping, if n responses come before the first
+  -- of these items.
   abbrev pub Behind : List Message → Tally → List A → Type 0
   Behind ms n [] = Unit {0}
   Behind ms n (x ∷ xs) = row.Claims x (IsBehind ms n) × Behind ms (plus n (tally_of (x ∷ []))) xs
@@ -105,21 +107,21 @@ module _ {A : Type 0} (row : RowOf A) where
     behind_longer ms more ns (plus n (tally_of (x ∷ []))) (plus k (tally_of (x ∷ []))) xs grown (λ t. omega (arith, grows t)) is.1,
   )
 
-  -- with no message more
+  -- The same without a further message.
   pub behind_grows : (ms : List Message) (n k : Tally) (xs : List A) → AtMost n k → Behind ms n xs → Behind ms k xs
   behind_grows ms n k xs = behind_longer ms [] ms n k xs (sym (append-nil ms))
 
-  -- things behind others
+  -- The same for items after others.
   pub behind_then : (ms : List Message) (n k : Tally) (xs ys : List A) → AtMost k (plus n (tally_of xs)) → Behind ms n xs → Behind ms k ys → Behind ms n (xs ++ ys)
   behind_then ms n k [] ys few is then = behind_grows ms k n ys (λ t. omega (arith, few t)) then
   behind_then ms n k (x ∷ xs) ys few is then = (is.0, behind_then ms (plus n (tally_of (x ∷ []))) k xs ys (λ t. omega (arith, few t)) is.1 then)
 
-  -- of one of them
+  -- The same for one of the items.
   pub behind_at : (ms : List Message) (n k : Tally) (xs : List A) (y : A) (ys : List A) → AtMost (plus n (tally_of xs)) k → Behind ms n (xs ++ y ∷ ys) → row.Claims y (IsBehind ms k)
   behind_at ms n k [] y ys few is = (behind_grows ms n k (y ∷ []) (λ t. omega (arith, few t)) (is.0, tt)).0
   behind_at ms n k (x ∷ xs) y ys few is = behind_at ms (plus n (tally_of (x ∷ []))) k xs y ys (λ t. omega (arith, few t)) is.1
 
-  -- without one of them, which stands before the first now
+  -- The same without one item, which is now before the first.
   pub behind_without : (ms : List Message) (n k : Tally) (xs : List A) (y : A) (ys : List A) → AtMost (plus n (tally_of (y ∷ []))) k → Behind ms n (xs ++ y ∷ ys) → Behind ms k (xs ++ ys)
   behind_without ms n k [] y ys grows is = behind_grows ms (plus n (tally_of (y ∷ []))) k ys grows is.1
   behind_without ms n k (x ∷ xs) y ys grows is = (
@@ -127,14 +129,14 @@ module _ {A : Type 0} (row : RowOf A) where
     behind_without ms (plus n (tally_of (x ∷ []))) (plus k (tally_of (x ∷ []))) xs y ys (λ t. omega (arith, grows t)) is.1,
   )
 
--- messages that are no such Pong
+-- Messages among which there is no such Pong.
 pub pongs_other : (ms : List Message) (n : Tally) (qs : List Message) → AllByRecursion (λ q. is_custody_pong q ≡ false) qs → Behind queue ms n qs
 pongs_other ms n [] others = tt
 pongs_other ms n (q ∷ qs) others = (λ pong. absurd cc, pongs_other ms (plus n (responses (q ∷ []))) qs others.1)
 
--- ---- answers of their own
+-- ---- distinct responses
 
--- the first response with a token, where there is one
+-- The first response with a token, if there is one.
 response_by : (token : List ℕ) (q : Message) (qs : List Message) (is : Bool) → responds token q ≡ is → 1 ≤ responses (q ∷ qs) token → (1 ≤ responses qs token → HasResponse token qs) → HasResponse token (q ∷ qs)
 response_by token q qs true is some later = record { before = []; response = q; behind = qs; there = refl; responds_to = is }
 response_by token q qs false is some later =
@@ -145,11 +147,11 @@ response_found : (token : List ℕ) (qs : List Message) → 1 ≤ responses qs t
 response_found token [] some = absurd (omega (arith, some))
 response_found token (q ∷ qs) some = response_by token q qs (responds token q) refl some (response_found token qs)
 
--- a response with a token has no other one
+-- A response with one token has no other token.
 one_token : (token other : List ℕ) (q : Message) → responds token q ≡ true → one (responds other q) ≡ one (same_bytes token other)
 one_token token other q is = grind (arith, (bytes_decides q.token token).0)
 
--- without that response there are enough for the later requests
+-- Without that response, enough are left for the later requests.
 own_rest : (m : Message) (ms qs : List Message) (place : HasResponse m.token qs) → is_asking m ≡ true → AtMost (requests (m ∷ ms)) (responses qs) → AtMost (requests ms) (responses (place.before ++ place.behind))
 own_rest m ms qs place asks few t = grind (arith, few t, one_token m.token t, count_more (responds t))
 

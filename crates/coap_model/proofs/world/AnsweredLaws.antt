@@ -1,4 +1,5 @@
--- Where a Pong with Custody is queued, each request handled before its Ping was responses before it, whatever happens to a connection.
+-- When a Pong with Custody is queued, each request handled before its Ping already has its response, whatever happens
+-- to a connection.
 use Rattle.std.proofs.Common.{◌≡◌, ℕ, ◌≤◌, Bool, true, false, ◌&&◌, ◌==◌, List, [], ◌∷◌, ◌++◌, Option, Some, None, refl, sym, ap, subst, arith, is_none}
 use Rattle.coap_model.specs.Prelude.{AllByRecursion, list_any, Message, Phase, Server, Reply, Whole, Bare, Stopped}
 use Rattle.coap_model.specs.Prelude.{Reason, LimitValues, stop_of, takes_messages, answers, fit, bare_response}
@@ -29,9 +30,9 @@ use Rattle.std.proofs.lemmas.List.{length-append}
 abbrev nothing : Tally
 nothing token = 0
 
--- ---- a history, where so many responses are still to be queued
+-- ---- a history with responses still to be queued
 
--- so many before what is held, and so many in all
+-- `first` counts those to be queued before the pending entries, `total` counts all.
 record FollowsBut (first total : Tally) (handled queued : List Message) (held : List HeldValue) (now : Phase) : Type 0 where
   pongs : Behind queue handled nothing queued
   behind : Behind pending handled (plus first (responses queued)) held
@@ -47,12 +48,12 @@ PongsFollow h = OwesStill nothing nothing h
 plain_behind : (ms : List Message) (n : Tally) (qs : List Message) → AllByRecursion IsPlain qs → Behind queue ms n qs
 plain_behind ms n qs plain = pongs_other ms n qs (all_to IsPlain IsNoPong (λ m is. is.1) qs plain)
 
--- more is queued, with no Pong with Custody but where it may be
+-- More messages are queued, with a Pong with Custody only if one may be queued.
 module _ {b d : Tally} {ms qs : List Message} {es : List HeldValue} {p : Phase} (is : FollowsBut b d ms qs es p) (more : List Message) (may : Behind queue ms (responses qs) more) where
   pongs_may : Behind queue ms nothing (qs ++ more)
   pongs_may = behind_then queue ms nothing (responses qs) qs more (omega arith) is.pongs may
 
-  -- what was owed is among it, or still owed
+  -- An owed response is among them, or is still owed.
   more_follows : {c f : Tally} {q : Phase} → (answers q ≡ false → answers p ≡ false) → (takes_messages q ≡ true → takes_messages p ≡ true) → AtMost b (plus c (responses more)) → AtMost d (plus f (responses more)) → FollowsBut c f ms (qs ++ more) es q
   more_follows {c} on takes first total = record {
     pongs = pongs_may;
@@ -62,15 +63,15 @@ module _ {b d : Tally} {ms qs : List Message} {es : List HeldValue} {p : Phase} 
     quiet = λ off. is.quiet (on off);
   }
 
-  -- where the connection stands as before
+  -- The phase of the connection is unchanged.
   same_follows : {c f : Tally} → AtMost b (plus c (responses more)) → AtMost d (plus f (responses more)) → FollowsBut c f ms (qs ++ more) es p
   same_follows = more_follows (λ off. off) (λ live. live)
 
-  -- or the connection stops
+  -- Or the connection stops.
   over_follows : {c f : Tally} {q : Phase} → takes_messages q ≡ false → FollowsBut c f ms (qs ++ more) [] q
   over_follows over = record { pongs = pongs_may; behind = tt; all = λ live. absurd (both_ways _ over live); quiet = λ off. refl }
 
--- one more is held
+-- One more entry is pending.
 held_follows : {b d f : Tally} {ms qs : List Message} {es : List HeldValue} {p : Phase} → FollowsBut b d ms qs es p → (e : HeldValue) → IfPong e (IsBehind ms (plus (plus b (responses qs)) (held_back es))) → answers p ≡ true → AtMost d (plus f (held_back (e ∷ [])))
     → FollowsBut b f ms qs (es ++ e ∷ []) p
 held_follows {b} {ms = ms} {qs = qs} {es = es} {p = p} is e may on total = record {
@@ -82,18 +83,18 @@ held_follows {b} {ms = ms} {qs = qs} {es = es} {p = p} is e may on total = recor
 
 -- ---- a response
 
--- it is among what is still to be queued, with its token
+-- A response with this token is still to be queued.
 abbrev OwesToken : Tally → List ℕ → Type 0
 OwesToken d token = (other : List ℕ) → d other ≤ one (same_bytes token other)
 
--- it pays both
+-- The message reduces both counts.
 abbrev MayPay : Tally → Tally → Message → Type 0
 MayPay b d m = AtMost b (plus nothing (responses (m ∷ []))) × AtMost d (plus nothing (responses (m ∷ [])))
 
 token_pays : (b d : Tally) (m : Message) → OwesToken b m.token → OwesToken d m.token → is_response m ≡ true → MayPay b d m
 token_pays b d m first total is = grind arith
 
--- a response is sent where responses are
+-- A response is sent only in a phase in which responses are sent.
 module _ (b d : Tally) (h : History) (is : OwesStill b d h) (token : List ℕ) (observe : Bool) (r : Response) where
   abbrev whole_response : Message
   whole_response = response_with_observe token observe r
@@ -109,7 +110,7 @@ module _ (b d : Tally) (h : History) (is : OwesStill b d h) (token : List ℕ) (
       by Bare = goes (bare_response whole_response) (bare_no_pong whole_response) bare
       by Stopped = over_follows is [] tt refl
 
-  -- one that is owed
+  -- A response that is owed.
   owed_follows : answers h.phase ≡ true → coded r.code ≡ true → OwesToken b token → OwesToken d token → PongsFollow (after h (call.Reply whole_response))
   owed_follows on is_coded first total =
       subst PongsFollow (sym (cond-true (answers h.phase) (sent h whole_response (bare_response whole_response)) h on))
@@ -121,7 +122,7 @@ module _ (h : History) (m : Message) (server : h.role ≡ Server) (live : takes_
   abbrev now_handled : List Message
   now_handled = h.handled ++ m ∷ []
 
-  -- where it asks, a response is owed
+  -- If the message is a request, a response is owed.
   asked_follows : FollowsBut nothing (λ t. one (asks_with t m)) now_handled h.queued h.held h.phase
   asked_follows = record {
     pongs = behind_longer queue h.handled (m ∷ []) now_handled nothing nothing h.queued refl (omega arith) is.pongs;
@@ -131,7 +132,7 @@ module _ (h : History) (m : Message) (server : h.role ≡ Server) (live : takes_
     quiet = is.quiet;
   }
 
-  -- the reaction leaves it to a request
+  -- The reaction leaves a response owed only for a request.
   abbrev owed : Reaction → Tally
   owed r t = one (is_request r.verdict && asks_with t m)
 
@@ -146,7 +147,7 @@ module _ (h : History) (m : Message) (server : h.role ≡ Server) (live : takes_
   ping_behind n few ping custody =
       record { earlier = h.handled; ping = m; later = []; there = refl; asks = rw (ping, custody, (bytes_decides m.token m.token).1 refl) refl; few = few }
 
-  -- a Pong with Custody follows at once where nothing is held
+  -- A Pong with Custody is queued at once only if nothing is pending.
   may_behind : (n : Message) → MayFollow (standing_now h) m n → (is_custody_pong n ≡ true → h.held ≡ []) → is_custody_pong n ≡ true → IsBehind now_handled (responses h.queued) n.token
   may_behind n may first custody =
       let asks = may.pong custody in
@@ -168,20 +169,20 @@ module _ (h : History) (m : Message) (server : h.role ≡ Server) (live : takes_
   })
   unless_follows (Some why) none = absurd cc
 
-  -- the history behind it
+  -- The history after the message.
   heard_follows : OwesStill nothing (owed (react (standing_now h) m)) (after h (call.Handle m))
   unfolding react
   heard_follows =
       subst (OwesStill nothing (owed (react (standing_now h) m))) (sym (cond-true (takes_messages h.phase) (heard h m) h live))
       (unless_follows (stop_of h.phase) live (custody_at_once (standing_now h) m))
 
--- ---- a request and its answer
+-- ---- a request and its response
 
 module _ (store : StoreValue) (now : ℕ) (s : Side) (m : Message) (server : s.history.role ≡ Server) (is : PongsFollow s.history) where
   abbrev heard_so : History
   heard_so = after s.history (call.Handle m)
 
-  -- a request is owed at most its own token
+  -- A request owes at most one response with its own token.
   abbrev owed_so : Bool → Tally
   owed_so asks t = one (asks && asks_with t m)
 
@@ -205,11 +206,11 @@ module _ (store : StoreValue) (now : ℕ) (s : Side) (m : Message) (server : s.h
 -- ---- settling
 
 module _ (h : History) (is : PongsFollow h) (before : List HeldValue) (e : HeldValue) (behind : List HeldValue) (there : h.held ≡ before ++ e ∷ behind) where
-  -- where something is held, responses are sent
+  -- If an entry is pending, responses are sent.
   held_on : answers h.phase ≡ true
   held_on = grind (arith, is.quiet, length-append before (e ∷ behind))
 
-  -- what is held no more is still to be queued
+  -- The response of a removed entry is still to be queued.
   let_go : FollowsBut (held_back (e ∷ [])) (held_back (e ∷ [])) h.handled h.queued (before ++ behind) h.phase
   let_go = record {
     pongs = is.pongs;
@@ -247,7 +248,7 @@ sent_due h now (Pong token) due is =
     by Bare = same_follows left (pong_with false token ∷ []) (λ custody. absurd cc, tt) (omega arith) (omega arith)
     by Stopped = over_follows left [] tt refl
 
--- a notification is one that nobody waits for
+-- A notification is a response that nobody is owed.
 notified_follows : (store : StoreValue) (now : ℕ) (s : Side) (found : Option Observer) → PongsFollow s.history → PongsFollow (notified store now s found).history
 notified_follows store now s None is = is
 notified_follows store now s (Some o) is =
@@ -256,7 +257,7 @@ notified_follows store now s (Some o) is =
     (λ does. sent_follows nothing nothing s.history is o.token (goes_on r) r (omega arith) (omega arith))
     (λ off. is)
 
--- ---- what a connection keeps
+-- ---- properties of every connection
 
 follows_keeps : (limits : LimitValues) → Keeps limits (λ s. PongsFollow s.history)
 follows_keeps limits = let R : History → History → Type 0 = λ h k. PongsFollow h → PongsFollow k in record {
@@ -272,7 +273,7 @@ follows_keeps limits = let R : History → History → Type 0 = λ h k. PongsFol
       (λ none. notified_follows store now s (next_due store now s) is);
 }
 
--- a Pong with Custody follows the answers to all requests before its Ping, after any events
+-- After any events, a Pong with Custody follows the responses to all requests before its Ping.
 pub pong_follows_answers : (c : ConfigValues) (es : List Event) (id : ℕ) (s : Side) (before : List Message) (pong : Message) (behind : List Message) → side_of id (world_after c es).sides ≡ Some s → s.history.queued ≡ before ++ pong ∷ behind → is_custody_pong pong ≡ true
     → FollowsAnswers s.history.handled pong before
 pong_follows_answers c es id s before pong behind there queued custody =

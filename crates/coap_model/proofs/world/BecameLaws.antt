@@ -1,4 +1,5 @@
--- A connection after bytes were taken on it: a message was handled, a fault stopped it, or it is unchanged; and settling handles nothing.
+-- A connection after it accepted bytes: a message was handled, an error stopped it, or it is unchanged. Settling
+-- handles no message.
 use Rattle.std.proofs.Common.{◌≡◌, ℕ, Bool, true, false, List, [], ◌∷◌, ◌++◌, Some, None, refl, sym, ap, subst, ◌∙◌}
 use Rattle.std.proofs.Common.{arith, ◌≢◌}
 use Rattle.std.proofs.lemmas.Bool.{both_ways}
@@ -25,13 +26,13 @@ use Rattle.coap_wire.proofs.NumberLaws.{none_or_some}
 use Rattle.coap_model.proofs.world.CustodyLaws.{HasHeard, handled_hears}
 use Rattle.coap_model.proofs.world.SideLaws.{handles_parts}
 
--- ---- what is sent changes nothing of what was handled
+-- ---- sending handles no message
 
--- a connection that stopped for a reason holds nothing
+-- A connection that has stopped for a reason has no pending entry.
 abbrev pub HasStopped : History → Reason → Type 0
 HasStopped h why = (h.phase ≡ phase.Stopped why) × (h.held ≡ [])
 
--- no message was handled since this, and a stop stays
+-- No message was handled since this history, and a stop is final.
 pub record HandlesNothing (before : History) (heard : List Message) (now : Phase) (held : List HeldValue) : Type 0 where
   pub handled : heard ≡ before.handled
   pub stopped : (why : Reason) → HasStopped before why → (now ≡ phase.Stopped why) × (held ≡ [])
@@ -50,7 +51,7 @@ rests_then h k g p q = record {
   stops = λ is. q.stops (p.stops is);
 }
 
--- a message is sent on a connection that has not stopped
+-- A message is sent on a connection that has not stopped.
 sent_rests : (h : History) (held : List HeldValue) (m less : Message) → ((why : Reason) → HasStopped h why → ⊥) → HandlesNone h (sent (holding h held) m less)
 sent_rests h held m less live = record {
   handled = refl;
@@ -61,7 +62,7 @@ sent_rests h held m less live = record {
 response_rests : Replies HandlesNone
 response_rests h token observe r does room = sent_rests h h.held _ _ (λ why is. both_ways (answers h.phase) (ap answers is.0) does)
 
--- where nothing is held, nothing is due
+-- If nothing is pending, nothing is due.
 first_rests : LetsGo HandlesNone
 unfolding without_due due_index
 first_rests h now = grind arith
@@ -71,13 +72,13 @@ pong_rests h now token due room =
     let there = due_pong now h.held token due in
     sent_rests h (without_due now h.held) (pong_with true token) (pong_with false token) (λ why is. cc)
 
--- settling handles nothing
+-- Settling handles no message.
 pub settled_handles_none : (store : StoreValue) (now : ℕ) (s : Side) → HandlesNone s.history (settled store now s).history
 settled_handles_none = settled_between HandlesNone (record { same = rests_self; then = rests_then }) response_rests first_rests pong_rests
 
--- ---- a fault
+-- ---- an error
 
--- a fault stops the connection, and no message was handled
+-- An error stops the connection, and no message was handled.
 pub record HasRejected (fault : StreamFault) (h k : History) : Type 0 where
   pub handled : k.handled ≡ h.handled
   pub stopped : HasStopped k (reject_reason (reject_of fault))
@@ -86,28 +87,31 @@ side_rejects : (s : Side) (fault : StreamFault) → handles s ≡ true → HasRe
 unfolding side_faulted
 side_rejects s fault does = grind arith
 
--- only a fault of the bytes has such a reason
+-- Only an error of the input has such a reason.
 pub no_message_reason : (fault : Reject) → message_reason (reject_reason fault) ≡ 0
 no_message_reason fault = grind arith
 
--- ---- what a take does
+-- ---- the steps of a take
 
--- the steps of a take: none, or the one of the message or of the fault that it ends; and whether it handled a message
+-- The steps of a take: none, or that of the message or error that it completes. The flag says whether it handled a
+-- message.
 pub data TakesSo (M id : ℕ) (es : List Event) (bytes : List ℕ) (s : Side) (message : Bool) : Type 0 where
   NoStep : message ≡ false → steps_by M es (Took id bytes) ≡ [] → (stream_on M id (es ++ Took id bytes ∷ [])).messages ≡ (stream_on M id es).messages → (stream_on M id (es ++ Took id bytes ∷ [])).fault ≡ (stream_on M id es).fault → TakesSo M id es bytes s message
   OneMessage : message ≡ true → handles s ≡ true → (m : Message) → Adds M id es bytes (record { messages = m ∷ []; rest = []; fault = None }) → TakesSo M id es bytes s message
   OneFault : message ≡ false → handles s ≡ true → (fault : StreamFault) (rest : List ℕ) → Adds M id es bytes (record { messages = []; rest = rest; fault = Some fault }) → TakesSo M id es bytes s message
 
--- ---- the connection after it
+-- ---- the connection after a take
 
--- What a take made of a connection whose stream was one and became another: the same, where the stream goes on with no message
--- and no fault; one message was handled, which stops it at most as a message may; or the fault stopped it.
+-- The effect of a take on a connection whose stream grew from `before` to `after`:
+-- - unchanged, if the stream has no further message and no new error;
+-- - one message was handled, which may stop the connection;
+-- - the error stopped the connection.
 pub data Became (before after : Stream) (s t : Side) (message : Bool) : Type 0 where
   Stayed : message ≡ false → t ≡ s → after.messages ≡ before.messages → after.fault ≡ before.fault → Became before after s t message
   Heard : message ≡ true → handles s ≡ true → (m : Message) → t.history.handled ≡ s.history.handled ++ m ∷ [] → StopsAtMost t.history.phase → after.messages ≡ before.messages ++ m ∷ [] → after.fault ≡ None → Became before after s t message
   Rejected : message ≡ false → handles s ≡ true → (fault : StreamFault) → HasRejected fault s.history t.history → after.messages ≡ before.messages → after.fault ≡ Some fault → Became before after s t message
 
--- a connection that takes messages has not stopped
+-- A connection that accepts messages has not stopped.
 live_stop : (s : Side) → handles s ≡ true → StopsAtMost s.history.phase
 live_stop s does = grind arith
 
@@ -140,9 +144,9 @@ module _ (c : ConfigValues) (es : List Event) (id : ℕ) (bytes : List ℕ) (s :
             (ap (λ (u : Stream). u.messages) adds.stream ∙ append-nil (stream_on c.limits.max_message id es).messages) (ap (λ (u : Stream). u.fault) adds.stream),
       )
 
--- ---- what is no message and no fault
+-- ---- other steps
 
--- no message and no fault of the connection
+-- The step is no message and no error of this connection.
 abbrev pub IsElsewhere : Step → ℕ → Type 0
 IsElsewhere (world.Handled at m) id = at ≢ id
 IsElsewhere (world.Faulted at fault) id = at ≢ id
@@ -163,7 +167,7 @@ rests_of w st id away = record {
       (once_between HandlesNone HandlesNone rests_self rests_then response_rests first_rests pong_rests store now t);
 }
 
--- ---- what a connection handled is what its stream spells
+-- ---- a connection handled the messages of its stream
 
 pub record Agrees (u : Stream) (s : Side) : Type 0 where
   pub handled : s.history.handled ≡ u.messages

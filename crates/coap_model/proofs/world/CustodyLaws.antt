@@ -1,5 +1,5 @@
--- What is held stands in the order of the messages that asked for it, and a Pong with Custody is queued only where nothing that is
--- held came before its Ping.
+-- Pending entries are in the order of the messages that asked for them. A Pong with Custody is queued only if no entry
+-- from before its Ping is pending.
 use Rattle.std.proofs.Common.{◌≡◌, ℕ, zero, suc, Bool, true, false, cond, ◌&&◌, ◌==◌, List, [], ◌∷◌, ◌++◌, length, Option, Some, None, refl, sym, ap, subst, ◌∙◌, inl, inr, ◌⊎◌, arith, append_assoc}
 use Rattle.coap_model.specs.Prelude.{AllByRecursion, list_any, remove, Message, Phase, LimitValues, takes_messages}
 use Rattle.coap_model.specs.Prelude.{answers, is_open, fit, bare_response, HeldValue, Answer, Pong, without_due}
@@ -30,16 +30,16 @@ use Rattle.coap_conn.specs.Calls as call
 use Rattle.std.proofs.lemmas.List.Folds.{list_any-append}
 use Rattle.coap_conn.proofs.StopLaws.{told_over}
 
--- ---- a Pong with Custody among what is queued
+-- ---- a Pong with Custody among queued messages
 
--- messages are queued, and where a Pong with Custody is among them, this holds
+-- Messages are queued; if a Pong with Custody is among them, G holds.
 abbrev Gives : Type 0 → History → History → Type 0
 Gives G h k = (more : List Message) × (k.queued ≡ h.queued ++ more) × (list_any is_custody_pong more ≡ true → G)
 
 gives_none : (G : Type 0) (h k : History) → k.queued ≡ h.queued → Gives G h k
 gives_none G h k same = ([], same ∙ sym (append-nil h.queued), λ pong. absurd cc)
 
--- it goes on over messages of which none is one
+-- Further messages without such a Pong do not change this.
 gives_then : (G : Type 0) (h k g : History) → Gives G h k → Gives ⊥ k g → Gives G h g
 gives_then G h k g one two =
     (one.0 ++ two.0, two.1 ∙ ap (λ ms. ms ++ two.0) one.1 ∙ append_assoc h.queued one.0 two.0, λ pong. grind (arith, list_any-append))
@@ -53,7 +53,7 @@ none_pass p (x ∷ xs) none = or_from (p x) (list_any p xs) none.0 (none_pass p 
 
 -- ---- responses
 
--- no option of a response is Custody
+-- No option of a response is Custody.
 path_no_custody : (path : List (List ℕ)) → list_any (λ o. o.number == option.custody && length o.value == 0) (each_at numbers.location_path path) ≡ false
 path_no_custody [] = refl
 path_no_custody (segment ∷ path) = path_no_custody path
@@ -64,13 +64,13 @@ response_no_pong token observe r = grind (arith, list_any-append, path_no_custod
 pub bare_no_pong : (m : Message) → IsNoPong (bare_response m)
 bare_no_pong m = grind arith
 
--- a response is no Pong with Custody
+-- A response is no Pong with Custody.
 reply_gives : Replies (Gives ⊥)
 reply_gives h token observe r does room =
     let m : Message = response_with_observe token observe r in
     ((send (standing_now h) m (bare_response m)).queued, refl, λ pong. grind (arith, response_no_pong token observe r, bare_no_pong m))
 
--- ---- where one is queued
+-- ---- effects that queue such a Pong
 
 pub custody_waits : (store : StoreValue) (now : ℕ) (s : Side) (m : Message) → QueuesCustody s (side_after store now s m) → s.history.held ≡ []
 custody_waits store now s m =
@@ -79,13 +79,13 @@ custody_waits store now s m =
     (λ h m takes room. (_, refl, custody_at_once (standing_now h) m)) (λ h. gives_none ⊥ h h refl) reply_gives
     (λ h token moment opened may. gives_none ⊥ h (holding h (h.held ++ Answer token moment ∷ [])) refl) store now s m)
 
--- none is queued where all is plain
+-- Plain effects queue no such Pong.
 pub plain_queues_no_custody : (s t : Side) → Queues IsPlain s.history t.history → QueuesCustody s t → ⊥
 plain_queues_no_custody s t queues =
     custody_gives ⊥ s t
     (queues.more, queues.same, both_ways _ (none_pass is_custody_pong queues.more (all_to IsPlain IsNoPong (λ m is. is.1) queues.more queues.such)))
 
--- the first that is held is a Pong
+-- The first pending entry is a Pong.
 abbrev IsPongFirst : History → Type 0
 IsPongFirst h = (token : List ℕ) × (rest : List HeldValue) × (h.held ≡ Pong token ∷ rest)
 
@@ -97,15 +97,15 @@ custody_comes_first store now s custody =
     (λ h now token due room. (_, refl, λ pong. (token, without_due now h.held, due_pong now h.held token due))) store now s) custody in
     (first.0, record { rest = first.1; first = first.2 })
 
--- ---- the order of what is held
+-- ---- the order of pending entries
 
--- a message more
+-- One more message.
 stand_skip : (m : Message) (ms : List Message) (es : List HeldValue) → StandFor ms es → StandFor (m ∷ ms) es
 unfolding StandFor
 stand_skip m ms [] stand = tt
 stand_skip m ms (e ∷ es) stand = inr stand
 
--- more messages, and what they ask for
+-- More messages, with the entries that they ask for.
 stand_append : (ms ns : List Message) (es fs : List HeldValue) → StandFor ms es → StandFor ns fs → StandFor (ms ++ ns) (es ++ fs)
 unfolding StandFor
 stand_append [] ns [] fs stand more = more
@@ -114,14 +114,14 @@ stand_append (m ∷ ms) ns [] fs stand more = stand_skip m (ms ++ ns) fs (stand_
 stand_append (m ∷ ms) ns (e ∷ es) fs (inl here) more = inl (here.0, stand_append ms ns es fs here.1 more)
 stand_append (m ∷ ms) ns (e ∷ es) fs (inr later) more = inr (stand_append ms ns (e ∷ es) fs later more)
 
--- a message stands for what it adds
+-- A message asks for the entry that it adds.
 stand_added : (m : Message) (es : List HeldValue) → AddsAsked m es → StandFor (m ∷ []) es
 unfolding StandFor
 stand_added m [] adds = tt
 stand_added m (e ∷ []) adds = inl (adds.asked.0, tt)
 stand_added m (e ∷ d ∷ es) adds = absurd (omega (arith, adds.few))
 
--- without the first of what is held, and without any of it
+-- The same without the first entry, and without any entry.
 stand_tail : (ms : List Message) (e : HeldValue) (es : List HeldValue) → StandFor ms (e ∷ es) → StandFor ms es
 unfolding StandFor
 stand_tail [] e es stand = absurd stand
@@ -141,7 +141,7 @@ stand_due : (ms : List Message) (now : ℕ) (es : List HeldValue) → StandFor m
 unfolding without_due
 stand_due ms now es stand = grind (arith, stand_removed)
 
--- each was asked for
+-- Each entry was asked for.
 pub stand_asked : (ms : List Message) (before : List HeldValue) (e : HeldValue) (after : List HeldValue) → StandFor ms (before ++ e ∷ after) → list_any (λ m. asks_held m e) ms ≡ true
 unfolding StandFor
 stand_asked [] [] e after stand = absurd stand
@@ -151,16 +151,16 @@ stand_asked (m ∷ ms) (b ∷ before) e after stand = grind (arith, stand_asked 
 
 -- ---- a request
 
--- a request leaves what is held as it is, and the connection open
+-- A request does not change the pending entries, and the connection stays open.
 pub asked_quiet : (s : Side) (m : Message) → asks_answer s m ≡ true → ((after s.history (call.Handle m)).held ≡ s.history.held) × (is_open (after s.history (call.Handle m)).phase ≡ true)
 asked_quiet s m asks = let quiet = react_asks (standing_now s.history) m (said_request _ asks) in grind (arith, told_over (standing_now s.history) m)
 
--- so its answer is held behind what was
+-- So its delayed response is appended to them.
 pub held_when_asked : (store : StoreValue) (now : ℕ) (s : Side) (m : Message) (seconds : ℕ) → handles s ≡ true → asks_answer s m ≡ true → held_for (after s.history (call.Handle m)) (answer_of store now m).hold ≡ Some seconds → (side_after store now s m).history.held ≡ s.history.held ++ Answer m.token (moment_after now seconds) ∷ []
 unfolding side_after
 held_when_asked store now s m seconds does asks is = grind (arith, asked_quiet s m asks)
 
--- What a message may make of a connection: it is no request; its answer is held; or it is answered at once.
+-- The possible cases of a message: no request, a request with a delayed response, and one with an immediate response.
 pub handled_cases : (store : StoreValue) (now : ℕ) (s : Side) (m : Message) (P : Side → Type 0)
     → (asks_answer s m ≡ false → P (with_history s (after s.history (call.Handle m))))
     → (asks_answer s m ≡ true → (moment : ℕ) → asks_held m (Answer m.token moment) ≡ true → P (side_with (holding (after s.history (call.Handle m)) ((after s.history (call.Handle m)).held ++ Answer m.token moment ∷ [])) (without_token m.token s.observers)))
@@ -177,9 +177,9 @@ handled_cases store now s m P other late prompt =
     subst (λ (k : History). P (side_with k others)) (sym (cond-true _ _ h (and_from _ _ (asked_quiet s m asks).1 both.0))) (late asks (moment_after now seconds) asked)
     )) (λ none. prompt asks)) other
 
--- ---- what a message adds
+-- ---- the entries that a message adds
 
--- more is held, each of it asked for by the message, or the connection stopped and holds nothing
+-- More entries are pending, and the message asks for each new one; or the connection has stopped and has none.
 abbrev Over : Message → List HeldValue → List HeldValue → Phase → Type 0
 Over m before after now = ((more : List HeldValue) × (after ≡ before ++ more) × AddsAsked m more) ⊎ ((why : Reason) × (now ≡ phase.Stopped why) × (after ≡ []))
 
@@ -189,7 +189,7 @@ adds_none m es now = inl ([], sym (append-nil es), record { few = omega arith; a
 adds_one : (m : Message) (before : List HeldValue) (e : HeldValue) (now : Phase) → asks_held m e ≡ true → Over m before (before ++ e ∷ []) now
 adds_one m before e now asks = inl (e ∷ [], refl, record { few = omega arith; asked = (asks, tt) })
 
--- a message was handled where messages are taken, and it stops the connection at most as a message may
+-- A message was handled while messages were accepted, and it may have stopped the connection.
 pub record HandlesOne (m : Message) (before : History) (handled : List Message) (held : List HeldValue) (now : Phase) : Type 0 where
   pub handled_more : takes_messages before.phase ≡ true → handled ≡ before.handled ++ m ∷ []
   pub stops : StopsAtMost before.phase → StopsAtMost now
@@ -240,7 +240,7 @@ sent_still_stands : (h : History) (m less : Message) → Stands h → Stands (se
 unfolding StandFor
 sent_still_stands h m less stand = sent_either (standing_now h) m less (fit (limit_now h) m less) (λ es now. StandFor h.handled es) stand tt
 
--- a message stands for what it added
+-- The message asks for the entries that it added.
 heard_stands : (m : Message) (h k : History) → takes_messages h.phase ≡ true → HasHeard m h k → Stands h → Stands k
 unfolding StandFor
 heard_stands m h k takes heard stand = rw (heard.handled_more takes) (by heard.adds)
@@ -265,20 +265,20 @@ stands_keeps limits = let R : History → History → Type 0 = λ h k. Stands h 
       (λ h now token due room stand. sent_still_stands (without_first h now) _ _ (stand_due h.handled now h.held stand));
 }
 
--- ---- what leaves what is held as it is
+-- ---- effects that do not change the pending entries
 
--- what is held is the same, or the connection stopped
+-- The pending entries are the same, or the connection has stopped.
 abbrev pub Leaves : History → History → Type 0
 Leaves h k = (k.held ≡ h.held) ⊎ ((why : Reason) × (k.phase ≡ phase.Stopped why))
 
--- so what is held stays
+-- So the pending entries are kept.
 pub left_kept : (s t : Side) → Leaves s.history t.history → KeepsHeld s t
 left_kept s t leaves = let none = append-nil s.history.held in grind arith
 
 pub written_same : (s : Side) (n : ℕ) → (side_written s n).history.held ≡ s.history.held
 written_same s n = written_between (λ h k. k.held ≡ h.held) (λ h. refl) (λ h n within. refl) s n
 
--- where nothing that is held is due, an observer is told
+-- If no entry is due, settling only notifies an observer.
 pub told_keeps : (store : StoreValue) (now : ℕ) (s : Side) → next_held now s ≡ None → KeepsHeld s (settled_once store now s)
 unfolding settled_once
 told_keeps store now s is = rw is (by (next_due store now s))
@@ -290,7 +290,7 @@ told_keeps store now s is = rw is (by (next_due store now s))
         (reply_either s.history (notification_message o.token (notification store now o))
         (λ ms es now. (es ≡ s.history.held) ⊎ ((why : Reason) × (now ≡ phase.Stopped why))) (inl refl) (inr (PeerTooSmall, refl)))
 
--- ---- what is due first is held no more
+-- ---- the first due entry is removed
 
 pub sent_when_due : (store : StoreValue) (now : ℕ) (s : Side) (token : List ℕ) (moment : ℕ) → next_held now s ≡ Some (Answer token moment) → (settled_once store now s).history ≡ after (after s.history (call.Due now)) (call.Reply (held_message token))
 unfolding settled_once
@@ -300,7 +300,7 @@ pub taken_out : (store : StoreValue) (now : ℕ) (s : Side) (e : HeldValue) → 
 unfolding settled_once
 taken_out store now s e is answering same = grind arith
 
--- ---- it is sent
+-- ---- its message is sent
 
 pub answer_sent : (store : StoreValue) (now : ℕ) (s : Side) (token : List ℕ) (moment : ℕ) → next_held now s ≡ Some (Answer token moment) → answers s.history.phase ≡ true
     → (settled_once store now s).history.queued ≡ s.history.queued ++ (send (standing_due now (standing_now s.history)) (held_message token) (bare_response (held_message token))).queued

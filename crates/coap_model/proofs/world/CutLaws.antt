@@ -1,4 +1,4 @@
--- Where pieces are cut does not matter: a piece, and its two parts one after the other, make the same steps.
+-- The split of the input does not matter: an input slice makes the same steps as its two parts in turn.
 use Rattle.std.proofs.Common.{◌≡◌, ℕ, List, [], ◌∷◌, ◌++◌, Option, Some, None, refl, sym, ap, ◌∙◌, append_assoc, ◌==◌, inl, inr}
 use Rattle.std.proofs.lemmas.Bool.{cases_Bool}
 use Rattle.std.proofs.lemmas.List.{append-nil, map-append}
@@ -9,9 +9,9 @@ use Rattle.coap_model.specs.Prelude.{stream_on, spelled_on, beyond, steps_by, st
 use Rattle.coap_model.proofs.world.StepLaws.{taken_then, steps_behind_more, size_then, sizes_then, read_before, stream_more, spelled_by, spelled_then}
 use Rattle.coap_model.proofs.world.TookLaws.{nothing_beyond}
 
--- ---- only what was spelled matters
+-- ---- only the stream matters
 
--- the same was spelled in two lists of events, and the same sizes are in force behind them
+-- Two lists of events gave a connection the same stream, and the same sizes apply after them.
 abbrev pub SpellAlike : ℕ → List Event → List Event → Type 0
 SpellAlike M es fs = (id : ℕ) → spelled_on M id es ≡ spelled_on M id fs
 
@@ -33,16 +33,16 @@ unfolding steps_behind
 behind_alike M es fs [] alike = refl
 behind_alike M es fs (g ∷ gs) alike = cc (by_alike M es fs g alike, behind_alike M (es ++ g ∷ []) (fs ++ g ∷ []) gs (alike_by M es fs g alike))
 
--- ---- a stream gone on in two parts
+-- ---- a stream continued in two parts
 
--- a stream, gone on with s and then with t
+-- A stream continued by s and then by t.
 parts : (id : ℕ) (before s t : Stream) (fault : Option StreamFault) → before.fault ≡ None → s.fault ≡ fault
     → beyond id before (gone_on (behind before.messages s) fault t) ≡ beyond id before (behind before.messages s) ++ beyond id (behind before.messages s) (gone_on (behind before.messages s) fault t)
 parts id before s t None none is =
     rw (drop-append_seam (before.messages ++ s.messages) t.messages) (simp (none, is, append_assoc, drop-append_seam, map-append, append-nil))
 parts id before s t (Some fault) none is = rw (nothing_beyond id (behind before.messages s)) (sym (append-nil (beyond id before (behind before.messages s))))
 
--- a stream gone on with xs and then with ys
+-- A stream continued by xs and then by ys.
 beyond_parts : (M id : ℕ) (before : Stream) (fault : Option StreamFault) (xs ys : List ℕ) → before.fault ≡ fault
     → beyond id before (split_on M (split_on M before xs) ys) ≡ beyond id before (split_on M before xs) ++ beyond id (split_on M before xs) (split_on M (split_on M before xs) ys)
 beyond_parts M id before None xs ys none =
@@ -53,7 +53,7 @@ beyond_parts M id before (Some fault) xs ys is =
     let on : (zs : List ℕ) → split_on M before zs ≡ before = λ zs. rw is refl in
     rw (on xs, on ys, nothing_beyond id before) refl
 
--- ---- a piece in two parts
+-- ---- an input slice in two parts
 
 pub spelled_twice : (M : ℕ) (es : List Event) (other : ℕ) (xs ys : List ℕ) → SpellAlike M (es ++ Took other (xs ++ ys) ∷ []) ((es ++ Took other xs ∷ []) ++ Took other ys ∷ [])
 spelled_twice M es other xs ys id =
@@ -65,7 +65,7 @@ spelled_twice M es other xs ys id =
       | inr away ↦ rw (away, append-nil (taken_on id es), append-nil (taken_on id es)) refl
     ]))
 
--- the steps of a piece are those of its parts
+-- The steps of a slice are those of its parts.
 by_parts : (M : ℕ) (es : List Event) (id : ℕ) (xs ys : List ℕ) → steps_by M es (Took id (xs ++ ys)) ≡ steps_by M es (Took id xs) ++ steps_by M (es ++ Took id xs ∷ []) (Took id ys)
 unfolding steps_by
 by_parts M es id xs ys =
@@ -74,7 +74,7 @@ by_parts M es id xs ys =
     rw (whole, stream_more M id half ys, size_then M id es (Took id xs), stream_more M id es xs)
     (beyond_parts (size_on M id es) id (stream_on M id es) (stream_on M id es).fault xs ys refl)
 
--- ---- the law
+-- ---- the theorem
 
 pub cut_steps : (M : ℕ) (es fs : List Event) (id : ℕ) (xs ys : List ℕ) → steps_of M (es ++ Took id (xs ++ ys) ∷ fs) ≡ steps_of M (es ++ Took id xs ∷ Took id ys ∷ fs)
 unfolding steps_of steps_behind

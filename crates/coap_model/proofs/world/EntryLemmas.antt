@@ -1,4 +1,4 @@
--- Lists, of observers and of others: facts on each element, and the first element that is due.
+-- Lists of observers and other lists: facts on each element, and the first element that is due.
 use Rattle.std.proofs.Common.{◌≡◌, ℕ, ◌+◌, ◌≤◌, Bool, true, false, List, [], ◌∷◌, ◌++◌, length, map, Some, None, refl, subst, arith, filter, find, if◌then◌else◌, inl, inr}
 use Rattle.coap_model.specs.Prelude.{AllByRecursion}
 use Rattle.coap_model.specs.Prelude.{with_entry, first_becomes}
@@ -7,7 +7,7 @@ use Rattle.coap_store.specs.declared.plan.Watch.TheVariants as watch
 use Rattle.std.proofs.lemmas.Bool.{cases_Bool, cond_both}
 use Rattle.coap_model.proofs.OptionLemmas.{same_there}
 
--- ---- what holds of each
+-- ---- properties of each element
 
 pub all_to : {O : Type 0} (P Q : O → Type 0) → ((o : O) → P o → Q o) → (os : List O) → AllByRecursion P os → AllByRecursion Q os
 all_to P Q to [] all = tt
@@ -38,13 +38,13 @@ all_become P due after [] all new = tt
 all_become P due after (o ∷ os) all new =
     elim (due o) as (λ b. AllByRecursion P (if b then after ++ os else o ∷ first_becomes due after os)) [ true ↦ all_append P after os new all.1 | false ↦ (all.0, all_become P due after os all.1 new) ]
 
--- ---- what a request asks
+-- ---- the entry that a request asks for
 
 pub asks_to_enter : (asked : Watch) → asks_entry asked ≡ true → asked ≡ watch.Add
 asks_to_enter watch.Add e = refl
 asks_to_enter other e = absurd cc
 
--- ---- lists that functions make
+-- ---- lists that functions compute
 
 pub maps_alike : {A B C D : Type 0} (f : A → B) (g : B → D) (h : A → C) (k : C → D) (xs : List A) → AllByRecursion (λ x. g (f x) ≡ k (h x)) xs → map g (map f xs) ≡ map k (map h xs)
 maps_alike f g h k [] same = refl
@@ -58,7 +58,7 @@ pub mapped_filter : {A B : Type 0} (f : A → B) (test : B → Bool) (xs : List 
 mapped_filter f test [] = refl
 mapped_filter f test (x ∷ xs) = grind (arith, mapped_filter f test xs)
 
--- ---- the first that is due
+-- ---- the first element that is due
 
 pub found_all : {O : Type 0} (P : O → Type 0) (due : O → Bool) (os : List O) (o : O) → AllByRecursion P os → find due os ≡ Some o → P o
 found_all P due [] o all e = absurd cc
@@ -74,7 +74,7 @@ pub none_found : {O : Type 0} (due : O → Bool) (os : List O) → AllByRecursio
 none_found due [] quiet = refl
 none_found due (o ∷ os) quiet = rw quiet.0 (none_found due os quiet.1)
 
--- how many are due
+-- The number of elements that are due.
 unfoldable pub count_due : {O : Type 0} → (O → Bool) → List O → ℕ
 count_due due [] = 0
 count_due due (o ∷ os) = if due o then count_due due os + 1 else count_due due os
@@ -84,7 +84,7 @@ unfolding count_due
 count_within due [] = omega arith
 count_within due (o ∷ os) = grind (arith, count_within due os)
 
--- where none is counted, none is found
+-- If the count is zero, no element is found.
 pub none_counted : {O : Type 0} (due : O → Bool) (os : List O) → count_due due os ≡ 0 → find due os ≡ None
 unfolding count_due
 none_counted due [] e = refl
@@ -95,7 +95,7 @@ unfolding count_due
 count_behind due [] os none = refl
 count_behind due (q ∷ front) os none = grind (arith, count_behind due front os)
 
--- one that is not due in the place of the first that is due, or none
+-- The count decreases by one if elements that are not due replace the first due one.
 pub count_less : {O : Type 0} (due : O → Bool) (os : List O) (o : O) (after : List O) → count_due due after ≡ 0 → find due os ≡ Some o → count_due due (first_becomes due after os) + 1 ≡ count_due due os
 unfolding count_due first_becomes
 count_less due [] o after quiet e = absurd cc

@@ -1,5 +1,5 @@
--- A history that another one goes on to: one of the same connection, which takes no message any more once it does not. What each call
--- keeps of a history.
+-- A history that continues another one: it belongs to the same connection, and accepts no messages if the earlier one
+-- did not. Each call keeps these properties.
 use Rattle.std.proofs.Common.{◌≡◌, ℕ, ◌≤◌, Bool, true, false, List, [], ◌∷◌, length, Option, Some, refl, ◌∙◌, arith, ◌&&◌}
 use Rattle.std.proofs.lemmas.Bool.{both_ways, and_parts, true_from_ne_false}
 use Rattle.std.proofs.lemmas.List.{length-drop}
@@ -19,9 +19,9 @@ use Rattle.coap_conn.proofs.LinkLemmas.{new_shown, history_more}
 use Rattle.coap_model.proofs.world.WalkLaws.{sent, holding, without_first, Between, if_between, settled_between}
 use Rattle.coap_model.proofs.world.AcrossLaws.{kept_by, HoldsOf, KeepsAll, all_across}
 
--- ---- what is kept
+-- ---- properties that are kept
 
--- a history went on: it is one of the same connection, and stays over once it is
+-- A history continues another: it is one of the same connection, and does not accept messages again after a stop.
 pub record GoesOn (before after : History) : Type 0 where
   pub role : after.role ≡ before.role
   pub limits : after.limits ≡ before.limits
@@ -39,13 +39,13 @@ further g h k one two = record {
   over = λ e. two.over (one.over e);
 }
 
--- one that takes messages took them before
+-- If it accepts messages, the earlier one did.
 pub was_live : (h k : History) → GoesOn h k → takes_messages k.phase ≡ true → takes_messages h.phase ≡ true
 was_live h k goes takes = true_from_ne_false (takes_messages h.phase) (λ e. both_ways (takes_messages k.phase) (goes.over e) takes)
 
--- ---- each part
+-- ---- each part of an effect
 
--- more is queued
+-- More messages are queued.
 pub effect_goes_on : (h : History) (e : Effect) → (takes_messages h.phase ≡ false → takes_messages e.phase ≡ false) → GoesOn h (with_effect h e)
 effect_goes_on h e over = record { role = refl; limits = refl; history = history_more h e.queued; over = over }
 
@@ -84,7 +84,7 @@ due_over s (Some (held.Pong token)) e =
     sent_over s (pong_with true token) (pong_with false token) (fit s.limit (pong_with true token) (pong_with false token)) e
 due_over s other e = e
 
--- no call makes another connection of it, or one take messages again
+-- No call changes the fixed values of a connection, or makes it accept messages again.
 pub call_goes_on : (h : History) (c : Call) → IsWithin (link_of h) (doing (link_of h) c).deed → GoesOn h (after h c)
 call_goes_on h (call.Reply m) within = if_between GoesOn (answers h.phase) h _ (as_before h) (λ does. sent_goes_so h m (bare_response m))
 call_goes_on h (call.Hold token moment) within = if_between GoesOn (is_open h.phase && may_hold h) h _ (as_before h) (λ may. holding_so h _)
@@ -92,7 +92,7 @@ call_goes_on h (call.Due now) within = effect_goes_on h _ (due_over (standing_du
 call_goes_on h (call.Written n) within = written_goes_on h n within
 call_goes_on h other within = if_between GoesOn _ h _ (as_before h) (λ so. record { role = refl; limits = refl; history = history_more h _; over = λ e. cc })
 
--- what is due first is held no more, and is sent
+-- The first due entry is removed, and its message is sent.
 pub sent_goes_on : (h : History) (now : ℕ) (e : HeldValue) → GoesOn h (after_sent h now e)
 sent_goes_on h now (held.Answer token moment) =
     let k : History = after h (call.Due now) in further h k _ (call_goes_on h (call.Due now) tt) (call_goes_on k (call.Reply (held_message token)) tt)
@@ -101,16 +101,16 @@ sent_goes_on h now (held.Pong token) = call_goes_on h (call.Due now) tt
 pub settled_goes_on : (store : StoreValue) (now : ℕ) (s : Side) → Between GoesOn s (settled store now s)
 settled_goes_on = settled_between GoesOn all_go_on.composes all_go_on.replies all_go_on.lets_go all_go_on.pongs
 
--- ---- what stops
+-- ---- stops
 
--- a fault stops a connection that takes messages
+-- An error stops a connection that accepts messages.
 pub faulted_stops : (s : Side) (fault : StreamFault) → handles s ≡ true → takes_messages (side_faulted s fault).history.phase ≡ false
 unfolding side_faulted
 faulted_stops s fault does = let takes = (and_parts (takes_messages s.history.phase) (has_room s) does).0 in rw does (rw takes refl)
 
--- ---- what each connection of a server is
+-- ---- properties of every connection of a server
 
--- no more was written than was queued, and it has these limits and is the server's end
+-- No more bytes were written than were queued. The connection has these limits and is the server's end.
 pub record IsSide (limits : LimitValues) (s : Side) : Type 0 where
   pub is_history : IsHistory s.history
   pub same_limits : s.history.limits ≡ limits
@@ -122,11 +122,11 @@ follower_is limits s t goes is = record { is_history = goes.history is.is_histor
 new_side_is : (limits : LimitValues) → IsSide limits (new_side limits)
 new_side_is limits = record { is_history = (new_shown Server limits 0 _ refl).is_history; same_limits = refl; is_server = refl }
 
--- the connection with a number is one
+-- The connection with an id has these properties.
 pub side_is : (c : ConfigValues) (es : List Event) (id : ℕ) (s : Side) → side_of id (world_after c es).sides ≡ Some s → IsSide c.limits s
 side_is c = kept_by c (Between GoesOn) (IsSide c.limits) (new_side_is c.limits) (follower_is c.limits) (all_across GoesOn all_go_on)
 
--- what such connections keep: a new one has it, and whatever happens to one that has it leaves it
+-- A property that a new connection has and that every effect keeps.
 pub record Keeps (limits : LimitValues) (P : Side → Type 0) : Type 0 where
   pub first : P (new_side limits)
   pub handled : (store : StoreValue) (now : ℕ) (s : Side) (m : Message) → IsSide limits s → P s → P (side_after store now s m)
@@ -137,7 +137,7 @@ pub record Keeps (limits : LimitValues) (P : Side → Type 0) : Type 0 where
   pub announced : (s : Side) (size : ℕ) → P s → P (side_announced s size)
   pub told : (store : StoreValue) (now : ℕ) (s : Side) → P s → P (settled_once store now s)
 
--- each connection goes on, and has it afterwards
+-- Each connection continues the earlier one, and has the property afterwards.
 abbrev GoesOnKeeping : LimitValues → (Side → Type 0) → Side → Side → Type 0
 GoesOnKeeping limits P s t = Between GoesOn s t × (IsSide limits s → P s → P t)
 
@@ -153,7 +153,7 @@ keeps_hold limits P keeps w st id = let goes : HoldsOf (Between GoesOn) w st id 
   told = λ store now s t before. (goes.told store now s t before.0, λ side is. keeps.told store now t (before.1 side is));
 }
 
--- so each connection has it after any events
+-- So each connection has the property after any events.
 pub kept_after : (c : ConfigValues) (P : Side → Type 0) → Keeps c.limits P → (es : List Event) (id : ℕ) (s : Side) → side_of id (world_after c es).sides ≡ Some s → P s
 kept_after c P keeps es id s there =
     (kept_by c (GoesOnKeeping c.limits P) (λ t. IsSide c.limits t × P t) (new_side_is c.limits, keeps.first)

@@ -1,4 +1,4 @@
--- What a connection queued stays queued, and nothing but a write counts bytes as written.
+-- The messages queued on a connection remain in its history, and only a write counts bytes as written.
 use Rattle.std.proofs.Common.{◌≡◌, ℕ, List, [], ◌∷◌, ◌++◌, length, take, drop, Option, Some, None, refl, ap, ◌∙◌, arith, map}
 use Rattle.std.proofs.lemmas.Bool.{le-leb}
 use Rattle.std.proofs.lemmas.List.{append-nil, take-append-le, take-append-drop}
@@ -30,9 +30,9 @@ settled_grows =
     (λ h token observe r does room. record { more = _; queued = refl; written = refl }) (λ h now. same_queue h _ refl refl)
     (λ h now token due room. record { more = _; queued = refl; written = refl })
 
--- ---- what was written
+-- ---- written bytes
 
--- the bytes that were written
+-- The bytes that were written.
 abbrev pub front_written : Side → List ℕ
 front_written s = take s.history.written (bytes_of s.history.queued)
 
@@ -40,7 +40,7 @@ pub same_front : (s t : Side) → IsHistory s.history → SideGrows s t → fron
 same_front s t within grows =
     rw (grows.written, grows.queued, bytes_more s.history.queued grows.more) (take-append-le s.history.written (bytes_of s.history.queued) (bytes_of grows.more) within)
 
--- all that waits is written
+-- All queued bytes are written.
 pub written_all : (s : Side) → front_written (side_written s (length (waiting_on s))) ≡ front_written s ++ waiting_on s
 unfolding side_written
 written_all s =
@@ -48,12 +48,12 @@ written_all s =
     let B : List ℕ = bytes_of s.history.queued in
     rw (le-leb n n (omega arith)) (take-add s.history.written n B ∙ ap (λ (w : List ℕ). take s.history.written B ++ w) (take-length (drop s.history.written B)))
 
--- where nothing waits all was written
+-- If no bytes are queued, all were written.
 pub none_waits_all_written : (s : Side) → waiting_on s ≡ [] → front_written s ≡ bytes_of s.history.queued
 none_waits_all_written s none =
     let B : List ℕ = bytes_of s.history.queued in cc (append-nil (take s.history.written B), take-append-drop s.history.written B)
 
--- ---- what a take does
+-- ---- a take
 
 abbrev SomeGrown : ℕ → World → Side → Type 0
 SomeGrown id w s = (t : Side) × (side_of id w.sides ≡ Some t) × SideGrows s t
@@ -76,7 +76,7 @@ messages_grown limits w id (m ∷ ms) before after s is =
     let rest = messages_grown limits v id ms before after one.0 one.1 in
     (rest.0, rest.1, grows_then s.history one.0.history rest.0.history one.2 rest.2)
 
--- a take queues more, and writes nothing
+-- A take queues further messages, and writes nothing.
 pub took_grows : (c : ConfigValues) (es : List Event) (id : ℕ) (bytes : List ℕ) (s : Side) → side_of id (world_after c es).sides ≡ Some s → (t : Side) × (side_of id (world_after c (es ++ Took id bytes ∷ [])).sides ≡ Some t) × SideGrows s t
 unfolding steps_by
 took_grows c es id bytes s is =
@@ -85,7 +85,7 @@ took_grows c es id bytes s is =
     rw (world_more c es (Took id bytes))
     (messages_grown c.limits (world_after c es) id (drop (length before.messages) after.messages) before.fault after.fault s is)
 
--- ---- what was handled stays
+-- ---- handled messages remain in the history
 
 abbrev SameHandled : History → History → Type 0
 SameHandled h k = k.handled ≡ h.handled

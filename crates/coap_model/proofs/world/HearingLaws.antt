@@ -1,4 +1,4 @@
--- What is known of every world, and that no change is lost in it.
+-- Facts that hold of every world, and the theorem that no change is lost in it.
 use Rattle.std.proofs.Common.{◌≡◌, ℕ, ◌≤◌, Bool, true, false, cond, List, [], ◌∷◌, map, Option, Some, None, refl, ◌==◌, not, is_none, nat_le, arith, ◌&&◌, sym, ap, ◌∙◌}
 use Rattle.coap_model.specs.Prelude.{AllByRecursion, LimitValues, StoreValue, found_in, Change, Put, Delete, changed}
 use Rattle.coap_model.specs.Prelude.{put_refusal, ConfigValues, Side, side_after, change_after, side_faulted}
@@ -21,9 +21,9 @@ use Rattle.coap_model.proofs.world.PlaceLaws.{AreDistinct, of_each}
 use Rattle.coap_model.proofs.world.ReachedLaws.{step_distinct}
 use Rattle.coap_model.specs.world.World as world
 
--- ---- what is known of a world
+-- ---- facts on a world
 
--- a place whose side is known
+-- The facts hold of the connection in a place.
 abbrev pub IsKnownPlace : StoreValue → Place → Type 0
 IsKnownPlace store p = IsKnownSide store p.side
 
@@ -34,7 +34,7 @@ pub record IsKnownWorld (w : World) : Type 0 where
 
 -- ---- steps
 
--- the connections are known ones
+-- A world with these connections has the facts.
 with_places : (w : World) (sides : List Place) → IsKnownWorld w → AllByRecursion (IsKnownPlace w.store) sides → IsKnownWorld (record w { sides = sides })
 with_places w sides known places = record { versioned = known.versioned; moment = known.moment; places = places }
 
@@ -43,7 +43,7 @@ on_side_known w id f keeps known =
     with_places w _ known (all_map (IsKnownPlace w.store) (IsKnownPlace w.store) (changed_at id f)
     (λ p is. cond_both (p.id == id) (record p { side = f p.side }) p (IsKnownPlace w.store) (λ here. keeps p.side is) (λ apart. is)) w.sides known.places)
 
--- whatever changes in the store
+-- Any change of the store keeps the facts.
 changed_known : (w : World) (change : Change) → IsKnownWorld w → IsKnownWorld (record w { store = changed w.store change })
 changed_known w change known = record {
   versioned = still_versioned w.store change known.versioned;
@@ -87,7 +87,7 @@ step_known limits w s before =
     let Known : Place → Type 0 = IsKnownPlace v.store in
     with_places v _ known (all_map Known Known (settled_place v.store v.now) (λ p. settled_known v.store v.now known.moment known.versioned p.side) v.sides known.places)
 
--- the world after any events is known
+-- The facts hold of the world after any events.
 pub world_known : (c : ConfigValues) (events : List Event) → c.starts.moment ≤ 18446744073709551615 → IsKnownWorld (world_after c events)
 unfolding found_in
 world_known c events small =
@@ -96,7 +96,7 @@ world_known c events small =
 
 -- ---- no change is lost
 
--- On each connection where there is room, each observer was told the state that its path has now.
+-- On each connection with room, each observer was last sent the current state of its path, and no pending entry is due.
 abbrev pub AllHear : World → Type 0
 AllHear w = AllByRecursion (λ p. HearsAll w.store w.now p.side) w.sides
 
@@ -108,11 +108,11 @@ pub step_hears : (limits : LimitValues) (w : World) (s : Step) → AllHear (step
 unfolding step
 step_hears limits w s = settled_hear (acted limits w s).store (acted limits w s).now (acted limits w s).sides
 
--- after any events
+-- The same after any events.
 pub world_hears : (c : ConfigValues) (events : List Event) → AllHear (world_after c events)
 world_hears c = world_keeps c AllHear (λ w s hear. step_hears c.limits w s) tt
 
--- a world in which no change is lost is settled
+-- A world in which no change is lost is settled.
 pub world_stays : (w : World) → AllHear w → all_settled w ≡ w
 world_stays w hear =
     let settles : Place → Place = settled_place w.store w.now in
@@ -122,14 +122,14 @@ world_stays w hear =
 
 -- ---- the end of input
 
--- behind a stop it does nothing, cut or not
+-- After a stop, the end of input has no effect, whether it cuts a message or not.
 ends_if_taking : (s : Side) (cut : Bool) → side_ended s (takes_messages s.history.phase && cut) ≡ side_ended s cut
 unfolding side_ended
 ends_if_taking s cut =
     let ended : Bool → Bool → Side = λ takes cut. with_history s (cond takes (with_effect s.history (stop (standing_now s.history) (end_reason cut) [])) s.history) in
     elim (takes_messages s.history.phase) as (λ takes. ended takes (takes && cut) ≡ ended takes cut) [ true ↦ refl | false ↦ refl ]
 
--- changes of a connection do the same to a place where they do the same to the connection with the number
+-- Two changes have the same effect on a place if they have the same effect on the connection with this id.
 place_same : (id : ℕ) (f g : Side → Side) (p : Place) (here : Bool) → (p.id == id) ≡ here → (p.id ≡ id → f p.side ≡ g p.side) → changed_at id f p ≡ changed_at id g p
 place_same id f g p true is same = rw is (ap (λ (s : Side). record p { side = s }) (same (eqb-true p.id id is)))
 place_same id f g p false is same = rw is refl
@@ -138,7 +138,7 @@ map_same : {B : Type 0} (f g : Place → B) (ps : List Place) → AllByRecursion
 map_same f g [] each = refl
 map_same f g (p ∷ ps) each = cc (each.0, map_same f g ps each.1)
 
--- what is the same of each connection with a number
+-- Two functions agree on all places if they agree on the connection of each id.
 pub each_same : {B : Type 0} (f g : Place → B) (ps : List Place) → AreDistinct ps → ((id : ℕ) (s : Side) → side_of id ps ≡ Some s → f (record { id = id; side = s }) ≡ g (record { id = id; side = s })) → map f ps ≡ map g ps
 each_same f g ps distinct same = map_same f g ps (of_each (λ id s. f (record { id = id; side = s }) ≡ g (record { id = id; side = s })) ps distinct same)
 
@@ -160,20 +160,20 @@ all_heard limits w [] distinct = refl
 all_heard limits w (s ∷ ss) distinct =
     rw (heard_acted limits w s distinct, after_steps) (all_heard limits (world.step limits w s) ss (step_distinct limits w s distinct))
 
--- they leave the world of the events
+-- The received steps lead to the same world as the events.
 pub heard_world : (c : ConfigValues) (es : List Event) → after_steps c.limits (new_world c) (steps_heard c es) ≡ world_after c es
 unfolding steps_heard world_after
 heard_world c es = all_heard c.limits (new_world c) (steps_of c.limits.max_message es) tt
 
--- so where they are equal, the worlds are
+-- So if the received steps are equal, the worlds are equal.
 pub same_heard : (c : ConfigValues) (es fs : List Event) → steps_heard c es ≡ steps_heard c fs → world_after c es ≡ world_after c fs
 same_heard c es fs alike = sym (heard_world c es) ∙ ap (after_steps c.limits (new_world c)) alike ∙ heard_world c fs
 
--- equal steps are heard alike
+-- Equal steps are received as equal steps.
 pub heard_alike : (c : ConfigValues) (es fs : List Event) → steps_of c.limits.max_message es ≡ steps_of c.limits.max_message fs → steps_heard c es ≡ steps_heard c fs
 unfolding steps_heard
 heard_alike c es fs alike = ap (heard_steps c.limits (new_world c)) alike
 
--- behind a stop
+-- The end of input after a stop.
 pub quiet_end : (w : World) (id : ℕ) (s : Side) (cut : Bool) → side_of id w.sides ≡ Some s → takes_messages s.history.phase ≡ false → heard_step w (world.Ended id cut) ≡ world.Ended id false
 quiet_end w id s cut there over = ap (λ (o : Option Side). world.Ended id (hears o && cut)) there ∙ ap (λ (b : Bool). world.Ended id (b && cut)) over

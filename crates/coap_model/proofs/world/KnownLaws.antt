@@ -23,9 +23,9 @@ use Rattle.coap_wire.specs.Codes as code
 use Rattle.coap_store.specs.declared.plan.Watch.TheVariants as watch
 use Rattle.coap_model.specs.world.Observers as world
 
--- ---- what is known
+-- ---- facts on an observer
 
--- what was told was stored: it has a version, and whatever has that version now at the path is no other
+-- The state sent last was stored: it has a version, and no other representation has this version at the path.
 pub record KnowsStored (store : StoreValue) (o : Observer) : Type 0 where
   pub state : Representation
   pub was : o.told ≡ Some state
@@ -33,13 +33,13 @@ pub record KnowsStored (store : StoreValue) (o : Observer) : Type 0 where
   pub given : state.version ≤ store.versions
   pub same : (r : Representation) → found_in store.resources o.path ≡ Some r → r.version ≡ state.version → r ≡ state
 
--- what was told was a moment
+-- The state sent last was a time.
 pub record KnowsMoment (o : Observer) : Type 0 where
   pub moment : ℕ
   pub was : o.told ≡ built text_plain (decimal moment)
   pub small : moment ≤ 18446744073709551615
 
--- what is dynamic and the moment are observed, and nothing else
+-- Created resources and `/time` can be observed, and no others.
 abbrev pub IsKnownAt : Place → StoreValue → Observer → Type 0
 IsKnownAt Time store o = KnowsMoment o
 IsKnownAt Dynamic store o = KnowsStored store o
@@ -49,7 +49,7 @@ pub record IsKnown (store : StoreValue) (o : Observer) : Type 0 where
   pub key : key_for o.path ≡ Some o.path
   pub state : IsKnownAt (place_of o.path) store o
 
--- no path stands twice, and each version was given
+-- No path occurs twice in the store, and each version was assigned by it.
 pub record IsVersioned (store : StoreValue) : Type 0 where
   pub distinct : AreDistinct store.resources
   pub numbered : (path : Path) (r : Representation) → found_in store.resources path ≡ Some r → 1 ≤ r.version
@@ -71,7 +71,7 @@ format_is None None e = refl
 format_is (Some m) (Some n) e = ap Some (eqb-true m n e)
 format_is f g e = absurd cc
 
--- states that compare equal are one
+-- States that compare as the same are equal.
 pub state_is : (told state : Option Representation) → same_state told state ≡ true → told ≡ state
 state_is None None e = refl
 state_is (Some r) (Some q) e =
@@ -83,19 +83,19 @@ state_is (Some r) (Some q) e =
     λ i. Some (record { version = version i; format = format i; bytes = bytes i })
 state_is told state e = absurd cc
 
--- an observer that is not due was told the state now
+-- An observer that is not due was last sent the current state.
 pub told_now : (store : StoreValue) (now : ℕ) (o : Observer) → is_due store now o ≡ false → o.told ≡ state_of store now o.path
 unfolding is_due
 told_now store now o e = state_is o.told (state_of store now o.path) (not-false (same_state o.told (state_of store now o.path)) e)
 
--- one that is told the state now is not due
+-- An observer that was last sent the current state is not due.
 pub not_due : (store : StoreValue) (now : ℕ) (o : Observer) → o.told ≡ state_of store now o.path → is_due store now o ≡ false
 unfolding is_due
 not_due store now o e = ap (λ told. not (same_state told (state_of store now o.path))) e ∙ ap not (state_itself (state_of store now o.path))
 
--- ---- over changes of the store
+-- ---- changes of the store
 
--- what is found after a change has a version that the change gave, or it was there
+-- A representation found after a change has the version that the change assigned, or was in the store before.
 found_behind : (store : StoreValue) (change : Change) (path : Path) (r : Representation) → AreDistinct store.resources → found_in (changed store change).resources path ≡ Some r
     → ((store.versions < r.version) × (r.version ≤ (changed store change).versions)) ⊎ (found_in store.resources path ≡ Some r)
 found_behind store Nothing path r distinct found = inr found
@@ -132,13 +132,13 @@ known_at_still Dynamic store change o is known = record {
 }
 known_at_still other store change o is known = known
 
--- what was told is known whatever changes
+-- The facts on an observer hold after any change.
 pub still_known : (store : StoreValue) (change : Change) (o : Observer) → IsVersioned store → IsKnown store o → IsKnown (changed store change) o
 still_known store change o is known = record { key = known.key; state = known_at_still (place_of o.path) store change o is known.state }
 
--- ---- being told the state now
+-- ---- sending the current state
 
--- a path whose state can be observed, and that has one
+-- The path names an observable resource, and it has a state.
 pub record IsWatchable (store : StoreValue) (now : ℕ) (path : Path) : Type 0 where
   pub key : key_for path ≡ Some path
   pub observable : is_observable (place_of path) ≡ true
@@ -157,14 +157,14 @@ told_at Dynamic store now token path r small is e there = record {
 }
 told_at other store now token path r small is e there = absurd cc
 
--- an observer that is told the state now is known
+-- An observer that is sent the current state has the facts.
 pub told_known : (store : StoreValue) (now : ℕ) (token : List ℕ) (path : Path) → now ≤ 18446744073709551615 → IsVersioned store → IsWatchable store now path → IsKnown store (record { token = token; path = path; told = state_of store now path })
 told_known store now token path small is can =
     rw can.there (record { key = can.key; state = told_at (place_of path) store now token path can.representation small is can.observable (rw can.key at can.there) })
 
--- ---- which states are told
+-- ---- states that are sent
 
--- a request that asks for an entry is about such a path
+-- A request that asks for an entry names such a path.
 pub entry_watchable : (store : StoreValue) (now : ℕ) (m : Message) → (prompt_answer store now m).watch ≡ watch.Add → IsWatchable store now (path_of m)
 entry_watchable store now m e = let may = promptly_watched_is_there store now m e in record { key = may.key; observable = may.observable; representation = may.representation; there = may.there }
 
@@ -173,7 +173,7 @@ known_observable Time store o known = refl
 known_observable Dynamic store o known = refl
 known_observable other store o known = absurd known
 
--- a notification with Observe is the 2.05 of the state, whose format is the one that was told
+-- A notification with Observe is the 2.05 of the state, in the format sent last.
 pub record TellsOn (place : Place) (state : Option Representation) (format : Option ℕ) (a : Response) : Type 0 where
   pub representation : Representation
   pub there : state ≡ Some representation
@@ -195,18 +195,18 @@ left_watchable store now o known e =
     let tells = tells_on_to_observer store now o e in
     record { key = known.key; observable = known_observable (place_of o.path) store o known.state; representation = tells.representation; there = tells.there }
 
--- ---- responses that tell a state
+-- ---- responses that report a state
 
--- the 2.05 of a state, or the 2.03 of a stored one
+-- The 2.05 of a state, or the 2.03 of a stored one.
 abbrev pub SaysState : Place → Representation → Response → Type 0
 SaysState place r a = (a ≡ content place r) ⊎ ((a ≡ etag_of_state r) × (is_dynamic place ≡ true))
 
--- such a response tells it, with Observe
+-- Such a response with Observe reports the state.
 pub says_tells : (o : Observer) (state : Option Representation) (r : Representation) (a : Response) → state ≡ Some r → SaysState (place_of o.path) r a → TellsState o state (response_with_observe o.token true a)
 says_tells o state r a there (inl e) = rw there (inl (ap (response_with_observe o.token true) e))
 says_tells o state r a there (inr e) = rw there (inr (ap (response_with_observe o.token true) e.0, e.1))
 
--- what tells a state is a response with the observer's token
+-- A message that reports a state is a response with the observer's token.
 pub tells_responds : (o : Observer) (state : Option Representation) (m : Message) → TellsState o state m → responds o.token m ≡ true
 tells_responds o None m tells = absurd tells
 tells_responds o (Some r) m (inl e) = ap (responds o.token) e ∙ bytes_itself o.token
@@ -214,11 +214,11 @@ tells_responds o (Some r) m (inr e) = ap (responds o.token) e.0 ∙ bytes_itself
 
 -- ---- answers
 
--- an answer that enters an observer tells the state of the path
+-- An answer that adds an observer reports the state of the path.
 abbrev TellsWell : Place → Option Representation → Answer → Type 0
 TellsWell place state a = a.watch ≡ watch.Add → (r : Representation) × (state ≡ Some r) × SaysState place r a.response
 
--- an ETag is among others only where the state is stored
+-- An ETag matches only if the state is stored.
 valid_says : (place : Place) (r : Representation) (etags : List (List ℕ)) → is_among (etag_at place r) etags ≡ true → SaysState place r (valid place r)
 valid_says Dynamic r etags e = inr (refl, refl)
 valid_says other r etags e = absurd cc
@@ -236,7 +236,7 @@ telling_at s t m =
       stored = λ dynamic other. store_cases P s t m (λ c error e. absurd cc) (λ e. absurd cc) (λ can e. absurd (cc (stored_unwatched t.key t.state m)));
     })
 
--- the answer that enters an observer is not held, and tells it what it is told
+-- The answer that adds an observer is not delayed, and reports the state that the entry records.
 pub entry_tells : (store : StoreValue) (now : ℕ) (m : Message) → (prompt_answer store now m).watch ≡ watch.Add → TellsState (entry_for store now m) (state_of store now (path_of m)) (response_with_observe m.token true (prompt_answer store now m).response)
 unfolding answer_of prompt_answer
 entry_tells store now m e =
@@ -250,7 +250,7 @@ entry_tells store now m e =
 
 -- ---- notifications
 
--- a notification with Observe tells what the observer is told from then on
+-- A notification with Observe reports the state that the entry records from then on.
 pub notification_tells_observer : (store : StoreValue) (now : ℕ) (o : Observer) → goes_on (notification store now o) ≡ true → TellsState o (state_of store now o.path) (notification_message o.token (notification store now o))
 notification_tells_observer store now o on =
     let is = tells_on_to_observer store now o on in

@@ -1,5 +1,5 @@
--- The limits of a server hold: after any events of the bytes that wait on a connection, of what it holds and of its observers, and
--- after accepted events of the bytes that are kept of an unfinished frame.
+-- No limit of a server is exceeded. After any events, this holds of the queued bytes, the pending entries and the
+-- observers of a connection. After accepted events, it also holds of the bytes kept of an unfinished frame.
 use Rattle.std.proofs.Common.{◌≡◌, ℕ, ◌+◌, ◌<◌, ◌≤◌, Bool, true, false, List, [], ◌∷◌, ◌++◌, length, Some, None, refl, ap, ◌∙◌, arith, sym, subst, append_assoc, inl, inr, ◌==◌}
 use Rattle.std.proofs.lemmas.Bool.{cond_both, leb-true, ltb-true, eqb-true}
 use Rattle.std.proofs.lemmas.List.{length-append, length-drop, append-nil}
@@ -58,7 +58,7 @@ few_keeps limits =
     let kept = observers_kept Few (omega arith) in
     record {
       first = omega arith;
-      -- an entry is made where there is a place for it
+      -- An entry is added only if there is a place for it.
       handled = λ store now s m is few. observers_after Few store now s m (omega arith) few (omega (arith, few, token_fewer m.token s.observers)) (λ asked place. (
           let same : (after s.history (call.Handle m)).limits.observers ≡ limits.observers =
           ap (λ (l : LimitValues). l.observers) ((call_goes_on s.history (call.Handle m) tt).limits ∙ is.same_limits) in
@@ -72,25 +72,25 @@ few_keeps limits =
           (λ o stays due on. omega (arith, few, becomes_fewer (is_due store now) (left_of store now o stays) s.observers (left_one store now o stays)));
     }
 
--- no more observers than the limits allow
+-- The observers do not exceed their limit.
 pub observers_within : (c : ConfigValues) (es : List Event) (id : ℕ) (s : Side) → side_of id (world_after c es).sides ≡ Some s → length s.observers ≤ c.limits.observers
 observers_within c = kept_after c (λ t. length t.observers ≤ c.limits.observers) (few_keeps c.limits)
 
--- ---- what is held
+-- ---- pending entries
 
 abbrev HoldsFew : History → Type 0
 HoldsFew h = length h.held ≤ h.limits.pending
 
--- what is sent adds nothing to it
+-- Sending a message adds no entry.
 sent_few : (h : History) (m less : Message) → HoldsFew h → HoldsFew (sent h m less)
 sent_few h m less few = omega (arith, few, send_held (standing_now h) m less (fit (limit_now h) m less))
 
--- what is due is taken out
+-- The due entry is removed.
 taken_few : (h : History) (now : ℕ) → HoldsFew h → HoldsFew (without_first h now)
 taken_few h now few = there_or_not (first_due now h.held) (λ due. HoldsFew (without_first h now))
     (λ none. omega (arith, few, ap (λ (es : List HeldValue). length es) (due_nothing now h.held none).1)) (λ e is. omega (arith, few, due_fewer now h.held e is))
 
--- an answer is held where there is room, and a stop gives up what is held
+-- An entry is added only if the list has room, and a stop removes all.
 all_hold_few : KeepsAll (λ h k. HoldsFew h → HoldsFew k)
 all_hold_few = record {
   composes = keeping_composes HoldsFew;
@@ -106,19 +106,19 @@ all_hold_few = record {
   writes = λ h n within few. few;
 }
 
--- no more is held than the limits allow
+-- The pending entries do not exceed their limit.
 pub held_within : (c : ConfigValues) (es : List Event) (id : ℕ) (s : Side) → side_of id (world_after c es).sides ≡ Some s → length s.history.held ≤ c.limits.pending
 held_within c es id s there =
     let few : HoldsFew s.history = kept_history c HoldsFew (omega arith) all_hold_few es id s there in
     omega (arith, few, ap (λ (l : LimitValues). l.pending) (side_is c es id s there).same_limits)
 
--- ---- the bytes that wait
+-- ---- queued bytes
 
 sent_one : (s : Standing) (m less : Message) (r : Reply) → length (send_as s m less r).queued ≤ 1
 sent_one s m less Whole = omega arith
 sent_one s m less other = omega arith
 
--- a message queues one at most
+-- A message queues at most one message.
 message_one : (s : Standing) (m : Message) → length (react s m).effect.queued ≤ 1
 message_one s m = react_so s m (λ e. length e.queued ≤ 1) (record {
   stays = omega arith;
@@ -128,7 +128,7 @@ message_one s m = react_so s m (λ e. length e.queued ≤ 1) (record {
   keeps = λ ping custody some. omega arith;
 })
 
--- no more bytes wait than the queue holds
+-- The queued bytes do not exceed the size of the queue.
 record Waits (h : History) : Type 0 where
   is : IsHistory h
   few : wait h ≤ h.limits.queue
@@ -136,7 +136,7 @@ record Waits (h : History) : Type 0 where
 waits_by : (h k : History) → GoesOn h k → (Waits h → wait k ≤ h.limits.queue) → Waits h → Waits k
 waits_by h k goes less w = record { is = goes.history w.is; few = omega (arith, less w, ap (λ (l : LimitValues). l.queue) goes.limits) }
 
--- where there is room, a message that fits is queued
+-- If there is room, a message that fits is queued.
 added_waits : (h k : History) (ms : List Message) → GoesOn h k → wait k ≡ wait (record h { queued = h.queued ++ ms }) → room_in h ≡ true → length ms ≤ 1 → AllFit (limit_now h) ms → Waits h → Waits k
 added_waits h k ms goes same room one each = waits_by h k goes (λ w.
     omega (arith, same, w.few, queued_waits h ms w.is, one_small (limit_now h) ms one each, limit_within h, leb-true h.limits.max_sent (free_in (link_of h)) room))
@@ -172,9 +172,9 @@ waiting_within c es id s ranges there =
     let waits : Waits s.history = kept_history c Waits (record { is = omega arith; few = new }) all_wait es id s there in
     omega (arith, waits.few, ap (λ (l : LimitValues). l.queue) (side_is c es id s there).same_limits)
 
--- ---- the bytes that are kept of an unfinished frame
+-- ---- bytes kept of an unfinished frame
 
--- fewer than the greatest message taken has
+-- An unfinished frame has fewer bytes than the largest message that is accepted.
 pub kept_within : (c : ConfigValues) (es : List Event) (id : ℕ) (s : Side) → AreInRange c.limits → AreAccepted c es → side_of id (world_after c es).sides ≡ Some s → length (kept_on s (stream_on c.limits.max_message id es).rest) < s.history.own_max
 kept_within c es id s ranges accepted there =
     let M : ℕ = c.limits.max_message in
@@ -188,7 +188,7 @@ kept_within c es id s ranges accepted there =
 
 -- ---- a message that announces a size queues nothing
 
--- it is Capabilities and Settings whose options may all be there
+-- The message is a CSM whose options are all allowed.
 announces : (m : Message) (n : ℕ) → announcement m ≡ Some n → (m.code ≡ code.csm) × (bad_csm_option m ≡ None)
 announces m n e =
     let is = there_where (m.code == code.csm) (csm_size m) n e in
@@ -201,20 +201,20 @@ announcing_quiet s m n e =
     let is = announces m n e in
     elim (stop_of s.phase) as (λ over. (reaction_unless s m over).effect.queued ≡ []) [ None ↦ rw (is.0, is.1) refl | Some why ↦ refl ]
 
--- ---- what is queued
+-- ---- queued messages
 
--- more is queued, and it fits the greatest message that may be sent afterwards
+-- Further messages are queued, and each fits the limit that applies afterwards.
 pub record GrowsFitting (h k : History) : Type 0 where
   pub more : List Message
   pub queued : k.queued ≡ h.queued ++ more
   pub fit : AllFit (limit_now k) more
 
--- the same, and as great a message may be sent as before
+-- The same, and the limit does not change.
 pub record GrowsEvenly (h k : History) : Type 0 where
   pub grows : GrowsFitting h k
   pub same : limit_now k ≡ limit_now h
 
--- nothing was queued
+-- Nothing was queued.
 same_evenly : (h k : History) → k.queued ≡ h.queued → limit_now k ≡ limit_now h → GrowsEvenly h k
 same_evenly h k queued limits = record { grows = record { more = []; queued = queued ∙ sym (append-nil h.queued); fit = tt }; same = limits }
 
@@ -238,7 +238,7 @@ reply_evenly : Replies GrowsEvenly
 reply_evenly h token observe r does room =
     let m : Message = response_with_observe token observe r in effect_evenly h (send (standing_now h) m (bare_response m)) (sent_fits h m (bare_response m))
 
--- a message: where it announces another size, it queues nothing
+-- A message that changes the limit queues nothing.
 message_grows : Hears GrowsFitting
 message_grows h m takes room =
     let more : List Message = (react (standing_now h) m).effect.queued in record {
@@ -271,7 +271,7 @@ grows_of w st id = let same : (h : History) → GrowsFitting h h = λ h. (evenly
   told = λ store now s t is. grows_fitting_then s.history t.history _ is (once_evenly store now t);
 }
 
--- each step only adds to what a connection has queued, and what it adds fits
+-- A step only appends to the queued messages of a connection, and the appended ones fit.
 pub step_fits : (limits : LimitValues) (w : World) (st : Step) (id : ℕ) (s t : Side) → side_of id w.sides ≡ Some s → side_of id (world.step limits w st).sides ≡ Some t
     → (more : List Message) × (t.history.queued ≡ s.history.queued ++ more) × AllFit (limit_now t.history) more
 step_fits limits w st id s t there then =
@@ -281,7 +281,7 @@ step_fits limits w st id s t there then =
     ] in
     (grows.more, grows.queued, grows.fit)
 
--- all that a connection has queued fits, where the step opened it
+-- If the step opened the connection, all its queued messages fit.
 pub opening_fits : (limits : LimitValues) (w : World) (id : ℕ) (t : Side) → AreInRange limits → side_of id w.sides ≡ None → side_of id (world.step limits w (world.Opened id)).sides ≡ Some t → AllFit (limit_now t.history) t.history.queued
 opening_fits limits w id t ranges none then =
     let new : History = (new_side limits).history in

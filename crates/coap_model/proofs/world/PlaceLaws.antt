@@ -1,4 +1,4 @@
--- The connections of a world by their numbers: what each change of the list leaves under a number.
+-- The connections of a world by id: the connection with an id after each change of the list.
 use Rattle.std.proofs.Common.{◌≡◌, ◌≢◌, ℕ, List, [], ◌∷◌, ◌++◌, map, Option, Some, None, refl, sym, ap, subst, ◌∙◌, ◌⊎◌, inl, inr, arith, not, filter, option_map, ◌==◌}
 use Rattle.coap_model.specs.Prelude.{AllByRecursion, Side, Place, side_of}
 use Rattle.std.proofs.lemmas.Bool.Decides.{nat_tests}
@@ -18,34 +18,35 @@ pub later_there : (id : ℕ) (p : Place) (ps : List Place) → p.id ≢ id → s
 unfolding side_of
 later_there id p ps e = rw (ne_eqb p.id id e) refl
 
--- what holds under the number of the first, and of what the others have under another one, holds of what all have
+-- A property of the connection with an id, if it holds in both cases: the first connection has the id, or the others
+-- are searched.
 by_first : (P : Option Side → Type 0) (id : ℕ) (p : Place) (ps : List Place) → (p.id ≡ id → P (Some p.side)) → (p.id ≢ id → P (side_of id ps)) → P (side_of id (p ∷ ps))
 unfolding side_of
 by_first P id p ps here apart = cond_both (p.id == id) (Some p.side) (side_of id ps) P (λ e. here (eqb-true p.id id e)) (λ e. apart (eqb-false p.id id e))
 
--- a connection that is there is the first, or a later one
+-- A connection that exists is the first or a later one.
 pub found : (id : ℕ) (s : Side) (p : Place) (ps : List Place) → side_of id (p ∷ ps) ≡ Some s → ((p.id ≡ id) × (p.side ≡ s)) ⊎ ((p.id ≢ id) × (side_of id ps ≡ Some s))
 found id s p ps is =
     by_first (λ there. there ≡ Some s → ((p.id ≡ id) × (p.side ≡ s)) ⊎ ((p.id ≢ id) × (side_of id ps ≡ Some s))) id p ps
     (λ here is. inl (here, same_there p.side s is)) (λ apart is. inr (apart, is)) is
 
--- none is there at first
+-- At first there is none.
 pub nobody : (id : ℕ) → side_of id [] ≡ None
 unfolding side_of
 nobody id = refl
 
--- a number that none has is not that of the first, and none of the others has it
+-- If no connection has an id, the first does not have it and no other does.
 none_parts : (id : ℕ) (p : Place) (ps : List Place) → side_of id (p ∷ ps) ≡ None → (p.id ≢ id) × (side_of id ps ≡ None)
 none_parts id p ps none =
     by_first (λ there. there ≡ None → (p.id ≢ id) × (side_of id ps ≡ None)) id p ps (λ here none. absurd cc) (λ apart none. (apart, none)) none
 
--- ---- a change of each connection that keeps its number
+-- ---- a change of each connection that keeps its id
 
--- each connection becomes what g makes of it
+-- The place whose connection g has changed.
 abbrev pub with_sides : (Side → Side) → Place → Place
 with_sides g p = record p { side = g p.side }
 
--- each becomes what f makes of it, where that makes of the one with this number what g makes of its side
+-- The connection with an id after f was applied to each place, if f changes this connection as g does.
 mapped_there : (id : ℕ) (f : Place → Place) (g : Side → Side) → ((p : Place) → (f p).id ≡ p.id) → ((p : Place) → p.id ≡ id → (f p).side ≡ g p.side) → (ps : List Place) → side_of id (map f ps) ≡ option_map g (side_of id ps)
 unfolding side_of
 mapped_there id f g ids sides [] = refl
@@ -54,7 +55,7 @@ mapped_there id f g ids sides (p ∷ ps) = grind (arith, nat_tests, ids p, sides
 pub all_there : (id : ℕ) (g : Side → Side) (ps : List Place) → side_of id (map (with_sides g) ps) ≡ option_map g (side_of id ps)
 all_there id g ps = mapped_there id (with_sides g) g (λ p. refl) (λ p here. refl) ps
 
--- ---- a change of one connection, which keeps each number
+-- ---- a change of one connection that keeps each id
 
 pub changed_id : (id : ℕ) (f : Side → Side) (p : Place) → (changed_at id f p).id ≡ p.id
 changed_id id f p = cond_both (p.id == id) (with_sides f p) p (λ q. q.id ≡ p.id) (λ e. refl) (λ e. refl)
@@ -67,7 +68,7 @@ changed_elsewhere id other f ps apart =
     mapped_there other (changed_at id f) (λ s. s) (changed_id id f) (λ p here. rw (ne_eqb p.id id (λ (e : p.id ≡ id). apart (sym e ∙ here))) refl) ps
     ∙ option_map_id (side_of other ps)
 
--- ---- a connection more, or less
+-- ---- one connection more or less
 
 pub still_there : (id : ℕ) (s : Side) (ps qs : List Place) → side_of id ps ≡ Some s → side_of id (ps ++ qs) ≡ Some s
 unfolding side_of
@@ -84,11 +85,11 @@ unfolding side_of
 other_more id [] p apart = later_there id p [] apart
 other_more id (q ∷ ps) p apart = grind (arith, other_more id ps p apart)
 
--- the connections but one
+-- The connections without the one with this id.
 abbrev pub but : ℕ → List Place → List Place
 but id ps = filter (λ p. not (p.id == id)) ps
 
--- what holds of the others, and of them with the first where that has another number, holds of what is left of all
+-- A property of the rest of a list, by cases: the first connection has the id, or it does not.
 by_but : (P : List Place → Type 0) (id : ℕ) (p : Place) (ps : List Place) → (p.id ≡ id → P (but id ps)) → (p.id ≢ id → P (p ∷ but id ps)) → P (but id (p ∷ ps))
 by_but P id p ps here apart =
     elim (cases_eq p.id id) [ inl is ↦ rw (eq-eqb p.id id is) (here is) | inr away ↦ rw (ne_eqb p.id id away) (apart away) ]
@@ -103,14 +104,14 @@ unfolding side_of
 dropped_elsewhere id other [] apart = refl
 dropped_elsewhere id other (p ∷ ps) apart = grind (arith, nat_tests, dropped_elsewhere id other ps apart)
 
--- ---- numbers that are distinct
+-- ---- distinct ids
 
--- no later connection has the number of an earlier one
+-- No later connection has the id of an earlier one.
 abbrev pub AreDistinct : List Place → Type 0
 AreDistinct [] = Unit {0}
 AreDistinct (p ∷ ps) = (side_of p.id ps ≡ None) × AreDistinct ps
 
--- a change of each connection that keeps its number
+-- A change of each connection that keeps its id.
 pub none_mapped : (id : ℕ) (g : Place → Place) → ((p : Place) → (g p).id ≡ p.id) → (ps : List Place) → side_of id ps ≡ None → side_of id (map g ps) ≡ None
 unfolding side_of
 none_mapped id g same [] none = none
@@ -121,7 +122,7 @@ distinct_mapped g same [] distinct = tt
 distinct_mapped g same (p ∷ ps) distinct =
     (none_mapped (g p).id g same ps (ap (λ (id : ℕ). side_of id ps) (same p) ∙ distinct.0), distinct_mapped g same ps distinct.1)
 
--- a new number
+-- A new id.
 pub distinct_more : (ps : List Place) (p : Place) → AreDistinct ps → side_of p.id ps ≡ None → AreDistinct (ps ++ p ∷ [])
 distinct_more [] p distinct none = (nobody p.id, tt)
 distinct_more (q ∷ ps) p distinct none =
@@ -134,16 +135,16 @@ distinct_but id (p ∷ ps) distinct =
     by_but AreDistinct id p ps (λ here. distinct_but id ps distinct.1)
     (λ apart. (dropped_elsewhere id p.id ps (λ (e : id ≡ p.id). apart (sym e)) ∙ distinct.0, distinct_but id ps distinct.1))
 
--- ---- what holds of each connection
+-- ---- properties of each connection
 
--- it holds of the one that has a number
+-- A property of each connection holds of the one with an id.
 pub of_number : (P : ℕ → Side → Type 0) (id : ℕ) (s : Side) (ps : List Place) → AllByRecursion (λ p. P p.id p.side) ps → side_of id ps ≡ Some s → P id s
 of_number P id s [] each e = absurd (none_or_some s (sym (nobody id) ∙ e))
 of_number P id s (p ∷ ps) each e =
     by_first (λ there. there ≡ Some s → P id s) id p ps
     (λ here is. subst (λ (n : ℕ). P n s) here (subst (P p.id) (same_there p.side s is) each.0)) (λ apart is. of_number P id s ps each.1 is) e
 
--- what holds of the one that has a number holds of each, where the numbers are distinct
+-- If ids are distinct, a property of the connection of each id holds of every connection.
 pub of_each : (P : ℕ → Side → Type 0) (ps : List Place) → AreDistinct ps → ((id : ℕ) (s : Side) → side_of id ps ≡ Some s → P id s) → AllByRecursion (λ p. P p.id p.side) ps
 of_each P [] distinct holds = tt
 of_each P (p ∷ ps) distinct holds = (
@@ -151,7 +152,7 @@ of_each P (p ∷ ps) distinct holds = (
   of_each P ps distinct.1 (λ id s e. holds id s (later_there id p ps (λ (same : p.id ≡ id). none_or_some s (sym distinct.0 ∙ ap (λ (n : ℕ). side_of n ps) same ∙ e)) ∙ e)),
 )
 
--- where nothing happens to it, no connection changes
+-- The identity changes no connection.
 pub places_unchanged : (id : ℕ) (ps : List Place) → map (changed_at id (λ s. s)) ps ≡ ps
 places_unchanged id [] = refl
 places_unchanged id (p ∷ ps) = cc (cond_both (p.id == id) p p (λ q. q ≡ p) (λ e. refl) (λ e. refl), places_unchanged id ps)

@@ -1,5 +1,5 @@
--- What holds of the world after any accepted events: each number is given once, and the stream of a connection that takes
--- messages has no fault.
+-- Properties of the world after any accepted events: each id is used once, and the stream of a connection that accepts
+-- messages has no error.
 use Rattle.std.proofs.Common.{◌≡◌, ℕ, ◌+◌, ◌<◌, ◌≤◌, Bool, true, false, cond, List, [], ◌∷◌, length, map, Option, Some, None, refl, sym, ap, subst, ◌∙◌, arith, is_none, ◌++◌, take, Result, Ok, Err, inl, inr, ◌⊎◌, nat_lt, not, ◌==◌, if◌then◌else◌}
 use Rattle.coap_model.specs.Prelude.{AllByRecursion, StreamFault, Stream, frame_then, LimitValues, takes_messages}
 use Rattle.coap_model.specs.Prelude.{put_refusal, ConfigValues, Side, new_side, handles, side_after, side_faulted}
@@ -30,10 +30,10 @@ use Rattle.coap_wire.proofs.NumberLaws.{none_or_some}
 use Rattle.coap_model.specs.world.World as world
 use Rattle.coap_model.specs.world.Events as event
 
--- ---- what any step keeps
+-- ---- properties that any step keeps
 
--- it is kept where a connection is opened, where each becomes another with its number, where other things are stored and time goes
--- on, and where a connection goes
+-- The property is kept when a connection is opened, changed under its id or removed, and when the store or the time
+-- changes.
 pub record KeptByStep (P : World → Type 0) (limits : LimitValues) (w : World) (st : Step) : Type 0 where
   pub opened : (id : ℕ) → st ≡ world.Opened id → side_of id w.sides ≡ None → P (opened_world limits w id)
   pub changed : (v : World) (g : Place → Place) → ((p : Place) → (g p).id ≡ p.id) → P v → P (record v { sides = map g v.sides })
@@ -66,7 +66,7 @@ module _ (P : World → Type 0) (limits : LimitValues) (w : World) (holds : P w)
   unfolding world.step
   step_keeps st keeps = keeps.changed (acted limits w st) (settled_place (acted limits w st).store (acted limits w st).now) (λ p. refl) (acted_keeps st keeps)
 
--- the numbers of connections are distinct
+-- The ids of connections are distinct.
 pub step_distinct : (limits : LimitValues) (w : World) (s : Step) → AreDistinct w.sides → AreDistinct (world.step limits w s).sides
 step_distinct limits w s distinct = step_keeps (λ v. AreDistinct v.sides) limits w distinct s (record {
   opened = λ id is free. distinct_more w.sides (record { id = id; side = new_side limits }) distinct free;
@@ -75,34 +75,34 @@ step_distinct limits w s distinct = step_keeps (λ v. AreDistinct v.sides) limit
   dropped = λ id. distinct_but id w.sides distinct;
 })
 
--- after any events, accepted or not
+-- The same after any events, accepted or not.
 pub events_distinct : (c : ConfigValues) (es : List Event) → AreDistinct (world_after c es).sides
 unfolding world_after
 events_distinct c es = steps_keep (λ w. AreDistinct w.sides) c.limits (step_distinct c.limits) (new_world c) (steps_of c.limits.max_message es) tt
 
--- ---- after steps that give each number once
+-- ---- after steps that use each id once
 
--- a connection is opened with the next number, and where there is room for it
+-- A connection is opened with the next id, and only below the connection limit.
 abbrev pub OpensNext : ConfigValues → World → Step → Type 0
 OpensNext c w (world.Opened id) = (id ≡ w.ids + 1) × (length w.sides < c.connections)
 OpensNext c w other = Unit {0}
 
--- the number was given, where this was given last
+-- The id was assigned, if `last` is the id assigned last.
 pub record IsGivenNumber (c : ConfigValues) (last id : ℕ) : Type 0 where
   pub above : c.starts.ids < id
   pub within : id ≤ last
 
--- each number was given, and there are no more connections than the configuration allows
+-- Every id was assigned, and the connection limit is not exceeded.
 pub record IsNumbered (c : ConfigValues) (w : World) : Type 0 where
   pub low : c.starts.ids ≤ w.ids
   pub each : AllByRecursion (λ p. IsGivenNumber c w.ids p.id) w.sides
   pub few : length w.sides ≤ c.connections
 
--- the connection with a number was given it
+-- The id of an existing connection was assigned.
 pub number_given : (c : ConfigValues) (w : World) (id : ℕ) (s : Side) → IsNumbered c w → side_of id w.sides ≡ Some s → IsGivenNumber c w.ids id
 number_given c w id s is e = of_number (λ n t. IsGivenNumber c w.ids n) id s w.sides is.each e
 
--- the next number is free, so it opens a connection
+-- The next id is free, so it opens a connection.
 free_by : (c : ConfigValues) (w : World) (id : ℕ) (there : Option Side) → side_of id w.sides ≡ there → IsNumbered c w → w.ids < id → side_of id w.sides ≡ None
 free_by c w id None e is h = e
 free_by c w id (Some s) e is h = absurd (omega (arith, h, (number_given c w id s is e).within))
@@ -137,7 +137,7 @@ step_numbered c w s is next = step_keeps (IsNumbered c) c.limits w is s (record 
   };
 })
 
--- no number is taken back
+-- The last id never decreases.
 pub ids_grow : (c : ConfigValues) (w : World) (s : Step) → OpensNext c w s → w.ids ≤ (world.step c.limits w s).ids
 ids_grow c w s next = step_keeps (λ v. w.ids ≤ v.ids) c.limits w (omega arith) s (record {
   opened = λ id opened free. let given : (id ≡ w.ids + 1) × (length w.sides < c.connections) = subst (OpensNext c w) opened next in omega (arith, given.0);
@@ -146,22 +146,21 @@ ids_grow c w s next = step_keeps (λ v. w.ids ≤ v.ids) c.limits w (omega arith
   dropped = λ id. omega arith;
 })
 
--- ---- What holds of the world after any accepted events: each number is given once, and the stream of a connection that takes
--- messages has no fault.
+-- ---- worlds after accepted events
 
--- where a connection takes messages, its stream has no fault
+-- If a connection accepts messages, its stream has no error.
 abbrev pub HaveNoFault : ConfigValues → List Event → World → Type 0
 HaveNoFault c es w = (id : ℕ) (s : Side) → side_of id w.sides ≡ Some s → takes_messages s.history.phase ≡ true → (stream_on c.limits.max_message id es).fault ≡ None
 
--- nothing was spelled on a connection that is still to come
+-- A connection that is not yet opened has an empty stream.
 abbrev pub IsSilent : ConfigValues → List Event → World → Type 0
 IsSilent c es w = (id : ℕ) → w.ids < id → spelled_on c.limits.max_message id es ≡ nothing_spelled c.limits.max_message
 
--- each connection takes messages of the size that was announced last on it
+-- Each connection accepts messages of the size that was announced last on it.
 abbrev pub HaveSizes : ConfigValues → List Event → World → Type 0
 HaveSizes c es w = (id : ℕ) (s : Side) → side_of id w.sides ≡ Some s → s.history.own_max ≡ size_on c.limits.max_message id es
 
--- accepted events lead to a world so
+-- The world after accepted events has these properties.
 pub record IsReached (c : ConfigValues) (es : List Event) : Type 0 where
   pub numbered : IsNumbered c (world_after c es)
   pub silent : IsSilent c es (world_after c es)
@@ -180,7 +179,7 @@ first_reached c = record {
 
 -- ---- a step
 
--- a connection after a step was there before it, or nothing was spelled on it
+-- A connection after a step existed before it, or its stream is empty.
 was_before : (R : Side → Side → Type 0) (c : ConfigValues) (es : List Event) (st : Step) (id : ℕ) (t : Side) → IsReached c es → OpensNext c (world_after c es) st → HoldsOf R (world_after c es) st id → side_of id (world.step c.limits (world_after c es) st).sides ≡ Some t
     → ((s : Side) × (side_of id (world_after c es).sides ≡ Some s) × R s t) ⊎ ((spelled_on c.limits.max_message id es ≡ nothing_spelled c.limits.max_message) × R (new_side c.limits) t)
 was_before R c es st id t before next holds there =
@@ -192,7 +191,7 @@ was_before R c es st id t before next holds there =
           inr (before.silent id (omega (arith, opened.0)), new.2)
     ]
 
--- the stream of a connection that takes messages after a step had no fault before it
+-- If a connection accepts messages after a step, its stream had no error before.
 step_live : (c : ConfigValues) (es : List Event) (s : Step) (id : ℕ) (t : Side) → IsReached c es → OpensNext c (world_after c es) s → side_of id (world.step c.limits (world_after c es) s).sides ≡ Some t → takes_messages t.history.phase ≡ true → (stream_on c.limits.max_message id es).fault ≡ None
 step_live c es s id t before next there takes =
     elim (was_before (Between GoesOn) c es s id t before next (all_across GoesOn all_go_on (world_after c es) s id) there) [
@@ -200,16 +199,16 @@ step_live c es s id t before next there takes =
       | inr new ↦ ap (λ (s : Stream × ℕ). s.0.fault) new.0
     ]
 
--- ---- the sizes in force
+-- ---- sizes
 
--- only an announcement changes the size
+-- Only an announcement changes the size.
 abbrev SameSize : History → History → Type 0
 SameSize h k = k.own_max ≡ h.own_max
 
 settled_size : (store : StoreValue) (now : ℕ) (s : Side) → Between SameSize s (settled store now s)
 settled_size = settled_between SameSize (record { same = λ h. refl; then = λ h k g one two. two ∙ one }) (λ h token observe r does room. refl) (λ h now. refl) (λ h now token due room. refl)
 
--- it is none of the connection's announcements
+-- The step is no announcement of this connection.
 abbrev IsUnannounced : Step → ℕ → Type 0
 IsUnannounced st id = (size : ℕ) → st ≡ world.Announced id size → ⊥
 
@@ -235,7 +234,7 @@ step_sized c es st id t before next none there =
 
 -- ---- an event that makes one step
 
--- an event with which nothing is spelled on numbers that were not given, and this is the world behind it
+-- An event that adds no bytes to connections not yet opened, and w is the world after it.
 reached_more : (c : ConfigValues) (es : List Event) (e : Event) (w : World) → IsReached c es → world_after c (es ++ e ∷ []) ≡ w → IsNumbered c w → (world_after c es).ids ≤ w.ids
     → ((id : ℕ) → (world_after c es).ids < id → (taken_in id e ≡ []) × size_stays id e) → HaveNoFault c (es ++ e ∷ []) w → HaveSizes c (es ++ e ∷ []) w → IsReached c (es ++ e ∷ [])
 reached_more c es e w before is numbered grow none goes_on sizes = record {
@@ -247,7 +246,7 @@ reached_more c es e w before is numbered grow none goes_on sizes = record {
   sizes = rw is sizes;
 }
 
--- an event with no bytes
+-- An event without bytes.
 step_reached : (c : ConfigValues) (es : List Event) (e : Event) (s : Step) → IsReached c es → steps_by c.limits.max_message es e ≡ s ∷ [] → OpensNext c (world_after c es) s → ((id : ℕ) → taken_in id e ≡ []) → ((id : ℕ) → (world_after c es).ids < id → size_stays id e)
     → HaveSizes c (es ++ e ∷ []) (world.step c.limits (world_after c es) s) → IsReached c (es ++ e ∷ [])
 step_reached c es e s before one next none stays sizes =
@@ -257,7 +256,7 @@ step_reached c es e s before one next none stays sizes =
     (λ id t there takes. ap (λ (u : Stream). u.fault) (stream_same c.limits.max_message id es e (none id)) ∙ step_live c es s id t before next there takes)
     sizes
 
--- and announces nothing
+-- An event that also announces nothing.
 plain_reached : (c : ConfigValues) (es : List Event) (e : Event) (s : Step) → IsReached c es → steps_by c.limits.max_message es e ≡ s ∷ [] → OpensNext c (world_after c es) s → ((id : ℕ) → taken_in id e ≡ []) → ((id : ℕ) → size_stays id e) → ((id : ℕ) → IsUnannounced s id) → IsReached c (es ++ e ∷ [])
 plain_reached c es e s before one next none stays quiet =
     let M : ℕ = c.limits.max_message in
@@ -266,11 +265,11 @@ plain_reached c es e s before one next none stays quiet =
 
 -- ---- a take
 
--- where messages are handled, the stream has no fault
+-- If a connection handles messages, its stream has no error.
 pub handling_goes_on : (c : ConfigValues) (es : List Event) (id : ℕ) (s : Side) → IsReached c es → side_of id (world_after c es).sides ≡ Some s → handles s ≡ true → (stream_on c.limits.max_message id es).fault ≡ None
 handling_goes_on c es id s is there does = is.goes_on id s there (and_parts (takes_messages s.history.phase) (has_room s) does).0
 
--- what is taken of a piece, where this connection is there
+-- The number of bytes of an input slice that are accepted, if the connection exists.
 pub takes_there : (c : ConfigValues) (es : List Event) (id : ℕ) (piece : List ℕ) (s : Side) → side_of id (world_after c es).sides ≡ Some s → takes c es id piece ≡ cond (handles s) (front_of (size_on c.limits.max_message id es) (stream_on c.limits.max_message id es).rest piece) 0
 unfolding takes
 takes_there c es id piece s there = rw there refl
@@ -279,7 +278,7 @@ module _ (c : ConfigValues) (es : List Event) (id : ℕ) (bytes : List ℕ) (s :
   abbrev events_then : List Event
   events_then = es ++ event.Took id bytes ∷ []
 
-  -- a take of which this is the world afterwards
+  -- A take, with the world w after it.
   take_reached : (w : World) → world_after c events_then ≡ w → IsNumbered c w → (world_after c es).ids ≤ w.ids
       → ((t : Side) → side_of id w.sides ≡ Some t → takes_messages t.history.phase ≡ true → (stream_on c.limits.max_message id events_then).fault ≡ None)
       → ((n : ℕ) (t : Side) → side_of n w.sides ≡ Some t → takes_messages t.history.phase ≡ true → (stream_on c.limits.max_message n es).fault ≡ None)
@@ -295,13 +294,13 @@ module _ (c : ConfigValues) (es : List Event) (id : ℕ) (bytes : List ℕ) (s :
       ])
       (λ n t at. sizes n t at ∙ sym (size_then c.limits.max_message n es (event.Took id bytes)))
 
-  -- one that makes no step
+  -- A take that makes no step.
   quiet_reached : steps_by c.limits.max_message es (event.Took id bytes) ≡ [] → (takes_messages s.history.phase ≡ true → (stream_on c.limits.max_message id events_then).fault ≡ None) → IsReached c events_then
   quiet_reached none own =
       take_reached (world_after c es) (world_same c es (event.Took id bytes) none) before.numbered (omega arith)
       (λ t at takes. own (let is : s ≡ t = same_there s t (sym there ∙ at) in rw is takes)) before.goes_on before.sizes
 
-  -- one that makes a step
+  -- A take that makes a step.
   stepped_reached : (st : Step) → steps_by c.limits.max_message es (event.Took id bytes) ≡ st ∷ [] → OpensNext c (world_after c es) st → ((n : ℕ) → IsUnannounced st n)
       → ((t : Side) → side_of id (world.step c.limits (world_after c es) st).sides ≡ Some t → takes_messages t.history.phase ≡ true → (stream_on c.limits.max_message id events_then).fault ≡ None)
       → IsReached c events_then
@@ -310,7 +309,7 @@ module _ (c : ConfigValues) (es : List Event) (id : ℕ) (bytes : List ℕ) (s :
       (step_numbered c (world_after c es) st before.numbered next) (ids_grow c (world_after c es) st next)
       own (λ n t at takes. step_live c es st n t before next at takes) (λ n t at. step_sized c es st n t before next (quiet n) at)
 
-  -- a fault, which stops the connection
+  -- An error, which stops the connection.
   fault_reached : (rest : List ℕ) (fault : StreamFault) → handles s ≡ true → Adds c.limits.max_message id es bytes (record { messages = []; rest = rest; fault = Some fault }) → IsReached c events_then
   fault_reached rest fault does adds =
       let w : World = world_after c es in
@@ -320,7 +319,7 @@ module _ (c : ConfigValues) (es : List Event) (id : ℕ) (bytes : List ℕ) (s :
       rw same at ((settled_goes_on w.store w.now (side_faulted s fault)).over (faulted_stops s fault does)) in
       absurd (let bad : true ≡ false = sym takes ∙ stops in cc))
 
-  -- a frame with what it spells
+  -- A frame, with the message that it encodes or its error.
   frame_reached : (frame : List ℕ) (read : Result Message FormatFault) → handles s ≡ true → Adds c.limits.max_message id es bytes (frame_then frame read (record { messages = []; rest = []; fault = None })) → IsReached c events_then
   frame_reached frame (Ok m) does adds =
       stepped_reached (world.Handled id m) adds.steps tt (λ n size is. cc) (λ t at takes. ap (λ (u : Stream). u.fault) adds.stream)
@@ -331,7 +330,7 @@ module _ (c : ConfigValues) (es : List Event) (id : ℕ) (bytes : List ℕ) (s :
   found_reached (AFrame frame) does adds = frame_reached frame (message_of frame) does adds
   found_reached (AFault fault) does adds = fault_reached _ _ does adds
 
-  -- all bytes of what the connection takes
+  -- All bytes that the connection accepts.
   took_reached : takes c es id bytes ≡ length bytes → IsReached c events_then
   took_reached all =
       let taken : cond (handles s) (front_of (size_on c.limits.max_message id es) (stream_on c.limits.max_message id es).rest bytes) 0 ≡ length bytes =
@@ -346,12 +345,12 @@ module _ (c : ConfigValues) (es : List Event) (id : ℕ) (bytes : List ℕ) (s :
 
 -- ---- any event
 
--- the connection that is there
+-- The connection that exists.
 pub on_one : (P : Side → Type 0) (there : Option Side) → IfSide there P → (s : Side) × (there ≡ Some s) × P s
 on_one P None holds = absurd holds
 on_one P (Some s) holds = (s, refl, holds)
 
--- a size that may be announced is the one in force then
+-- After an announcement, the announced size is the one that applies.
 announcing_has_sizes : (c : ConfigValues) (es : List Event) (id size : ℕ) (s : Side) → side_of id (world_after c es).sides ≡ Some s → IsReached c es → may_raise s size ≡ true → HaveSizes c (es ++ event.Announced id size ∷ []) (world.step c.limits (world_after c es) (world.Announced id size))
 unfolding world.step acted side_announced
 announcing_has_sizes c es id size s there before may k t at =
@@ -388,13 +387,13 @@ event_reached c es (event.Announced id size) before is =
     (announcing_has_sizes c es id size at.0 at.1 before at.2)
 event_reached c es e before is = plain_reached c es e _ before refl tt (λ k. refl) (λ k N. refl) (λ k size is. cc)
 
--- each list of accepted events leads to such a world
+-- Each list of accepted events leads to such a world.
 pub accepted_is : (c : ConfigValues) (es : List Event) → AreAccepted c es → IsReached c es
 accepted_is c es all = by_events c (λ fs. IsReached c fs) (first_reached c) (λ fs e accepted is before. event_reached c fs e before is) es all
 
--- ---- which takes are accepted
+-- ---- takes that are accepted
 
--- what a connection takes of any piece makes an accepted event
+-- The bytes that a connection accepts of any input slice make an accepted event.
 pub piece_accepted : (c : ConfigValues) (es : List Event) (id : ℕ) (piece : List ℕ) (s : Side) → IsReached c es → side_of id (world_after c es).sides ≡ Some s → IsAccepted c es (event.Took id (take (takes c es id piece) piece))
 unfolding IsAccepted
 piece_accepted c es id piece s is there =

@@ -1,5 +1,5 @@
--- Rows of calls, and what each of them tells, as the tests of a server have them: the form in which values of the definitions
--- of specs/world are worked out.
+-- Lists of calls with their expected results, in the form of the tests of a server. The worked examples compute values
+-- of the definitions in `specs/world` with them.
 use Rattle.coap_model.specs.Prelude.{◌≡◌, ℕ, zero, suc, List, [], ◌∷◌, ◌++◌, length, map, take, drop}
 use Rattle.coap_model.specs.Prelude.{Option, Some, None, digits}
 use Rattle.coap_model.specs.Prelude.{kind_of, is_recognised, known_behind}
@@ -20,8 +20,8 @@ use Rattle.coap_model.specs.world.Events as event
 
 -- ---- rows
 
--- A call. `In` offers a piece until nothing more of it is taken, `Drain` writes all that waits, `Look` is no call at all. One
--- that a server refuses is played as an event too, since that changes nothing.
+-- A call. `In` offers an input slice until no more of it is accepted, `Drain` writes all queued bytes, and `Look` calls
+-- nothing. A call that a server rejects is played as an event too, because such an event changes nothing.
 pub data Call : Type 0 where
   Open : (id : ℕ) → Call
   In : (id : ℕ) (piece : List ℕ) → Call
@@ -35,9 +35,12 @@ pub data Call : Type 0 where
   Drop : (id : ℕ) → Call
   Look : (id : ℕ) → Call
 
--- What is told: how many bytes of a piece were taken, the bytes that were drained, the version of the last representation
--- stored, how a connection stands, or that it is not there. A connection stands with so many bytes that are left of its stream
--- (an unfinished frame, or a fault), so many that wait, so many answers and Pongs that are held, and so many observers.
+-- The result of a call.
+-- - For an input slice, the number of bytes accepted.
+-- - For a write, the bytes written.
+-- - For a stored representation, its version.
+-- - For a look, the state of the connection, or that it does not exist. The state counts the bytes left over of its
+--   stream (an unfinished frame or an error), the queued bytes, the pending entries, and the observers.
 pub data Told : Type 0 where
   Done : Told
   Taken : (bytes : ℕ) → Told
@@ -54,14 +57,14 @@ infixr 70 ◌=>◌
 abbrev pub ◌=>◌ : Call → Told → Row
 call => wanted = record { call = call; wanted = wanted }
 
--- ---- the events of a call behind others
+-- ---- the events of a call after earlier events
 
 abbrev taking : (List Event → List ℕ → List Event) → List Event → ℕ → List ℕ → ℕ → List Event
 taking go events id piece zero = []
 taking go events id piece (suc n) =
     event.Took id (take (suc n) piece) ∷ go (events ++ event.Took id (take (suc n) piece) ∷ []) (drop (suc n) piece)
 
--- Each turn takes a byte at least, so no more turns are needed than there are bytes.
+-- Each round accepts at least one byte, so the number of bytes is enough.
 abbrev offered_within : ℕ → ConfigValues → ℕ → List Event → List ℕ → List Event
 offered_within zero c id events piece = []
 offered_within (suc turns) c id events piece =
@@ -90,7 +93,7 @@ events_by c events (Announce id size) = event.Announced id size ∷ []
 events_by c events (Drop id) = event.Dropped id ∷ []
 events_by c events (Look id) = []
 
--- ---- what a call tells, where it made these events behind others
+-- ---- the result of a call that made these events after earlier ones
 
 abbrev look_at : ℕ → Option Side → Told
 look_at left None = Absent
@@ -114,21 +117,21 @@ told_behind c events [] = []
 told_behind c events (call ∷ calls) =
     told_of_call c events (events_by c events call) call ∷ told_behind c (events ++ events_by c events call) calls
 
--- ---- what is computed with, besides bytes: to unfold one of these is to unfold all that its line names
+-- ---- definitions to compute with, besides bytes: unfolding one of these unfolds all that its line names
 
--- what a request is answered
+-- The answer to a request.
 answers_computed : Unit {0}
 unfolding prompt_answer answer_of answer_at resource_answer method_answer get_answer store_answer kind_of is_recognised known_behind first_critical_behind values_of has_option value_of number_of match_holds is_seconds is_path place_of key_for state_at found_in put_at removed_at listing entry_bytes path_bytes encoded_byte digits notification_at put_refusal
 answers_computed = tt
 
--- what happens on a connection, and to a server
+-- The effects on a connection and on a server.
 worlds_computed : Unit {0}
 unfolding announced react live_reaction due_index first_due without_due is_due without_token first_becomes side_after change_after side_faulted side_written side_ended side_released side_announced settled_once settled_within settled side_of acted step after_steps taken_on size_on sizes_on steps_by steps_behind steps_of world_after takes
 worlds_computed = tt
 
--- ---- what rows say
+-- ---- the meaning of rows
 
--- what calls tell, one after the other; where this is unfolded, all that it rests on is
+-- The results of calls in order. Unfolding this unfolds everything that it needs.
 unfoldable pub told : ConfigValues → List Call → List Told
 unfolding bytes_computed answers_computed worlds_computed
 told c calls = told_behind c [] calls
@@ -137,11 +140,11 @@ abbrev events_behind : ConfigValues → List Event → List Call → List Event
 events_behind c events [] = []
 events_behind c events (call ∷ calls) = events_by c events call ++ events_behind c (events ++ events_by c events call) calls
 
--- the events that calls make
+-- The events that calls make.
 unfoldable pub events_of : ConfigValues → List Call → List Event
 unfolding told
 events_of c calls = events_behind c [] calls
 
--- each call of the rows tells what the row says
+-- Each call of the rows has the result that its row states.
 abbrev pub Plays : ConfigValues → List Row → Type 0
 Plays c rows = told c (map (λ r. r.call) rows) ≡ map (λ r. r.wanted) rows

@@ -1,4 +1,4 @@
--- A connection of the world: known facts of it, its observers after a message, and how it settles.
+-- A connection of the world: facts on it, its observers after a message, and how it settles.
 use Rattle.std.proofs.Common.{◌≡◌, ℕ, ◌+◌, ◌<◌, ◌≤◌, Bool, true, false, cond, List, [], length, Option, Some, None, refl, sym, ap, ◌∙◌, arith, ◌&&◌, nat_lt, not, zero, suc, ◌∷◌, ◌++◌, subst, ◌⊎◌, inl, inr, find, min}
 use Rattle.coap_model.specs.Prelude.{AllByRecursion, filter_map, reduce, Message, takes_messages}
 use Rattle.coap_model.specs.Prelude.{answers, is_open, fit, bare_response, HeldValue}
@@ -29,21 +29,21 @@ use Rattle.coap_conn.specs.Held as held
 use Rattle.coap_conn.specs.Calls as call
 use Rattle.coap_store.specs.declared.plan.Watch.TheVariants as watch
 
--- each observer was told a state of its path
+-- Each observer was last sent a state that its path had.
 abbrev pub AreKnown : StoreValue → List Observer → Type 0
 AreKnown store observers = AllByRecursion (IsKnown store) observers
 
--- what is known of a connection
+-- The facts on a connection.
 pub record IsKnownSide (store : StoreValue) (s : Side) : Type 0 where
   pub is_history : IsHistory s.history
   pub told : AreKnown store s.observers
 
--- ---- what is seen
+-- ---- its parts
 
 pub handles_parts : (s : Side) → handles s ≡ true → (takes_messages s.history.phase ≡ true) × (has_room s ≡ true)
 handles_parts s e = and_parts (takes_messages s.history.phase) (has_room s) e
 
--- a request whose answer is held, and one that is answered at once
+-- A request whose response is delayed, and one whose response is sent at once.
 pub replied_cases : (store : StoreValue) (now : ℕ) (h : History) (others : List Observer) (m : Message) (hold : Option ℕ) (P : Side → Type 0)
     → ((seconds : ℕ) → held_for h hold ≡ Some seconds → P (side_with (after h (call.Hold m.token (moment_after now seconds))) others))
     → (held_for h hold ≡ None → P (side_answered store now h others m (prompt_answer store now m)))
@@ -51,9 +51,9 @@ pub replied_cases : (store : StoreValue) (now : ℕ) (h : History) (others : Lis
 replied_cases store now h others m hold P held prompt =
     there_or_not (held_for h hold) (λ found. P (side_replied store now h others m found)) prompt held
 
--- ---- one turn of settling
+-- ---- one round of settling
 
--- what is held and due goes first, and else an observer is told
+-- A due pending entry is sent first; if there is none, an observer is notified.
 pub settled_cases : (store : StoreValue) (now : ℕ) (s : Side) (P : Side → Type 0)
     → ((e : HeldValue) → next_held now s ≡ Some e → P (with_history s (after_sent s.history now e)))
     → (next_held now s ≡ None → P (notified store now s (next_due store now s)))
@@ -64,12 +64,12 @@ settled_cases store now s P sends tells = there_or_not (next_held now s) (λ fou
 pub held_room : (now : ℕ) (s : Side) (e : HeldValue) → next_held now s ≡ Some e → (has_room s ≡ true) × (first_due now s.history.held ≡ Some e)
 held_room now s e is = there_where (has_room s) (first_due now s.history.held) e is
 
--- a message that is sent leaves no more
+-- Sending a message adds no pending entry.
 pub send_held : (s : Standing) (m less : Message) (r : Reply) → length (send_as s m less r).held ≤ length s.held
 send_held s m less Whole = omega arith
 send_held s m less other = omega arith
 
--- what was due first is held no more
+-- Sending the entry that was due first adds none either.
 pub due_held : (s : Standing) (e : Option HeldValue) → length (due_effect s e).held ≤ length s.held
 due_held s None = omega arith
 due_held s (Some (held.Answer token moment)) = omega arith
@@ -85,16 +85,16 @@ sent_leaves h now (held.Answer token moment) =
     omega (arith, reply_leaves (after h (call.Due now)) (held_message token), due_held (standing_due now (standing_now h)) (first_due now h.held))
 sent_leaves h now (held.Pong token) = due_held (standing_due now (standing_now h)) (first_due now h.held)
 
--- ---- what is known stays known
+-- ---- the facts are kept
 
--- whatever changes in the store
+-- Any change of the store keeps them.
 pub still_known_side : (store : StoreValue) (change : Change) (s : Side) → IsVersioned store → IsKnownSide store s → IsKnownSide (changed store change) s
 still_known_side store change s is known = record {
   is_history = known.is_history;
   told = all_to (IsKnown store) (IsKnown (changed store change)) (λ o. still_known store change o is) s.observers known.told;
 }
 
--- what happens but messages leaves what is known
+-- All effects other than messages keep them.
 pub calls_known : (store : StoreValue) → HoldsOfCalls (λ s t. IsKnownSide store s → IsKnownSide store t)
 calls_known store = let told = observers_kept (AreKnown store) tt in record {
   faulted = λ s fault known. record { is_history = (faulted_all GoesOn all_go_on s fault).history known.is_history; told = told.faulted s fault known.told };
@@ -105,8 +105,8 @@ calls_known store = let told = observers_kept (AreKnown store) tt in record {
       record { is_history = (announced_between GoesOn as_before all_go_on.announces s size).history known.is_history; told = told.announced s size known.told };
 }
 
--- What holds of the observers, of those without the token of a message, and of these with its entry where there is a place for it, holds
--- of the observers after the message.
+-- A property of the observers after a message. It must hold of no observers, and of the observers before. It must also
+-- hold of those without the message's token, and of these with its entry if there is a place for it.
 pub observers_after : (P : List Observer → Type 0) (store : StoreValue) (now : ℕ) (s : Side) (m : Message) → P [] → P s.observers → P (without_token m.token s.observers)
     → ((prompt_answer store now m).watch ≡ watch.Add → length (without_token m.token s.observers) < (after s.history (call.Handle m)).limits.observers → P (without_token m.token s.observers ++ entry_for store now m ∷ []))
     → P (side_after store now s m).observers
@@ -131,7 +131,7 @@ observers_after P store now s m none same others entered =
     (λ prompt. kept_open_has P none (after h (call.Reply response)) _ with_it))
     (λ other. kept_open_has P none h s.observers same)) (λ idle. same)
 
--- a message leaves what is known, before it changes the store
+-- A message keeps the facts, before it changes the store.
 pub after_known : (store : StoreValue) (now : ℕ) → now ≤ 18446744073709551615 → IsVersioned store → (s : Side) (m : Message) → IsKnownSide store s → IsKnownSide store (side_after store now s m)
 unfolding without_token
 after_known store now small is s m known =
@@ -142,18 +142,19 @@ after_known store now small is s m known =
           (λ asked place. all_append (IsKnown store) _ _ others (told_known store now m.token (path_of m) small is (entry_watchable store now m asked), tt));
     }
 
--- ---- How a connection settles: its value does the same, what is known of it stays known, and no change is lost.
+-- ---- settling of a connection: the facts are kept, and no change is lost
 
--- nothing is left to settle: nothing that is held is due and no observer is, or there is no room
+-- Nothing is left to settle: no pending entry and no observer is due, or there is no room.
 abbrev pub IsAtRest : StoreValue → ℕ → Side → Type 0
 IsAtRest store now s = (next_held now s ≡ None) × (next_due store now s ≡ None)
 
--- ---- one turn
+-- ---- one round
 
 pub next_due_found : (store : StoreValue) (now : ℕ) (s : Side) (o : Observer) → next_due store now s ≡ Some o → find (is_due store now) s.observers ≡ Some o
 next_due_found store now s o e = (there_where (has_room s) (find (is_due store now) s.observers) o e).1
 
--- What holds of the observers, and of what becomes of them where the first that is due is told, holds of the observers after a turn.
+-- A property of the observers after a round. It must hold of no observers, of the observers before, and of those after
+-- the first due one was notified.
 pub observers_settled : (P : List Observer → Type 0) (store : StoreValue) (now : ℕ) (s : Side) → P [] → P s.observers
     → ((o : Observer) (stays : Bool) → next_due store now s ≡ Some o → (stays ≡ true → goes_on (notification store now o) ≡ true) → P (first_becomes (is_due store now) (left_of store now o stays) s.observers))
     → P (settled_once store now s).observers
@@ -164,14 +165,14 @@ observers_settled P store now s none same told =
     let stays = goes_on (notification store now o) && is_whole (fit (limit_now s.history) m (bare_response m)) in
     kept_open_has P none (after s.history (call.Reply m)) _ (told o stays is (λ e. (and_parts (goes_on (notification store now o)) _ e).0)))))
 
--- ---- what is known
+-- ---- facts
 
 module _ (store : StoreValue) (now : ℕ) (small : now ≤ 18446744073709551615) (is : IsVersioned store) where
   left_all : (o : Observer) (stays : Bool) → IsKnown store o → (stays ≡ true → goes_on (notification store now o) ≡ true) → AreKnown store (left_of store now o stays)
   left_all o true known on = (told_known store now o.token o.path small is (left_watchable store now o known (on refl)), tt)
   left_all o false known on = tt
 
-  -- the first that is due is among the observers
+  -- The first due observer is one of the observers.
   pub next_known : (s : Side) → IsKnownSide store s → (o : Observer) → next_due store now s ≡ Some o → IsKnown store o
   next_known s known o e = found_all (IsKnown store) (is_due store now) s.observers o known.told (next_due_found store now s o e)
 
@@ -191,23 +192,23 @@ count_if : (due : Observer → Bool) (b : Bool) (os : List Observer) → count_d
 unfolding count_due
 count_if due b os = cond_both b os [] (λ ps. count_due due ps ≤ count_due due os) (λ e. omega arith) (λ e. omega arith)
 
--- what is left of a notified observer is not due
+-- The updated entry of a notified observer is not due.
 left_quiet : (store : StoreValue) (now : ℕ) (o : Observer) (stays : Bool) → count_due (is_due store now) (left_of store now o stays) ≡ 0
 unfolding count_due
 left_quiet store now o true = rw (not_due store now (record o { told = state_of store now o.path }) refl) refl
 left_quiet store now o false = refl
 
--- turns change nothing where nothing is left to settle
+-- If nothing is left to settle, further rounds change nothing.
 pub at_rest : (turns : ℕ) (store : StoreValue) (now : ℕ) (s : Side) → IsAtRest store now s → settled_within turns store now s ≡ s
 unfolding settled_within settled_once
 at_rest zero store now s rests = refl
 at_rest (suc turns) store now s rests = rw (rests.0, rests.1) (at_rest turns store now s rests)
 
--- how much a connection holds and how many observers are due on it, together
+-- The number of pending entries and due observers of a connection.
 abbrev pub left_on : StoreValue → ℕ → Side → ℕ
 left_on store now s = length s.history.held + count_due (is_due store now) s.observers
 
--- a turn sends nothing, or leaves less
+-- A round sends nothing, or the number decreases.
 pub once_less : (store : StoreValue) (now : ℕ) (s : Side) → IsAtRest store now s ⊎ (left_on store now (settled_once store now s) + 1 ≤ left_on store now s)
 unfolding settled_once
 once_less store now s =
@@ -232,12 +233,12 @@ rests_by (suc turns) store now s few =
       | inr less ↦ rests_by turns store now (settled_once store now s) (omega (arith, few, less))
     ]
 
--- each turn leaves less that is held, or fewer that are due, so that nothing is left to settle in the end
+-- Each round leaves fewer pending entries or due observers, so in the end nothing is left to settle.
 pub settled_rests : (store : StoreValue) (now : ℕ) (s : Side) → IsAtRest store now (settled store now s)
 unfolding settled
 settled_rests store now s = rests_by (length s.history.held + length s.observers) store now s (omega (arith, count_within (is_due store now) s.observers))
 
--- No change is lost: where there is room, each observer was told the state that its path has now, and what was due was sent.
+-- No change is lost: if there is room, each observer was last sent the current state, and no pending entry is due.
 pub hears_at_rest : (store : StoreValue) (now : ℕ) (s : Side) → IsAtRest store now s → HearsAll store now s
 hears_at_rest store now s rests = record {
   told = λ room. all_to (λ o. is_due store now o ≡ false) (λ o. o.told ≡ state_of store now o.path) (told_now store now) s.observers
@@ -245,7 +246,7 @@ hears_at_rest store now s rests = record {
   sent = λ room. (due_nothing now s.history.held (rw room at rests.0)).0;
 }
 
--- what holds nothing that is due has nothing to send
+-- If no entry of a list is due, the list of due times is empty.
 none_come_listed : (now : ℕ) (held : List HeldValue) → AllByRecursion (λ e. come now e ≡ None) held → filter_map (come now) held ≡ []
 none_come_listed now [] none = refl
 none_come_listed now (e ∷ held) none = rw none.0 (none_come_listed now held none.1)
@@ -259,7 +260,7 @@ pub hears_sent : (store : StoreValue) (now : ℕ) (s : Side) → HearsAll store 
 hears_sent store now s hears =
     cond_both (has_room s) (first_due now s.history.held) None (λ found. found ≡ None) (λ room. nothing_due_first now s.history.held (hears.sent room)) (λ room. refl)
 
--- a connection on which no change is lost has nothing to settle
+-- A connection on which no change is lost has nothing to settle.
 pub side_at_rest_stays : (store : StoreValue) (now : ℕ) (s : Side) → HearsAll store now s → settled store now s ≡ s
 unfolding settled
 side_at_rest_stays store now s hears =

@@ -1,4 +1,4 @@
--- Events and steps one behind the other: the steps, the world and the bytes of a list that goes on, and which lists are accepted.
+-- Events and steps in sequence: the steps, the world and the bytes of a longer list, and the lists that are accepted.
 use Rattle.std.proofs.Common.{◌≡◌, ◌≢◌, ℕ, ◌-◌, ◌<◌, ◌≤◌, nat_lt, if◌then◌else◌, List, [], ◌∷◌, ◌++◌, length, map, drop, Option, Some, None, refl, sym, ap, subst, ◌∙◌, append_assoc, arith}
 use Rattle.coap_model.specs.Prelude.{AllByRecursion, Message, Unfinished, beginning, always, sizes_first}
 use Rattle.coap_model.specs.Prelude.{StreamFault, Stream, sized_split, split_on, LimitValues, ConfigValues, World}
@@ -14,25 +14,25 @@ use Rattle.coap_model.specs.world.World as world
 
 -- ---- lists
 
--- the bytes taken, with those of an event more
+-- The bytes accepted, with those of one more event.
 pub taken_then : (id : ℕ) (es : List Event) (e : Event) → taken_on id (es ++ e ∷ []) ≡ taken_on id es ++ taken_in id e
 unfolding taken_on
 taken_then id [] e = append-nil (taken_in id e)
 taken_then id (d ∷ es) e = rw (taken_then id es e) (sym (append_assoc (taken_in id d) (taken_on id es) (taken_in id e)))
 
--- steps one after the other
+-- Steps in sequence.
 pub steps_then : (l : LimitValues) (w : World) (ss ts : List Step) → after_steps l w (ss ++ ts) ≡ after_steps l (after_steps l w ss) ts
 unfolding after_steps
 steps_then l w [] ts = refl
 steps_then l w (s ∷ ss) ts = steps_then l (world.step l w s) ss ts
 
--- what holds of a world after each step holds after all
+-- A property that each step keeps holds after all steps.
 pub steps_keep : (P : World → Type 0) (l : LimitValues) → ((w : World) (s : Step) → P w → P (world.step l w s)) → (w : World) (ss : List Step) → P w → P (after_steps l w ss)
 unfolding after_steps
 steps_keep P l go w [] holds = holds
 steps_keep P l go w (s ∷ ss) holds = steps_keep P l go (world.step l w s) ss (go w s holds)
 
--- the steps of events one after the other
+-- The steps of events in sequence.
 pub steps_behind_more : (M : ℕ) (a es fs : List Event) → steps_behind M a (es ++ fs) ≡ steps_behind M a es ++ steps_behind M (a ++ es) fs
 unfolding steps_behind
 steps_behind_more M a [] fs = ap (λ (b : List Event). steps_behind M b fs) (sym (append-nil a))
@@ -44,7 +44,7 @@ pub steps_of_more : (M : ℕ) (es : List Event) (e : Event) → steps_of M (es +
 unfolding steps_of steps_behind
 steps_of_more M es e = rw (steps_behind_more M [] es (e ∷ []), append-nil (steps_by M es e)) refl
 
--- the world at first, and after one event more
+-- The world at first, and after one more event.
 pub world_first : (c : ConfigValues) → world_after c [] ≡ new_world c
 unfolding world_after steps_of steps_behind after_steps
 world_first c = refl
@@ -55,7 +55,7 @@ world_more c es e =
     let M : ℕ = c.limits.max_message in
     rw (steps_of_more M es e) (steps_then c.limits (new_world c) (steps_of M es) (steps_by M es e))
 
--- the same where it is known which steps the event makes: none, or one
+-- The same if the steps of the event are known: none, or one.
 pub world_same : (c : ConfigValues) (es : List Event) (e : Event) → steps_by c.limits.max_message es e ≡ [] → world_after c (es ++ e ∷ []) ≡ world_after c es
 unfolding after_steps
 world_same c es e none = world_more c es e ∙ ap (after_steps c.limits (world_after c es)) none
@@ -64,18 +64,18 @@ pub world_step : (c : ConfigValues) (es : List Event) (e : Event) (s : Step) →
 unfolding after_steps
 world_step c es e s one = world_more c es e ∙ ap (after_steps c.limits (world_after c es)) one
 
--- ---- what is accepted
+-- ---- accepted events
 
 behind_accepted : (c : ConfigValues) (a es : List Event) (e : Event) → AreAcceptedBehind c a es → IsAccepted c (a ++ es) e → AreAcceptedBehind c a (es ++ e ∷ [])
 unfolding AreAcceptedBehind
 behind_accepted c a [] e before last = (rw append-nil at last, tt)
 behind_accepted c a (d ∷ es) e before last = (before.0, behind_accepted c (a ++ d ∷ []) es e before.1 (rw (append_assoc a (d ∷ []) es) last))
 
--- one event more
+-- One more event.
 pub accepted_more : (c : ConfigValues) (es : List Event) (e : Event) → AreAccepted c es → IsAccepted c es e → AreAccepted c (es ++ e ∷ [])
 accepted_more c es e before last = behind_accepted c [] es e before last
 
--- what holds at first, and behind each event that is accepted, holds of all lists of accepted events
+-- A property that holds at first, and after each further accepted event, holds of all lists of accepted events.
 by_events_behind : (c : ConfigValues) (P : List Event → Type 0) → ((es : List Event) (e : Event) → AreAccepted c es → IsAccepted c es e → P es → P (es ++ e ∷ [])) → (a es : List Event) → AreAccepted c a → P a → AreAcceptedBehind c a es → P (a ++ es)
 unfolding AreAcceptedBehind
 by_events_behind c P go a [] before holds all = subst P (sym (append-nil a)) holds
@@ -88,13 +88,13 @@ by_events c P first go es all = by_events_behind c P go [] es tt first all
 
 -- ---- sizes
 
--- an event more
+-- One more event.
 pub size_then : (M id : ℕ) (es : List Event) (e : Event) → size_on M id (es ++ e ∷ []) ≡ size_by id e (size_on M id es)
 unfolding size_on
 size_then M id [] e = refl
 size_then M id (d ∷ es) e = size_then (size_by id d M) id es e
 
--- an announcement of a greater size alone changes it
+-- The size never decreases.
 size_rises : (id : ℕ) (e : Event) (M : ℕ) → M ≤ size_by id e M
 size_rises id e M = grind (arith, nat_tests)
 
@@ -103,14 +103,14 @@ unfolding size_on
 size_grows M id [] = omega arith
 size_grows M id (e ∷ es) = omega (arith, size_rises id e M, size_grows (size_by id e M) id es)
 
--- where it is announced on the connection, and where on another one
+-- A size announced on the connection, and one announced on another.
 pub announced_here : (id size M : ℕ) → size_by id (Announced id size) M ≡ (if nat_lt M size then size else M)
 announced_here id size M = rw (eq-eqb id id refl) refl
 
 pub announced_elsewhere : (id other size : ℕ) → other ≢ id → (M : ℕ) → size_by id (Announced other size) M ≡ M
 announced_elsewhere id other size apart M = rw (ne_eqb other id apart) refl
 
--- an event that is no announcement leaves the sizes as they are
+-- An event that is no announcement does not change the size.
 abbrev pub size_stays : ℕ → Event → Type 0
 size_stays id e = (M : ℕ) → size_by id e M ≡ M
 
@@ -119,7 +119,7 @@ unfolding sizes_on
 sizes_then M id [] e stays = ap (λ (N : ℕ). sizes_first (length (taken_in id e)) M (always N)) (stays M) ∙ first_always (length (taken_in id e)) M
 sizes_then M id (d ∷ es) e stays = ap (sizes_first (length (taken_in id d)) M) (sizes_then (size_by id d M) id es e stays)
 
--- no greater size was in force than the one that is
+-- No earlier size was larger than the current one.
 sizes_within : (M id : ℕ) (es : List Event) (at : ℕ) → sizes_on M id es at ≤ size_on M id es
 unfolding size_on sizes_on
 sizes_within M id [] at = omega arith
@@ -127,7 +127,7 @@ sizes_within M id (e ∷ es) at =
     let N : ℕ = size_by id e M in
     grind (arith, nat_tests, size_rises id e M, size_grows N id es, sizes_within N id es (at - length (taken_in id e)))
 
--- the size that is in force is that of the bytes behind those taken
+-- The current size applies to the bytes that follow.
 sizes_now : (M id : ℕ) (es : List Event) (at : ℕ) → length (taken_on id es) ≤ at → sizes_on M id es at ≡ size_on M id es
 unfolding size_on sizes_on taken_on
 sizes_now M id [] at past = refl
@@ -135,7 +135,7 @@ sizes_now M id (e ∷ es) at past =
     let whole = length-append (taken_in id e) (taken_on id es) in
     grind (arith, nat_tests, sizes_now (size_by id e M) id es (at - length (taken_in id e)))
 
--- an event leaves the sizes of the bytes up to its own
+-- An event does not change the sizes of its own and earlier bytes.
 sizes_before : (M id : ℕ) (es : List Event) (e : Event) (at : ℕ) → at < length (taken_on id (es ++ e ∷ [])) → sizes_on M id (es ++ e ∷ []) at ≡ sizes_on M id es at
 unfolding sizes_on taken_on
 sizes_before M id [] e at within = grind (arith, nat_tests, length-append (taken_in id e) [])
@@ -145,20 +145,21 @@ sizes_before M id (d ∷ es) e at within =
 
 -- ---- streams
 
--- the bytes of an event are read with the sizes before it
+-- The bytes of an event are read with the sizes before it.
 pub read_before : (M id : ℕ) (es : List Event) (e : Event) → stream_on M id (es ++ e ∷ []) ≡ sized_split (sizes_on M id es) (taken_on id es ++ taken_in id e)
 read_before M id es e =
     split_same_to (sizes_on M id (es ++ e ∷ [])) (sizes_on M id es) (taken_on id (es ++ e ∷ [])) (sizes_before M id es e) ∙ rw (taken_then id es e) refl
 
--- An event with no bytes of a connection leaves its stream: each but Took, with refl, and Took of another connection.
+-- An event without bytes of a connection does not change its stream: any event but `Took`, by refl, and `Took` of
+-- another connection.
 pub stream_same : (M id : ℕ) (es : List Event) (e : Event) → taken_in id e ≡ [] → stream_on M id (es ++ e ∷ []) ≡ stream_on M id es
 stream_same M id es e none = read_before M id es e ∙ rw (none, append-nil (taken_on id es)) refl
 
--- what is left is unfinished with the size in force
+-- The bytes left over are unfinished for the current size.
 pub rest_unfinished : (M id : ℕ) (es : List Event) → (stream_on M id es).fault ≡ None → beginning (size_on M id es) (stream_on M id es).rest ≡ Unfinished
 rest_unfinished M id es none = left_unfinished (sizes_on M id es) (size_on M id es) (taken_on id es) (sizes_within M id es) none
 
--- all streams at once, where an event takes no byte on any connection
+-- All streams at once, for an event without bytes on any connection.
 pub streams_same : (M : ℕ) (es : List Event) (e : Event) → ((id : ℕ) → taken_in id e ≡ []) → ◌≡◌ {A = ℕ → Stream} (λ id. stream_on M id (es ++ e ∷ [])) (λ id. stream_on M id es)
 streams_same M es e none = λ i id. stream_same M id es e (none id) i
 
@@ -171,7 +172,7 @@ taken_here id bytes = rw (eq-eqb id id refl) refl
 pub stream_elsewhere : (M id other : ℕ) (es : List Event) (bytes : List ℕ) → other ≢ id → stream_on M id (es ++ Took other bytes ∷ []) ≡ stream_on M id es
 stream_elsewhere M id other es bytes apart = stream_same M id es (Took other bytes) (taken_elsewhere id other bytes apart)
 
--- its bytes go on with the stream, with the size in force
+-- The bytes of an event continue the stream with the current size.
 stream_by : (M id : ℕ) (es : List Event) (e : Event) → stream_on M id (es ++ e ∷ []) ≡ split_on (size_on M id es) (stream_on M id es) (taken_in id e)
 stream_by M id es e =
     read_before M id es e ∙ went_on (sizes_on M id es) (size_on M id es) (taken_on id es) (taken_in id e) (sizes_within M id es) (sizes_now M id es)
@@ -179,20 +180,20 @@ stream_by M id es e =
 pub stream_more : (M id : ℕ) (es : List Event) (bytes : List ℕ) → stream_on M id (es ++ Took id bytes ∷ []) ≡ split_on (size_on M id es) (stream_on M id es) bytes
 stream_more M id es bytes = stream_by M id es (Took id bytes) ∙ rw (taken_here id bytes) refl
 
--- ---- what a connection has spelled, and the size in force
+-- ---- stream and current size
 
--- where the stream goes on with bytes and the size becomes another one
+-- The stream after more bytes, with the size after a change.
 abbrev pub spelled_by : Stream × ℕ → List ℕ → (ℕ → ℕ) → Stream × ℕ
 spelled_by s bytes size = (split_on s.1 s.0 bytes, size s.1)
 
 pub spelled_then : (M id : ℕ) (es : List Event) (e : Event) → spelled_on M id (es ++ e ∷ []) ≡ spelled_by (spelled_on M id es) (taken_in id e) (size_by id e)
 spelled_then M id es e = rw (stream_by M id es e, size_then M id es e) refl
 
--- an event with no bytes that announces nothing on a connection leaves both
+-- An event without bytes and announcement on a connection changes neither.
 pub spelled_same : (M id : ℕ) (es : List Event) (e : Event) → taken_in id e ≡ [] → size_stays id e → spelled_on M id (es ++ e ∷ []) ≡ spelled_on M id es
 spelled_same M id es e none stays = rw (stream_same M id es e none, size_then M id es e, stays (size_on M id es)) refl
 
--- at first nothing is spelled
+-- At first the stream is empty.
 abbrev pub nothing_spelled : ℕ → Stream × ℕ
 nothing_spelled M = (record { messages = []; rest = []; fault = None }, M)
 
@@ -200,7 +201,7 @@ pub first_spelled : (M id : ℕ) → spelled_on M id [] ≡ nothing_spelled M
 unfolding sizes_on taken_on size_on
 first_spelled M id = ap (λ (s : Stream). (s, M)) (sym (split_is M []) ∙ split_unfinished M [] (unfinished_empty M))
 
--- what holds of each step that taken bytes make
+-- A property of each step that accepted bytes make.
 pub each_beyond : (P : Step → Type 0) (id : ℕ) (before after : Stream) → ((m : Message) → P (world.Handled id m)) → ((fault : StreamFault) → P (world.Faulted id fault)) → AllByRecursion P (beyond id before after)
 each_beyond P id before after handled faulted = by (drop (length before.messages) after.messages) before.fault after.fault
   where

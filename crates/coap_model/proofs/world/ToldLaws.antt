@@ -1,5 +1,5 @@
--- After any events the last response with an observer's token tells it the state that it was told last, where no request that is
--- answered late had that token.
+-- After any events, the last response with an observer's token reports the state that its entry records. This holds if
+-- no request for a delayed response had that token.
 use Rattle.std.proofs.Common.{◌≡◌, ◌≢◌, ℕ, Bool, true, false, List, [], ◌∷◌, ◌++◌, length, Option, Some, None, refl, sym, ap, subst, ◌∙◌, filter, find, not, nat_lt, ◌&&◌, if◌then◌else◌, arith}
 use Rattle.coap_model.specs.Prelude.{AllByRecursion, Message, LimitValues, is_open, fit, bare_response, HeldValue}
 use Rattle.coap_model.specs.Prelude.{Answer, Pong, first_due, History, limit_now, after, same_bytes, StoreValue}
@@ -25,13 +25,13 @@ use Rattle.coap_conn.proofs.ReactionLaws.{IsNoResponse, IsPlain}
 use Rattle.coap_model.proofs.world.CustodyLaws.{Stands, stand_asked, stands_keeps, handled_cases}
 use Rattle.coap_model.proofs.world.KnownLaws.{tells_responds, entry_tells, notification_tells_observer}
 
--- ---- what is told stays told
+-- ---- reported states are kept
 
--- an observer was told last what it says, where no request that is answered late had its token
+-- The last response reports the recorded state, if no request for a delayed response had the observer's token.
 abbrev pub ToldOn : History → Observer → Type 0
 ToldOn h o = asked_late o.token h.handled ≡ false → WasToldLast h.queued o
 
--- each was, and no two have one token
+-- This holds of each observer, and no two have the same token.
 pub record AreTold (h : History) (os : List Observer) : Type 0 where
   pub own : HaveOwnTokens os
   pub told : AllByRecursion (ToldOn h) os
@@ -39,11 +39,11 @@ pub record AreTold (h : History) (os : List Observer) : Type 0 where
 abbrev AllTold : Side → Type 0
 AllTold s = AreTold s.history s.observers
 
--- a message that tells it a state is queued
+-- A message that reports the recorded state is queued.
 told_by_last : (o : Observer) (queued : List Message) (m : Message) → TellsState o o.told m → WasToldLast (queued ++ m ∷ []) o
 told_by_last o queued m tells = (m, grind (arith, last_of_longer o.token queued m, tells_responds o o.told m tells), tells)
 
--- what is queued leaves it, where none of that is a response with its token
+-- Queued messages keep this if none of them is a response with the observer's token.
 queued_told : (P : Message → Type 0) (h k : History) (o : Observer) → Queues P h k → (asked_late o.token h.handled ≡ false → (m : Message) → P m → responds o.token m ≡ false) → ToldOn h o → ToldOn k o
 queued_told P h k o queues other told none =
     let before : asked_late o.token h.handled ≡ false = grind (arith, queues.handled, list_any-append) in
@@ -51,21 +51,21 @@ queued_told P h k o queues other told none =
     let stays = last_stays o.token h.queued queues.more (all_to P (λ m. responds o.token m ≡ false) (other before) queues.more queues.such) in
     (was.0, ap (last_response o.token) queues.same ∙ stays ∙ was.1, was.2)
 
--- messages that are no responses leave it
+-- Messages that are no responses keep it.
 signalled_told : (P : Message → Type 0) → ((m : Message) → P m → IsNoResponse m) → (h k : History) (os : List Observer) → Queues P h k → AreTold h os → AreTold k os
 signalled_told P other h k os queues are = record {
   own = are.own;
   told = all_to (ToldOn h) (ToldOn k) (λ o. queued_told P h k o queues (λ none m is. and_left (is_response m) _ (other m is))) os are.told;
 }
 
--- responses with another token leave it
+-- Responses with another token keep it.
 abbrev HasToken : List ℕ → Message → Type 0
 HasToken token m = m.token ≡ token
 
 other_told : (token : List ℕ) (h k : History) (o : Observer) → Queues (HasToken token) h k → token ≢ o.token → ToldOn h o → ToldOn k o
 other_told token h k o queues apart = queued_told (HasToken token) h k o queues (λ none m e. grind (arith, (bytes_decides m.token o.token).0))
 
--- so do those with a token that a request had that is answered late
+-- Responses keep it if their token is that of a request for a delayed response.
 late_told : (token : List ℕ) (h k : History) (os : List Observer) → Queues (HasToken token) h k → asked_late token h.handled ≡ true → AreTold h os → AreTold k os
 late_told token h k os queues asked are = record {
   own = are.own;
@@ -90,7 +90,7 @@ own_last [] e others own = (tt, tt)
 own_last (o ∷ os) e others own =
     (all_append (λ other. o.token ≢ other.token) os (e ∷ []) own.0 ((λ same. others.0 (sym same)), tt), own_last os e others.1 own.1)
 
--- those that stay have another token
+-- The remaining observers have other tokens.
 filter_others : (token : List ℕ) (os : List Observer) → HaveOtherTokens token (filter (λ o. not (same_bytes o.token token)) os)
 filter_others token [] = tt
 filter_others token (o ∷ os) =
@@ -103,17 +103,17 @@ without_told token h os are = record { own = own_filter _ os are.own; told = all
 
 -- ---- answers
 
--- where the connection is open they stay, else they go
+-- If the connection is open, the observers stay; otherwise they are removed.
 kept_told : (h : History) (os : List Observer) → (is_open h.phase ≡ true → AreTold h os) → AllTold (side_with h os)
 kept_told h os go = cond_both (is_open h.phase) os [] (AreTold h) go (λ e. record { own = tt; told = tt })
 
--- the entry of a request goes last, where this was told
+-- The entry of a request is appended if the response reports its state.
 entered_told : (h : History) (os : List Observer) (entry : Observer) (enters : Bool) → HaveOtherTokens entry.token os → AreTold h os → (enters ≡ true → WasToldLast h.queued entry) → AreTold h (with_entry enters os entry)
 entered_told h os entry true others are new =
     record { own = own_last os entry others are.own; told = all_append (ToldOn h) os (entry ∷ []) are.told ((λ none. new refl), tt) }
 entered_told h os entry false others are new = are
 
--- it was told by the answer
+-- The response to the request reports it.
 told_with_answer : (store : StoreValue) (now : ℕ) (h : History) (os : List Observer) (m : Message) → HaveOtherTokens m.token os → AreTold h os → AllTold (side_answered store now h os m (prompt_answer store now m))
 told_with_answer store now h os m others are =
     let a : answer.Answer = prompt_answer store now m in
@@ -132,7 +132,7 @@ told_with_answer store now h os m others are =
 
 -- ---- messages
 
--- nothing is queued that is a response
+-- No response is queued.
 signalled_side : (s : Side) (h : History) → Queues IsNoResponse s.history h → AllTold s → AllTold (with_history s h)
 signalled_side s h queues are = kept_told h s.observers (λ opened. signalled_told IsNoResponse (λ m is. is) s.history h s.observers queues are)
 
@@ -149,7 +149,7 @@ handled_told limits store now s m is are =
 
 -- ---- notifications
 
--- what becomes of the first that is due has its token
+-- The entry after a notification has the token of the first due observer.
 module _ (store : StoreValue) (now : ℕ) (h k : History) (o : Observer) (queues : Queues (HasToken o.token) h k) (stays : Bool) (new : AllByRecursion (ToldOn k) (left_of store now o stays)) (due : Observer → Bool) where
   own_left : (os : List Observer) → HaveOtherTokens o.token os → HaveOwnTokens os → HaveOwnTokens (left_of store now o stays ++ os)
   own_left os others own = elim stays as (λ b. HaveOwnTokens (left_of store now o b ++ os)) [ true ↦ (others, own) | false ↦ own ]
@@ -178,7 +178,7 @@ module _ (store : StoreValue) (now : ℕ) (h k : History) (o : Observer) (queues
             )
       ] e
 
--- the observer that stays was told by its notification
+-- The notification reports the state that the updated entry records.
 left_told : (store : StoreValue) (now : ℕ) (h : History) (o : Observer) (stays : Bool) → (stays ≡ true → goes_on (notification store now o) ≡ true)
     → (stays ≡ true → is_whole (fit (limit_now h) (notification_message o.token (notification store now o)) (bare_response (notification_message o.token (notification store now o)))) ≡ true)
     → is_open (after h (call.Reply (notification_message o.token (notification store now o)))).phase ≡ true
@@ -204,9 +204,9 @@ notified_told store now s (Some o) there are =
     (left_told store now s.history o (on && whole) (λ e. (and_parts on whole e).0) (λ e. (and_parts on whole e).1) opened)
     (is_due store now) s.observers (there o refl) are)
 
--- ---- what was held
+-- ---- pending entries
 
--- the token of an answer that is held is one of a request that is answered late
+-- The token of a delayed response is that of a request for one.
 sent_told : (s : Side) (now : ℕ) (e : HeldValue) → first_due now s.history.held ≡ Some e → Stands s.history → AllTold s → AllTold (with_history s (after_sent s.history now e))
 sent_told s now (Answer token moment) found stand are =
     let h : History = after s.history (call.Due now) in
@@ -218,12 +218,12 @@ sent_told s now (Answer token moment) found stand are =
     (signalled_told IsNoResponse (λ m is. is) s.history h s.observers (due_queues s.history now) are))
 sent_told s now (Pong token) found stand are = signalled_side s (after s.history (call.Due now)) (due_queues s.history now) are
 
--- ---- what each connection keeps
+-- ---- properties of every connection
 
 abbrev IsToldSide : Side → Type 0
 IsToldSide s = Stands s.history × AllTold s
 
--- where what is queued is plain, and the observers stay or go
+-- Only plain messages are queued, and the observers stay or are removed.
 plain_told : (s t : Side) → Stands t.history → Between (Queues IsPlain) s t → ((P : List Observer → Type 0) → P [] → P s.observers → P t.observers) → IsToldSide s → IsToldSide t
 plain_told s t stand queues kept of =
     (stand, kept (AreTold t.history) (record { own = tt; told = tt }) (signalled_told IsPlain (λ m is. is.0) s.history t.history s.observers queues of.1))

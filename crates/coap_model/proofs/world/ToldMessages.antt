@@ -1,5 +1,5 @@
--- The last response with a token: what is queued behind it leaves it, unless it is a response with that token too. And what each
--- thing that happens to a connection queues.
+-- The last response with a token: messages queued after it do not change it, unless one is a response with that token.
+-- And the messages that each effect on a connection queues.
 use Rattle.std.proofs.Common.{◌≡◌, ℕ, true, false, cond, List, [], ◌∷◌, ◌++◌, Some, refl, sym, ap, ◌∙◌, arith, find}
 use Rattle.coap_model.specs.Prelude.{AllByRecursion, Message, Phase, Reply, Server}
 use Rattle.coap_model.specs.Prelude.{takes_messages, answers, is_open}
@@ -20,21 +20,21 @@ use Rattle.coap_model.proofs.world.WalkLaws.{if_between, announcing, Rejects, En
 
 -- ---- the last response
 
--- with one message more it is that one, where this is a response with the token
+-- One more message is the last response if it is a response with the token.
 pub last_of_longer : (token : List ℕ) (queued : List Message) (m : Message) → last_response token (queued ++ m ∷ []) ≡ cond (responds token m) (Some m) (last_response token queued)
 unfolding last_response
 last_of_longer token queued m = ap (find (responds token)) (reverse-append queued (m ∷ []))
 
--- no other message changes it
+-- Other messages do not change it.
 pub last_stays : (token : List ℕ) (queued ms : List Message) → AllByRecursion (λ m. responds token m ≡ false) ms → last_response token (queued ++ ms) ≡ last_response token queued
 last_stays token queued [] none = ap (last_response token) (append-nil queued)
 last_stays token queued (m ∷ ms) none =
     let later = last_stays token (queued ++ m ∷ []) ms none.1 in
     grind (arith, append_assoc queued (m ∷ []) ms, last_of_longer token queued m)
 
--- ---- what is queued
+-- ---- queued messages
 
--- one history goes on to another: it queues messages that are all such, and these are handled on the way
+-- A history continues another one. All messages queued since have the property, and these messages were handled since.
 pub record Queues (P : Message → Type 0) (h k : History) : Type 0 where
   pub more : List Message
   pub same : k.queued ≡ h.queued ++ more
@@ -42,27 +42,27 @@ pub record Queues (P : Message → Type 0) (h k : History) : Type 0 where
   pub heard : List Message
   pub handled : k.handled ≡ h.handled ++ heard
 
--- where nothing is handled
+-- No message is handled.
 pub queues_these : (P : Message → Type 0) (h k : History) (more : List Message) → k.queued ≡ h.queued ++ more → k.handled ≡ h.handled → AllByRecursion P more → Queues P h k
 queues_these P h k more same handled such = record { more = more; same = same; such = such; heard = []; handled = handled ∙ sym (append-nil h.handled) }
 
 pub queues_none : (P : Message → Type 0) (h : History) → Queues P h h
 queues_none P h = queues_these P h h [] (sym (append-nil h.queued)) refl tt
 
--- what is queued of a message, or of less of it
+-- The messages queued for a message or its reduced form.
 pub sent_all : (P : Message → Type 0) (s : Standing) (m less : Message) (r : Reply) → P m → P less → AllByRecursion P (send_as s m less r).queued
 sent_all P s m less r is bare = grind arith
 
--- what is held then, and how the connection stands
+-- The pending entries and the phase afterwards.
 pub sent_either : (s : Standing) (m less : Message) (r : Reply) (P : List HeldValue → Phase → Type 0) → P s.held s.phase → P [] (phase.Stopped reason.PeerTooSmall) → P (send_as s m less r).held (send_as s m less r).phase
 sent_either s m less r P is over = grind arith
 
 pub reply_either : (h : History) (m : Message) (P : List Message → List HeldValue → Phase → Type 0) → P h.handled h.held h.phase → P h.handled [] (phase.Stopped reason.PeerTooSmall) → P (after h (call.Reply m)).handled (after h (call.Reply m)).held (after h (call.Reply m)).phase
 reply_either h m P is over = grind arith
 
--- ---- what happens to a history
+-- ---- effects on a history
 
--- a message that is handled: a server's reaction queues no response
+-- A message that is handled: a server's reaction queues no response.
 pub message_queues : (h : History) (m : Message) → h.role ≡ Server → Queues IsNoResponse h (after h (call.Handle m))
 message_queues h m server =
     let signals : AllByRecursion IsNoResponse (react (standing_now h) m).effect.queued =
@@ -88,27 +88,27 @@ release_queues h opened none = queues_these IsPlain h _ (release ∷ []) refl re
 pub announcing_queues : (h : History) (size : ℕ) → Queues IsPlain h (announcing h size)
 announcing_queues h size = queues_these IsPlain h _ (own_csm size ∷ []) refl refl ((refl, refl), tt)
 
--- a write queues nothing
+-- A write queues nothing.
 pub written_queues : (P : Message → Type 0) (h : History) (n : ℕ) → Queues P h (after h (call.Written n))
 written_queues P h n = queues_these P h _ [] (sym (append-nil h.queued)) refl tt
 
--- of what is held a Pong alone is queued at its turn
+-- Of the entries that are due, only a Pong is queued here.
 pub due_queues : (h : History) (now : ℕ) → Queues IsNoResponse h (after h (call.Due now))
 due_queues h now = queues_these IsNoResponse h _ (due_effect (standing_due now (standing_now h)) (first_due now h.held)).queued refl refl (grind arith)
 
 -- ---- responses
 
--- whatever is sent of a response has its token
+-- Every form in which a response is sent has its token.
 pub reply_queues : (h : History) (m : Message) → Queues (λ n. n.token ≡ m.token) h (after h (call.Reply m))
 reply_queues h m =
     let P : Message → Type 0 = λ n. n.token ≡ m.token in
     if_between (Queues P) (answers h.phase) h _ (queues_none P h)
     (λ does. queues_these P h _ _ refl refl (sent_all P (standing_now h) m (bare_response m) (fit (limit_now h) m (bare_response m)) refl refl))
 
--- an open connection answers
+-- An open connection sends responses.
 pub open_answers : (p : Phase) → is_open p ≡ true → answers p ≡ true
 open_answers p opened = grind arith
 
--- where a response is sent whole and the connection is open afterwards, it is the last message queued
+-- If a response is sent whole and the connection is open afterwards, it is the last message queued.
 pub whole_last : (h : History) (m : Message) → is_whole (fit (limit_now h) m (bare_response m)) ≡ true → is_open (after h (call.Reply m)).phase ≡ true → (after h (call.Reply m)).queued ≡ h.queued ++ m ∷ []
 whole_last h m whole opened = grind (arith, open_answers h.phase)

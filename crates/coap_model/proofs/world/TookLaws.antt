@@ -1,4 +1,4 @@
--- What a take adds to the stream of its connection, and which steps it makes.
+-- The effect of a `Took` event on the stream of its connection, and the steps that it makes.
 use Rattle.std.proofs.Common.{◌≡◌, ℕ, ◌+◌, ◌-◌, ◌≤◌, List, [], ◌∷◌, ◌++◌, length, map, take, get_or, Some, None, Ok, Err, refl, sym, ap, ◌∙◌, append_assoc, arith}
 use Rattle.std.proofs.lemmas.Grind.{take_at_read}
 use Rattle.std.proofs.lemmas.List.{length-append, take_at}
@@ -16,49 +16,49 @@ use Rattle.coap_model.specs.world.World as step
 use Rattle.coap_model.specs.world.Events.{front_of}
 use Rattle.coap_model.proofs.world.StepLaws.{stream_same, taken_here, stream_more, rest_unfinished}
 
--- ---- the steps of a stream that goes on
+-- ---- the steps of a stream that continues
 
--- behind a stream with no fault
+-- After a stream without error.
 pub beyond_added : (id : ℕ) (before added : Stream) → before.fault ≡ None → beyond id before (behind before.messages added) ≡ map (step.Handled id) added.messages ++ new_fault id None added.fault
 beyond_added id before added none = rw (none, drop-append_seam before.messages added.messages) refl
 
--- a stream that stays, with a fault or without
+-- A stream that does not change, with an error or without.
 pub nothing_beyond : (id : ℕ) (s : Stream) → beyond id s s ≡ []
 nothing_beyond id s = grind (arith, drop-length s.messages)
 
--- ---- what a take adds
+-- ---- the addition of a take
 
--- the steps of a take, and the stream after it: those of what is added behind the stream before it
+-- The steps of a take and the stream after it are those of what it adds to the stream before it.
 pub record Adds (M id : ℕ) (es : List Event) (bytes : List ℕ) (added : Stream) : Type 0 where
   pub steps : steps_by M es (Took id bytes) ≡ map (step.Handled id) added.messages ++ new_fault id None added.fault
   pub stream : stream_on M id (es ++ Took id bytes ∷ []) ≡ behind (stream_on M id es).messages added
 
 module _ (M id : ℕ) (es : List Event) (bytes : List ℕ) (none : (stream_on M id es).fault ≡ None) where
-  -- the size in force
+  -- The current size.
   abbrev N : ℕ
   N = size_on M id es
 
-  -- a take adds what its bytes spell behind the rest so far
+  -- A take adds the messages of its bytes, read after the bytes left over.
   adds : (added : Stream) → split N ((stream_on M id es).rest ++ bytes) ≡ added → Adds M id es bytes added
   unfolding steps_by
   adds added is =
       let after : stream_on M id (es ++ Took id bytes ∷ []) ≡ behind (stream_on M id es).messages added = stream_more M id es bytes ∙ rw (none, is) refl in
       record { steps = ap (beyond id (stream_on M id es)) after ∙ beyond_added id (stream_on M id es) added none; stream = after }
 
-  -- what is found of the bytes
+  -- The result of framing the bytes.
   abbrev pub framing_found : Framing
   framing_found = framing N (stream_on M id es).rest bytes
 
   pub adds_nothing : framing_found.finding ≡ Nothing → Adds M id es bytes (record { messages = []; rest = (stream_on M id es).rest ++ bytes; fault = None })
   adds_nothing e = adds _ (split_unfinished N ((stream_on M id es).rest ++ bytes) (nothing_finished N (stream_on M id es).rest bytes e))
 
-  -- bytes that are taken whole add what is found of them
+  -- If all bytes are accepted, they add the frame or error that was found.
   pub adds_frame : framing_found.taken ≡ length bytes → Adds M id es bytes (added_by (stream_on M id es).rest bytes framing_found.finding)
   adds_frame all = adds _ (added_whole N (stream_on M id es).rest bytes (rest_unfinished M id es none) all)
 
 -- ---- no bytes
 
--- no byte makes no step and leaves the stream
+-- An empty take makes no step and does not change the stream.
 pub no_bytes_stream : (M id : ℕ) (es : List Event) → stream_on M id (es ++ Took id [] ∷ []) ≡ stream_on M id es
 no_bytes_stream M id es = stream_same M id es (Took id []) (taken_here id [])
 
@@ -66,13 +66,13 @@ pub no_bytes_steps : (M id : ℕ) (es : List Event) → steps_by M es (Took id [
 unfolding steps_by
 no_bytes_steps M id es = ap (beyond id (stream_on M id es)) (no_bytes_stream M id es) ∙ nothing_beyond id (stream_on M id es)
 
--- ---- a frame but its last byte
+-- ---- a frame without its last byte
 
 module _ (M : ℕ) (kept piece frame : List ℕ) (n : ℕ) (u : beginning M kept ≡ Unfinished) (is : (framing M kept piece).finding ≡ AFrame frame) (all : front_of M kept piece ≡ n + 1) where
   pub front_within : n + 1 ≤ length piece
   front_within = rw all at (taken_within M kept piece u)
 
-  -- without the last byte of the frame nothing is found, and all bytes are taken and kept
+  -- Without the last byte of the frame nothing is found, and all bytes are accepted and kept.
   pub but_last_unfinished : framing M kept (take n piece) ≡ framing_at kept (take n piece) Unfinished
   unfolding framing
   but_last_unfinished =
@@ -84,21 +84,21 @@ module _ (M : ℕ) (kept piece frame : List ℕ) (n : ℕ) (u : beginning M kept
       let but_last : without_last frame ≡ front = rw bytes (take_at front last (length (front ++ last) - 1) (omega (arith, length-append front last))) in
       ap (framing_at kept (take n piece)) (ap (beginning M) (sym but_last) ∙ front_unfinished M frame (whole_itself M (kept ++ piece) frame first.0 first.1))
 
--- ---- what is taken of a piece on a connection
+-- ---- the bytes accepted of an input slice
 
 module _ (M id : ℕ) (es : List Event) (piece : List ℕ) (none : (stream_on M id es).fault ≡ None) where
   abbrev size_before : ℕ
   size_before = size_on M id es
 
-  -- the bytes kept of an unfinished frame
+  -- The bytes kept of an unfinished frame.
   abbrev pub kept_so_far : List ℕ
   kept_so_far = (stream_on M id es).rest
 
-  -- the bytes taken of the piece
+  -- The accepted bytes of the slice.
   abbrev pub piece_front : List ℕ
   piece_front = take (front_of size_before kept_so_far piece) piece
 
-  -- they add what is found of the piece
+  -- They add the frame or error that is found in the slice.
   pub piece_adds : Adds M id es piece_front (added_by kept_so_far piece_front (framing size_before kept_so_far piece).finding)
   piece_adds = adds M id es piece_front none _ (added_front size_before kept_so_far piece (rest_unfinished M id es none))
 

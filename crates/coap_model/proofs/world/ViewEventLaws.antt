@@ -1,4 +1,5 @@
--- What a connection sees of accepted events is accepted, and leaves the connection, the store and the moment what all events leave.
+-- The view of accepted events is a list of accepted events. It leads to the same connection, store and time as all
+-- events.
 use Rattle.std.proofs.Common.{◌≡◌, ◌≢◌, ℕ, ◌≤◌, ◌<◌, true, false, List, [], ◌∷◌, ◌++◌, length, map, drop, Option, None, refl, sym, ap, subst, ◌∙◌, append_assoc, arith, ◌==◌, if◌then◌else◌, inl, inr}
 use Rattle.coap_model.specs.Prelude.{AllByRecursion, Message, StreamFault, Stream, LimitValues, link_of}
 use Rattle.coap_model.specs.Prelude.{release_refusal, Change, Nothing, Put, Delete, changed, ConfigValues, Side}
@@ -26,7 +27,7 @@ view_more c id a (d ∷ es) e =
     rw (view_more c id (a ++ d ∷ []) es e, append_assoc a (d ∷ []) es)
     (sym (append_assoc (view_event c id a d) (view_behind c id (a ++ d ∷ []) es) (view_event c id (a ++ d ∷ es) e)))
 
--- ---- steps under another number
+-- ---- steps with another id
 
 beyond_renamed : (id n : ℕ) (before after : Stream) → beyond n before after ≡ map (renamed n) (beyond id before after)
 beyond_renamed id n before after = by (drop (length before.messages) after.messages) before.fault after.fault
@@ -41,14 +42,14 @@ own_steps limits id n [] w v each alike = alike
 own_steps limits id n (s ∷ ss) w v each alike =
     own_steps limits id n ss (world.step limits w s) (world.step limits v (renamed n s)) each.1 (own_alike limits id n w v alike s each.0)
 
--- ---- a world with no connection
+-- ---- a world without connections
 
--- no connection is there, and no number was given
+-- No connection exists, and no id was assigned.
 record IsFresh (c : ConfigValues) (w : World) : Type 0 where
   empty : w.sides ≡ []
   ids : w.ids ≡ c.starts.ids
 
--- a step that opens no connection
+-- The step opens no connection.
 abbrev OpensNone : Step → Type 0
 OpensNone s = (id : ℕ) → s ≡ world.Opened id → ⊥
 
@@ -69,7 +70,8 @@ module _ (c : ConfigValues) (id : ℕ) where
   abbrev M : ℕ
   M = c.limits.max_message
 
-  -- these events are a view of what led to a world: where the connection is still to come, nobody is there
+  -- These events are a view of the events that led to a world. If the connection is not yet opened, the view has no
+  -- connection.
   record IsView (w : World) (spelled : Stream × ℕ) (ids : ℕ) (vs : List Event) : Type 0 where
     alike : share_of id w ≡ share_of n (world_after c vs)
     spells : spelled ≡ spelled_on M n vs
@@ -77,7 +79,7 @@ module _ (c : ConfigValues) (id : ℕ) where
     fresh : ids < id → IsFresh c (world_after c vs)
     rests : SettlesAlike id w
 
-  -- one event more, that makes one step
+  -- One more event that makes one step.
   module _ (w : World) (spelled : Stream × ℕ) (ids : ℕ) (vs : List Event) (is : IsView w spelled ids vs) where
     view_stored : (w' : World) (e : Event) (s : Step) → steps_by M vs e ≡ s ∷ [] → OpensNone s → taken_in n e ≡ [] → size_stays n e → IsAccepted c vs e → SettlesAlike id w' → share_of id w' ≡ share_of n (world.step c.limits (world_after c vs) s) → IsView w' spelled ids (vs ++ e ∷ [])
     view_stored w' e s one none quiet stays ok rests same =
@@ -93,7 +95,7 @@ module _ (c : ConfigValues) (id : ℕ) where
     same_store : w.store ≡ (world_after c vs).store
     same_store = ap (λ (x : Share). x.store) is.alike
 
-    -- a change of another connection
+    -- A change made by another connection.
     view_change : (w' : World) (change : Change) → IsNotRefused w.store change → SettlesAlike id w' → share_of id w' ≡ settled_share (share (changed w.store change) w.now (side_of id w.sides)) → IsView w' spelled ids (vs ++ change_events change)
     unfolding steps_by after_steps IsAccepted
     view_change w' Nothing passes rests same =
@@ -105,7 +107,7 @@ module _ (c : ConfigValues) (id : ℕ) where
         view_stored w' (Removed path) (world.Removed path) refl (λ k opens. cc) refl (λ N. refl) (rw same_store at passes) rests
         (same ∙ change_alike c.limits id n w (world_after c vs) is.alike (Delete path) is.rests passes)
 
-  -- steps of another connection
+  -- Steps of another connection.
   view_others : (ss : List Step) (w : World) (spelled : Stream × ℕ) (ids : ℕ) (vs : List Event) → AllByRecursion (λ s. concerns id s ≡ false) ss → IsView w spelled ids vs → IsView (after_steps c.limits w ss) spelled ids (vs ++ changes_of c.limits w ss)
   unfolding after_steps changes_of
   view_others [] w spelled ids vs each is = rw (append-nil vs) is
@@ -118,12 +120,12 @@ module _ (c : ConfigValues) (id : ℕ) where
       (view_others ss next spelled ids (vs ++ changes) each.1
       (view_change w spelled ids vs is next (change_by w s) (by_passes w s) (step_rests c.limits id w s) seen))
 
-  -- ---- one event more
+  -- ---- one more event
 
   abbrev Sees : List Event → List Event → Type 0
   Sees es vs = IsView (world_after c es) (spelled_on M id es) (world_after c es).ids vs
 
-  -- no step of these opens a connection but by the next number
+  -- None of these steps opens a connection with an id other than the next one.
   abbrev OpensSo : Step → Type 0
   OpensSo s = (w : World) → OpensNext c w s
 
@@ -139,7 +141,7 @@ module _ (c : ConfigValues) (id : ℕ) where
     abbrev steps_made : List Step
     steps_made = steps_by M es e
 
-    -- an event of another connection
+    -- An event of another connection.
     unseen : AllByRecursion (λ s. concerns id s ≡ false) steps_made → w.ids ≤ (after_steps c.limits w steps_made).ids → taken_in id e ≡ [] → size_stays id e → Sees (es ++ e ∷ []) (vs ++ changes_of c.limits w steps_made)
     unseen each grow quiet stays =
         let is = view_others steps_made w (spelled_on M id es) w.ids vs each sees in
@@ -151,7 +153,7 @@ module _ (c : ConfigValues) (id : ℕ) where
           rests = rw (world_more c es e) is.rests;
         }
 
-    -- the same bytes and the same size are taken and announced
+    -- The same bytes are accepted, and the same size is announced.
     abbrev SpellSame : Event → Type 0
     SpellSame e' = (taken_in id e ≡ taken_in n e') × ((N : ℕ) → size_by id e N ≡ size_by n e' N)
 
@@ -160,7 +162,7 @@ module _ (c : ConfigValues) (id : ℕ) where
         spelled_then M id es e ∙ ap (λ (t : Stream × ℕ). spelled_by t (taken_in id e) (size_by id e)) sees.spells
         ∙ rw (same.0, same.1 (size_on M n vs)) (sym (spelled_then M n vs e'))
 
-    -- an event of the connection itself
+    -- An event of the connection itself.
     seen : (e' : Event) → steps_by M vs e' ≡ map (renamed n) steps_made → AllByRecursion (λ s. concerns id s ≡ true) steps_made → SpellSame e' → IsAccepted c vs e' → ((after_steps c.limits w steps_made).ids < id → IsFresh c (world_after c (vs ++ e' ∷ []))) → Sees (es ++ e ∷ []) (vs ++ e' ∷ [])
     seen e' makes each bytes ok fresh = record {
       alike = ap (share_of id) (world_more c es e) ∙ own_steps c.limits id n steps_made w (world_after c vs) each sees.alike
@@ -193,7 +195,7 @@ module _ (c : ConfigValues) (id : ℕ) where
     unfolding takes
     takes_alike bytes = ap (λ (s : Stream × ℕ). takes_of s.1 s.0.rest bytes (side_of id (world_after c es).sides)) sees.spells ∙ rw same_side refl
 
-    -- an event of one connection: its own is seen with the other number, and of another one this is seen
+    -- An event of one connection: its own is viewed with the other id, and that of another connection as these changes.
     of_one : (other : ℕ) (at : ℕ → Event) (changes : List Event) → IsAccepted c es (at other) → (IsAccepted c es (at id) → Sees (es ++ at id ∷ []) (vs ++ at n ∷ [])) → (other ≢ id → Sees (es ++ at other ∷ []) (vs ++ changes))
         → Sees (es ++ at other ∷ []) (vs ++ (if other == id then at n ∷ [] else changes))
     of_one other at changes ok here away =
@@ -202,14 +204,14 @@ module _ (c : ConfigValues) (id : ℕ) where
           | inr apart ↦ rw (ne_eqb other id apart) (away apart)
         ]
 
-    -- nothing that is seen
+    -- An event that is not viewed.
     blind : (e : Event) (s : Step) → steps_by M es e ≡ s ∷ [] → concerns id s ≡ false → change_by (world_after c es) s ≡ Nothing → OpensNext c (world_after c es) s → taken_in id e ≡ [] → size_stays id e → Sees (es ++ e ∷ []) (vs ++ [])
     unfolding changes_of after_steps
     blind e s one apart still opening quiet stays =
         let none : changes_of c.limits (world_after c es) (steps_by M es e) ≡ [] = rw (one, still) refl in
         rw none at (unseen es vs all sees e (rw one (apart, tt)) (rw one (ids_grow c (world_after c es) s opening)) quiet stays)
 
-    -- the connection is opened
+    -- The connection is opened.
     opening_seen : IsAccepted c es (Opened id) → Sees (es ++ Opened id ∷ []) (vs ++ Opened n ∷ [])
     unfolding IsAccepted steps_by concerns after_steps world.step
     opening_seen ok =
@@ -220,12 +222,12 @@ module _ (c : ConfigValues) (id : ℕ) where
         (omega (arith, fresh.ids), omega (arith, numbered.low, ok.0, ok.1), omega (arith, ok.2, ap (λ (ps : List world.Place). length ps) fresh.empty))
         (λ low. absurd (omega (arith, low, given)))
 
-    -- its own event, with one step and no byte
+    -- An event of its own with one step and no bytes.
     own_seen : (e e' : Event) (s : Step) (P : Side → Type 0) → steps_by M es e ≡ s ∷ [] → steps_by M vs e' ≡ renamed n s ∷ [] → concerns id s ≡ true → OpensSo s → SpellSame es vs all sees e e' → (OnSide n v P → IsAccepted c vs e') → OnSide id (world_after c es) P → Sees (es ++ e ∷ []) (vs ++ e' ∷ [])
     own_seen e e' s P one too own opening bytes accepts here =
         sees_own es vs all sees e e' P (rw one too) (rw one (own, tt)) (rw one (opening, tt)) bytes (accepts (rw same_side at here)) here
 
-    -- bytes are taken on it
+    -- The connection itself accepts bytes.
     took_here : (bytes : List ℕ) → IsAccepted c es (Took id bytes) → Sees (es ++ Took id bytes ∷ []) (vs ++ Took n bytes ∷ [])
     unfolding IsAccepted steps_by concerns
     took_here bytes ok =
@@ -240,7 +242,7 @@ module _ (c : ConfigValues) (id : ℕ) where
         (each_beyond (λ s. concerns id s ≡ true) id before after (λ m. eq-eqb id id refl) (λ fault. eq-eqb id id refl))
         (each_beyond OpensSo id before after (λ m w. tt) (λ fault w. tt)) same (rw (← same_side, at.1) (sym (takes_alike bytes) ∙ at.2)) ok
 
-    -- bytes are taken on another one
+    -- Another connection accepts bytes.
     took_away : (other : ℕ) (bytes : List ℕ) → other ≢ id → Sees (es ++ Took other bytes ∷ []) (vs ++ changes_of c.limits (world_after c es) (steps_by M es (Took other bytes)))
     unfolding steps_by concerns
     took_away other bytes apart =
@@ -251,7 +253,7 @@ module _ (c : ConfigValues) (id : ℕ) where
         (ids_more (beyond other before after) (world_after c es) (each_beyond OpensSo other before after (λ m w. tt) (λ fault w. tt)))
         (taken_elsewhere id other bytes apart) (λ N. refl)
 
-    -- an event of no connection
+    -- An event of no connection.
     common : (e : Event) (s : Step) → steps_by M es e ≡ s ∷ [] → steps_by M vs e ≡ s ∷ [] → renamed n s ≡ s → concerns id s ≡ true → OpensNone s → OpensSo s → SpellSame es vs all sees e e → IsAccepted c vs e → Sees (es ++ e ∷ []) (vs ++ e ∷ [])
     unfolding after_steps
     common e s one too same of_all none opening bytes ok =
@@ -313,7 +315,7 @@ module _ (c : ConfigValues) (id : ℕ) where
       by_events c (λ fs. Sees fs (view_events c id fs)) sees_nothing
       (λ fs e before ok sees. rw (view_more c id [] fs e) (event_seen fs (view_events c id fs) before sees e ok)) es all
 
-  -- the connection is the same in its view
+  -- The connection is the same after its view.
   pub same_in_view : (es : List Event) → AreAccepted c es → side_of id (world_after c es).sides ≡ side_of n (world_after c (view_events c id es)).sides
   same_in_view es all = ap (λ (x : Share). x.side) (events_seen es all).alike
 
@@ -323,6 +325,6 @@ module _ (c : ConfigValues) (id : ℕ) where
   pub same_now_in_view : (es : List Event) → AreAccepted c es → (world_after c es).now ≡ (world_after c (view_events c id es)).now
   same_now_in_view es all = ap (λ (x : Share). x.now) (events_seen es all).alike
 
-  -- and what it sees is accepted
+  -- The view is accepted.
   pub view_accepted : (es : List Event) → AreAccepted c es → AreAccepted c (view_events c id es)
   view_accepted es all = (events_seen es all).accepted

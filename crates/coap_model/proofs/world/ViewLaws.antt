@@ -1,4 +1,5 @@
--- A connection sees the others through the store alone: after the steps that it sees, it is as it is after all steps.
+-- Other connections affect a connection through the store alone: after the steps that it views, it is the same as after
+-- all steps.
 use Rattle.std.proofs.Common.{◌≡◌, ℕ, ◌+◌, true, false, ◌&&◌, List, [], ◌∷◌, length, map, Option, Some, None, refl, sym, ap, subst, ◌∙◌, is_none, option_map, ◌==◌, inl, inr, arith}
 use Rattle.std.proofs.lemmas.Bool.Decides.{nat_tests}
 use Rattle.std.proofs.lemmas.Bool.{eqb-false, cases_Bool, cond_both}
@@ -23,15 +24,15 @@ use Rattle.coap_model.proofs.world.EntryLemmas.{all_append}
 use Rattle.coap_model.proofs.world.SideLaws.{at_rest, settled_rests}
 use Rattle.coap_conn.proofs.AskingLaws.{none_where}
 
--- ---- the store refuses nothing that a message puts
+-- ---- the store does not refuse a change that a message makes
 
--- what is put is not refused, nor what is removed
+-- Neither a put nor a removal is refused.
 abbrev pub IsNotRefused : StoreValue → Change → Type 0
 IsNotRefused s Nothing = Unit {0}
 IsNotRefused s (Put path format bytes) = put_refusal s path bytes ≡ None
 IsNotRefused s (Delete path) = remove_refusal s path ≡ None
 
--- the checks of a put are those of the request that makes it
+-- The checks of a put are those of the request that makes it.
 put_passes : (s : StoreValue) (now : ℕ) (path q : Path) (m : Message) → is_dynamic (place_of path) ≡ true → CanStore s (target_of s now path) m → key_for path ≡ Some q → put_refusal s q m.payload ≡ None
 unfolding put_refusal
 put_passes s now path q m dynamic can key =
@@ -76,9 +77,9 @@ pub by_passes : (w : World) (s : Step) → IsNotRefused w.store (change_by w s)
 by_passes w (world.Handled id m) = on_passes w m (side_of id w.sides)
 by_passes w other = tt
 
--- ---- what a connection has of a world
+-- ---- the part of a world that matters to a connection
 
--- the store, the moment, and the connection where it is there
+-- The store, the time, and the connection if it exists.
 pub record Share : Type 0 where
   pub store : StoreValue
   pub now : ℕ
@@ -100,7 +101,7 @@ unfolding settled
 settled_again store now None = refl
 settled_again store now (Some s) = ap (λ (t : Side). Some t) (at_rest (length (settled store now s).history.held + length (settled store now s).observers) store now (settled store now s) (settled_rests store now s))
 
--- settling changes nothing of it
+-- Settling does not change this part.
 abbrev pub SettlesAlike : ℕ → World → Type 0
 SettlesAlike id w = settled_share (share_of id w) ≡ share_of id w
 
@@ -115,9 +116,9 @@ step_rests limits id w s =
     let did : Share = share_of id (acted limits w s) in
     ap settled_share (step_share limits id w s) ∙ ap (share did.store did.now) (settled_again did.store did.now did.side) ∙ sym (step_share limits id w s)
 
--- ---- a step that the connection sees as it is
+-- ---- a step that is viewed unchanged
 
--- a step of a connection, with another number
+-- A step of a connection with another id.
 abbrev pub renamed : ℕ → Step → Step
 renamed n (world.Opened id) = world.Opened n
 renamed n (world.Handled id m) = world.Handled n m
@@ -133,9 +134,9 @@ own_number : (id : ℕ) (s : Step) → concerns id s ≡ true → renamed id s �
 unfolding concerns
 own_number id s own = grind (arith, nat_tests)
 
--- of two worlds of which two connections have the same
+-- Two worlds with two connections that have the same part.
 module _ (limits : LimitValues) (id n : ℕ) (w v : World) (alike : share_of id w ≡ share_of n v) where
-  -- a change of the connection and of the store
+  -- A change of the connection and of the store.
   changed_alike : (store : Share → StoreValue) (f : Share → Side → Side)
       → share (store (share_of id w)) w.now (side_of id (map (changed_at id (f (share_of id w))) w.sides)) ≡ share (store (share_of n v)) v.now (side_of n (map (changed_at n (f (share_of n v))) v.sides))
   changed_alike store f =
@@ -162,14 +163,14 @@ module _ (limits : LimitValues) (id n : ℕ) (w v : World) (alike : share_of id 
   acted_alike (world.Announced k size) = changed_alike (λ x. x.store) (λ x s. side_announced s size)
   acted_alike (world.Dropped k) = rw (dropped_here id w.sides, dropped_here n v.sides) (ap (λ (x : Share). record x { side = None }) alike)
 
-  -- a step of the connection, or of none
+  -- A step of the connection, or of none.
   pub own_alike : (s : Step) → concerns id s ≡ true → share_of id (world.step limits w s) ≡ share_of n (world.step limits v (renamed n s))
   own_alike s own =
       step_share limits id w s
       ∙ ap settled_share (ap (λ (t : Step). share_of id (acted limits w t)) (sym (own_number id s own)) ∙ acted_alike s)
       ∙ sym (step_share limits n v (renamed n s))
 
-  -- a change of the store that another connection made
+  -- A change of the store that another connection made.
   pub change_alike : (change : Change) → SettlesAlike id w → IsNotRefused w.store change → settled_share (share (changed w.store change) w.now (side_of id w.sides)) ≡ share_of n (after_steps limits v (change_steps change))
   unfolding after_steps acted concerns
   change_alike Nothing rests passes = rests ∙ alike
@@ -181,14 +182,14 @@ module _ (limits : LimitValues) (id n : ℕ) (w v : World) (alike : share_of id 
 
 -- ---- a step of another connection
 
--- what another connection's message leaves of the store is what its change does
+-- The store after another connection's message is the store after the change of that message.
 stored_by_change : (w : World) (m : Message) (there : Option Side) → stored_after w m there ≡ changed w.store (change_on w m there)
 stored_by_change w m there = grind arith
 
 changed_apart : (id other : ℕ) (w : World) (f : Side → Side) → (other == id) ≡ false → share w.store w.now (side_of id (map (changed_at other f) w.sides)) ≡ share_of id w
 changed_apart id other w f apart = ap (share w.store w.now) (changed_elsewhere other id f w.sides (eqb-false other id apart))
 
--- only the store changes, and only as the step says
+-- Only the store changes, and only by the change of the step.
 pub other_did : (limits : LimitValues) (id : ℕ) (w : World) (s : Step) → concerns id s ≡ false → share_of id (acted limits w s) ≡ share (changed w.store (change_by w s)) w.now (side_of id w.sides)
 unfolding concerns acted
 other_did limits id w (world.Opened other) apart =
@@ -204,7 +205,7 @@ other_did limits id w (world.Announced other size) apart = changed_apart id othe
 other_did limits id w (world.Dropped other) apart = ap (share w.store w.now) (dropped_elsewhere other id w.sides (eqb-false other id apart))
 other_did limits id w s apart = absurd cc
 
--- ---- what is seen of a step does the same
+-- ---- the view of a step has the same effect
 
 view_alike : (limits : LimitValues) (id : ℕ) (w v : World) (s : Step) → SettlesAlike id w → share_of id w ≡ share_of id v → share_of id (world.step limits w s) ≡ share_of id (after_steps limits v (view_step id w s))
 unfolding view_step after_steps
@@ -216,7 +217,7 @@ view_alike limits id w v s rests alike =
           ∙ change_alike limits id id w v alike (change_by w s) rests (by_passes w s))
     ]
 
--- each step in turn, from two worlds of which the connection has the same
+-- Each step in turn, from two worlds in which the connection has the same part.
 views_alike : (limits : LimitValues) (id : ℕ) (ss : List Step) (w v : World) → SettlesAlike id w → share_of id w ≡ share_of id v → share_of id (after_steps limits w ss) ≡ share_of id (after_steps limits v (view_of limits id w ss))
 unfolding after_steps view_of
 views_alike limits id [] w v rests alike = alike
@@ -224,7 +225,7 @@ views_alike limits id (s ∷ ss) w v rests alike =
     views_alike limits id ss (world.step limits w s) _ (step_rests limits id w s) (view_alike limits id w v s rests alike)
     ∙ ap (share_of id) (sym (steps_then limits v (view_step id w s) (view_of limits id (world.step limits w s) ss)))
 
--- ---- what is seen is of the connection, or of none
+-- ---- each viewed step is one of the connection, or of none
 
 changes_seen : (id : ℕ) (change : Change) → AreSeen id (change_steps change)
 unfolding concerns
@@ -264,7 +265,7 @@ pub one_side_of_events : (c : ConfigValues) (id : ℕ) (events : List Event) →
 unfolding world_after
 one_side_of_events c id events = one_side_of_a_view c id (steps_of c.limits.max_message events)
 
--- of lists of events whose steps look the same to a connection, it becomes the same
+-- Lists of events with the same view lead to the same connection.
 pub one_side_of_one_view : (c : ConfigValues) (id : ℕ) (events others : List Event)
     → view_of c.limits id (new_world c) (steps_of c.limits.max_message events) ≡ view_of c.limits id (new_world c) (steps_of c.limits.max_message others)
     → side_of id (world_after c events).sides ≡ side_of id (world_after c others).sides

@@ -1,6 +1,6 @@
--- What happens to a connection, call by call. A relation between histories that composes holds across all that a call of a server
--- does to a connection, and across settling, where each part of it keeps the relation. One that a part does not keep leaves out the
--- calls which have that part.
+-- The effects on a connection, call by call. A relation between histories that composes holds across every effect of a
+-- server's call and across settling, if each part keeps it. If a part does not keep it, calls with this part are
+-- excluded.
 use Rattle.std.proofs.Common.{◌≡◌, ℕ, ◌≤◌, Bool, true, false, cond, List, [], ◌∷◌, ◌++◌, length, Option, Some, None, refl, sym, ap, subst, zero, suc, ◌+◌, ◌&&◌, nat_le, is_none, arith}
 use Rattle.std.proofs.lemmas.Bool.{cond_both, and_parts, leb-true}
 use Rattle.std.proofs.lemmas.Bool.Decides.{nat_tests}
@@ -23,31 +23,31 @@ use Rattle.coap_conn.proofs.RequestLemmas.{react_asks}
 
 -- ---- the parts
 
--- there is room for the greatest message sent
+-- There is room for the largest message that is sent.
 abbrev pub room_in : History → Bool
 room_in h = nat_le h.limits.max_sent (free_in (link_of h))
 
--- a message was handled
+-- A message was handled.
 abbrev pub heard : History → Message → History
 heard h m = record (with_effect h (react (standing_now h) m).effect) { handled = h.handled ++ m ∷ [] }
 
--- a message was sent as it fits, or less of it
+-- A message was sent, whole or in its reduced form.
 abbrev pub sent : History → Message → Message → History
 sent h m less = with_effect h (send (standing_now h) m less)
 
--- what is held is this
+-- The pending entries are these.
 abbrev pub holding : History → List HeldValue → History
 holding h held = record h { held = held }
 
--- what is due first is held no more
+-- The first due entry is removed.
 abbrev pub without_first : History → ℕ → History
 without_first h now = holding h (without_due now h.held)
 
--- a size was announced
+-- A size was announced.
 abbrev pub announcing : History → ℕ → History
 announcing h size = record h { queued = h.queued ++ own_csm size ∷ []; own_max = size }
 
--- a relation keeps a part
+-- The relation holds across a part.
 abbrev pub Hears : (History → History → Type 0) → Type 0
 Hears R = (h : History) (m : Message) → takes_messages h.phase ≡ true → room_in h ≡ true → R h (heard h m)
 
@@ -78,23 +78,23 @@ Writes R = (h : History) (n : ℕ) → n ≤ length (link_of h).waiting → R h 
 abbrev pub Announces : (History → History → Type 0) → Type 0
 Announces R = (h : History) (size : ℕ) → is_open h.phase ≡ true → room_in h ≡ true → fits (limit_now h) (own_csm size) ≡ true → R h (announcing h size)
 
--- a relation that composes
+-- A relation that composes.
 pub record Composes (R : History → History → Type 0) : Type 0 where
   pub same : (h : History) → R h h
   pub then : (h k g : History) → R h k → R k g → R h g
 
--- the same of connections
+-- The same for connections.
 abbrev pub Between : (History → History → Type 0) → Side → Side → Type 0
 Between R s t = R s.history t.history
 
 -- ---- cases
 
--- what may be there, with what is known of it
+-- An optional value, with what is known in each case.
 pub there_or_not : {A : Type 0} (o : Option A) (P : Option A → Type 0) → (o ≡ None → P None) → ((x : A) → o ≡ Some x → P (Some x)) → P o
 there_or_not None P none some = none refl
 there_or_not (Some x) P none some = some x refl
 
--- what is there only where a test says so
+-- A value that is present only if a test is true.
 pub there_where : {A : Type 0} (b : Bool) (o : Option A) (x : A) → cond b o None ≡ Some x → (b ≡ true) × (o ≡ Some x)
 there_where true o x e = (refl, e)
 there_where false o x e = absurd cc
@@ -105,23 +105,23 @@ pub said_request : (v : VerdictValue) → is_request v ≡ true → v ≡ verdic
 said_request verdict.Request e = refl
 said_request other e = absurd cc
 
--- a request queues nothing, so there is as much room behind it
+-- A request queues nothing, so the room is the same afterwards.
 asked_room : (h : History) (m : Message) → is_request (react (standing_now h) m).verdict ≡ true → room_in h ≡ true → room_in (after h (call.Handle m)) ≡ true
 asked_room h m asks room =
     let none = (react_asks (standing_now h) m (said_request (react (standing_now h) m).verdict asks)).nothing in
     cond_both (takes_messages h.phase) (heard h m) h (λ (k : History). room_in k ≡ true) (λ takes. rw (none, append-nil) room) (λ over. room)
 
--- the effect of what was found to be due first
+-- The effect of the entry that was found to be due first.
 pub due_is : (h : History) (now : ℕ) (found : Option HeldValue) → first_due now h.held ≡ found → after h (call.Due now) ≡ with_effect h (due_effect (standing_due now (standing_now h)) found)
 due_is h now found is = ap (λ (o : Option HeldValue). with_effect h (due_effect (standing_due now (standing_now h)) o)) is
 
--- what is due first is not held any more, where it is no Pong
+-- The first due entry is removed, and nothing else changes if it is no Pong.
 answer_goes : (h : History) (now : ℕ) (token : List ℕ) (moment : ℕ) → first_due now h.held ≡ Some (Answer token moment) → after h (call.Due now) ≡ without_first h now
 answer_goes h now token moment is = cc (due_is h now (Some (Answer token moment)) is, append-nil h.queued)
 
 -- ---- settling
 
--- what each turn keeps, settling keeps
+-- A property that each round keeps is kept by settling.
 module _ (P : Side → Type 0) (store : StoreValue) (now : ℕ) (keeps : (s : Side) → P s → P (settled_once store now s)) where
   within_keeps : (turns : ℕ) (s : Side) → P s → P (settled_within turns store now s)
   unfolding settled_within
@@ -135,7 +135,8 @@ module _ (P : Side → Type 0) (store : StoreValue) (now : ℕ) (keeps : (s : Si
 pub if_between : (R : History → History → Type 0) (does : Bool) (h k : History) → R h h → (does ≡ true → R h k) → R h (cond does k h)
 if_between R does h k same goes = cond_both does k h (R h) goes (λ none. same)
 
--- What is due may do more than all else: a relation that holds behind it goes on by another one.
+-- The removal of a due entry may need a weaker relation than a reply. R holds across the removal, and E, which
+-- continues R, across the reply.
 module _ (R E : History → History → Type 0) (same : (h : History) → R h h) (then : (h k g : History) → R h k → E k g → R h g) (replies : Replies E) (lets_go : LetsGo R) (pongs : Pongs R) where
   reply_between : (h k : History) (token : List ℕ) (observe : Bool) (r : Response) → R h k → room_in k ≡ true → R h (after k (call.Reply (response_with_observe token observe r)))
   reply_between h k token observe r before room =
@@ -169,7 +170,8 @@ settled_between R composes replies lets_go pongs store now s =
 
 -- ---- a message
 
--- A message may do more than its answer: a relation that holds behind it goes on by another one.
+-- A message may need a weaker relation than its response: R holds across the message, and E, which continues R, across
+-- its response.
 module _ (R E : History → History → Type 0) (same : (h : History) → R h h) (then : (h k g : History) → R h k → E k g → R h g) (hears : Hears R) (stays : (h : History) → E h h) (replies : Replies E) (holds : Holds E) where
   replied_between : (store : StoreValue) (now : ℕ) (h : History) (others : List Observer) (m : Message) (hold : Option ℕ) → room_in h ≡ true → E h (side_replied store now h others m hold).history
   replied_between store now h others m None room =
@@ -191,9 +193,9 @@ module _ (R E : History → History → Type 0) (same : (h : History) → R h h)
       (replied_between store now h (without_token m.token s.observers) m (held_for h (answer_of store now m).hold) (asked_room s.history m asks room)))
       (λ other. message))) (λ none. same s.history)
 
--- ---- all else
+-- ---- other effects
 
--- a connection that may be released has room for Release, and may be sent it
+-- A connection that may be released has room for a Release, and the Release fits.
 pub release_fits : (v : LinkValue) → is_none (release_refusal v) ≡ true → (2 ≤ free_in v) × (2 ≤ limit_in v)
 release_fits v none = (grind (arith, nat_tests), grind (arith, nat_tests))
 
@@ -232,7 +234,7 @@ module _ (R : History → History → Type 0) (same : (h : History) → R h h) w
 
 -- ---- observers
 
--- it holds of a connection and of what becomes of it by all that may happen to it but messages
+-- The relation holds across every effect on a connection other than a message.
 pub record HoldsOfCalls (R : Side → Side → Type 0) : Type 0 where
   pub faulted : (s : Side) (fault : StreamFault) → R s (side_faulted s fault)
   pub written : (s : Side) (n : ℕ) → R s (side_written s n)
@@ -240,7 +242,7 @@ pub record HoldsOfCalls (R : Side → Side → Type 0) : Type 0 where
   pub released : (s : Side) → R s (side_released s)
   pub announced : (s : Side) (size : ℕ) → R s (side_announced s size)
 
--- what holds of observers, and of none, holds where the connection may not be open any more
+-- A property of the observers, and of no observers, holds if they are removed unless the connection is open.
 pub kept_open_has : (P : List Observer → Type 0) → P [] → (h : History) (os : List Observer) → P os → P (kept_open h os)
 kept_open_has P none h os is = cond_both (is_open h.phase) os [] P (λ e. is) (λ e. none)
 

@@ -1,4 +1,4 @@
--- Worked values of the definitions of specs/world: what the calls of a server tell, one after the other.
+-- Worked examples of the definitions in `specs/world`: the results of a server's calls in order.
 use Rattle.std.proofs.Common.{ℕ, List, [], ◌∷◌, ◌++◌, Some, refl, codes, replicate}
 use Rattle.coap_model.specs.Prelude.{LimitValues, Path, ConfigValues}
 use Rattle.coap_conn.specs.declared.phase.Phase.TheVariants as phase
@@ -12,7 +12,7 @@ abbrev pub limits_with : (max_message max_sent queue observers : ℕ) → LimitV
 limits_with max_message max_sent queue observers =
     record { max_message = max_message; max_sent = max_sent; queue = queue; pending = 16; observers = observers; outstanding = 16 }
 
--- so many dynamic resources may be there
+-- At most this number of dynamic resources.
 abbrev pub config_with : LimitValues → ℕ → ConfigValues
 config_with limits dynamic = record {
   limits = limits;
@@ -32,34 +32,34 @@ usual = config_with usual_limits 0
 abbrev pub one_resource : ConfigValues
 one_resource = config_with usual_limits 1
 
--- there is room for one message of the greatest size, and for no other
+-- The queue has space for one message of the largest size and for no other.
 abbrev pub narrow_limits : ℕ → LimitValues
 narrow_limits max_message = limits_with max_message 1152 1152 16
 
--- ---- what rows begin with
+-- ---- first rows
 
--- a connection is opened, and its Capabilities and Settings are written
+-- A connection is opened, and the server's CSM is written.
 abbrev pub opened : ℕ → List Row
 opened id = Open id => Done ∷ Drain id => Out (hex "60e1230100004140") ∷ []
 
--- the same where messages of at most 1,152 bytes are taken
+-- The same if messages of at most 1,152 bytes are accepted.
 abbrev opened_small : ℕ → List Row
 opened_small id = Open id => Done ∷ Drain id => Out (hex "50e12204804140") ∷ []
 
 abbrev pub path_a : Path
 path_a = codes "a" ∷ []
 
--- x is stored at /a
+-- The byte x is stored at `/a`.
 abbrev pub stored_x : List Row
 stored_x = Put path_a (Some 0) (hex "78") => Version 1 ∷ []
 
--- Capabilities and Settings, and a request to observe /a
+-- A CSM, and a request to observe `/a`.
 abbrev pub observed : ℕ → List Row
 observed id = In id (hex "00e1310101605161") => Taken 8 ∷ Drain id => Out (hex "61450141012060ff78") ∷ []
 
--- ---- signalling and pieces
+-- ---- signalling and input slices
 
--- a GET of / is answered, and then nothing waits
+-- A GET of `/` has a response, and then no bytes are queued.
 root : Plays usual (opened 1
     ++ In 1 (hex "00e1010101") => Taken 5
     ∷ Drain 1 => Out (hex "a14501c0ff636f61702b746370")
@@ -68,7 +68,7 @@ root : Plays usual (opened 1
 unfolding told
 root = refl
 
--- an Empty message before Capabilities and Settings changes nothing
+-- An Empty message before the CSM changes nothing.
 empty_first : Plays usual (opened 1
     ++ In 1 (hex "0000") => Taken 2
     ∷ In 1 (hex "00e1") => Taken 2
@@ -77,7 +77,7 @@ empty_first : Plays usual (opened 1
 unfolding told
 empty_first = refl
 
--- a request in one piece, and in eight pieces of a byte each
+-- A request in one slice, and in eight slices of one byte each.
 time_in_one_piece : Plays usual (opened 1
     ++ In 1 (hex "00e1") => Taken 2
     ∷ In 1 (hex "510107b474696d65") => Taken 8
@@ -101,9 +101,9 @@ time_byte_by_byte : Plays usual (opened 1
 unfolding told
 time_byte_by_byte = refl
 
--- ---- what the peer takes
+-- ---- the peer's limit
 
--- an answer is made bare, is whole, and does not fit at all, as the peer announces 40 bytes, 1,000 and none
+-- A response is sent bare, whole and not at all, after the peer announced 40, 1,000 and 0 bytes.
 announced_sizes : Plays one_resource (opened 1
     ++ Put path_a (Some 0) (replicate 100 0x41) => Version 1
     ∷ In 1 (hex "20e12128") => Taken 4
@@ -120,7 +120,7 @@ announced_sizes : Plays one_resource (opened 1
 unfolding told
 announced_sizes = refl
 
--- what was queued whole stays whole
+-- A response that was queued whole stays whole.
 announced_later : Plays one_resource (opened 1
     ++ Put path_a (Some 0) (replicate 100 0x41) => Version 1
     ∷ In 1 (hex "00e1") => Taken 2
@@ -134,7 +134,7 @@ announced_later = refl
 
 -- ---- observers
 
--- Connection 1 is not drained, so that it has no room: it is told the last state alone. Connection 2 is told each.
+-- Connection 1 is not written, so it has no room: it is sent the last state alone. Connection 2 is sent each state.
 slow_and_quick : Plays (config_with (narrow_limits 1152) 1) (opened_small 1 ++ (opened_small 2 ++ (stored_x
     ++ In 1 (hex "00e1310101605161") => Taken 8
     ∷ In 2 (hex "00e1310101605161") => Taken 8
@@ -150,7 +150,7 @@ slow_and_quick : Plays (config_with (narrow_limits 1152) 1) (opened_small 1 ++ (
 unfolding told
 slow_and_quick = refl
 
--- another format is told as 4.06, and an absent path as 4.04; then the request observes nothing any more
+-- Another format is notified as 4.06, and an absent path as 4.04. Then the request observes nothing.
 last_notifications : Plays one_resource (opened 1 ++ (stored_x ++ (observed 1
     ++ Put path_a (Some 50) (hex "7b") => Version 2
     ∷ Drain 1 => Out (hex "018601")
@@ -165,7 +165,7 @@ last_notifications : Plays one_resource (opened 1 ++ (stored_x ++ (observed 1
 unfolding told
 last_notifications = refl
 
--- One place for an observer: another request is answered without Observe, and the same token has the place again.
+-- One place for an observer: another request has a response without Observe, and the same token gets the place again.
 one_place : Plays (config_with (limits_with 65536 65536 131072 1) 1) (opened 1 ++ (stored_x
     ++ In 1 (hex "00e1") => Taken 2
     ∷ In 1 (hex "310101605161") => Taken 6
@@ -179,7 +179,7 @@ one_place : Plays (config_with (limits_with 65536 65536 131072 1) 1) (opened 1 +
 unfolding told
 one_place = refl
 
--- a notification stands between the answers of a PUT and of a GET that came in one piece
+-- A notification is queued between the responses to a PUT and a GET that came in one slice.
 between_answers : Plays one_resource (opened 1 ++ (stored_x ++ (observed 1
     ++ In 1 (hex "510302b16110ff79010103") => Taken 11
     ∷ Drain 1 => Out (hex "01440261450141022060ff79a14503c0ff636f61702b746370")
@@ -187,7 +187,7 @@ between_answers : Plays one_resource (opened 1 ++ (stored_x ++ (observed 1
 unfolding told
 between_answers = refl
 
--- Two observers of one path, and room for one message: the second is told behind the first.
+-- Two observers of one path, and room for one message: the second is notified after the first.
 one_by_one : Plays (config_with (narrow_limits 65536) 1) (opened 1 ++ (stored_x ++ (observed 1
     ++ In 1 (hex "310102605161") => Taken 6
     ∷ Drain 1 => Out (hex "61450241012060ff78")
@@ -201,7 +201,7 @@ one_by_one : Plays (config_with (narrow_limits 65536) 1) (opened 1 ++ (stored_x 
 unfolding told
 one_by_one = refl
 
--- the moment is observed
+-- The time is observed.
 time_observed : Plays usual (opened 1
     ++ In 1 (hex "00e1") => Taken 2
     ∷ In 1 (hex "6101076054" ++ codes "time") => Taken 9
@@ -215,7 +215,7 @@ time_observed = refl
 
 -- ---- resources
 
--- PUT a, PUT b, DELETE a, DELETE a again, PUT b, and the listing, where one resource may be there
+-- PUT a, PUT b, DELETE a, DELETE a again, PUT b, and the listing, with at most one resource.
 one_at_a_time : Plays one_resource (opened 1
     ++ In 1 (hex "00e1") => Taken 2
     ∷ In 1 (hex "410301b161ff78") => Taken 7
@@ -236,7 +236,7 @@ one_at_a_time = refl
 
 -- ---- ends
 
--- the input ends within a frame
+-- The input ends within a frame.
 cut : Plays usual (opened 1
     ++ In 1 (hex "00e13101") => Taken 4
     ∷ Look 1 => Stands phase.Open 2 0 0 0
@@ -246,7 +246,7 @@ cut : Plays usual (opened 1
 unfolding told
 cut = refl
 
--- where our Capabilities and Settings leave no room for the greatest message, nothing is taken
+-- If the server's CSM leaves no room for the largest message, no input is accepted.
 no_room_for_pong : Plays (config_with (narrow_limits 65536) 0) (
     Open 1 => Done
     ∷ In 1 (hex "00e1") => Taken 0
@@ -256,7 +256,7 @@ no_room_for_pong : Plays (config_with (narrow_limits 65536) 0) (
 unfolding told
 no_room_for_pong = refl
 
--- an open connection is released, and then it is dropped
+-- An open connection is released, and then dropped.
 released : Plays usual (opened 1
     ++ In 1 (hex "00e1") => Taken 2
     ∷ Release 1 => Done

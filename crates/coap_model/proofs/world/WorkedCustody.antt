@@ -1,4 +1,4 @@
--- Worked values of the definitions of specs/world: which messages ask for what is held, and in which order.
+-- Worked examples of the definitions in `specs/world`: the messages that ask for pending entries, and their order.
 use Rattle.std.proofs.Common.{◌≡◌, ℕ, true, false, List, [], ◌∷◌, map, refl, sym, codes, inl, inr, true≢false}
 use Rattle.coap_model.specs.Prelude.{CoapOption, Message, HeldValue, Answer, Pong, is_custody_pong, asked_late}
 use Rattle.coap_model.specs.Prelude.{asks_held, StandFor}
@@ -12,21 +12,21 @@ use Rattle.coap_model.proofs.world.Rows.{told}
 abbrev message_with : ℕ → ℕ → List CoapOption → Message
 message_with code token options = record { code = code; token = token ∷ []; options = options; payload = [] }
 
--- a GET of /async
+-- A GET of `/async`.
 abbrev late_get : ℕ → Message
 late_get token = message_with code.get token (record { number = numbers.uri_path; value = codes "async" } ∷ [])
 
--- a GET of /time
+-- A GET of `/time`.
 abbrev prompt_get : ℕ → Message
 prompt_get token = message_with code.get token (record { number = numbers.uri_path; value = codes "time" } ∷ [])
 
 abbrev custody : List CoapOption
 custody = record { number = option.custody; value = [] } ∷ []
 
--- ---- what asks for what is held
+-- ---- messages that ask for pending entries
 
--- A request that is answered late asks for the answer with its token alone, and no other request for any; a Ping with Custody asks
--- for its Pong, and one without for nothing.
+-- A request for a delayed response asks for the entry with its token alone; other requests ask for none. A Ping with
+-- Custody asks for its Pong; one without asks for nothing.
 what_is_asked : map (λ (r : Message × HeldValue). asks_held r.0 r.1) (
     (late_get 5, Answer (5 ∷ []) 3)
     ∷ (late_get 5, Answer (6 ∷ []) 3)
@@ -39,19 +39,19 @@ what_is_asked : map (λ (r : Message × HeldValue). asks_held r.0 r.1) (
 unfolding told
 what_is_asked = refl
 
--- a Pong has Custody or not; a Ping is none
+-- A Pong has Custody or not; a Ping is no Pong.
 has_custody : map is_custody_pong (message_with code.pong 6 custody ∷ message_with code.pong 6 [] ∷ message_with code.ping 6 custody ∷ []) ≡ true ∷ false ∷ false ∷ []
 unfolding told
 has_custody = refl
 
--- which tokens belong to a request that is answered late
+-- The tokens that belong to a request for a delayed response.
 token_late : map (λ token. asked_late (token ∷ []) (prompt_get 4 ∷ late_get 5 ∷ [])) (5 ∷ 4 ∷ []) ≡ true ∷ false ∷ []
 unfolding told
 token_late = refl
 
 -- ---- the order
 
--- what is held stands in the order of the messages that asked for it, and each has one of its own
+-- Pending entries are in the order of the messages that asked for them, and each has its own message.
 in_order : StandFor (late_get 5 ∷ prompt_get 4 ∷ message_with code.ping 6 custody ∷ []) (Answer (5 ∷ []) 3 ∷ Pong (6 ∷ []) ∷ [])
 unfolding told StandFor
 in_order = inl (refl, inr (inl (refl, tt)))

@@ -1,5 +1,5 @@
--- Worked values of the definitions of specs/world, by their events: which events calls make, what is taken of a piece, and
--- worlds that are the same.
+-- Worked examples of the definitions in `specs/world` by events: the events that calls make, the bytes accepted of a
+-- slice, and equal worlds.
 use Rattle.std.proofs.Common.{◌≡◌, List, [], ◌∷◌, ◌++◌, map, refl, codes}
 use Rattle.coap_model.specs.Prelude.{Message, ConfigValues, step, Event, Opened, Took, Wrote, Dropped, steps_of}
 use Rattle.coap_model.specs.Prelude.{takes, world_after}
@@ -10,27 +10,28 @@ use Rattle.coap_text.proofs.HexDigits.{hex}
 use Rattle.coap_model.proofs.world.Rows.{Open, In, Drain, told, events_of}
 use Rattle.coap_model.proofs.world.Worked.{usual, config_with, narrow_limits}
 
--- a connection is opened, and its Capabilities and Settings are written
+-- A connection is opened, and the server's CSM is written.
 abbrev opened_event : List Event
 opened_event = Opened 1 ∷ Wrote 1 8 ∷ []
 
--- Capabilities and Settings and a GET of / in one piece are two events, up to the end of each message.
+-- A CSM and a GET of `/` in one slice are two events, each up to the end of its message.
 root_events : events_of usual (Open 1 ∷ Drain 1 ∷ In 1 (hex "00e1010101") ∷ Drain 1 ∷ Drain 1 ∷ [])
     ≡ Opened 1 ∷ Wrote 1 8 ∷ Took 1 (hex "00e1") ∷ Took 1 (hex "010101") ∷ Wrote 1 13 ∷ Wrote 1 0 ∷ []
 unfolding events_of
 root_events = refl
 
--- a piece is taken up to the end of a message, and a part of a frame whole
+-- A slice is accepted up to the end of a message, and a part of a frame completely.
 takes_messages : takes usual opened_event 1 (hex "00e1010101") ∷ map (takes usual (opened_event ++ Took 1 (hex "00e1") ∷ []) 1) (hex "010101" ∷ hex "3101" ∷ []) ≡ 2 ∷ 3 ∷ 2 ∷ []
 unfolding told
 takes_messages = refl
 
--- Nothing is taken where our Capabilities and Settings leave no room for the greatest message; drained, there is room.
+-- Nothing is accepted if the server's CSM leaves no room for the largest message. After the CSM is written there is
+-- room.
 takes_with_room : map (λ es. takes (config_with (narrow_limits 65536) 0) es 1 (hex "00e1")) ((Opened 1 ∷ []) ∷ opened_event ∷ []) ≡ 0 ∷ 2 ∷ []
 unfolding told
 takes_with_room = refl
 
--- a GET of /time in one piece, and byte by byte
+-- A GET of `/time` in one slice, and byte by byte.
 in_one_piece : List Event
 in_one_piece = opened_event ++ Took 1 (hex "00e1") ∷ Took 1 (hex "510107b474696d65") ∷ []
 
@@ -42,7 +43,7 @@ same_worlds : world_after usual in_one_piece ≡ world_after usual byte_by_byte
 unfolding told in_one_piece byte_by_byte
 same_worlds = refl
 
--- behind a fault the bytes make no step
+-- After an error, further bytes make no step.
 faulted_events : List Event
 faulted_events = opened_event ++ Took 1 (hex "00e1") ∷ Took 1 (hex "09") ∷ []
 
@@ -50,9 +51,9 @@ behind_a_fault : steps_of 65536 (faulted_events ++ Took 1 (hex "09010101") ∷ [
 unfolding told faulted_events
 behind_a_fault = refl
 
--- ---- connections and their numbers
+-- ---- connections and their ids
 
--- numbers go on from where they begin, and the connections stand in order
+-- Ids continue from the start value, and the connections are in order.
 from_four : ConfigValues
 from_four = record usual { starts = record { moment = 0; versions = 0; ids = 4 } }
 
@@ -66,12 +67,12 @@ numbers_given = refl
 
 -- ---- steps that change nothing
 
--- a connection that waits for the peer's Capabilities and Settings is not released: the step changes nothing
+-- A connection that has not received the peer's CSM is not released: the step changes nothing.
 not_released : step usual.limits (world_after usual opened_event) (step.Released 1) ≡ world_after usual opened_event
 unfolding told
 not_released = refl
 
--- A message is not handled while an answer leaves no room for the greatest one: no answer, and nothing is stored.
+-- A message is not handled while a response leaves no room for the largest message: no response, and nothing is stored.
 narrow : ConfigValues
 narrow = config_with (narrow_limits 65536) 1
 

@@ -1,5 +1,5 @@
--- Worked values of the definitions of specs/world: answers that are sent late, Pongs with Custody that wait for them, and when
--- they are given up.
+-- Worked examples of the definitions in `specs/world`: delayed responses, Pongs with Custody that wait for them, and
+-- when they are dropped.
 use Rattle.std.proofs.Common.{◌≡◌, ℕ, List, [], ◌∷◌, ◌++◌, Some, None, option_map, refl, codes}
 use Prim.Native.String.{String}
 use Rattle.coap_model.specs.Prelude.{Answer, Pong, ConfigValues, side_of, Event, Opened, Took, Wrote, Ticked}
@@ -10,45 +10,45 @@ use Rattle.coap_text.proofs.HexDigits.{hex}
 use Rattle.coap_model.proofs.world.Rows.{In, Drain, Put, Tick, End, Release, Look, Done, Taken, Out, Version, Stands, Row, ◌=>◌, told, Plays}
 use Rattle.coap_model.proofs.world.Worked.{usual, usual_limits, one_resource, narrow_limits, config_with, opened, path_a}
 
--- so many answers and Pongs may be held on a connection
+-- At most this number of pending entries on a connection.
 abbrev config_holding : ℕ → ConfigValues
 config_holding most = record usual { limits = record usual_limits { pending = most } }
 
 -- ---- messages with a token of one byte
 
--- a GET of /async with a query of one digit: 11 bytes
+-- A GET of `/async` with a query of one digit: 11 bytes.
 abbrev asked : String → String → List ℕ
 asked token seconds = hex "8101" ++ (hex token ++ (hex "b5" ++ (codes "async" ++ (hex "41" ++ codes seconds))))
 
--- one without a query: 9 bytes
+-- The same without a query: 9 bytes.
 abbrev asked_plainly : String → List ℕ
 asked_plainly token = hex "6101" ++ (hex token ++ (hex "b5" ++ codes "async"))
 
--- 2.05 in plain text
+-- A 2.05 in plain text.
 abbrev answered : String → List ℕ
 answered token = hex "6145" ++ (hex token ++ (hex "c0ff" ++ codes "done"))
 
--- a Ping and a Pong with an empty Custody: 4 bytes
+-- A Ping and a Pong with an empty Custody option: 4 bytes.
 abbrev ping : String → List ℕ
 ping token = hex "11e2" ++ (hex token ++ hex "20")
 
 abbrev pong : String → List ℕ
 pong token = hex "11e3" ++ (hex token ++ hex "20")
 
--- a Pong without Custody, and 5.03
+-- A Pong without Custody, and a 5.03.
 abbrev bare_pong : String → List ℕ
 bare_pong token = hex "01e3" ++ hex token
 
 abbrev refused : String → List ℕ
 refused token = hex "01a3" ++ hex token
 
--- a connection is open
+-- A connection is open.
 abbrev greeted_rows : ℕ → List Row
 greeted_rows id = opened id ++ In id (hex "00e1") => Taken 2 ∷ []
 
--- ---- what waits for what
+-- ---- order of sending
 
--- a Pong with Custody waits for the answer that is held, and both outlive the peer's Release
+-- A Pong with Custody waits for the pending response, and both are kept after the peer's Release.
 pong_waits_for_answer : Plays usual (greeted_rows 1
     ++ In 1 (asked "05" "3") => Taken 11
     ∷ In 1 (ping "06") => Taken 4
@@ -66,7 +66,7 @@ pong_waits_for_answer : Plays usual (greeted_rows 1
 unfolding told
 pong_waits_for_answer = refl
 
--- where nothing is held it is sent at once
+-- If nothing is pending, the Pong is sent at once.
 pong_sent_at_once : Plays usual (greeted_rows 1
     ++ In 1 (ping "06") => Taken 4
     ∷ Drain 1 => Out (pong "06")
@@ -75,7 +75,7 @@ pong_sent_at_once : Plays usual (greeted_rows 1
 unfolding told
 pong_sent_at_once = refl
 
--- a Ping without Custody does not wait
+-- A Pong without Custody does not wait.
 bare_ping : Plays usual (greeted_rows 1
     ++ In 1 (asked "05" "3") => Taken 11
     ∷ In 1 (hex "01e206") => Taken 3
@@ -85,7 +85,7 @@ bare_ping : Plays usual (greeted_rows 1
 unfolding told
 bare_ping = refl
 
--- it waits for what came before it alone, and another request is answered meanwhile
+-- A Pong waits only for earlier entries, and another request is answered meanwhile.
 what_comes_later : Plays usual (greeted_rows 1
     ++ In 1 (asked "05" "1") => Taken 11
     ∷ In 1 (ping "06") => Taken 4
@@ -101,7 +101,7 @@ what_comes_later : Plays usual (greeted_rows 1
 unfolding told
 what_comes_later = refl
 
--- a Pong waits behind another one
+-- A Pong waits for an earlier Pong.
 pong_behind_pong : Plays usual (greeted_rows 1
     ++ In 1 (asked "05" "1") => Taken 11
     ∷ In 1 (ping "06") => Taken 4
@@ -113,7 +113,7 @@ pong_behind_pong : Plays usual (greeted_rows 1
 unfolding told
 pong_behind_pong = refl
 
--- what is held, in order of arrival, with the moments at which the answers are due
+-- The pending entries in order of arrival, with the times at which the responses are due.
 two_answers : List Event
 two_answers = Opened 1 ∷ Wrote 1 8 ∷ Took 1 (hex "00e1") ∷ Ticked 4 ∷ Took 1 (asked "05" "3") ∷ Took 1 (ping "06") ∷ Took 1 (asked "07" "1") ∷ []
 
@@ -122,9 +122,9 @@ answers_and_pong_held : option_map (λ s. s.history.held) (side_of 1 (world_afte
 unfolding told two_answers
 answers_and_pong_held = refl
 
--- ---- how much is held
+-- ---- the limit of pending entries
 
--- One is held: a Ping with Custody gets a Pong without it, and a second request 5.03. Then there is room again.
+-- One entry: a Ping with Custody gets a Pong without it, and a second request a 5.03. Then there is room again.
 one_held : Plays (config_holding 1) (greeted_rows 1
     ++ In 1 (asked "05" "3") => Taken 11
     ∷ In 1 (ping "06") => Taken 4
@@ -140,7 +140,7 @@ one_held : Plays (config_holding 1) (greeted_rows 1
 unfolding told
 one_held = refl
 
--- nothing is held: 5.03, and a Pong with Custody at once
+-- No entry: a 5.03, and a Pong with Custody at once.
 nothing_may_be_held : Plays (config_holding 0) (greeted_rows 1
     ++ In 1 (asked "05" "3") => Taken 11
     ∷ In 1 (ping "06") => Taken 4
@@ -153,7 +153,7 @@ nothing_may_be_held : Plays (config_holding 0) (greeted_rows 1
 unfolding told
 nothing_may_be_held = refl
 
--- each connection holds its own
+-- Each connection has its own pending list.
 each_its_own : Plays (config_holding 1) (greeted_rows 1 ++ (greeted_rows 2
     ++ In 1 (asked "05" "1") => Taken 11
     ∷ In 2 (asked "06" "2") => Taken 11
@@ -166,9 +166,9 @@ each_its_own : Plays (config_holding 1) (greeted_rows 1 ++ (greeted_rows 2
 unfolding told
 each_its_own = refl
 
--- ---- moments
+-- ---- times
 
--- 3,601 seconds are too long, 3,600 are not, and where 0 are asked the answer comes at once
+-- 3,601 seconds are too long, 3,600 are not, and for 0 seconds the response comes at once.
 how_long : Plays usual (greeted_rows 1
     ++ In 1 (hex "b10101b5" ++ (codes "async" ++ (hex "44" ++ codes "3601"))) => Taken 14
     ∷ Drain 1 => Out (hex "018001")
@@ -183,7 +183,7 @@ how_long : Plays usual (greeted_rows 1
 unfolding told
 how_long = refl
 
--- where the request does not say it is 5 seconds
+-- If the request has no query, the delay is 5 seconds.
 five_seconds : Plays usual (greeted_rows 1
     ++ Tick 2 => Done
     ∷ In 1 (asked_plainly "01") => Taken 9
@@ -195,7 +195,7 @@ five_seconds : Plays usual (greeted_rows 1
 unfolding told
 five_seconds = refl
 
--- answers come by their moments, and the Pong behind the last answer that came before its Ping
+-- Responses are sent by their times, and the Pong after the last response from before its Ping.
 by_moments : Plays usual (greeted_rows 1
     ++ In 1 (asked "03" "2") => Taken 11
     ∷ In 1 (ping "06") => Taken 4
@@ -208,7 +208,7 @@ by_moments : Plays usual (greeted_rows 1
 unfolding told
 by_moments = refl
 
--- also where they are due at once, and of equal moments the earlier one first
+-- The same if all are due at once; of equal times, the earlier entry is first.
 due_at_once : Plays usual (greeted_rows 1
     ++ In 1 (asked "03" "2") => Taken 11
     ∷ In 1 (asked "04" "1") => Taken 11
@@ -219,7 +219,7 @@ due_at_once : Plays usual (greeted_rows 1
 unfolding told
 due_at_once = refl
 
--- no moment is later than the last one, at which every answer is due
+-- No time is later than the last one, at which every response is due.
 last_moment : Plays usual (greeted_rows 1
     ++ Tick 18446744073709551615 => Done
     ∷ In 1 (asked_plainly "07") => Taken 9
@@ -240,7 +240,7 @@ before_the_last_moment = refl
 
 -- ---- stops
 
--- what is held is given up where the peer aborts
+-- Pending entries are dropped if the peer aborts.
 aborted : Plays usual (greeted_rows 1
     ++ In 1 (asked "05" "3") => Taken 11
     ∷ In 1 (ping "06") => Taken 4
@@ -252,7 +252,7 @@ aborted : Plays usual (greeted_rows 1
 unfolding told
 aborted = refl
 
--- where the input ends
+-- The same if the input ends.
 input_ends : Plays usual (greeted_rows 1
     ++ In 1 (asked "05" "3") => Taken 11
     ∷ End 1 => Done
@@ -263,7 +263,7 @@ input_ends : Plays usual (greeted_rows 1
 unfolding told
 input_ends = refl
 
--- and where the connection is released here
+-- The same if the server releases the connection.
 released_here : Plays usual (greeted_rows 1
     ++ In 1 (asked "05" "3") => Taken 11
     ∷ Release 1 => Done
@@ -276,7 +276,7 @@ released_here = refl
 
 -- ---- room, and observers
 
--- What is held waits for room as notifications do, and comes before them.
+-- Pending entries wait for room as notifications do, and are sent before them.
 waits_for_room : Plays (config_with (narrow_limits 65536) 1) (
     Put path_a None (hex "78") => Version 1
     ∷ greeted_rows 1
@@ -296,7 +296,7 @@ waits_for_room : Plays (config_with (narrow_limits 65536) 1) (
 unfolding told
 waits_for_room = refl
 
--- An answer, a Pong and a notification that wait for room together go out in this order.
+-- A response, a Pong and a notification that wait for room together are sent in this order.
 held_before_observers : Plays (config_with (narrow_limits 65536) 1) (
     Put path_a None (hex "78") => Version 1
     ∷ greeted_rows 1
@@ -317,7 +317,7 @@ held_before_observers : Plays (config_with (narrow_limits 65536) 1) (
 unfolding told
 held_before_observers = refl
 
--- a request whose answer is held takes the place of the observer with its token
+-- A request for a delayed response removes the observer with its token.
 observer_goes : Plays one_resource (
     Put path_a None (hex "78") => Version 1
     ∷ greeted_rows 1
@@ -331,9 +331,9 @@ observer_goes : Plays one_resource (
 unfolding told
 observer_goes = refl
 
--- ---- a peer that takes less by then
+-- ---- a peer whose limit became smaller
 
--- an answer is made bare, as 5.00, where it does not fit the peer any more; where nothing does, the connection stops
+-- A response that no longer fits the peer is sent bare, as 5.00. If nothing fits, the connection stops.
 takes_less : Plays usual (greeted_rows 1
     ++ In 1 (asked "05" "1") => Taken 11
     ∷ In 1 (hex "20e12103") => Taken 4
@@ -350,7 +350,7 @@ takes_less : Plays usual (greeted_rows 1
 unfolding told
 takes_less = refl
 
--- and a Pong that does not fit with Custody goes without it
+-- A Pong that does not fit with Custody is sent without it.
 custody_does_not_fit : Plays usual (greeted_rows 1
     ++ In 1 (asked "05" "1") => Taken 11
     ∷ In 1 (ping "06") => Taken 4

@@ -1,4 +1,5 @@
--- More worked values of the definitions of specs/world: where observers come and go, and what changes nothing.
+-- More worked examples of the definitions in `specs/world`: how observers are added and removed, and calls that change
+-- nothing.
 use Rattle.std.proofs.Common.{[], ◌∷◌, ◌++◌, Some, refl, codes}
 use Rattle.coap_conn.specs.declared.phase.Phase.TheVariants as phase
 use Rattle.coap_conn.specs.declared.reason.Reason.TheVariants as reason
@@ -8,7 +9,7 @@ use Rattle.coap_model.proofs.world.Worked.{usual, one_resource, narrow_limits, c
 
 -- ---- ends
 
--- a token length of nibble 15 is told at its byte, and then nothing is taken
+-- A token length of nibble 15 is an error at its byte, and then nothing is accepted.
 bad_token : Plays usual (opened 1
     ++ In 1 (hex "00e1") => Taken 2
     ∷ In 1 (hex "0f01") => Taken 1
@@ -19,7 +20,7 @@ bad_token : Plays usual (opened 1
 unfolding told
 bad_token = refl
 
--- and one of 65 bytes at the last byte that extends it
+-- A token length of 65 bytes is an error at the last byte that extends it.
 long_token : Plays usual (opened 1
     ++ In 1 (hex "00e1") => Taken 2
     ∷ In 1 (hex "0d013400") => Taken 3
@@ -29,7 +30,7 @@ long_token : Plays usual (opened 1
 unfolding told
 long_token = refl
 
--- a request with a token of 13 bytes is answered with it, where the peer takes what has it
+-- The response to a request with a token of 13 bytes has this token, if it fits the peer.
 token_of_13 : Plays usual (opened 1
     ++ In 1 (hex "00e1") => Taken 2
     ∷ In 1 (hex "0d010011111111111111111111111111") => Taken 16
@@ -45,7 +46,7 @@ token_of_13 : Plays usual (opened 1
 unfolding told
 token_of_13 = refl
 
--- the input ends between frames: the observers go, and no notification follows
+-- The input ends between frames: the observers are removed, and no notification follows.
 observer_ended : Plays one_resource (opened 1 ++ (stored_x ++ (observed 1
     ++ Look 1 => Stands phase.Open 0 0 0 1
     ∷ End 1 => Done
@@ -56,7 +57,7 @@ observer_ended : Plays one_resource (opened 1 ++ (stored_x ++ (observed 1
 unfolding told
 observer_ended = refl
 
--- the peer releases the connection: the same, and nothing more is taken
+-- The peer releases the connection: the same, and nothing more is accepted.
 released_by_peer : Plays one_resource (opened 1 ++ (stored_x ++ (observed 1
     ++ In 1 (hex "00e4010101") => Taken 2
     ∷ Look 1 => Stands (phase.Releasing reason.PeerRelease) 0 0 0 0
@@ -68,7 +69,7 @@ released_by_peer = refl
 
 -- ---- more than one connection
 
--- pieces of two connections are two streams
+-- The input of two connections is two streams.
 interleaved : Plays usual (opened 1 ++ (opened 2
     ++ In 1 (hex "00e101") => Taken 3
     ∷ In 2 (hex "00e10101") => Taken 4
@@ -80,7 +81,7 @@ interleaved : Plays usual (opened 1 ++ (opened 2
 unfolding told
 interleaved = refl
 
--- one connection of two is dropped
+-- One of two connections is dropped.
 one_dropped : Plays usual (opened 1 ++ (opened 2
     ++ Drop 1 => Done
     ∷ Look 1 => Absent
@@ -91,7 +92,7 @@ one_dropped = refl
 
 -- ---- observers
 
--- two observers of a connection are told in the order in which they came, as far as there is room
+-- Two observers of a connection are notified in the order of their entries, as far as there is room.
 told_in_order : Plays one_resource (opened 1 ++ (stored_x ++ (observed 1
     ++ In 1 (hex "310102605161") => Taken 6
     ∷ Drain 1 => Out (hex "61450241012060ff78")
@@ -102,7 +103,8 @@ told_in_order : Plays one_resource (opened 1 ++ (stored_x ++ (observed 1
 unfolding told
 told_in_order = refl
 
--- An observer that was told keeps its place: where it is due again before there is room, it is told again before those behind it.
+-- A notified observer keeps its place: if it is due again before there is room, it is notified again before those after
+-- it.
 told_before_others : Plays (config_with (narrow_limits 65536) 1) (opened 1 ++ (stored_x ++ (observed 1
     ++ In 1 (hex "310102605161") => Taken 6
     ∷ Drain 1 => Out (hex "61450241012060ff78")
@@ -116,7 +118,7 @@ told_before_others : Plays (config_with (narrow_limits 65536) 1) (opened 1 ++ (s
 unfolding told
 told_before_others = refl
 
--- the same bytes stored again are another version, and are told
+-- The same bytes stored again are another version, and are notified.
 stored_again : Plays one_resource (opened 1 ++ (stored_x ++ (observed 1
     ++ Put path_a (Some 0) (hex "78") => Version 2
     ∷ Drain 1 => Out (hex "61450141022060ff78")
@@ -124,7 +126,7 @@ stored_again : Plays one_resource (opened 1 ++ (stored_x ++ (observed 1
 unfolding told
 stored_again = refl
 
--- Observe 1 with the token of the entry takes it away
+-- Observe 1 with the token of the entry removes it.
 deregistered : Plays one_resource (opened 1 ++ (stored_x ++ (observed 1
     ++ In 1 (hex "41010161015161") => Taken 7
     ∷ Drain 1 => Out (hex "514501410180ff78")
@@ -133,7 +135,7 @@ deregistered : Plays one_resource (opened 1 ++ (stored_x ++ (observed 1
 unfolding told
 deregistered = refl
 
--- so does any other request with its token
+-- So does any other request with its token.
 token_used_again : Plays one_resource (opened 1 ++ (stored_x ++ (observed 1
     ++ In 1 (hex "010101") => Taken 3
     ∷ Drain 1 => Out (hex "a14501c0ff636f61702b746370")
@@ -142,7 +144,7 @@ token_used_again : Plays one_resource (opened 1 ++ (stored_x ++ (observed 1
 unfolding told
 token_used_again = refl
 
--- an absent path is not observed
+-- An absent path is not observed.
 absent_path : Plays one_resource (opened 1
     ++ In 1 (hex "00e1310101605161") => Taken 8
     ∷ Drain 1 => Out (hex "018401")
@@ -151,7 +153,7 @@ absent_path : Plays one_resource (opened 1
 unfolding told
 absent_path = refl
 
--- the answer has 9 bytes and the peer takes 8: it is made bare, and nothing is observed
+-- The response has 9 bytes and the peer accepts 8: it is sent bare, and nothing is observed.
 bare_answer : Plays one_resource (opened 1 ++ (stored_x
     ++ In 1 (hex "20e12108310101605161") => Taken 10
     ∷ Drain 1 => Out (hex "01a001")
@@ -160,7 +162,7 @@ bare_answer : Plays one_resource (opened 1 ++ (stored_x
 unfolding told
 bare_answer = refl
 
--- the notification has 10 bytes and the peer takes 9: it is made bare, and is the last one
+-- The notification has 10 bytes and the peer accepts 9: it is sent bare, and is the last one.
 bare_notification : Plays one_resource (opened 1 ++ (stored_x ++ (observed 1
     ++ In 1 (hex "20e12109") => Taken 4
     ∷ Put path_a (Some 0) (hex "7980") => Version 2
@@ -172,7 +174,7 @@ bare_notification : Plays one_resource (opened 1 ++ (stored_x ++ (observed 1
 unfolding told
 bare_notification = refl
 
--- the peer takes nothing, so that the notification does not even fit bare: the connection stops
+-- The peer accepts nothing, so the notification does not even fit bare: the connection stops.
 no_notification : Plays one_resource (opened 1 ++ (stored_x ++ (observed 1
     ++ In 1 (hex "10e120") => Taken 3
     ∷ Put path_a (Some 0) (hex "79") => Version 2
@@ -181,7 +183,7 @@ no_notification : Plays one_resource (opened 1 ++ (stored_x ++ (observed 1
 unfolding told
 no_notification = refl
 
--- a request whose ETag is that of the state is answered 2.03, and observes too
+-- A request whose ETag is that of the state gets a 2.03, and observes too.
 validated : Plays one_resource (opened 1 ++ (stored_x
     ++ In 1 (hex "00e15101014101205161") => Taken 10
     ∷ Drain 1 => Out (hex "314301410120")
@@ -191,7 +193,7 @@ validated : Plays one_resource (opened 1 ++ (stored_x
 unfolding told
 validated = refl
 
--- the observer removes the path itself: it is answered first, and then told
+-- The observer removes the path itself: its response is sent first, then the notification.
 removed_by_observer : Plays one_resource (opened 1 ++ (stored_x ++ (observed 1
     ++ In 1 (hex "210402b161") => Taken 5
     ∷ Drain 1 => Out (hex "014202018401")
@@ -200,9 +202,9 @@ removed_by_observer : Plays one_resource (opened 1 ++ (stored_x ++ (observed 1
 unfolding told
 removed_by_observer = refl
 
--- ---- what changes nothing
+-- ---- calls that change nothing
 
--- the moment does not go back, and the same moment again is not told
+-- The time does not go back, and the same time again is not notified.
 moments : Plays usual (opened 1
     ++ In 1 (hex "00e16101076054" ++ codes "time") => Taken 11
     ∷ Drain 1 => Out (hex "61450760602101ff" ++ codes "0")
@@ -215,7 +217,7 @@ moments : Plays usual (opened 1
 unfolding told
 moments = refl
 
--- a path that is built in or is none is not stored, nor a second resource where one may be there
+-- A built-in or invalid path is not stored, nor a second resource if the limit is one.
 refused_puts : Plays one_resource (
     Put (codes "time" ∷ []) (Some 0) (hex "78") => Version 0
     ∷ Put path_a (Some 0) (hex "78") => Version 1
@@ -225,7 +227,7 @@ refused_puts : Plays one_resource (
 unfolding told
 refused_puts = refl
 
--- nor what is longer than a representation may be
+-- Nor is a payload above the size of a representation.
 too_long : Plays (record one_resource { rep_max = 2 }) (
     Put path_a (Some 0) (hex "787980") => Version 0
     ∷ Put path_a (Some 0) (hex "7879") => Version 1
@@ -233,7 +235,7 @@ too_long : Plays (record one_resource { rep_max = 2 }) (
 unfolding told
 too_long = refl
 
--- a moment above 64 bits is none, and behind the greatest version nothing is stored
+-- A time above 64 bits is rejected, and after the largest version nothing is stored.
 greatest_numbers : Plays (record one_resource { starts = record { moment = 9; versions = 18446744073709551614; ids = 0 } }) (opened 1
     ++ Put path_a (Some 0) (hex "78") => Version 18446744073709551615
     ∷ Put path_a (Some 0) (hex "79") => Version 18446744073709551615
@@ -244,7 +246,7 @@ greatest_numbers : Plays (record one_resource { starts = record { moment = 9; ve
 unfolding told
 greatest_numbers = refl
 
--- Release has 2 bytes: where the peer takes 1, the connection stays open
+-- A Release has 2 bytes: if the peer accepts 1, the connection stays open.
 release_too_long : Plays usual (opened 1
     ++ In 1 (hex "20e12101") => Taken 4
     ∷ Release 1 => Done

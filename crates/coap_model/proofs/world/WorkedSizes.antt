@@ -1,4 +1,5 @@
--- Worked values of the definitions of specs/world: a greater size in the life of a connection (RFC 8323 section 5.3.1).
+-- Worked examples of the definitions in `specs/world`: a larger size announced on an open connection (RFC 8323 section
+-- 5.3.1).
 use Rattle.std.proofs.Common.{◌≡◌, List, [], ◌∷◌, map, refl}
 use Rattle.coap_conn.specs.declared.phase.Phase.TheVariants as phase
 use Rattle.coap_conn.specs.declared.reason.Reason.TheVariants as reason
@@ -11,7 +12,7 @@ use Rattle.coap_model.proofs.world.Worked.{config_with, narrow_limits}
 narrow_config : ConfigValues
 narrow_config = config_with (narrow_limits 1152) 0
 
--- A length whose last byte is taken behind the announcement is judged by the size announced.
+-- A length whose last byte is accepted after the announcement is compared with the announced size.
 within_a_length : Plays narrow_config (
     Open 1 => Done
     ∷ Drain 1 => Out (hex "50e12204804140")
@@ -25,7 +26,7 @@ within_a_length : Plays narrow_config (
 unfolding told narrow_config
 within_a_length = refl
 
--- One that was taken before it was judged then, and another connection keeps its own size.
+-- A length accepted before was compared with the earlier size, and another connection keeps its own size.
 each_by_its_own : Plays narrow_config (
     Open 1 => Done
     ∷ Open 2 => Done
@@ -43,7 +44,7 @@ each_by_its_own : Plays narrow_config (
 unfolding told narrow_config
 each_by_its_own = refl
 
--- The size in force is announced again as it is, and then there is no room until that is written.
+-- The current size is announced again, and then there is no room until that is written.
 announced_again : Plays narrow_config (
     Open 1 => Done
     ∷ Drain 1 => Out (hex "50e12204804140")
@@ -56,9 +57,9 @@ announced_again : Plays narrow_config (
 unfolding told narrow_config
 announced_again = refl
 
--- ---- the sizes in force
+-- ---- sizes
 
--- the size of each byte is that of its time
+-- The size of each byte is the one that was current when it came.
 raised : List Event
 raised = Took 1 (hex "e103") ∷ Announced 1 2000 ∷ Took 1 (hex "6f") ∷ []
 
@@ -66,7 +67,7 @@ sizes_of_bytes : map (sizes_on 1152 1 raised) (0 ∷ 1 ∷ 2 ∷ 3 ∷ []) ≡ 1
 unfolding told raised
 sizes_of_bytes = refl
 
--- of two that were announced the greater counts, and one of another connection does not
+-- Of two announced sizes the larger one counts, and one of another connection does not.
 size_now : size_on 1152 1 (Announced 1 4000 ∷ Announced 1 2000 ∷ Announced 2 9000 ∷ []) ≡ 4000
 unfolding told
 size_now = refl

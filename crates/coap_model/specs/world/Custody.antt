@@ -1,5 +1,5 @@
--- What a connection holds, seen in all that was handled and queued on it: a Pong with Custody tells that every request before its
--- Ping was answered (RFC 8323 section 5.4.1).
+-- RFC 8323 section 5.4.1: the order of pending entries and of Pongs with Custody. Such a Pong says that every request
+-- before its Ping was answered.
 use Rattle.std.specs.Prelude.{◌≡◌, ◌≤◌, ◌⊎◌, ℕ, Bool, true, ◌&&◌, List, [], ◌∷◌, ◌++◌, length, ◌==◌}
 use Rattle.std.specs.List.{AllByRecursion, list_any}
 use Rattle.coap_wire.specs.Message.{Message}
@@ -12,36 +12,39 @@ use Rattle.coap_store.specs.Paths.{same_bytes}
 use Rattle.coap_store.specs.Answer.{asks_late}
 use Rattle.coap_model.specs.world.Sides.{Side}
 
--- a message asks for this to be held: a request that is answered late for its answer, and a Ping with Custody for its Pong
+-- The message asks for this pending entry. A GET of `/async` asks for a delayed response with its token. A Ping with
+-- Custody asks for a Pong with its token.
 abbrev pub asks_held : Message → HeldValue → Bool
 asks_held m (Answer token moment) = asks_late m && same_bytes m.token token
 asks_held m (Pong token) = m.code == code.ping && asks_custody m && same_bytes m.token token
 
--- what is held was asked for by messages of these, each by one of its own, in the same order
+-- These messages asked for the entries: each entry has a message of its own, in the same order.
 unfoldable pub StandFor : List Message → List HeldValue → Type 0
 StandFor ms [] = Unit {0}
 StandFor [] (e ∷ es) = ⊥
 StandFor (m ∷ ms) (e ∷ es) = ((asks_held m e ≡ true) × StandFor ms es) ⊎ StandFor ms (e ∷ es)
 
--- a Pong with Custody is queued between two moments
+-- From one state of a connection to the next, messages are queued that include a Pong with Custody.
 pub record QueuesCustody (before after : Side) : Type 0 where
   pub more : List Message
   pub queued : after.history.queued ≡ before.history.queued ++ more
   pub pong : list_any is_custody_pong more ≡ true
 
--- nothing that is held came before the Pong with this token
+-- The Pong with this token is the first pending entry.
 pub record IsFirstHeld (s : Side) (token : List ℕ) : Type 0 where
   pub rest : List HeldValue
   pub first : s.history.held ≡ Pong token ∷ rest
 
--- what was held stays held, in its place and with more behind it, unless the connection stopped
+-- All pending entries keep their places, perhaps with further ones after them; or the connection has stopped.
 abbrev pub KeepsHeld : Side → Side → Type 0
 KeepsHeld before after = ((more : List HeldValue) × (after.history.held ≡ before.history.held ++ more)) ⊎ ((why : Reason) × (after.history.phase ≡ Stopped why))
 
--- the same over a message, which adds at most one that it asks for
+-- At most one entry is added, and the message asks for it.
 pub record AddsAsked (m : Message) (more : List HeldValue) : Type 0 where
   pub few : length more ≤ 1
   pub asked : AllByRecursion (λ e. asks_held m e ≡ true) more
 
+-- All pending entries keep their places over this message, followed by at most one for which it asks; or the connection
+-- has stopped.
 abbrev pub KeepsHeldOver : Message → Side → Side → Type 0
 KeepsHeldOver m before after = ((more : List HeldValue) × (after.history.held ≡ before.history.held ++ more) × AddsAsked m more) ⊎ ((why : Reason) × (after.history.phase ≡ Stopped why))

@@ -1,4 +1,4 @@
--- What a server's calls were handed and accepted, the steps that this makes, and the world after it.
+-- Defined by this project: the events of a server, the steps that they make, and the world after them.
 use Rattle.std.specs.Prelude.{◌≡◌, ℕ, ◌+◌, ◌<◌, ◌≤◌, true, List, [], ◌∷◌, ◌++◌, length, map, drop, Option, Some, None, nat_lt, ◌==◌, ◌&&◌, if◌then◌else◌}
 use Rattle.coap_wire.specs.Frames.{Sizes, always, sizes_first}
 use Rattle.coap_wire.specs.Stream.{StreamFault, Stream, sized_split}
@@ -12,8 +12,17 @@ use Rattle.coap_model.specs.world.Sides.{Side, handles, waiting_on, is_cut, may_
 use Rattle.coap_model.specs.world.World.{World, Step, new_world, side_of, ticks, after_steps}
 use Rattle.coap_model.specs.world.World as step
 
--- A call that was accepted, with what it took: an opened connection with its number, a piece with the bytes taken. A refused
--- call is none, but for a piece of which memory was refused: it is the bytes that were taken.
+-- An event: a call that the server accepted.
+-- - `Opened`: `open` returned this id.
+-- - `Took`: `take` accepted these bytes on a connection.
+-- - `Wrote`: the caller wrote n of the queued bytes.
+-- - `Ticked`: the time was set, in seconds.
+-- - `Stored`, `Removed`: the embedding program changed a resource.
+-- - `Ended`: the input of a connection ended.
+-- - `Released`, `Announced`: the server sent a Release, or a CSM with a new size.
+-- - `Dropped`: a connection was removed.
+-- A call that returns an error is no event. There is one exception: a `take` for which allocation failed is the event
+-- of the bytes that it accepted.
 pub data Event : Type 0 where
   Opened : (id : ℕ) → Event
   Took : (id : ℕ) (bytes : List ℕ) → Event
@@ -28,6 +37,7 @@ pub data Event : Type 0 where
 
 -- ---- steps
 
+-- The bytes that an event accepted on a connection; none unless it is a `Took` of this connection.
 abbrev pub taken_in : ℕ → Event → List ℕ
 taken_in id (Opened other) = []
 taken_in id (Took other bytes) = if other == id then bytes else []
@@ -40,46 +50,51 @@ taken_in id (Released other) = []
 taken_in id (Announced other size) = []
 taken_in id (Dropped other) = []
 
--- all bytes taken on a connection
+-- All bytes accepted on a connection, in order.
 unfoldable pub taken_on : ℕ → List Event → List ℕ
 taken_on id [] = []
 taken_on id (e ∷ es) = taken_in id e ++ taken_on id es
 
--- the greatest message that a connection takes behind an event, where it took this one before it: a greater one that was announced on it
+-- The largest message that a connection accepts after an event, if it accepted messages of at most M bytes before. Only
+-- the announcement of a larger size on this connection changes it.
 abbrev pub size_by : ℕ → Event → ℕ → ℕ
 size_by id (Announced other size) M = if other == id && nat_lt M size then size else M
 size_by id other M = M
 
--- the greatest message that it takes behind events, where it takes messages of at most M bytes at first
+-- The largest message that a connection accepts after events, if it accepts messages of at most M bytes at first.
 unfoldable pub size_on : ℕ → ℕ → List Event → ℕ
 size_on M id [] = M
 size_on M id (e ∷ es) = size_on (size_by id e M) id es
 
--- the sizes in force, for each byte taken on it that of its time (RFC 8323 section 5.3.1)
+-- RFC 8323 section 5.3.1: for each byte accepted on a connection, the largest message that the connection accepted when
+-- this byte came. Bytes after these events have the last size.
 unfoldable pub sizes_on : ℕ → ℕ → List Event → Sizes
 sizes_on M id [] = always M
 sizes_on M id (e ∷ es) = sizes_first (length (taken_in id e)) M (sizes_on (size_by id e M) id es)
 
--- what they spell
+-- The stream of all bytes accepted on a connection: its messages, the bytes left over, and the error that ended it, if
+-- any.
 abbrev pub stream_on : ℕ → ℕ → List Event → Stream
 stream_on M id events = sized_split (sizes_on M id events) (taken_on id events)
 
--- that, and the greatest message that it takes from then on
+-- This stream, together with the largest message that the connection accepts after the events.
 abbrev pub spelled_on : ℕ → ℕ → List Event → Stream × ℕ
 spelled_on M id events = (stream_on M id events, size_on M id events)
 
--- a fault that was not there before
+-- The step of an error that is in a stream now and was not in it before; no step if there is no such error.
 abbrev pub new_fault : ℕ → Option StreamFault → Option StreamFault → List Step
 new_fault id before None = []
 new_fault id None (Some fault) = step.Faulted id fault ∷ []
 new_fault id (Some old) (Some fault) = []
 
--- the messages and the fault of a stream beyond those of what it goes on from
+-- The steps of a stream that continues another one: its further messages, then its error if that is new.
 abbrev pub beyond : ℕ → Stream → Stream → List Step
 beyond id before after =
     map (step.Handled id) (drop (length before.messages) after.messages) ++ new_fault id before.fault after.fault
 
--- the steps of an event behind others: taken bytes make those whose last byte is among them
+-- The steps of an event that follows earlier events. `Took` makes a step for each message that its bytes complete, and
+-- then one for a new error, if any. Every other event makes one step. That of `Ended` also says whether bytes are left
+-- after the last message.
 unfoldable pub steps_by : ℕ → List Event → Event → List Step
 steps_by M earlier (Opened id) = step.Opened id ∷ []
 steps_by M earlier (Took id bytes) = beyond id (stream_on M id earlier) (stream_on M id (earlier ++ Took id bytes ∷ []))
@@ -92,46 +107,59 @@ steps_by M earlier (Released id) = step.Released id ∷ []
 steps_by M earlier (Announced id size) = step.Announced id size ∷ []
 steps_by M earlier (Dropped id) = step.Dropped id ∷ []
 
+-- The steps of a list of events that follows earlier events.
 unfoldable pub steps_behind : ℕ → List Event → List Event → List Step
 steps_behind M earlier [] = []
 steps_behind M earlier (e ∷ es) = steps_by M earlier e ++ steps_behind M (earlier ++ e ∷ []) es
 
--- the steps of events
+-- The steps of a list of events, from the start of the server.
 unfoldable pub steps_of : ℕ → List Event → List Step
 steps_of M events = steps_behind M [] events
 
--- the world after events
+-- The world after a list of events, from the start of a server with this configuration.
 unfoldable pub world_after : ConfigValues → List Event → World
 world_after c events = after_steps c.limits (new_world c) (steps_of c.limits.max_message events)
 
--- ---- what a call takes of a piece
+-- ---- the bytes that a call accepts
 
--- behind what is left of the bytes so far, up to the end of a message, to the byte of a fault, or all of the piece
+-- The number of bytes of an input slice up to the end of its first frame or to the byte of an error; otherwise all.
+-- `rest` has the bytes of the unfinished frame before the slice.
 abbrev pub front_of : ℕ → List ℕ → List ℕ → ℕ
 front_of M rest piece = (framing M rest piece).taken
 
+-- The same for an input slice that is offered to a connection. It is 0 if the connection does not exist or does not
+-- handle messages now.
 abbrev pub takes_of : ℕ → List ℕ → List ℕ → Option Side → ℕ
 takes_of M rest piece None = 0
 takes_of M rest piece (Some s) = if handles s then front_of M rest piece else 0
 
--- how many bytes of a piece are taken after events: none where there is no room or no message is taken
+-- The number of bytes of an input slice that `take` accepts after these events. It is 0 if the connection does not
+-- exist, its queue has no room, or it no longer accepts messages.
 unfoldable pub takes : ConfigValues → List Event → ℕ → List ℕ → ℕ
 takes c events id piece =
     takes_of (size_on c.limits.max_message id events) (stream_on c.limits.max_message id events).rest piece (side_of id (world_after c events).sides)
 
--- ---- what calls accept
+-- ---- accepted events
 
--- the connection is there, and this holds of it
+-- The connection exists and has the property P.
 abbrev pub IfSide : Option Side → (Side → Type 0) → Type 0
 IfSide None P = ⊥
 IfSide (Some s) P = P s
 
+-- The connection with this id exists in a world and has the property P.
 abbrev pub OnSide : ℕ → World → (Side → Type 0) → Type 0
 OnSide id w P = IfSide (side_of id w.sides) P
 
--- A call that a server accepts which stands so, with what it takes: the next number where there is room for a connection; all
--- bytes of what a connection takes of them; no more bytes written than wait; no moment before the one that is; a representation
--- and a removal that the store does not refuse; a connection that is there; a size that may be announced on it.
+-- A server after the earlier events accepts this event.
+-- - `Opened`: the id is the last one plus 1 and fits in 64 bits, and the connection limit is not reached.
+-- - `Took`: the connection accepts all these bytes (`takes`).
+-- - `Wrote`: at least n bytes are queued.
+-- - `Ticked`: the time is not earlier than the current one, and fits in 64 bits.
+-- - `Stored`, `Removed`: `put_refusal` or `remove_refusal` gives no error.
+-- - `Ended`, `Dropped`: always.
+-- - `Released`: `release_refusal` gives no error.
+-- - `Announced`: the connection may announce the size (`may_raise`).
+-- The connection that an event names must exist, except for `Opened`.
 unfoldable pub IsAccepted : ConfigValues → List Event → Event → Type 0
 IsAccepted c earlier (Opened id) = (id ≡ (world_after c earlier).ids + 1) × (id ≤ 18446744073709551615) × (length (world_after c earlier).sides < c.connections)
 IsAccepted c earlier (Took id bytes) = OnSide id (world_after c earlier) (λ s. takes c earlier id bytes ≡ length bytes)
@@ -144,10 +172,11 @@ IsAccepted c earlier (Released id) = OnSide id (world_after c earlier) (λ s. re
 IsAccepted c earlier (Announced id size) = OnSide id (world_after c earlier) (λ s. may_raise s size ≡ true)
 IsAccepted c earlier (Dropped id) = OnSide id (world_after c earlier) (λ s. Unit {0})
 
--- each, behind those before it
+-- Each of these events is accepted after the earlier events and those before it.
 unfoldable pub AreAcceptedBehind : ConfigValues → List Event → List Event → Type 0
 AreAcceptedBehind c earlier [] = Unit {0}
 AreAcceptedBehind c earlier (e ∷ es) = IsAccepted c earlier e × AreAcceptedBehind c (earlier ++ e ∷ []) es
 
+-- Each of these events is accepted after those before it, from the start of the server.
 abbrev pub AreAccepted : ConfigValues → List Event → Type 0
 AreAccepted c events = AreAcceptedBehind c [] events

@@ -1,4 +1,4 @@
--- What a take says that it handled, told of the worlds before and after it.
+-- Defined by this project: the `Handled` value that a `take` returns, computed from the worlds before and after it.
 use Rattle.std.specs.Prelude.{ℕ, List, [], ◌∷◌, ◌++◌, length, Option, Some, None, nat_lt, if◌then◌else◌}
 use Rattle.coap_conn.specs.declared.reason.Reason.{Reason}
 use Rattle.coap_conn.specs.Phases.{stop_of, takes_messages}
@@ -10,23 +10,25 @@ use Rattle.coap_model.specs.world.Events.{Event, world_after}
 use Rattle.coap_model.specs.declared.answers.Handled.{Handled}
 use Rattle.coap_model.specs.declared.answers.Handled.TheVariants as handled
 
--- the reason where no message is taken any more, else a message where one more was handled, else nothing
+-- `Stopped` with the reason if the connection no longer accepts messages, `Message` if it handled one more message,
+-- otherwise `Nothing`.
 abbrev pub handled_since : Side → Side → Option Reason → Handled
 handled_since before after (Some why) = handled.Stopped why
 handled_since before after None = if nat_lt (length before.history.handled) (length after.history.handled) then handled.Message else handled.Nothing
 
--- a connection that took no message before handles nothing
+-- The same for a connection before and after an event; `Nothing` if the connection did not exist or accepted no
+-- messages before.
 abbrev pub handled_between : Option Side → Option Side → Handled
 handled_between None after = handled.Nothing
 handled_between (Some before) None = handled.Nothing
 handled_between (Some before) (Some after) =
     if takes_messages before.history.phase then handled_since before after (stop_of after.history.phase) else handled.Nothing
 
--- what an event handled on a connection, behind those before it
+-- The value for an event on a connection, after earlier events.
 abbrev pub handled_in : ConfigValues → List Event → Event → ℕ → Handled
 handled_in c earlier e id = handled_between (side_of id (world_after c earlier).sides) (side_of id (world_after c (earlier ++ e ∷ [])).sides)
 
--- how many messages were handled
+-- The number of messages that were handled: 0 or 1.
 abbrev pub count_of : Handled → ℕ
 count_of handled.Nothing = 0
 count_of handled.Message = 1

@@ -1,5 +1,5 @@
--- Steps as connections hear them: behind a stop the end of input says nothing of a cut message. So events that
--- differ only in bytes which nobody handles make the same steps.
+-- Defined by this project: steps as connections receive them. After a stop, the end of input no longer says whether it
+-- cuts a message. So events that differ only in bytes that nobody handles make the same steps.
 use Rattle.std.specs.Prelude.{ℕ, Bool, false, ◌&&◌, List, [], ◌∷◌, Option, Some, None}
 use Rattle.coap_conn.specs.Limits.{LimitValues}
 use Rattle.coap_conn.specs.Phases.{takes_messages}
@@ -8,12 +8,12 @@ use Rattle.coap_model.specs.world.Sides.{Side, kept_on}
 use Rattle.coap_model.specs.world.World.{World, Step, Opened, Handled, Faulted, Written, Ticked, Stored, Removed, Ended, Released, Announced, Dropped, new_world, side_of, step}
 use Rattle.coap_model.specs.world.Events.{Event, stream_on, steps_of, world_after}
 
--- a connection is there, and takes messages
+-- The connection exists and accepts messages.
 abbrev pub hears : Option Side → Bool
 hears None = false
 hears (Some s) = takes_messages s.history.phase
 
--- a step in a world: the end of input tells of a cut message where messages are taken
+-- A step as it is received in a world: the end of input cuts a message only if the connection accepts messages.
 abbrev pub heard_step : World → Step → Step
 heard_step w (Opened id) = Opened id
 heard_step w (Handled id m) = Handled id m
@@ -27,19 +27,21 @@ heard_step w (Released id) = Released id
 heard_step w (Announced id size) = Announced id size
 heard_step w (Dropped id) = Dropped id
 
--- each step in turn, in the world before it
+-- A list of steps as they are received, each in the world before it.
 unfoldable pub heard_steps : LimitValues → World → List Step → List Step
 heard_steps limits w [] = []
 heard_steps limits w (s ∷ ss) = heard_step w s ∷ heard_steps limits (step limits w s) ss
 
--- the steps of events, as they are heard
+-- The steps of events as they are received, from the start of the server.
 unfoldable pub steps_heard : ConfigValues → List Event → List Step
 steps_heard c events = heard_steps c.limits (new_world c) (steps_of c.limits.max_message events)
 
--- the bytes kept of an unfinished message on a connection: none where it is not there, or takes no message any more
+-- The bytes of `rest` that are kept as an unfinished message: all, or none if the connection does not exist or no
+-- longer accepts messages.
 abbrev pub kept_of : List ℕ → Option Side → List ℕ
 kept_of rest None = []
 kept_of rest (Some s) = kept_on s rest
 
+-- The bytes that a connection keeps of an unfinished message after events.
 abbrev pub kept_at : ConfigValues → List Event → ℕ → List ℕ
 kept_at c events id = kept_of (stream_on c.limits.max_message id events).rest (side_of id (world_after c events).sides)

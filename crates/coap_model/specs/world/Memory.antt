@@ -1,4 +1,4 @@
--- For which message memory was refused, told of the events before the call.
+-- Defined by this project: the messages for which allocation may fail, determined from the events before the call.
 use Rattle.std.specs.Prelude.{◌≡◌, ℕ, ◌+◌, List, [], ◌∷◌, take, None}
 use Rattle.std.specs.List.{AllByRecursion}
 use Rattle.coap_wire.specs.Message.{Message}
@@ -10,8 +10,8 @@ use Rattle.coap_model.specs.world.View.{change_made, change_by}
 use Rattle.coap_model.specs.declared.answers.TakeFault.{TakeFault}
 use Rattle.coap_model.specs.declared.answers.TakeFault.TheVariants as fault
 
--- Memory was refused for a message, of which so many bytes of a piece were taken: all that would be taken but one. They make no step;
--- with the next byte the message is handled, and it stores a representation.
+-- Allocation failed for a message after `bytes` bytes of an input slice were accepted: all that `take` would accept but
+-- one. They make no step. With the next byte, the message is complete and stores a representation.
 pub record IsRefusedStored (c : ConfigValues) (events : List Event) (id : ℕ) (piece : List ℕ) (bytes : ℕ) : Type 0 where
   pub last : bytes + 1 ≡ takes c events id piece
   pub quiet : steps_by c.limits.max_message events (Took id (take bytes piece)) ≡ []
@@ -19,12 +19,13 @@ pub record IsRefusedStored (c : ConfigValues) (events : List Event) (id : ℕ) (
   pub ends : steps_by c.limits.max_message events (Took id (take (bytes + 1) piece)) ≡ Handled id message ∷ []
   pub stores : IsPut (change_made (world_after c events) id message)
 
--- why a piece is not taken: no connection has the number, or memory was refused for a message that stores a representation
+-- The condition that an error of `take` guarantees: no connection has the id, or allocation failed for a message that
+-- stores a representation.
 abbrev pub IsRefusedFor : ConfigValues → List Event → ℕ → List ℕ → TakeFault → Type 0
 IsRefusedFor c events id piece fault.NoSuch = side_of id (world_after c events).sides ≡ None
 IsRefusedFor c events id piece (fault.Memory bytes) = IsRefusedStored c events id piece bytes
 
--- what would be handled of a piece stores no representation
+-- No message that `take` would handle of an input slice stores a representation.
 abbrev pub StoresNothing : ConfigValues → List Event → ℕ → List ℕ → Type 0
 StoresNothing c events id piece =
     AllByRecursion (λ s. IsPut (change_by (world_after c events) s) → ⊥)

@@ -1,5 +1,5 @@
--- What the observers of a connection were told last, seen in all that was ever queued on it (RFC 7252 section 5.9.1, RFC 7641
--- section 4.2).
+-- RFC 7252 section 5.9.1 and RFC 7641 section 4.2: the state that an observer was sent last, by all messages ever
+-- queued on its connection.
 use Rattle.std.specs.Prelude.{◌≡◌, ◌≢◌, ◌⊎◌, ℕ, Bool, true, ◌&&◌, List, [], ◌∷◌, reverse, find, Option, Some, None}
 use Rattle.std.specs.List.{AllByRecursion, list_any}
 use Rattle.coap_wire.specs.Message.{Message}
@@ -15,44 +15,44 @@ use Rattle.coap_model.specs.world.Observers.{Observer}
 
 -- ---- responses
 
--- a message is a response with this token
+-- The message is a response with this token.
 abbrev pub responds : List ℕ → Message → Bool
 responds token m = is_response m && same_bytes m.token token
 
--- of messages in order, the last one that is a response with this token
+-- The last response with this token in a list of messages, if there is one.
 unfoldable pub last_response : List ℕ → List Message → Option Message
 last_response token messages = find (responds token) (reverse messages)
 
--- ---- what tells a state
+-- ---- messages that report a state
 
--- the 2.05 of a state, with Observe: its bytes, its format where it has one, its ETag where it is stored, and Max-Age where it is
--- the moment
+-- The 2.05 of a state, with Observe and the bytes of the state. It has the format if there is one, the ETag if the
+-- state is stored, and Max-Age if the path is `/time`.
 abbrev pub state_message : Observer → Representation → Message
 state_message o r = response_with_observe o.token true (content (place_of o.path) r)
 
--- the 2.03 with the ETag of a state and nothing else
+-- The 2.03 with the ETag of a state and nothing else.
 abbrev pub etag_of_state : Representation → Response
 etag_of_state r = record (only code.valid) { etag = Some (etag_of r) }
 
--- with Observe
+-- The same as a message to the observer, with Observe.
 abbrev pub etag_message : Observer → Representation → Message
 etag_message o r = response_with_observe o.token true (etag_of_state r)
 
--- The message tells the observer this state: as 2.05, or as 2.03 where the state is a stored one. That the path is absent is told
--- by none.
+-- The message reports this state to the observer: as 2.05, or as 2.03 if the state is stored. No message reports an
+-- absent path.
 abbrev pub TellsState : Observer → Option Representation → Message → Type 0
 TellsState o None m = ⊥
 TellsState o (Some r) m = (m ≡ state_message o r) ⊎ ((m ≡ etag_message o r) × (is_dynamic (place_of o.path) ≡ true))
 
--- one of these messages is a request that is answered late, with this token
+-- One of these messages is a request for a delayed response, with this token.
 abbrev pub asked_late : List ℕ → List Message → Bool
 asked_late token messages = list_any (λ m. asks_late m && same_bytes m.token token) messages
 
--- of all responses with the observer's token, the last one tells it the state that it was told last
+-- The last response with the observer's token reports the state that the observer's entry records.
 abbrev pub WasToldLast : List Message → Observer → Type 0
 WasToldLast queued o = (m : Message) × (last_response o.token queued ≡ Some m) × TellsState o o.told m
 
--- no token stands twice
+-- No two observers have the same token.
 abbrev pub HaveOwnTokens : List Observer → Type 0
 HaveOwnTokens [] = Unit {0}
 HaveOwnTokens (o ∷ os) = AllByRecursion (λ other. o.token ≢ other.token) os × HaveOwnTokens os

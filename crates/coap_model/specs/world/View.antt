@@ -1,5 +1,5 @@
--- What one connection sees of the steps of a server: its own steps, the moments, and the changes of the store, with nothing of
--- who made them (connections as in RFC 8323 sections 3.3, 3.4, 5 and 7).
+-- Defined by this project: the part of a server's steps that one connection can see. These are its own steps, the
+-- changes of the time, and the changes of the store without who made them.
 use Rattle.std.specs.Prelude.{◌≡◌, ℕ, Bool, true, List, [], ◌∷◌, ◌++◌, Option, Some, None, ◌==◌, if◌then◌else◌}
 use Rattle.std.specs.List.{AllByRecursion}
 use Rattle.coap_wire.specs.Message.{Message}
@@ -9,23 +9,25 @@ use Rattle.coap_model.specs.Configs.{ConfigValues}
 use Rattle.coap_model.specs.world.Sides.{Side, change_after}
 use Rattle.coap_model.specs.world.World.{World, new_world, side_of, Step, Opened, Handled, Faulted, Written, Ticked, Stored, Removed, Ended, Released, Announced, Dropped, step, after_steps}
 
--- ---- what a message changes
+-- ---- changes of the store
 
--- a change as the step that the server's own program would make of it
+-- The step of the embedding program that makes the same change; none for `Nothing`.
 abbrev pub change_steps : Change → List Step
 change_steps Nothing = []
 change_steps (Put path format bytes) = Stored path format bytes ∷ []
 change_steps (Delete path) = Removed path ∷ []
 
+-- The change that a message makes in the store if this connection receives it; none if the connection does not exist.
 abbrev pub change_on : World → Message → Option Side → Change
 change_on w m None = Nothing
 change_on w m (Some s) = change_after w.store w.now s m
 
--- what a message on a connection changes in the store
+-- The change that a message on a connection makes in the store.
 abbrev pub change_made : World → ℕ → Message → Change
 change_made w id m = change_on w m (side_of id w.sides)
 
--- of the steps of a connection only a message changes the store
+-- The change that a connection's step makes in the store. Only a message makes one. (`Stored` and `Removed` are steps
+-- of no connection.)
 abbrev pub change_by : World → Step → Change
 change_by w (Opened id) = Nothing
 change_by w (Handled id m) = change_made w id m
@@ -39,9 +41,9 @@ change_by w (Released id) = Nothing
 change_by w (Announced id size) = Nothing
 change_by w (Dropped id) = Nothing
 
--- ---- what a connection sees
+-- ---- the view of a connection
 
--- a step is of the connection itself, or of none
+-- The step is one of this connection, or of no connection.
 unfoldable pub concerns : ℕ → Step → Bool
 concerns id (Opened other) = other == id
 concerns id (Handled other m) = other == id
@@ -55,19 +57,20 @@ concerns id (Released other) = other == id
 concerns id (Announced other size) = other == id
 concerns id (Dropped other) = other == id
 
--- such a step is seen as it is, and of another connection's step only the change that it makes in the store
+-- The view of a step: the step itself if it concerns the connection, otherwise only the change that it makes in the
+-- store.
 unfoldable pub view_step : ℕ → World → Step → List Step
 view_step id w s = if concerns id s then s ∷ [] else change_steps (change_by w s)
 
--- each step in turn, looked at in the world before it
+-- The view of a list of steps, each considered in the world before it.
 unfoldable pub view_of : LimitValues → ℕ → World → List Step → List Step
 view_of limits id w [] = []
 view_of limits id w (s ∷ ss) = view_step id w s ++ view_of limits id (step limits w s) ss
 
--- the world after what a connection sees of steps
+-- The world after the view that a connection has of these steps, from the start of the server.
 abbrev pub after_view : ConfigValues → ℕ → List Step → World
 after_view c id ss = after_steps c.limits (new_world c) (view_of c.limits id (new_world c) ss)
 
--- each of these steps is one that the connection sees
+-- Each of these steps concerns the connection.
 abbrev pub AreSeen : ℕ → List Step → Type 0
 AreSeen id ss = AllByRecursion (λ s. concerns id s ≡ true) ss

@@ -1,5 +1,5 @@
--- What one connection sees of the events of a server: its own, the moments, and the changes of the store, whoever made them. It is
--- opened first among them, so it may have another number there.
+-- Defined by this project: the part of a server's events that one connection can see, as a list of events itself. The
+-- connection is opened first in it, so it may have another id.
 use Rattle.std.specs.Prelude.{ℕ, ◌+◌, List, [], ◌∷◌, ◌++◌, ◌==◌, if◌then◌else◌}
 use Rattle.coap_conn.specs.Limits.{LimitValues}
 use Rattle.coap_store.specs.Answer.{Change, Nothing, Put, Delete}
@@ -8,26 +8,28 @@ use Rattle.coap_model.specs.world.World.{World, Step, step}
 use Rattle.coap_model.specs.world.Events.{Event, Opened, Took, Wrote, Ticked, Stored, Removed, Ended, Released, Announced, Dropped, steps_by, world_after}
 use Rattle.coap_model.specs.world.View.{change_by}
 
--- the number of the connection that is opened first
+-- The id of the connection that is opened first.
 abbrev pub first_number : ConfigValues → ℕ
 first_number c = c.starts.ids + 1
 
--- a change as the event that the server's own program would make of it
+-- The event of the embedding program that makes the same change; none for `Nothing`.
 abbrev pub change_events : Change → List Event
 change_events Nothing = []
 change_events (Put path format bytes) = Stored path format bytes ∷ []
 change_events (Delete path) = Removed path ∷ []
 
--- what steps change in the store, each looked at in the world before it
+-- The changes that steps make in the store, as events. Each step is considered in the world before it.
 unfoldable pub changes_of : LimitValues → World → List Step → List Event
 changes_of limits w [] = []
 changes_of limits w (s ∷ ss) = change_events (change_by w s) ++ changes_of limits (step limits w s) ss
 
--- of an event of a connection: the same with the number that the connection has in the view, if it is the one that looks on
+-- The event e if `other` is the id of the viewing connection, otherwise nothing.
 abbrev pub if_own : ℕ → ℕ → Event → List Event
 if_own id other e = if other == id then e ∷ [] else []
 
--- what is seen of an event behind others
+-- The view of an event after earlier events.
+-- An event of the connection itself has the id that the connection has in the view. Bytes accepted on another
+-- connection become the changes that they make in the store. All other events of another connection are left out.
 unfoldable pub view_event : ConfigValues → ℕ → List Event → Event → List Event
 view_event c id earlier (Opened other) = if_own id other (Opened (first_number c))
 view_event c id earlier (Took other bytes) =
@@ -42,10 +44,11 @@ view_event c id earlier (Released other) = if_own id other (Released (first_numb
 view_event c id earlier (Announced other size) = if_own id other (Announced (first_number c) size)
 view_event c id earlier (Dropped other) = if_own id other (Dropped (first_number c))
 
+-- The view of a list of events after earlier events.
 unfoldable pub view_behind : ConfigValues → ℕ → List Event → List Event → List Event
 view_behind c id earlier [] = []
 view_behind c id earlier (e ∷ es) = view_event c id earlier e ++ view_behind c id (earlier ++ e ∷ []) es
 
--- what is seen of events
+-- The view of a list of events, from the start of the server.
 unfoldable pub view_events : ConfigValues → ℕ → List Event → List Event
 view_events c id events = view_behind c id [] events

@@ -1,4 +1,4 @@
--- A server with all its connections, as it is after a list of steps.
+-- Defined by this project: a server with all its connections, and its state after a list of steps.
 use Rattle.std.specs.Prelude.{ℕ, Bool, not, ◌&&◌, List, [], ◌∷◌, ◌++◌, map, filter, Option, Some, None, is_none, nat_le, ◌==◌, if◌then◌else◌}
 use Rattle.coap_wire.specs.Message.{Message}
 use Rattle.coap_wire.specs.Stream.{StreamFault}
@@ -9,19 +9,20 @@ use Rattle.coap_store.specs.Refusals.{put_refusal}
 use Rattle.coap_model.specs.Configs.{ConfigValues}
 use Rattle.coap_model.specs.world.Sides.{Side, new_side, side_after, store_after, side_faulted, side_written, side_ended, side_released, side_announced, settled}
 
--- a connection and its number
+-- A connection with its id.
 pub record Place : Type 0 where
   pub id : ℕ
   pub side : Side
 
--- the connections in order of their numbers, the number given last, the resources, and the moment in seconds
+-- The state of the server model: the connections in the order of opening, the id assigned last, the store, and the time
+-- in seconds.
 pub record World : Type 0 where
   pub sides : List Place
   pub ids : ℕ
   pub store : StoreValue
   pub now : ℕ
 
--- at first there is no connection, and nothing is stored
+-- The world at the start: no connection, no stored resource, and the start values of the configuration.
 abbrev pub new_world : ConfigValues → World
 new_world c = record {
   sides = [];
@@ -32,24 +33,33 @@ new_world c = record {
 
 -- ---- connections
 
+-- The connection with this id, if it exists.
 unfoldable pub side_of : ℕ → List Place → Option Side
 side_of id [] = None
 side_of id (p ∷ ps) = if p.id == id then Some p.side else side_of id ps
 
+-- The place in which f has changed the connection, if it has this id.
 abbrev pub changed_at : ℕ → (Side → Side) → Place → Place
 changed_at id f p = if p.id == id then record p { side = f p.side } else p
 
--- something happens to a connection
+-- The world in which f has changed the connection with this id.
 abbrev pub on_side : ℕ → (Side → Side) → World → World
 on_side id f w = record w { sides = map (changed_at id f) w.sides }
 
+-- The store after a message to a connection; unchanged if the connection does not exist.
 abbrev pub stored_after : World → Message → Option Side → StoreValue
 stored_after w m None = w.store
 stored_after w m (Some s) = store_after w.store w.now s m
 
 -- ---- steps
 
--- what happens to a server, with nothing of what bytes spell or of where they are cut
+-- A step: one effect on the server. Steps have messages and errors instead of bytes, so they do not depend on how the
+-- input was split.
+-- - `Handled`: a connection received a message.
+-- - `Faulted`: its input is malformed.
+-- - `Written`: n of its queued bytes were written.
+-- - `Ended`: its input ended; `cut` says whether within a frame.
+-- - The other steps are those of the events with the same names.
 pub data Step : Type 0 where
   Opened : (id : ℕ) → Step
   Handled : (id : ℕ) (m : Message) → Step
@@ -63,11 +73,11 @@ pub data Step : Type 0 where
   Announced : (id size : ℕ) → Step
   Dropped : (id : ℕ) → Step
 
--- the moment does not go back, and is a number of 64 bits
+-- The time may be set to `new`: it is not earlier than `now`, and fits in 64 bits.
 abbrev pub ticks : ℕ → ℕ → Bool
 ticks now new = nat_le now new && nat_le new 18446744073709551615
 
--- a step before anything settles
+-- The world after a step's own effect, before any connection settles. A step that is not possible changes nothing.
 unfoldable pub acted : LimitValues → World → Step → World
 acted limits w (Opened id) =
     if is_none (side_of id w.sides) then record w { sides = w.sides ++ record { id = id; side = new_side limits } ∷ []; ids = id } else w
@@ -84,17 +94,19 @@ acted limits w (Released id) = on_side id side_released w
 acted limits w (Announced id size) = on_side id (λ s. side_announced s size) w
 acted limits w (Dropped id) = record w { sides = filter (λ p. not (p.id == id)) w.sides }
 
--- then every connection settles
+-- The place after its connection has settled.
 abbrev pub settled_place : StoreValue → ℕ → Place → Place
 settled_place store now p = record p { side = settled store now p.side }
 
+-- The world after every connection has settled.
 abbrev pub all_settled : World → World
 all_settled w = record w { sides = map (settled_place w.store w.now) w.sides }
 
+-- The world after a step: first the step's own effect, then every connection settles.
 unfoldable pub step : LimitValues → World → Step → World
 step limits w s = all_settled (acted limits w s)
 
--- the world after steps
+-- The world after a list of steps.
 unfoldable pub after_steps : LimitValues → World → List Step → World
 after_steps limits w [] = w
 after_steps limits w (s ∷ ss) = after_steps limits (step limits w s) ss

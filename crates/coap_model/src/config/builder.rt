@@ -1,4 +1,4 @@
-//! Builds configurations by the names of their values.
+//! `ConfigBuilder`, which sets the values of a configuration by name.
 
 ghost use Rattle.std.specs.Prelude.{◌≡◌, IfOk};
 ghost use Rattle.coap_model.specs.Prelude.{RefusedBy, config_refusal, default_config, start_values};
@@ -8,11 +8,11 @@ use coap_conn::Limits;
 use coap_wire::LARGEST_SENT_MESSAGE;
 use std::marker::Model;
 
-/// The largest number of turns of a run.
+/// Largest number of turns of a run.
 const MAX_TURNS: u64 = 1_000_000_000_000;
 
-/// A builder of `Config`. Each value has its default until it is set; `build` checks them. Contracts see the values by
-/// name.
+/// Builder of `Config`. Each value has its default until it is set; `build` checks them. Contracts name the values as
+/// the fields of `ConfigValues`.
 #[derive(Clone, Copy, Debug)]
 pub struct ConfigBuilder {
     limits: Limits,
@@ -59,7 +59,7 @@ impl Config {
 }
 
 impl ConfigBuilder {
-    /// Sets the limits of each connection, by default those of `Limits::builder`.
+    /// Sets the limits of each connection. Default: those of `Limits::builder`.
     pub fn limits(self, limits: Limits) -> ConfigBuilder
         ensures { result ≡ record self { limits = limits } }
     {
@@ -76,7 +76,8 @@ impl ConfigBuilder {
         }
     }
 
-    /// Sets the largest number of resources that clients and the program may create: 0 to 1,000, by default 0.
+    /// Sets the largest number of resources that clients and the embedding program may create: 0 to 1,000, by default
+    /// 0.
     pub fn dynamic_max(self, count: usize) -> ConfigBuilder
         ensures { result ≡ record self { dynamic_max = count } }
     {
@@ -106,19 +107,24 @@ impl ConfigBuilder {
         }
     }
 
-    /// Sets where the counts begin, by default at 0. A server that is started again should begin at `Starts::at` the
-    /// present time, so that no ETag is given twice.
+    /// Sets the values at which the counts begin. Default: 0 each. A server that is started again should begin at
+    /// `Starts::at` of the current time, so that no ETag is repeated.
     pub fn starts(self, starts: Starts) -> ConfigBuilder
         ensures { result ≡ record self { starts = start_values starts } }
     {
         ConfigBuilder { starts, ..self }
     }
 
-    /// Returns the configuration.
+    /// Returns the configuration with the values set so far.
     ///
     /// # Errors
     ///
-    /// The first value that is out of its range, in the order of the methods, as `Config::new`.
+    /// The first of these that applies:
+    ///
+    /// - `Connections`: the number of connections is not 1 to 256.
+    /// - `Dynamic`: the limit of dynamic resources exceeds 1,000.
+    /// - `Representation`: the limit of a representation exceeds 1,048,576 bytes.
+    /// - `Turns`: the number of turns is not 1 to 1,000,000,000,000.
     pub fn build(self) -> Result<Config, ConfigFault>
         ensures answer { RefusedBy result (config_refusal self) }
         ensures ok { IfOk result (λ c. c ≡ self) }

@@ -1,4 +1,4 @@
--- What the lines of a script say, one after the other.
+-- The meaning of a script's lines in sequence.
 use Rattle.std.proofs.Common.{◌≡◌, ℕ, ◌+◌, ◌<◌, ◌≤◌, true, false, ◌==◌, List, [], ◌∷◌, ◌++◌, length, Option, None, Result, Ok, Err, refl, arith, append_assoc, nat_lt, cond, length-append, count_by, add-one}
 use Rattle.coap_script.specs.Prelude.{list_all, onto_first, newline, parts, words_of, EventValue, event_of, event_in}
 use Rattle.coap_script.specs.Prelude.{events_in, said_behind, said_by_line, said_by_parts, said_on, script_of}
@@ -18,7 +18,7 @@ pub event_of_words : (line : List ℕ) → list_all (λ b. nat_lt b 128) line �
 unfolding event_in
 event_of_words line ascii = rw ascii refl
 
--- ---- one line, and those behind it
+-- ---- one line and the lines after it
 
 pub line_and_others : (line : List ℕ) (others : List (List ℕ)) → 1 ≤ length others → said_by_parts (line ∷ others) ≡ said_by_line (events_in line) (said_by_parts others)
 unfolding said_by_parts
@@ -27,14 +27,14 @@ line_and_others line others some = grind arith
 pub line_and_rest : (line rest : List ℕ) → said_by_parts (line ∷ parts newline rest) ≡ said_by_line (events_in line) (said_by_parts (parts newline rest))
 line_and_rest line rest = line_and_others line (parts newline rest) (omega (arith, length-slice_split (λ b. b == newline) rest))
 
--- what was left is a line and a rest
+-- The text that was left consists of a line and a rest.
 pub line_taken : (lines : ℕ) (old new : List EventValue) (left line rest : List ℕ) (all : Result (List EventValue) ℕ) → all ≡ said_behind lines old (said_by_parts (parts newline left)) → parts newline left ≡ line ∷ parts newline rest → TakesLine true old new (events_in line) → all ≡ said_behind (lines + 1) new (said_by_parts (parts newline rest))
 line_taken lines old new left line rest all said cut takes = rw (said, cut, line_and_rest line rest) (grind (arith, append_assoc))
 
 pub line_refused : (lines : ℕ) (old new : List EventValue) (left line rest : List ℕ) (all : Result (List EventValue) ℕ) → all ≡ said_behind lines old (said_by_parts (parts newline left)) → parts newline left ≡ line ∷ parts newline rest → TakesLine false old new (events_in line) → all ≡ Err (lines + 1)
 line_refused lines old new left line rest all said cut takes = rw (said, cut, line_and_rest line rest) (grind arith)
 
--- ---- behind the last newline
+-- ---- after the last newline
 
 pub all_taken : (lines : ℕ) (old : List EventValue) (left : List ℕ) (all : Result (List EventValue) ℕ) → all ≡ said_behind lines old (said_by_parts (parts newline left)) → parts newline left ≡ left ∷ [] → length left ≡ 0 → all ≡ Ok old
 unfolding said_by_parts
@@ -56,7 +56,7 @@ parts_of_both (x ∷ xs) more =
     let some = length-slice_split (λ b. b == newline) xs in
     at_first x (parts newline xs) (parts newline more) (parts newline (xs ++ newline ∷ more)) (omega (arith, some)) (parts_of_both xs more)
 
--- ---- what lines say, and then others
+-- ---- the meaning of lines followed by others
 
 line_then_on : (n : ℕ) (events : Option (List EventValue)) (s r : Result (List EventValue) ℕ) → said_by_line events (said_on n s r) ≡ said_on (n + 1) (said_by_line events s) r
 line_then_on n events s r = grind (arith, append_assoc)

@@ -1,4 +1,4 @@
--- The formats and the paths that words of a script's lines mean.
+-- The formats and paths that words of a script's lines name.
 use Rattle.std.proofs.Common.{◌≡◌, ℕ, ◌<◌, false, cond, List, ◌∷◌, length, map, Option, Some, None, Result, arith, OkIff, option_map}
 use Rattle.coap_script.specs.Prelude.{result_ok, parts, decimal_value, format_value}
 use Rattle.coap_script.specs.Prelude.{is_hyphen, slash, segments_of, path_value, percent_decode, Path, is_path}

@@ -1,4 +1,4 @@
--- Worked values of the definitions: texts, and what they say.
+-- Worked examples: texts and their meanings.
 use Rattle.std.proofs.Common.{[], ◌≡◌, ℕ, List, ◌∷◌, ◌++◌, map, Some, None, Result, Ok, Err, refl, codes}
 use Rattle.coap_script.specs.Prelude.{decode_pairs, percent_decode, is_path, key_for, newline, decimal_value}
 use Rattle.coap_script.specs.Prelude.{hex_value, payload_value, format_value, segments_of, path_value, event_of}
@@ -7,40 +7,40 @@ use Rattle.coap_script.specs.Prelude.{in_event, drain_event, put_event, event_in
 use Rattle.coap_script.specs.Prelude.{said_by_parts, script_of}
 use Rattle.coap_script.specs.script.Events as event
 
--- each text says what stands behind it
+-- Each text has the meaning next to it.
 abbrev Say : List (List ℕ × Result (List event.EventValue) ℕ) → Type 0
 Say rows = map (λ r. script_of r.0) rows ≡ map (λ r. r.1) rows
 
 texts : Say (
-    -- texts that say events
-    (codes "", Ok [])  -- nothing scripted
-    ∷ (codes "open" ++ newline ∷ [], Ok (event.Open ∷ []))  -- open line read
-    ∷ (codes "in 1 00e1" ++ newline ∷ [], Ok (event.In 1 (0 ∷ 225 ∷ []) ∷ []))  -- came in
+    -- Texts that are scripts.
+    (codes "", Ok [])  -- empty text
+    ∷ (codes "open" ++ newline ∷ [], Ok (event.Open ∷ []))  -- open
+    ∷ (codes "in 1 00e1" ++ newline ∷ [], Ok (event.In 1 (0 ∷ 225 ∷ []) ∷ []))  -- lower case
     ∷ (codes "in 1 00E1" ++ newline ∷ [], Ok (event.In 1 (0 ∷ 225 ∷ []) ∷ []))  -- upper case
-    ∷ (codes "drain 1 12" ++ newline ∷ [], Ok (event.Drain 1 (Some 12) ∷ []))  -- drained
-    ∷ (codes "drain 1" ++ newline ∷ [], Ok (event.Drain 1 None ∷ []))  -- drained wholly
-    ∷ (codes "put /a - -" ++ newline ∷ [], Ok (event.Put (codes "a" ∷ []) None [] ∷ []))  -- put nothing
-    ∷ (codes "put /a%2Fb 50 7b" ++ newline ∷ [], Ok (event.Put (codes "a/b" ∷ []) (Some 50) (123 ∷ []) ∷ []))  -- put escaped
-    ∷ (codes "remove /a" ++ newline ∷ [], Ok (event.Remove (codes "a" ∷ []) (codes "/a") ∷ []))  -- removed
-    ∷ (codes "put / 0 00" ++ newline ∷ [], Ok (event.Put [] (Some 0) (0 ∷ []) ∷ []))  -- put at root
-    ∷ (codes "put // - -" ++ newline ∷ [], Ok (event.Put ([] ∷ [] ∷ []) None [] ∷ []))  -- put two empty
-    ∷ (codes "put /50% - -" ++ newline ∷ [], Ok (event.Put (codes "50%" ∷ []) None [] ∷ []))  -- lone percent
+    ∷ (codes "drain 1 12" ++ newline ∷ [], Ok (event.Drain 1 (Some 12) ∷ []))  -- drain 12 bytes
+    ∷ (codes "drain 1" ++ newline ∷ [], Ok (event.Drain 1 None ∷ []))  -- drain everything
+    ∷ (codes "put /a - -" ++ newline ∷ [], Ok (event.Put (codes "a" ∷ []) None [] ∷ []))  -- no format, no bytes
+    ∷ (codes "put /a%2Fb 50 7b" ++ newline ∷ [], Ok (event.Put (codes "a/b" ∷ []) (Some 50) (123 ∷ []) ∷ []))  -- slash
+    ∷ (codes "remove /a" ++ newline ∷ [], Ok (event.Remove (codes "a" ∷ []) (codes "/a") ∷ []))  -- remove
+    ∷ (codes "put / 0 00" ++ newline ∷ [], Ok (event.Put [] (Some 0) (0 ∷ []) ∷ []))  -- root path
+    ∷ (codes "put // - -" ++ newline ∷ [], Ok (event.Put ([] ∷ [] ∷ []) None [] ∷ []))  -- two empty segments
+    ∷ (codes "put /50% - -" ++ newline ∷ [], Ok (event.Put (codes "50%" ∷ []) None [] ∷ []))  -- percent without digits
     ∷ (codes "end 1" ++ newline ∷ codes "release 02" ++ newline ∷ codes "drop 3" ++ newline ∷ codes "status 4" ++ newline ∷ [], Ok (event.End 1 ∷ event.Release 2 ∷ event.Drop 3 ∷ event.Status 4 ∷ []))  -- others
     ∷ (codes "#x" ++ newline ∷ [], Ok [])  -- comment
     ∷ (newline ∷ [], Ok [])  -- empty line
-    ∷ (codes "tick 18446744073709551615" ++ newline ∷ [], Ok (event.Tick 18446744073709551615 ∷ []))  -- greatest
-    -- texts that say nothing: the number of the line
+    ∷ (codes "tick 18446744073709551615" ++ newline ∷ [], Ok (event.Tick 18446744073709551615 ∷ []))  -- largest number
+    -- Malformed texts, with the number of the first malformed line.
     ∷ (codes "in 1 0" ++ newline ∷ [], Err 1)  -- half a byte
     ∷ (codes "in  1 00" ++ newline ∷ [], Err 1)  -- two spaces
-    ∷ (codes "open " ++ newline ∷ [], Err 1)  -- space behind
-    ∷ (codes "in 1 -" ++ newline ∷ [], Err 1)  -- no byte in
-    ∷ (codes "tick 18446744073709551616" ++ newline ∷ [], Err 1)  -- too great
-    ∷ (codes "tick 000000000000000000001" ++ newline ∷ [], Err 1)  -- digits too many
-    ∷ (codes "tick +1" ++ newline ∷ [], Err 1)  -- signed
-    ∷ (codes "put /a 65536 -" ++ newline ∷ [], Err 1)  -- format too great
-    ∷ (codes "put /. - -" ++ newline ∷ [], Err 1)  -- dots
-    ∷ (codes "open", Err 1)  -- unended
-    ∷ (newline ∷ codes "#x", Err 2)  -- unended comment
+    ∷ (codes "open " ++ newline ∷ [], Err 1)  -- space at the end
+    ∷ (codes "in 1 -" ++ newline ∷ [], Err 1)  -- hyphen for the bytes
+    ∷ (codes "tick 18446744073709551616" ++ newline ∷ [], Err 1)  -- number too large
+    ∷ (codes "tick 000000000000000000001" ++ newline ∷ [], Err 1)  -- too many digits
+    ∷ (codes "tick +1" ++ newline ∷ [], Err 1)  -- number with a sign
+    ∷ (codes "put /a 65536 -" ++ newline ∷ [], Err 1)  -- format too large
+    ∷ (codes "put /. - -" ++ newline ∷ [], Err 1)  -- segment of a dot
+    ∷ (codes "open", Err 1)  -- no newline at the end
+    ∷ (newline ∷ codes "#x", Err 2)  -- no newline after the comment
     ∷ (codes "open" ++ newline ∷ newline ∷ codes "opens" ++ newline ∷ codes "open", Err 3)  -- third line
     ∷ [])
 unfolding said_by_parts events_in event_in says_nothing event_of event_alone event_with_one event_with_two number_event remove_event in_event drain_event put_event decimal_value hex_value payload_value format_value segments_of path_value key_for is_path percent_decode decode_pairs

@@ -1,9 +1,10 @@
--- The events that a script's lines name (our definition).
+-- Defined by this project: the events that the lines of a script name.
 use Rattle.std.specs.Prelude.{ℕ, Bool, List, [], ◌∷◌, Option, Some, None, if◌then◌else◌, codes}
 use Rattle.coap_store.specs.Paths.{Path, same_bytes}
 use Rattle.coap_text.specs.Words.{decimal_value, hex_value}
 use Rattle.coap_script.specs.script.Words.{payload_value, format_value, path_value}
 
+-- An event that a line names. `Drain` with `None` writes all queued bytes.
 pub data EventValue : Type 0 where
   Open : EventValue
   In : (connection : ℕ) (bytes : List ℕ) → EventValue
@@ -16,17 +17,17 @@ pub data EventValue : Type 0 where
   Drop : (connection : ℕ) → EventValue
   Status : (connection : ℕ) → EventValue
 
--- the second value, where there is a first one
+-- The result of f for a value; none if there is no value.
 infixl 10 ◌>>=◌
 abbrev pub ◌>>=◌ : {A B : Type 0} → Option A → (A → Option B) → Option B
 None >>= f = None
 Some x >>= f = f x
 
--- the word of an event
+-- The word is the name of an event.
 abbrev pub says : List ℕ → List ℕ → Bool
 says word name = same_bytes word name
 
--- `tick N`, `drain ID`, `end ID`, `release ID`, `drop ID`, `status ID`
+-- The event of `tick N`, `drain ID`, `end ID`, `release ID`, `drop ID` and `status ID`.
 unfoldable pub number_event : List ℕ → ℕ → Option EventValue
 number_event word n =
     if says word (codes "tick") then Some (Tick n)
@@ -37,27 +38,27 @@ number_event word n =
     else if says word (codes "status") then Some (Status n)
     else None
 
--- `remove PATH`; the path's text is kept as written
+-- The event of `remove PATH`. The text of the path is kept.
 unfoldable pub remove_event : List ℕ → Option EventValue
 remove_event path = do
   segments ← path_value path
   Some (Remove segments path)
 
--- `in ID HEX`
+-- The event of `in ID HEX`.
 unfoldable pub in_event : List ℕ → List ℕ → Option EventValue
 in_event id hex = do
   connection ← decimal_value id
   bytes ← hex_value hex
   Some (In connection bytes)
 
--- `drain ID N`
+-- The event of `drain ID N`.
 unfoldable pub drain_event : List ℕ → List ℕ → Option EventValue
 drain_event id n = do
   connection ← decimal_value id
   most ← decimal_value n
   Some (Drain connection (Some most))
 
--- `put PATH FORMAT HEX`
+-- The event of `put PATH FORMAT HEX`.
 unfoldable pub put_event : List ℕ → List ℕ → List ℕ → Option EventValue
 put_event path format hex = do
   segments ← path_value path
@@ -65,9 +66,11 @@ put_event path format hex = do
   payload ← payload_value hex
   Some (Put segments number payload)
 
+-- The event of a word without values.
 unfoldable pub event_alone : List ℕ → Option EventValue
 event_alone word = if says word (codes "open") then Some Open else None
 
+-- The event of a word with one value.
 unfoldable pub event_with_one : List ℕ → List ℕ → Option EventValue
 event_with_one word value =
     if says word (codes "remove") then remove_event value
@@ -75,16 +78,18 @@ event_with_one word value =
       n ← decimal_value value
       number_event word n
 
+-- The event of a word with two values.
 unfoldable pub event_with_two : List ℕ → List ℕ → List ℕ → Option EventValue
 event_with_two word first second =
     if says word (codes "in") then in_event first second
     else if says word (codes "drain") then drain_event first second
     else None
 
+-- The event of a word with three values.
 abbrev pub event_with_three : List ℕ → List ℕ → List ℕ → List ℕ → Option EventValue
 event_with_three word first second third = if says word (codes "put") then put_event first second third else None
 
--- the event of a line's words: its own word, and at most three values behind it
+-- The event of a line's words: the name of the event, then at most three values.
 unfoldable pub event_of : List (List ℕ) → Option EventValue
 event_of (word ∷ []) = event_alone word
 event_of (word ∷ value ∷ []) = event_with_one word value

@@ -1,4 +1,4 @@
-//! The events that a script's lines name.
+//! Reads the event that a line of a script names.
 
 ghost use Rattle.std.specs.Prelude.{◌≡◌, IfOk, map, option_map};
 ghost use Rattle.coap_script.specs.Prelude.{event_value, TakesLine};
@@ -10,7 +10,7 @@ use crate::scripts::words::{format_in, path_in, payload_in, words_in};
 use coap_text::{bytes_in, number_in};
 use std::alloc::{AllocError, Global};
 
-/// The event of a word alone.
+/// Returns the event of a word without values.
 #[tactic(auto, unfolding(crate::specs::script::Events::event_alone))]
 fn alone(word: &[u8]) -> Option<Event>
     ensures { option_map event_value result ≡ spec.event_alone word.now }
@@ -21,7 +21,7 @@ fn alone(word: &[u8]) -> Option<Event>
     Some(Event::Open)
 }
 
-/// The event of a word with a number behind it.
+/// Returns the event of a word with a number.
 #[tactic(auto, unfolding(crate::specs::script::Events::number_event))]
 fn with_number(word: &[u8], number: u64) -> Option<Event>
     ensures { option_map event_value result ≡ spec.number_event word.now number }
@@ -47,7 +47,7 @@ fn with_number(word: &[u8], number: u64) -> Option<Event>
     }
 }
 
-/// What `remove` says with a path behind it.
+/// Returns the event of `remove` with a path.
 #[tactic(auto, unfolding(crate::specs::script::Events::remove_event))]
 fn removal(alloc: Global, text: &[u8]) -> Result<Option<Event>, AllocError>
     ensures { IfOk result (λ event. option_map event_value event ≡ spec.remove_event text.now) }
@@ -59,7 +59,7 @@ fn removal(alloc: Global, text: &[u8]) -> Result<Option<Event>, AllocError>
     Ok(Some(Event::Remove { path, text }))
 }
 
-/// The event of a word with one value behind it.
+/// Returns the event of a word with one value.
 #[tactic(auto, unfolding(crate::specs::script::Events::event_with_one))]
 fn with_one(alloc: Global, word: &[u8], value: &[u8]) -> Result<Option<Event>, AllocError>
     ensures { IfOk result (λ event. option_map event_value event ≡ spec.event_with_one word.now value.now) }
@@ -73,7 +73,7 @@ fn with_one(alloc: Global, word: &[u8], value: &[u8]) -> Result<Option<Event>, A
     Ok(with_number(word, number))
 }
 
-/// What `in` says with a connection and bytes behind it.
+/// Returns the event of `in` with a connection id and bytes.
 #[tactic(auto, unfolding(crate::specs::script::Events::in_event))]
 fn arrival(alloc: Global, id: &[u8], hex: &[u8]) -> Result<Option<Event>, AllocError>
     ensures { IfOk result (λ event. option_map event_value event ≡ spec.in_event id.now hex.now) }
@@ -87,7 +87,7 @@ fn arrival(alloc: Global, id: &[u8], hex: &[u8]) -> Result<Option<Event>, AllocE
     Ok(Some(Event::In { connection, bytes }))
 }
 
-/// What `drain` says with a connection and a count behind it.
+/// Returns the event of `drain` with a connection id and a count.
 #[tactic(auto, unfolding(crate::specs::script::Events::drain_event))]
 fn drain(id: &[u8], count: &[u8]) -> Option<Event>
     ensures { option_map event_value result ≡ spec.drain_event id.now count.now }
@@ -100,7 +100,7 @@ fn drain(id: &[u8], count: &[u8]) -> Option<Event>
     })
 }
 
-/// The event of a word with two values behind it.
+/// Returns the event of a word with two values.
 #[tactic(auto, unfolding(crate::specs::script::Events::event_with_two))]
 fn with_two(
     alloc: Global,
@@ -119,7 +119,7 @@ fn with_two(
     }
 }
 
-/// What `put` says with a path, a format and bytes behind it.
+/// Returns the event of `put` with a path, a format and bytes.
 #[tactic(auto, unfolding(crate::specs::script::Events::put_event))]
 fn storing(
     alloc: Global,
@@ -145,7 +145,7 @@ fn storing(
     }))
 }
 
-/// The event of these words.
+/// Returns the event of the words of a line, or `None` if they name none.
 #[tactic(auto, unfolding(crate::specs::script::Events::event_of))]
 fn event_of(alloc: Global, words: &[&[u8]]) -> Result<Option<Event>, AllocError>
     ensures { IfOk result (λ event. option_map event_value event ≡ spec.event_of (map (λ w. w.now) words.now)) }
@@ -164,7 +164,7 @@ fn event_of(alloc: Global, words: &[&[u8]]) -> Result<Option<Event>, AllocError>
     }
 }
 
-/// The event that a line names.
+/// Returns the event that a line names. A line with a byte that is not ASCII names none.
 #[tactic(auto, unfolding(crate::specs::script::Script::event_in))]
 fn event_in(alloc: Global, line: &[u8]) -> Result<Option<Event>, AllocError>
     ensures { IfOk result (λ event. option_map event_value event ≡ lines.event_in line.now) }
@@ -178,7 +178,7 @@ fn event_in(alloc: Global, line: &[u8]) -> Result<Option<Event>, AllocError>
     event_of(alloc, words.as_slice())
 }
 
-/// Whether a line says nothing: it is empty, or a comment.
+/// Returns `true` if a line is empty or a comment.
 #[tactic(auto, unfolding(crate::specs::script::Script::says_nothing))]
 fn says_nothing(line: &[u8]) -> bool
     ensures { result ≡ lines.says_nothing line.now }
@@ -189,12 +189,12 @@ fn says_nothing(line: &[u8]) -> bool
     }
 }
 
-/// Adds the event that a line names, where it names one, and tells whether the line is right: it names an event, is
-/// empty, or is a comment.
+/// Appends the event that a line names, if it names one. Returns `true` if the line names an event, is empty or is a
+/// comment.
 ///
 /// # Errors
 ///
-/// Where memory is refused for the event.
+/// Returns `AllocError` if allocation fails.
 #[tactic(auto, unfolding(crate::specs::script::Script::events_in))]
 pub(super) fn take_line(
     alloc: Global,

@@ -1,10 +1,12 @@
-//! What holds of every script, as the contract of a function that does nothing.
+//! Theorem on all scripts, as the contract of a function that does nothing.
 
 ghost use Rattle.std.specs.Prelude.{◌≡◌, ◌==◌, ℕ, ◌+◌, List, [], ◌∷◌, ◌++◌, count_by};
 ghost use Rattle.coap_script.specs.Prelude.{newline, script_of, said_on};
 
-/// Lines are read one by one: what whole lines say does not depend on what stands behind them, and what stands there is
-/// read as a script of its own.
+/// States that a script is read line by line.
+///
+/// The meaning of whole lines does not depend on the text after them. That text is read as a script of its own, whose
+/// line numbers continue those before.
 pub fn scripts_go_on_behind_whole_lines()
     ensures { (lines more : List ℕ) →
         script_of (lines ++ newline ∷ more)

@@ -11,13 +11,13 @@ use itoa::{Buffer, Integer};
 use std::alloc::{AllocError, Global};
 use std::fmt::Write;
 
-/// The most bytes of a short line.
+/// Largest number of bytes in a short line.
 const SHORT: usize = 64;
 
-/// A line of at most 64 bytes, built without memory.
+/// Line of at most 64 bytes, built without allocation.
 pub type ShortLine = ArrayVec<u8, SHORT>;
 
-/// Appends a text, for which there is room.
+/// Appends a text. The line must have room for it.
 fn append_text(line: &mut ShortLine, text: &[u8])
     requires { array_vec_len line.old + length text.now ≤ 64 }
     ensures text { line.new.items ≡ line.old.items ++ text.now }
@@ -28,7 +28,7 @@ fn append_text(line: &mut ShortLine, text: &[u8])
     };
 }
 
-/// Appends a number in decimal digits, for which there is room.
+/// Appends a number in decimal digits. The line must have room for it.
 fn append_number<N: Integer>(line: &mut ShortLine, number: N)
     requires { array_vec_len line.old + N.MAX_STR_LEN ≤ 64 }
     ensures text { line.new.items ≡ line.old.items ++ N.text number }
@@ -49,8 +49,8 @@ pub fn open_line(id: u64) -> ShortLine
     line
 }
 
-/// Returns the line `in ID TAKEN`: a connection took `taken` bytes. If it has stopped, ` stop REASON` follows, with the
-/// number of the reason.
+/// Returns the line `in ID TAKEN`: a connection accepted `taken` bytes. If it has stopped, ` stop REASON` follows, with
+/// the number of the reason.
 pub fn in_line(id: u64, taken: u64, stop: Option<u8>) -> ShortLine
     ensures { result.items ≡ spec.in_line id taken stop }
 {
@@ -67,7 +67,7 @@ pub fn in_line(id: u64, taken: u64, stop: Option<u8>) -> ShortLine
     line
 }
 
-/// The front of a line with bytes that were written to a connection.
+/// Returns the start of a line with bytes that were written to a connection.
 fn out_front(id: u64) -> ShortLine
     ensures { result.items ≡ codes "out " ++ decimal id ++ codes " " }
 {
@@ -78,7 +78,7 @@ fn out_front(id: u64) -> ShortLine
     line
 }
 
-/// Appends bytes in hexadecimal, a hyphen for none.
+/// Appends bytes in hexadecimal, or a hyphen if there are none.
 fn append_bytes(line: &mut Vec<u8>, bytes: &[u8]) -> Result<(), AllocError>
     ensures { OnOk result (line.new.items ≡ line.old.items ++ spec.bytes_text bytes.now) }
 {
@@ -94,7 +94,7 @@ fn append_bytes(line: &mut Vec<u8>, bytes: &[u8]) -> Result<(), AllocError>
 }
 
 /// Returns the line `out ID HEX`: these bytes were written to a connection. The hexadecimal digits are lower case; a
-/// hyphen replaces them if there are no bytes. The room of the line is reserved at once.
+/// hyphen replaces them if there are no bytes. All memory of the line is reserved at once.
 ///
 /// # Errors
 ///
@@ -146,7 +146,8 @@ pub fn remove_line(alloc: Global, text: &[u8]) -> Result<Vec<u8>, AllocError>
     Ok(line)
 }
 
-/// Returns the line of a word and a connection, as `end ID`. The events `end`, `release` and `drop` have this form.
+/// Returns the line of a word and a connection, such as `end ID`. The events `end`, `release` and `drop` have this
+/// form.
 ///
 /// # Preconditions
 ///
@@ -163,7 +164,7 @@ pub fn word_line(word: &str, id: u64) -> ShortLine
     line
 }
 
-/// How a connection stands.
+/// Returns the phase of a connection as text, with the number of its reason if it has one.
 fn phase_text(alloc: Global, phase: Phase) -> Result<String, AllocError>
     ensures { IfOk result (λ text. string_bytes text ≡ spec.phase_text phase) }
 {
@@ -181,7 +182,7 @@ fn phase_text(alloc: Global, phase: Phase) -> Result<String, AllocError>
     }
 }
 
-/// The front of a status: the connection and its phase.
+/// Returns the start of a status line: the connection and its phase.
 fn status_front(alloc: Global, id: u64, phase: Phase) -> Result<String, AllocError>
     ensures { IfOk result (λ text. string_bytes text ≡ codes "status " ++ decimal id ++ codes " " ++ spec.phase_text
         phase) }
@@ -198,8 +199,10 @@ fn append(line: &mut String, text: &str, number: u64) -> Result<(), AllocError>
     write!(line, "{text}{number}")
 }
 
-/// Returns the line `status ID PHASE kept N waiting N pending N observers N`: the phase of a connection, the bytes kept
-/// of an unfinished message, the bytes queued for writing, the pending responses and Pongs, and the observers.
+/// Returns the line `status ID PHASE kept N waiting N pending N observers N`.
+///
+/// The numbers are: the bytes kept of an unfinished message, the bytes queued for writing, the pending responses and
+/// Pongs, and the observers.
 ///
 /// # Errors
 ///
@@ -224,7 +227,7 @@ pub fn status_line(
     Ok(line.into_bytes())
 }
 
-/// Returns the line `WORD ID fault NUMBER`: an event was refused, with the number of the error. There is no `ID` if the
+/// Returns the line `WORD ID fault NUMBER`: an event failed, with the number of the error. There is no `ID` if the
 /// event names no connection.
 ///
 /// # Preconditions

@@ -1,4 +1,4 @@
-//! The words of a script's lines, and the values that they mean.
+//! The words of a script's lines, and their values.
 
 ghost use Rattle.std.specs.Prelude.{◌≡◌, ◌<◌, length, map, IfSome, IfNone, IfOk, option_map};
 ghost use Rattle.coap_script.specs.Prelude.{cow_slice_items};
@@ -11,8 +11,8 @@ use percent_encoding::percent_decode;
 use std::alloc::{AllocError, Global};
 use std::borrow::CowSlice;
 
-/// Returns the bytes that a word of hexadecimal digits means, or no byte if the word is a hyphen. Returns `None` for any
-/// other word.
+/// Returns the bytes that a word encodes in hexadecimal digits, or no bytes if the word is a hyphen. Returns `None` for
+/// any other word.
 ///
 /// # Errors
 ///
@@ -26,7 +26,8 @@ pub(super) fn payload_in(alloc: Global, word: &[u8]) -> Result<Option<Vec<u8>>, 
     bytes_in(alloc, word)
 }
 
-/// The format that a word means: a number up to 65,535, or none where it is a hyphen. `None` where it is neither.
+/// Returns the Content-Format that a word names: a number of at most 65,535, or no format if the word is a hyphen.
+/// Returns `None` for any other word.
 pub(super) fn format_in(word: &[u8]) -> Option<Option<u16>>
     ensures { result ≡ spec.format_value word.now }
 {
@@ -38,11 +39,11 @@ pub(super) fn format_in(word: &[u8]) -> Option<Option<u16>>
     Some(Some(format))
 }
 
-/// The segments behind the first slash of a path, each decoded.
+/// Returns the segments of a path after its first slash, each percent-decoded.
 ///
 /// # Errors
 ///
-/// Where memory is refused for them.
+/// Returns `AllocError` if allocation fails.
 fn segments_in(alloc: Global, text: &[u8]) -> Result<Vec<CowSlice<'_, u8>>, AllocError>
     ensures { IfOk result (λ v. map cow_slice_items v.items ≡ spec.segments_of text.now) }
 {
@@ -59,11 +60,11 @@ fn segments_in(alloc: Global, text: &[u8]) -> Result<Vec<CowSlice<'_, u8>>, Allo
     Ok(segments)
 }
 
-/// The path that a word names, where it names one.
+/// Returns the path that a word names, or `None` if it names none.
 ///
 /// # Errors
 ///
-/// Where memory is refused for its segments.
+/// Returns `AllocError` if allocation fails.
 pub(super) fn path_in(alloc: Global, word: &[u8]) -> Result<Option<PathKey>, AllocError>
     ensures { IfOk result (λ found. found ≡ spec.path_value word.now) }
 {
@@ -81,10 +82,10 @@ pub(super) fn path_in(alloc: Global, word: &[u8]) -> Result<Option<PathKey>, All
     Ok(PathKey::from_segments(&segments))
 }
 
-/// The most words of a line.
+/// Largest number of words in a line.
 const MAX_WORDS: usize = 4;
 
-/// The words of a line, `None` where there are more than four.
+/// Returns the words of a line, or `None` if there are more than four.
 pub(super) fn words_in(line: &[u8]) -> Option<ArrayVec<&[u8], MAX_WORDS>>
     ensures few { IfSome result (λ words. map (λ w. w.now) words.items ≡ spec.words_of line.now) }
     ensures many { IfNone result (4 < length (spec.words_of line.now)) }

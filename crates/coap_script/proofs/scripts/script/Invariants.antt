@@ -2,7 +2,7 @@ use Rattle.std.proofs.Common.{◌≡◌, ◌+◌, ◌≤◌, length, map}
 use Rattle.coap_script.specs.Prelude.{parts, newline, script_of, said_behind, said_by_parts, event_value}
 use Rattle.coap_script.proofs.scripts.script.Given as goal
 
--- what the text says is the events so far, and then what is said by what is left of it
+-- The text means the events so far, then the meaning of the text that is left.
 abbrev pub invariant-loop-line : goal.invariant-loop-line
 invariant-loop-line l =
     record {
