@@ -1,4 +1,4 @@
--- Lemmas on the effects and lines of script events, on scripts that differ only in cuts, and worked scripts.
+-- Lemmas on the effects and lines of script events, on scripts that divide their input differently, and worked scripts.
 pub mod WorkedCuts
 pub mod ShownLemmas
 pub mod ReplayLemmas

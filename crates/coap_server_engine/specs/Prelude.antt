@@ -1,4 +1,4 @@
--- What the contracts and the proofs of the crate name, passed on from one place. Declares nothing.
+-- Re-exports of the definitions that the contracts and proofs of this crate name. This file declares nothing.
 
 -- ---- std and the kit's crates
 pub use Rattle.indexmap.specs.IndexMap.{values, insert_entry, set_value_at}
@@ -81,12 +81,12 @@ pub use Rattle.coap_model.specs.world.View.{change_made}
 pub use Rattle.coap_model.specs.world.World.{World, Step, new_world, Handled, Place, all_settled, on_side}
 pub use Rattle.coap_model.specs.world.World.{settled_place, stored_after, ticks}
 unfoldable pub use Rattle.coap_model.specs.world.World.{side_of, after_steps, acted}
--- ---- coap_serve, declared
+-- ---- this crate: declared types
 pub use Rattle.coap_server_session.specs.declared.cause.Cause.{Cause}
 pub use Rattle.coap_server_session.specs.declared.host.Host.{Host}
 pub use Rattle.coap_server_engine.specs.declared.replay.Drained.{Drained}
 pub use Rattle.coap_server_engine.specs.declared.replay.Line.{Line}
--- ---- coap_serve, script
+-- ---- this crate: script
 pub use Rattle.coap_server_engine.specs.script.Cuts.{DifferInCuts, AreInTime, other_lines, IsInTime}
 unfoldable pub use Rattle.coap_server_engine.specs.script.Cuts.{lines_of, in_before, joined}
 pub use Rattle.coap_server_engine.specs.script.Replay.{stop_number, drained, Ran, comes_to, drain_ran}
@@ -97,7 +97,7 @@ pub use Rattle.coap_server_engine.specs.script.Replayed.{replay_number, IsReplay
 pub use Rattle.coap_server_engine.specs.script.Replayed.{IsUnrun}
 pub use Rattle.coap_server_engine.specs.script.Shown.{ShowsRun, IsShownReplay, ShowsPart, IsPartlyMade, ShowsRefusedAt}
 unfoldable pub use Rattle.coap_server_engine.specs.script.Shown.{events_made, events_ran}
--- ---- coap_serve, values
+-- ---- this crate: values
 pub use Rattle.coap_server_session.specs.values.Causes.{change_hash, path_hash}
 pub use Rattle.coap_server_session.specs.values.Causes.{IsUntouched}
 pub use Rattle.coap_server_session.specs.values.Causes.{ConcernsNone, IsMarkedBut}
@@ -139,10 +139,10 @@ pub use Rattle.coap_server_session.specs.values.Sessions.{taking_found, taking_r
 unfoldable pub use Rattle.coap_server_session.specs.values.Sessions.{changed_mark}
 unfoldable pub use Rattle.coap_server_session.specs.values.Sessions.{session_settled, session_handled}
 unfoldable pub use Rattle.coap_server_session.specs.values.Sessions.{taking}
--- ---- coap_serve, views
+-- ---- this crate: views
 pub use Rattle.coap_server_engine.specs.views.LineViews.{line_bytes, IsRun, IsDrainable}
 pub use Rattle.coap_server_engine.specs.views.ServerViews.{IsServer, server_value}
 pub use Rattle.coap_server_session.specs.views.SessionShows.{session_shown}
--- ---- coap_serve, world
+-- ---- this crate: world
 pub use Rattle.coap_server_engine.specs.world.Shows.{Shows, ShowsRefused, place_shown, server_shown}
 unfoldable pub use Rattle.coap_server_engine.specs.world.Shows.{server_of}

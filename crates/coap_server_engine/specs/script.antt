@@ -1,4 +1,5 @@
--- Scripts on a server: the effect and line of each event, the result of a replay, and scripts that differ only in cuts.
+-- Scripts on a server: the effect and line of each event, the result of a replay, and scripts that divide their input
+-- differently.
 pub mod Replay
 pub mod Shown
 pub mod Replayed

@@ -1,4 +1,5 @@
--- A server as the code holds it: calls, flushes and takes, the work left on connections, and changes that spare them.
+-- The value of a server: its calls, whole inputs and flushes, the work left on connections, and the changes that cannot
+-- affect them.
 pub mod Servers
 pub mod ServerAnswers
 pub mod Flushes

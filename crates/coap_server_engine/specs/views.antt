@@ -1,3 +1,3 @@
--- The views of servers and of output lines in contracts, with the invariant of `Server`.
+-- The values that contracts see for servers and output lines, and the invariant of `Server`.
 pub mod ServerViews
 pub mod LineViews

@@ -1,2 +1,2 @@
--- The server that represents the server model after events.
+-- The value of a server after a list of events.
 pub mod Shows

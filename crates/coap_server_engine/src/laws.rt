@@ -14,18 +14,25 @@ ghost use Rattle.coap_model.specs.declared.answers.WrittenFault.TheVariants as w
 ghost use Rattle.coap_model.specs.declared.answers.ReleaseFault.TheVariants as releasing;
 ghost use Rattle.coap_model.specs.world.World.{Ended};
 
-/// No change is lost: after every call, on each connection less than the greatest message sent is free in the queue, or
-/// every observer was told the state that its path has now, every held answer whose moment has come was sent, and no
-/// held Pong is left that nothing stands before.
+/// States that no change is lost. After every call, a connection is up to date if its queue has room for a message of
+/// `max_sent` bytes:
+///
+/// - Every observer was sent the current state of its path.
+/// - Every delayed response that is due was sent.
+/// - No pending Pong is first in the pending list.
 pub fn no_change_is_lost()
     ensures { (v : ServerValue) (events : List Event) (id : ℕ) (s : Side) → Shows v events →
         side_of id (world_after v.config events).sides ≡ Some s → HearsAll v.host.store v.host.now s }
 {}
 
-/// Where pieces are cut does not matter: a piece and its two parts, one after the other, make the same steps and leave
-/// the same world, whatever comes before and behind them. Equal steps leave equal worlds, and with the same bytes kept
-/// of unfinished messages equal servers. Behind a stop the end of input says nothing of a cut message in these steps,
-/// so that bytes which nobody handles make no difference.
+/// States that the division of a stream into slices does not matter.
+///
+/// - A slice and its two parts, one after the other, make the same steps and leave the same world. This holds whatever
+///   events come before and after them (`steps`, `worlds`).
+/// - Normalised steps (`steps_heard`) never say of the end of input after a stop that it truncated a message (`quiet`).
+///   They lead to the same world (`heard`), and equal steps have equal normalised steps (`alike`).
+/// - Equal normalised steps leave equal worlds (`same_steps`). If the bytes kept of unfinished messages are equal too,
+///   they leave equal servers (`servers`). So bytes that no connection processes make no difference.
 pub fn cuts_do_not_matter()
     ensures steps { (max : ℕ) (before behind : List Event) (id : ℕ) (xs ys : List ℕ) →
         steps_of max (before ++ Took id (xs ++ ys) ∷ behind)
@@ -51,12 +58,15 @@ pub fn cuts_do_not_matter()
         server_of c events ≡ server_of c others }
 {}
 
-/// Where a script cuts the bytes that it hands to a connection does not matter. Bytes in one `in`, and in two that
-/// stand one right behind the other, leave the same server, so that the last one tells the same stop; and as many of
-/// them are taken, be it all or not. So scripts that differ only in such cuts, however many, leave the same server, and
-/// each event but the `in`s writes the same line, in the same order: so the `out` lines of each connection are the
-/// same. All lines, one after the other, are the text that is written. Moving an `in` past an `in` of another
-/// connection is not covered.
+/// States that the division of input into `in` lines does not matter in a script.
+///
+/// - Bytes in one `in`, or in two consecutive ones, leave the same server. So the last of the two reports the same
+///   stop. The number of accepted bytes is the same too (`taken`, `after`).
+/// - Scripts that differ only in such divisions leave the same server (`servers`). Every event that is no `in` writes
+///   the same line, in the same order, so each connection has the same `out` lines (`lines`).
+/// - The written text is all lines in order (`text`).
+///
+/// Moving an `in` past an `in` of another connection is not covered.
 pub fn where_a_script_cuts_does_not_matter()
     ensures taken { (v : ServerValue) (before : List Event) (id : ℕ) (xs ys : List ℕ) → Shows v before →
         (fed v id (xs ++ ys)).count ≡ (fed v id xs).count + (fed (fed v id xs).server id ys).count }
@@ -72,11 +82,13 @@ pub fn where_a_script_cuts_does_not_matter()
         other_lines v events ≡ other_lines v others }
 {}
 
-/// Of the calls on a connection behind `open` only `take` and `announce` may answer that memory was refused. A `take`
-/// does so only for a message that is stored: all its bytes but the last are taken, and that one would end a message
-/// which stores a representation. So a `take` of any other message answers no Memory; `announce` does so only for the
-/// room of a greater message, as its own clause says. `written` and `release` have other faults; `ended` and
-/// `drop_conn` have `NoSuch` alone, `front` and `status` none.
+/// States which calls on a connection can run out of memory after `open`: only `take` and `announce`.
+///
+/// - `take` returns `Memory` only if the next byte of the slice would end a message that stores a representation. All
+///   bytes of that message but the last are accepted then (`stored`, `other`).
+/// - `announce` returns it only for a larger message size, as its own contract states.
+/// - `written` and `release` have other errors (`written`, `released`). `ended` and `drop_conn` have `NoSuch` alone;
+///   `front` and `status` have none.
 pub fn only_what_is_stored_wants_memory()
     ensures stored { (v after : ServerValue) (events : List Event) (id : ℕ) (piece : List ℕ) (bytes : ℕ) →
         Shows v events →
@@ -93,17 +105,18 @@ pub fn only_what_is_stored_wants_memory()
         ⊎ ((fault ≡ releasing.NotOpen) ⊎ ((fault ≡ releasing.NoRoom) ⊎ (fault ≡ releasing.PeerTooSmall))) }
 {}
 
-/// What is not due stays: where every connection is settled, and the moment moves on to one before each at which time
-/// alone may queue something, only the moment changes. On every connection what waits, what is held and who observes
-/// are as they were.
+/// States that nothing happens before it is due. If every connection is settled and the time advances to one before
+/// each deadline, only the time changes. The queued bytes, the pending entries and the observers of every connection
+/// stay the same.
 pub fn what_is_not_due_stays()
     ensures { (v : ServerValue) (later : ℕ) → IsStore v.host.store → AreSettled v.host v.sessions → v.host.now ≤ later →
         later < 2 ^ 64 → WaitsForWhatIsDue v later }
 {}
 
-/// What is taken is handled: after events that were accepted, the messages that a connection has handled are those that
-/// the bytes taken on it spell up to the first fault, each of them once and in order; and where there is a fault, it is
-/// why the connection stopped.
+/// States that each accepted message is processed once.
+///
+/// After accepted events, a connection has processed the messages that its accepted bytes encode up to the first error,
+/// each once and in order. If there is an error, it is the reason for which the connection stopped.
 pub fn each_message_taken_is_handled_once()
     ensures messages { (c : ConfigValues) (events : List Event) (id : ℕ) (s : Side) → AreAccepted c events →
         side_of id (world_after c events).sides ≡ Some s →

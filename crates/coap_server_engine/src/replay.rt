@@ -1,7 +1,7 @@
-//! Runs the events of a script on a server, and writes what comes of each.
+//! Runs the events of a script on a server, and writes one line for each.
 //!
-//! If the line of an event needs memory, the line is built before the event runs. An event that was run therefore does
-//! not lose its line. `remove` asks `can_remove` first, so that a refused event needs no memory.
+//! If the line of an event needs memory, the line is built before the event runs, so that no event runs without its
+//! line. `remove` calls `can_remove` first, so that an event that fails needs no memory.
 
 ghost use Rattle.std.specs.Prelude.{◌≡◌, option_map, true, false, List, map, IfOk, OnErr};
 ghost use Rattle.coap_server_engine.specs.Prelude.{refusal_in, open_refusal_in, replay_number, line_bytes, event_value};
@@ -24,19 +24,19 @@ use coap_store::{PathKey, StoreFault};
 use std::alloc::AllocError;
 use thiserror::Error;
 
-/// Why a replay stopped short.
+/// Error that ended a replay early.
 #[derive(Clone, Copy, Debug, PartialEq, Eq, Error)]
 pub enum ReplayFault {
-    /// A write failed.
+    /// Failure of a write.
     #[error("cannot write")]
     Write,
-    /// Memory was refused at the event with this number, from 1.
+    /// Failure of an allocation, with the number of its event, from 1.
     #[error("no memory: event {0}")]
     Memory(u64),
 }
 
 impl ReplayFault {
-    /// Its number, 1 or 2.
+    /// Returns the number of the error, 1 or 2.
     pub const fn number(self) -> u8
         ensures { result ≡ replay_number self }
     {
@@ -47,17 +47,17 @@ impl ReplayFault {
     }
 }
 
-/// The line of an event.
+/// Output line of an event.
 #[derive(Drop)]
 enum Line {
-    /// Built without memory.
+    /// Line built without allocation.
     Short(ShortLine),
-    /// Built with memory, before the event was run.
+    /// Line allocated before the event ran.
     Long(Vec<u8>),
 }
 
 impl Line {
-    /// Its bytes.
+    /// Returns the bytes of the line.
     fn as_slice(&self) -> &[u8]
         ensures { result.now ≡ line_bytes self.now }
     {
@@ -68,14 +68,14 @@ impl Line {
     }
 }
 
-/// A line with bytes that wait on a connection, and how many of these it has.
+/// Output line with queued bytes of a connection, and the number of these bytes.
 #[derive(Drop)]
 struct Drained {
     line: Vec<u8>,
     count: usize,
 }
 
-/// The number of the refusal that a fault tells; none where memory was refused.
+/// Returns the number of an error of `open`, or `None` for `Memory`.
 fn open_refused(fault: OpenFault) -> Option<u8>
     ensures { result ≡ option_map spec.open_number (open_refusal_in fault) }
 {
@@ -86,7 +86,7 @@ fn open_refused(fault: OpenFault) -> Option<u8>
     }
 }
 
-/// The number of the refusal that a fault tells; none where memory was refused.
+/// Returns the number of an error of the store, or `None` for `Memory`.
 fn store_refused(fault: StoreFault) -> Option<u8>
     ensures { result ≡ option_map spec.store_number (refusal_in fault) }
 {
@@ -100,14 +100,14 @@ fn store_refused(fault: StoreFault) -> Option<u8>
     }
 }
 
-/// The number of a fault.
+/// Returns the number of an error of `release`.
 fn release_number(fault: ReleaseFault) -> u8
     ensures { result ≡ spec.release_number fault }
 {
     fault as u8
 }
 
-/// The number of a fault.
+/// Returns the number of an error of the store.
 fn store_number(fault: StoreFault) -> u8
     ensures { result ≡ spec.store_number fault }
 {
@@ -115,14 +115,18 @@ fn store_number(fault: StoreFault) -> u8
 }
 
 impl Server {
-    /// Runs events, one after the other, and writes what comes of each before the next one is run.
+    /// Runs events in order, and writes the line of each before the next one runs.
     ///
     /// # Errors
     ///
-    /// `Write` where a write failed: the event whose line was not written whole was the last one that was run. `Memory`
-    /// where memory was refused for an event, with its number from 1: the events before it were run and their lines
-    /// written, and of this one, where it brings bytes in, what stands before the message that memory was refused for
-    /// is taken.
+    /// - `Write`: a write failed. The event whose line is incomplete was the last one that ran.
+    /// - `Memory`: allocation failed for the event with this number, from 1. The events before it ran, and their lines
+    ///   were written. This event did not run, but an `in` accepted all bytes before the last one of the message that
+    ///   needed memory.
+    ///
+    /// # Preconditions
+    ///
+    /// The outlet has not failed before.
     pub fn replay<W: Outlet>(&mut self, events: &[Event], out: &mut W) -> Result<(), ReplayFault>
         requires { W.is_failed out.old ≡ false }
         ensures replayed { IsReplayed self.old (map event_value events.now) self.new
@@ -142,11 +146,12 @@ impl Server {
         Ok(())
     }
 
-    /// Runs an event, and gives its line.
+    /// Runs an event, and returns its line.
     ///
     /// # Errors
     ///
-    /// Where memory is refused for it.
+    /// Returns `AllocError` if allocation fails. The event did not run then, but an `in` accepted all bytes before the
+    /// last one of the message that needed memory.
     fn run_event(&mut self, event: &Event) -> Result<Line, AllocError>
         ensures run { IsRun self.old (event_value event.now) self.new result }
         ensures shows { ShowsRun self.old (event_value event.now) self.new result }
@@ -169,7 +174,7 @@ impl Server {
         }
     }
 
-    /// `open`.
+    /// Runs an `open` event.
     fn run_open(&mut self) -> Result<Line, AllocError>
         ensures run { IsRun self.old event.Open self.new result }
         ensures shows { ShowsRun self.old event.Open self.new result }
@@ -183,7 +188,7 @@ impl Server {
         }
     }
 
-    /// `in`.
+    /// Runs an `in` event.
     fn run_in(&mut self, id: ConnId, bytes: &[u8]) -> Result<Line, AllocError>
         ensures run { IsRun self.old (event.In id bytes.now) self.new result }
         ensures shows { ShowsRun self.old (event.In id bytes.now) self.new result }
@@ -196,7 +201,7 @@ impl Server {
         Ok(Line::Short(in_line(id, taken as u64, stop)))
     }
 
-    /// The number of the reason for which a connection takes no message any more, where there is one.
+    /// Returns the number of the reason for which a connection no longer accepts messages, if there is one.
     fn stop_number(&self, id: ConnId) -> Option<u8>
         ensures { result ≡ stop_number (session_of id self.now.sessions) }
     {
@@ -205,7 +210,7 @@ impl Server {
         Some(reason.number())
     }
 
-    /// `drain`.
+    /// Runs a `drain` event.
     fn run_drain(&mut self, id: ConnId, most: Option<u64>) -> Result<Line, AllocError>
         ensures run { IsRun self.old (event.Drain id most) self.new result }
         ensures shows { ShowsRun self.old (event.Drain id most) self.new result }
@@ -219,11 +224,11 @@ impl Server {
         Ok(Line::Long(drained.line))
     }
 
-    /// The line with what waits on a connection, at most so many bytes, where one has the number.
+    /// Returns the line with the queued bytes of a connection, at most `most`, or `None` if no connection has this id.
     ///
     /// # Errors
     ///
-    /// Where memory is refused for the line.
+    /// Returns `AllocError` if allocation fails for the line.
     fn drain(&mut self, id: ConnId, most: Option<u64>) -> Result<Option<Drained>, AllocError>
         ensures unchanged { self.new ≡ self.old }
         ensures ok { IfOk result (λ found. IsDrainable id most found (session_of id self.old.sessions)) }
@@ -239,7 +244,7 @@ impl Server {
         Ok(Some(Drained { line, count }))
     }
 
-    /// `tick`.
+    /// Runs a `tick` event.
     fn run_tick(&mut self, moment: u64) -> Line
         ensures server { self.new ≡ (event_ran self.old (event.Tick moment)).server }
         ensures line { line_bytes result ≡ (event_ran self.old (event.Tick moment)).text }
@@ -251,7 +256,7 @@ impl Server {
         }
     }
 
-    /// `put`.
+    /// Runs a `put` event.
     fn run_put(
         &mut self,
         path: &PathKey,
@@ -270,7 +275,7 @@ impl Server {
         }
     }
 
-    /// `remove`.
+    /// Runs a `remove` event.
     fn run_remove(&mut self, path: &PathKey, text: &[u8]) -> Result<Line, AllocError>
         ensures run { IsRun self.old (event.Remove path.now text.now) self.new result }
         ensures shows { ShowsRun self.old (event.Remove path.now text.now) self.new result }
@@ -286,7 +291,7 @@ impl Server {
         Ok(Line::Long(line))
     }
 
-    /// `end`.
+    /// Runs an `end` event.
     fn run_end(&mut self, id: ConnId) -> Line
         ensures server { self.new ≡ (event_ran self.old (event.End id)).server }
         ensures line { line_bytes result ≡ (event_ran self.old (event.End id)).text }
@@ -298,7 +303,7 @@ impl Server {
         }
     }
 
-    /// `release`.
+    /// Runs a `release` event.
     fn run_release(&mut self, id: ConnId) -> Line
         ensures server { self.new ≡ (event_ran self.old (event.Release id)).server }
         ensures line { line_bytes result ≡ (event_ran self.old (event.Release id)).text }
@@ -310,7 +315,7 @@ impl Server {
         }
     }
 
-    /// `drop`.
+    /// Runs a `drop` event.
     fn run_drop(&mut self, id: ConnId) -> Line
         ensures server { self.new ≡ (event_ran self.old (event.Drop id)).server }
         ensures line { line_bytes result ≡ (event_ran self.old (event.Drop id)).text }
@@ -322,7 +327,7 @@ impl Server {
         }
     }
 
-    /// `status`.
+    /// Runs a `status` event.
     fn run_status(&mut self, id: ConnId) -> Result<Line, AllocError>
         ensures run { IsRun self.old (event.Status id) self.new result }
         ensures shows { ShowsRun self.old (event.Status id) self.new result }
@@ -343,7 +348,7 @@ impl Server {
     }
 }
 
-/// The bytes at the front, at most so many.
+/// Returns the first bytes of a slice, at most `most` if there is such a limit.
 fn at_most(bytes: &[u8], most: Option<u64>) -> &[u8]
     ensures { result.now ≡ spec.drained most bytes.now }
 {

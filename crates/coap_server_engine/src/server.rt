@@ -1,7 +1,10 @@
-//! A server over several connections.
+//! A server with all its connections.
 //!
-//! Each call that changes a `Server`, except `flush_once`, has two kinds of clauses. The exact ones are `after` or
-//! `answer`, `ok` and `err`. The clause `shows` has the meaning: the history of events after the call.
+//! A call first applies its own effect. Then every connection *settles*: it queues everything that is due, as long as
+//! its queue has room for a message of `max_sent` bytes.
+//!
+//! Each call that changes a `Server`, except `flush_once`, has two kinds of clauses. `after` or `answer`, `ok` and
+//! `err` give the exact value after the call. `shows` states that the server still represents its history of events.
 
 ghost use Rattle.std.specs.Prelude.{◌≡◌, [], IfOk};
 ghost use Rattle.coap_server_engine.specs.Prelude.{new_server, Shows};
@@ -18,49 +21,48 @@ use indexmap::IndexMap;
 use std::alloc::{AllocError, Global};
 use std::marker::Model;
 
-/// What may concern every connection, if it changes: the moment, and what tells the store from those that it was
-/// before.
+/// Change stamp of a server: if it is unchanged, nothing happened that may affect every connection.
 #[derive(Clone, Copy, PartialEq, Eq)]
 pub struct Stamp {
-    /// The moment, in seconds.
+    /// Time of the server, in seconds.
     pub moment: u64,
-    /// How many representations were stored so far.
+    /// Number of representations stored so far.
     pub versions: u64,
-    /// How many resources are stored.
+    /// Number of stored resources.
     pub resources: usize,
 }
 
-/// What is to be done on a connection.
+/// Work left on a connection.
 #[derive(Clone, Copy, PartialEq, Eq)]
 pub struct Outlook {
-    /// Whether it takes bytes.
+    /// `true` if the connection accepts bytes.
     pub takes: bool,
-    /// Whether it takes no message any more.
+    /// `true` if the connection no longer accepts messages.
     pub stopped: bool,
-    /// Whether bytes wait to be written.
+    /// `true` if bytes are queued.
     pub waits: bool,
-    /// Whether nothing more is to be written.
+    /// `true` if nothing remains to be written, now or later.
     pub finished: bool,
-    /// The next moment, in seconds, at which time alone may queue something.
+    /// Next time, in seconds, at which time alone may queue something.
     pub due: Option<u64>,
 }
 
-/// What was done to write what waits on a connection.
+/// Result of `Server::flush_once`.
 #[derive(Clone, Copy)]
 pub struct Flushed {
-    /// Whether anything waited.
+    /// `true` if bytes were queued before.
     pub waited: bool,
-    /// How much was held before, and how many observers there were.
+    /// Number of pending entries plus the number of observers, before the call.
     pub more: usize,
-    /// Why the connection takes no message any more.
+    /// Reason for which the connection no longer accepts messages.
     pub stop: Option<Reason>,
 }
 
-/// The connections by their numbers, in order.
+/// Connections by their ids, in ascending order.
 type Sessions = IndexMap<u64, Session>;
 
-/// A server with all its connections. One event is one call. Contracts see a `ServerValue`, and which world of events
-/// it shows.
+/// Server with all its connections. Each call is one event. Contracts see a `ServerValue`, and the history of events
+/// that it shows.
 #[derive(Drop)]
 pub struct Server {
     alloc: Global,
@@ -83,11 +85,11 @@ impl Model for Server {
 }
 
 impl Server {
-    /// A server with no connection, that stores nothing, whose counts begin where the configuration says.
+    /// Returns a server without connections and resources, whose counts start at those of the configuration.
     ///
     /// # Errors
     ///
-    /// Where memory is refused.
+    /// Returns `AllocError` if allocation fails.
     pub fn new(alloc: Global, config: Config) -> Result<Server, AllocError>
         ensures value { IfOk result (λ s. s ≡ new_server config) }
         ensures shows { IfOk result (λ s. Shows s []) }
@@ -109,7 +111,7 @@ impl Server {
         })
     }
 
-    /// The allocator.
+    /// Returns the allocator.
     pub(crate) fn alloc(&self) -> Global {
         self.alloc
     }

@@ -1,4 +1,4 @@
--- What the contracts and the proofs of the crate name, passed on from one place. Declares nothing.
+-- Re-exports of the definitions that the contracts and proofs of this crate name. This file declares nothing.
 
 -- ---- std and the kit's crates
 pub use Rattle.std.specs.Borrow.{sem, follows_so}
@@ -75,13 +75,13 @@ pub use Rattle.coap_model.specs.world.Sides.{with_history, kept_on}
 unfoldable pub use Rattle.coap_model.specs.world.Sides.{side_after, side_faulted, side_written, side_ended}
 unfoldable pub use Rattle.coap_model.specs.world.Sides.{side_released, side_announced, settled_once, change_after}
 unfoldable pub use Rattle.coap_model.specs.world.Sides.{settled, settled_within}
--- ---- coap_serve, declared
+-- ---- this crate: declared types
 pub use Rattle.coap_server_session.specs.declared.cause.Cause.{Cause}
 pub use Rattle.coap_server_session.specs.declared.host.Host.{Host}
 pub use Rattle.coap_server_session.specs.declared.observers.Stale.{Stale}
 pub use Rattle.coap_server_session.specs.declared.chains.Chains.{Chains}
 pub use Rattle.coap_server_session.specs.declared.session.Session.TheInside.{Inside}
--- ---- coap_serve, values
+-- ---- this crate: values
 pub use Rattle.coap_server_session.specs.values.Causes.{change_hash, ObservesNone, hash_behind, path_hash}
 pub use Rattle.coap_server_session.specs.values.Causes.{IsUntouched, has_come, may_touch, observes_hash, segments_hash, is_concerned}
 pub use Rattle.coap_server_session.specs.values.Causes.{ConcernsNone, marks_after, IsMarkedBut}
@@ -107,7 +107,7 @@ unfoldable pub use Rattle.coap_server_session.specs.values.Sessions.{changed_mar
 unfoldable pub use Rattle.coap_server_session.specs.values.Sessions.{without_entry, is_stale, session_settled, session_handled}
 unfoldable pub use Rattle.coap_server_session.specs.values.Sessions.{next_held_in, next_stale, session_settled_once, taking}
 unfoldable pub use Rattle.coap_server_session.specs.values.Sessions.{session_settled_within}
--- ---- coap_serve, views
+-- ---- this crate: views
 pub use Rattle.coap_server_session.specs.views.ChainViews.{Linked, linked, concerns_path, last_in, previous_in, next_index}
 pub use Rattle.coap_server_session.specs.views.ChainViews.{IsLastBefore, AreChainedTo}
 pub use Rattle.coap_server_session.specs.views.FlagViews.{flag_of, AreFlagged, AreClear, AreBlocks}

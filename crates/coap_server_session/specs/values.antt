@@ -1,4 +1,5 @@
--- A connection of a server as the code holds it: calls, observers, responses, deadlines, and changes that spare it.
+-- The value of a server's connection: its calls, observers, responses, deadlines, and the changes that cannot affect
+-- it.
 pub mod Sessions
 pub mod Entries
 pub mod Dues

@@ -1,4 +1,5 @@
--- The views of observers and sessions in contracts with their invariants, and the session of a modelled connection.
+-- The values that contracts see for observers and sessions, their invariants, and the value that represents a
+-- connection of the model.
 pub mod FlagViews
 pub mod ChainViews
 pub mod ObserverViews

@@ -23,14 +23,21 @@ use coap_store::{Change, Plan, State, Store, Watch, held_response, request_path}
 use coap_wire::{Code, MessageRef, TokenRef};
 use std::alloc::AllocError;
 
-/// Answers a request, or holds its answer, and answers the hash of the path where that put or deleted a resource, if it
-/// did. What it changes is changed before it is answered. The entry with its token goes, and where it asks to be
-/// entered as an observer and there is room, it is, if its response is sent whole (RFC 7641 section 4.1).
+/// Processes a request: applies its change, removes its observer, and sends or delays its response.
+///
+/// The change is applied before the response is queued. The observer with the request's token is removed. A new entry
+/// is added if the request asks for one, the list has room, and the response is sent whole (RFC 7641 section 4.1).
+///
+/// Returns the hash of the path at which the request stored or deleted a resource, if it did.
 ///
 /// # Errors
 ///
-/// Where memory is refused for the representation that it stores. All is then as before.
-// Apart from `handle`, since a function clears all its locals: a message that is no request needs none of these.
+/// Returns `AllocError` if allocation fails for the representation that the request stores. Nothing has changed then.
+///
+/// # Preconditions
+///
+/// The connection is open, its queue has room for a message of `max_sent` bytes, and the changed marks are current.
+// Never inlined: a function clears all its locals, and `handle` needs none of these for a message that is no request.
 #[inline(never)]
 pub(crate) fn answer(
     link: &mut Link,
@@ -79,12 +86,12 @@ pub(crate) fn answer(
     Ok(None)
 }
 
-/// Makes the change of an answer that this store gave, and answers the hash of the path where it is. (Apart from
-/// `answer`, since a function clears all its locals.)
+/// Applies the change of a plan that this store returned, and returns the hash of its path.
 ///
 /// # Errors
 ///
-/// Where memory is refused for the representation that is stored. The store is then as before.
+/// Returns `AllocError` if allocation fails for the stored representation. The store is unchanged then.
+// Never inlined, since a function clears all its locals.
 #[inline(never)]
 fn change(store: &mut Store, plan: &Plan) -> Result<Option<u8>, AllocError>
     requires { TakesChange store.old plan.now.change }
@@ -99,7 +106,7 @@ fn change(store: &mut Store, plan: &Plan) -> Result<Option<u8>, AllocError>
     Ok(hash)
 }
 
-/// Marks the observers of the path with this hash where something was put or deleted, if it was, as changed.
+/// Recomputes the changed marks of the observers of a path with this hash, if there is one.
 fn mark_changed(observers: &mut Observers, changed: Option<u8>, host: &Host)
     ensures { observers.new ≡ record observers.old {
       marks = marks_after changed host.entry.now observers.old.entries observers.old.marks;
@@ -112,7 +119,7 @@ fn mark_changed(observers: &mut Observers, changed: Option<u8>, host: &Host)
     }
 }
 
-/// The hash of the path where a change is, if it is one.
+/// Returns the hash of the path that a change stores or deletes, or `None` if there is no change.
 fn hash_of_change(change: &Change) -> Option<u8>
     ensures { result ≡ change_hash (change_value change.now) }
 {
@@ -123,8 +130,8 @@ fn hash_of_change(change: &Change) -> Option<u8>
     }
 }
 
-/// Holds the answer to a request until a moment, or refuses it for now where no more can be held. The observer with its
-/// token goes.
+/// Delays the response to a request until `moment`, in seconds. Sends 5.03 if the pending list is full. In both cases
+/// the observer with the request's token is removed.
 fn answer_late(
     link: &mut Link,
     observers: &mut Observers,
@@ -149,7 +156,9 @@ fn answer_late(
     }
 }
 
-/// Sends what is held and due first at a moment, where anything is, and answers whether anything was.
+/// Sends the pending entry that is first due at `now`, and returns `true` if there was one.
+///
+/// A delayed response is sent here. A Pong with Custody is queued by `Link::due` (RFC 8323 section 5.4.1).
 pub(crate) fn send_due(link: &mut Link, now: u64) -> bool
     requires { IsReady link.old }
     ensures sent { (e : HeldValue) → first_due now link.old.held ≡ Some e → link.new ≡ link_sent link.old now e }
@@ -166,7 +175,7 @@ pub(crate) fn send_due(link: &mut Link, now: u64) -> bool
     }
 }
 
-/// Whether a request asks that an observer is entered.
+/// Returns `true` if a request asks for an observer entry.
 fn asks_entry(watch: Watch) -> bool
     ensures { result ≡ asks watch }
 {
@@ -177,7 +186,7 @@ fn asks_entry(watch: Watch) -> bool
     }
 }
 
-/// Whether a message was sent as it is.
+/// Returns `true` if a response was sent whole, and not reduced to code and token.
 fn is_whole(reply: Reply) -> bool
     ensures { result ≡ is_sent_whole reply }
 {
@@ -188,8 +197,7 @@ fn is_whole(reply: Reply) -> bool
     }
 }
 
-/// Enters a request as an observer, for which there is room. (Apart from `answer`, since a function clears all its
-/// locals.)
+/// Adds the observer that a request asks for. The list must not be full.
 fn enter(observers: &mut Observers, host: &Host, request: &MessageRef)
     requires room { length observers.old.entries < observers.old.room }
     requires watched { MayWatch host.now.store host.now.now (path_of request.now) (answer_on host.now request.now) }
@@ -203,7 +211,7 @@ fn enter(observers: &mut Observers, host: &Host, request: &MessageRef)
     observers.enter(entry_for(host, request));
 }
 
-/// The entry of a request whose path is there: it is told the state of the path.
+/// Returns the observer entry of a request: its path must be present, and its current state counts as sent.
 fn entry_for(host: &Host, request: &MessageRef) -> Observer
     requires { MayWatch host.now.store host.now.now (path_of request.now) (answer_on host.now request.now) }
     ensures entry { observer_value result ≡ new_entry host.entry.now request.now }
@@ -229,8 +237,10 @@ fn entry_for(host: &Host, request: &MessageRef) -> Observer
     }
 }
 
-/// Notifies the first observer that is stale, which is this one (RFC 7641 section 4.2): it is told the state now and
-/// stays where that goes to it whole, and goes otherwise.
+/// Notifies the first stale observer, which is `stale` (RFC 7641 section 4.2).
+///
+/// The entry stays, with the current state as the last one sent, if a 2.05 is sent whole. Otherwise the entry is
+/// removed.
 pub(crate) fn notify(link: &mut Link, observers: &mut Observers, host: &Host, stale: Stale)
     requires ready { IsReady link.old }
     requires answering { IsAnswering link.old.phase }

@@ -1,10 +1,10 @@
-//! What makes connections due.
+//! The changes that may make something due on several connections.
 
-/// What changed for all connections at once.
+/// Change of the state that all connections of a server share.
 #[derive(Clone, Copy)]
 pub enum Cause {
-    /// The state of a path with this hash.
+    /// Change of the resource at a path. The value is the hash of the path (`hash_of`).
     Path(u8),
-    /// The moment, in seconds: this was the one before.
+    /// Change of the time. The value is the time before the change, in seconds.
     Moment(u64),
 }

@@ -1,5 +1,5 @@
-//! The observers that a change concerns, found without a look at the others. There are chains for 256 hashes of paths,
-//! and one chain for the time.
+//! Linked lists (chains) of observers, so that a change visits only those that it affects. There is one chain for each
+//! of the 256 hashes of paths, and one for the time.
 
 ghost use Rattle.std.specs.Prelude.{◌≡◌, ◌≤◌, Some, None, true, false, map, length, vec_capacity, if◌then◌else◌};
 ghost use Rattle.coap_server_session.specs.Prelude.{AllByRecursion, Cause, IsTagged, AreChainedTo, last_in};
@@ -8,18 +8,17 @@ ghost use Rattle.coap_server_session.specs.Prelude.{previous_in, concerns_path, 
 use crate::cause::Cause;
 use crate::observer::Observer;
 
-/// The last observer that each change concerns, by its index. Each observer has the index of the one before it that the
-/// same change concerns.
+/// Index of the last observer of each chain. Each observer stores the index of the one before it in the same chain.
 #[derive(Drop)]
 pub(crate) struct Chains {
-    /// By the hash of what changed.
+    /// Ends of the chains of paths, by the hash of the path.
     hashed: [Option<u8>; 256],
-    /// The last one that observes something built in.
+    /// End of the chain of observers of a built-in path. The only observable one is `/time`.
     built_in: Option<u8>,
 }
 
 impl Chains {
-    /// Returns the chains of no observers.
+    /// Returns chains without an observer.
     pub(crate) fn new() -> Chains
         ensures { (why : Cause) → last_in why result ≡ None }
     {
@@ -29,7 +28,7 @@ impl Chains {
         }
     }
 
-    /// Returns the index of the last observer that a change concerns.
+    /// Returns the index of the last observer that a change affects, or `None` if there is none.
     pub(crate) fn last(&self, cause: Cause) -> Option<u8>
         ensures { result ≡ last_in cause self.now }
     {
@@ -39,7 +38,7 @@ impl Chains {
         }
     }
 
-    /// Makes the observer at an index the last one of its chains.
+    /// Appends the observer at `index` to its chains.
     pub(crate) fn link(&mut self, observer: &mut Observer, index: u8)
         requires tagged { IsTagged observer.old }
         ensures value { observer_value observer.new ≡ observer_value observer.old }
@@ -60,7 +59,7 @@ impl Chains {
     }
 }
 
-/// Puts observers into chains.
+/// Links all observers of a list, in order, and returns the ends of the chains.
 pub(crate) fn chains_of(observers: &mut Vec<Observer>) -> Chains
     requires few { length observers.old.items ≤ 256 }
     requires tagged { AllByRecursion IsTagged observers.old.items }

@@ -1,22 +1,22 @@
-//! Flags of which the first one that is set is found in few steps.
+//! A set of 256 flags that finds the first flag that is set in few steps.
 
 ghost use Rattle.std.specs.Prelude.{◌≡◌, ◌<◌, ◌≤◌, ℕ, true, false, length, get_or, slice_set, IfNone, IfSome};
 ghost use Rattle.coap_server_session.specs.Prelude.{AreClear, AreBlocks};
 
 use std::marker::Model;
 
-/// How many flags a block has.
+/// Number of flags in a block.
 const BLOCK: usize = 16;
 
-/// A flag for each index below 256. Contracts see the list of them.
+/// Flag for each index below 256. Contracts see the list of flags.
 #[derive(Drop)]
 pub(crate) struct Flags {
     flags: [bool; 256],
-    /// None of the flags of a block is set if this says so.
+    /// Summary of each block: if `false`, no flag of the block is set.
     blocks: [bool; 16],
-    /// No flag before this index is set.
+    /// Lower bound: no flag before this index is set.
     from: usize,
-    /// No flag from this index on is set.
+    /// Upper bound: no flag from this index on is set.
     to: usize,
 }
 
@@ -61,7 +61,7 @@ impl Flags {
         }
     }
 
-    /// Returns the index of the first flag that is set.
+    /// Returns the index of the first flag that is set, or `None` if no flag is set.
     pub(crate) fn first(&mut self) -> Option<usize>
         ensures none { IfNone result ((i : ℕ) → get_or self.old i false ≡ false) }
         ensures some { IfSome result (λ first. get_or self.old first false ≡ true) }
@@ -78,8 +78,8 @@ impl Flags {
     }
 }
 
-/// Returns the index of the first flag that is set, or one from `to` on if none is. None before `from` is, and none from `to`
-/// on.
+/// Returns the index of the first flag that is set, or an index of at least `to` if none is. Only flags from `from` up
+/// to, but not including, `to` may be set.
 fn first_from(flags: &[bool; 256], blocks: &mut [bool; 16], from: usize, to: usize) -> usize
     requires within { from ≤ 256 }
     requires before { AreClear 0 from flags.now }

@@ -1,4 +1,4 @@
-//! What requests are answered from.
+//! The state that all connections of a server share, and from which requests are answered.
 
 ghost use Rattle.std.specs.Prelude.{◌≡◌, ◌<◌, ◌≤◌, ◌^◌, IfOk};
 ghost use Rattle.coap_server_session.specs.Prelude.{empty_host, mark_at as mark_in, present_mark};
@@ -7,21 +7,26 @@ ghost use Rattle.coap_server_session.specs.Prelude.{LARGEST_MESSAGE};
 use coap_store::{PathKey, Present, State, Store};
 use std::alloc::{AllocError, Global};
 
-/// What a server answers requests from: its resources, and the moment.
+/// Server state that all connections share: the resources and the time.
 #[derive(Drop)]
 pub struct Host {
-    /// The resources.
+    /// Resources of the server.
     pub store: Store,
-    /// The moment, in seconds.
+    /// Time of the server, in seconds.
     pub now: u64,
 }
 
 impl Host {
-    /// Creates a host at a time, in seconds, whose store is empty. `Store::new` says what the other numbers mean.
+    /// Returns the server state with an empty store at the time `now`, in seconds. `Store::new` explains the other
+    /// numbers.
     ///
     /// # Errors
     ///
     /// Returns `AllocError` if allocation fails.
+    ///
+    /// # Preconditions
+    ///
+    /// `dynamic_max` is at most 1,000, and `rep_max` is at most 1,048,576 bytes.
     pub fn open(
         alloc: Global,
         dynamic_max: usize,
@@ -38,22 +43,23 @@ impl Host {
         Ok(Host { store, now })
     }
 
-    /// Moves to a moment, in seconds.
+    /// Sets the time, in seconds.
     pub fn move_to(&mut self, now: u64)
         ensures { self.new ≡ record self.old { now = now } }
     {
         self.now = now;
     }
 
-    /// Formats the moment if its text is not kept yet: once, for all requests and observers that are sent it.
+    /// Caches the decimal text of the time, so that all requests and notifications of `/time` in one second share it.
     pub fn keep_moment(&mut self)
         ensures { self.new ≡ self.old }
     {
         self.store.keep_moment(self.now);
     }
 
-    /// Returns the mark of the state of a path, which tells it from the others that the path has in time, or `None` if
-    /// the path is absent.
+    /// Returns the mark of the current state of a path, or `None` if the path is absent.
+    ///
+    /// A mark is a number that distinguishes the states that a path has over time.
     pub(crate) fn mark(&self, path: &PathKey) -> Option<u64>
         ensures { result ≡ present_mark self.entry.now path.now }
     {
@@ -64,8 +70,7 @@ impl Host {
     }
 }
 
-/// The mark of a representation at a moment in seconds: its version where it is stored, and the moment where it is
-/// built in.
+/// Returns the mark of a representation: its version if it is stored, or the time `now` if it is built in.
 pub(crate) fn mark_at(now: u64, there: &Present) -> u64
     ensures { result ≡ mark_in now there.now }
 {

@@ -1,12 +1,12 @@
-//! One connection of a CoAP server over reliable transports (RFC 8323): its frames, its link and its observers.
+//! One connection of a CoAP server over TCP (RFC 8323): its frames, its link and its observers.
 //!
-//! - `Session` accepts chunks of input, handles one message at a time and queues everything that is due: delayed
-//!   responses, Pongs with Custody, and the notifications of its observers (RFC 7641).
-//! - `Host` is what all connections of a server share: the store of resources, and the time.
-//! - `Cause` names a change: of a path, by its hash (`hash_of`), or of the time. `Session::is_touched` returns `true` if a
+//! - `Session` accepts input slices, processes one message at a time and queues everything that is due. That includes
+//!   delayed responses, Pongs with Custody, and the notifications of its observers (RFC 7641).
+//! - `Host` is the state that all connections of a server share: the store of resources, and the time.
+//! - `Cause` is a change of a path, by its hash (`hash_of`), or of the time. `Session::is_touched` returns `true` if a
 //!   change may make something due on a connection.
 //!
-//! This crate holds one connection and performs no I/O. `coap_server_engine` holds all connections of a server, and
+//! This crate has one connection and performs no I/O. `coap_server_engine` has all connections of a server, and
 //! `coap_serve` runs them over transports. The crate `coap_model` defines the events of a server and the state after
 //! them. Continue with `session.rt`.
 #![tactic(auto)]

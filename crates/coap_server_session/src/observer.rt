@@ -9,31 +9,32 @@ use crate::host::Host;
 use coap_store::PathKey;
 use coap_wire::Token;
 
-/// An observer. Contracts see an `ObserverValue`.
+/// Observer entry of a connection. Contracts see an `ObserverValue`.
 #[derive(Drop)]
 pub(crate) struct Observer {
-    /// The token of the request that entered it.
+    /// Token of the request that added the entry.
     pub token: Token,
-    /// The path that it observes.
+    /// Path of the observed resource.
     pub path: PathKey,
-    /// The Content-Format that it was told, where there was one.
+    /// Content-Format of the representation sent last, if it had one.
     pub format: Option<u16>,
-    /// The mark of the state that it was told.
+    /// Mark of the state sent last, see `Host::mark`.
     pub mark: u64,
-    /// The hash of its path.
+    /// Hash of `path`.
     pub hash: u8,
-    /// Whether its path is built in, which is the path of the moment: no other one of these can be observed.
+    /// `true` if `path` is built in. It is `/time` then, since no other built-in resource is observable.
     pub built_in: bool,
-    /// The changed mark: the mark of the state now, if the observer was told another one.
+    /// Changed mark: `None` if the current state was sent last, otherwise the mark of the current state. If the path is
+    /// absent, the changed mark is 0.
     pub changed: Option<u64>,
-    /// The index of the last observer before it whose path has the same hash.
+    /// Index of the nearest earlier observer whose path has the same hash.
     pub previous: Option<u8>,
-    /// If its path is built in: the index of the last observer before it whose path is built in too.
+    /// Index of the nearest earlier observer of a built-in path, if `path` is built in.
     pub previous_built_in: Option<u8>,
 }
 
 impl Observer {
-    /// Returns the index of the last observer before it that the same change concerns, which concerns this one.
+    /// Returns the index of the nearest earlier observer in the chain of `cause`.
     pub(crate) fn previous(&self, cause: Cause) -> Option<u8>
         ensures { result ≡ previous_in cause (linked self.now) }
     {
@@ -43,7 +44,7 @@ impl Observer {
         }
     }
 
-    /// Returns the mark of the state of its path now.
+    /// Returns the mark of the current state of the path, or `None` if the path is absent.
     pub(crate) fn present(&self, host: &Host) -> Option<u64>
         requires { IsTagged self.now }
         ensures { result ≡ present_mark host.entry.now self.now.path }
@@ -54,7 +55,7 @@ impl Observer {
         host.mark(&self.path)
     }
 
-    /// Returns the same, without another look at the store if the path is one whose state has a known mark.
+    /// Returns the same as `present`. If the path is `known`, whose mark is `present`, the store is not read.
     fn present_by(&self, known: &PathKey, present: Option<u64>, host: &Host) -> Option<u64>
         requires tagged { IsTagged self.now }
         requires present { present ≡ present_mark host.now known.now }
@@ -66,7 +67,7 @@ impl Observer {
         self.present(host)
     }
 
-    /// Returns the changed mark that it is to have.
+    /// Returns the changed mark that this observer must have now.
     pub(crate) fn changed_by(
         &self,
         known: &PathKey,
@@ -81,7 +82,10 @@ impl Observer {
     }
 }
 
-/// Returns the changed mark of an observer that was told the state with a mark, if the state now has another one.
+/// Returns the changed mark of an observer: `None` if `present` and `told` are equal, 0 if the path is absent,
+/// otherwise `present`.
+///
+/// `present` is the mark of the current state, and `told` that of the state sent last.
 pub(crate) fn untold_by(present: Option<u64>, told: u64) -> Option<u64>
     ensures { result ≡ mark_untold_by present told }
 {

@@ -1,4 +1,4 @@
-//! The observers of a connection (RFC 7641).
+//! The list of observers of a connection (RFC 7641).
 
 ghost use Rattle.std.specs.Prelude.{◌≡◌, ◌<◌, ◌≤◌, None, false, length, map, is_some, IfNone, IfSome, Option, ℕ};
 ghost use Rattle.std.specs.Prelude.{vec_capacity, ◌++◌, ◌∷◌, [], not, nat_lt, IfOk, Some, slice_get, slice_set, remove};
@@ -16,24 +16,23 @@ use coap_wire::TokenRef;
 use std::alloc::{AllocError, Global};
 use std::marker::Model;
 
-/// An observer that was told another state of its path than the one that is there.
+/// Stale observer: the state sent to it last differs from the current state of its path.
 #[derive(Clone, Copy)]
 pub(crate) struct Stale {
-    /// Its index.
+    /// Index of the observer in the list.
     pub index: usize,
-    /// The mark of the state that is there.
+    /// Mark of the current state, 0 if the path is absent.
     pub mark: u64,
 }
 
-/// At most so many observers, in room that was reserved once, in the order in which they came. Contracts see an
-/// `ObserversValue`.
+/// List of observers in order of arrival, with a fixed capacity. Contracts see an `ObserversValue`.
 #[derive(Drop)]
 pub(crate) struct Observers {
     room: usize,
     entries: Vec<Observer>,
-    /// The entries that a change concerns.
+    /// Observers that each change affects.
     chains: Chains,
-    /// Which entries have a changed mark.
+    /// Flag for each entry that has a changed mark.
     marked: Flags,
 }
 
@@ -50,11 +49,11 @@ impl Model for Observers {
 }
 
 impl Observers {
-    /// No observer, and room for so many, at most 256.
+    /// Returns an empty list that can have `room` observers, at most 256. All memory is allocated here.
     ///
     /// # Errors
     ///
-    /// Where the room is refused.
+    /// Returns `AllocError` if allocation fails.
     pub(crate) fn new(alloc: Global, room: usize) -> Result<Observers, AllocError>
         requires { room ≤ 256 }
         ensures { IfOk result (λ o. o ≡ record { room = room; entries = []; marks = [] }) }
@@ -67,7 +66,7 @@ impl Observers {
         })
     }
 
-    /// How many there are.
+    /// Returns the number of observers.
     pub(crate) fn len(&self) -> usize
         ensures count { result ≡ length self.now.entries }
         ensures within { length self.now.entries ≤ self.now.room }
@@ -75,29 +74,28 @@ impl Observers {
         self.entries.len()
     }
 
-    /// Whether there is no room for another one.
+    /// Returns `true` if the list is full.
     pub(crate) fn is_full(&self) -> bool
         ensures { result ≡ not (nat_lt (length self.now.entries) self.now.room) }
     {
         self.entries.len() >= self.room
     }
 
-    /// Whether one of them observes the moment.
+    /// Returns `true` if an observer observes the time.
     pub(crate) fn tell_time(&self) -> bool
         ensures { result ≡ list_any observes_time self.now.entries }
     {
         self.chains.last(Cause::Moment(0)).is_some()
     }
 
-    /// Returns `true` if one of them observes a path with this hash.
+    /// Returns `true` if an observer observes a path with this hash.
     pub(crate) fn may_observe(&self, hash: u8) -> bool
         ensures { result ≡ list_any (observes_hash hash) self.now.entries }
     {
         self.chains.last(Cause::Path(hash)).is_some()
     }
 
-    /// Sets the changed marks of the observers that a change of their path or of the moment concerns: those that were
-    /// told another state than the one now are marked.
+    /// Recomputes the changed marks of the observers that a change affects.
     pub(crate) fn mark(&mut self, cause: Cause, host: &Host)
         ensures { self.new ≡ record self.old { marks = marks_anew cause host.entry.now self.old.entries self.old.marks } }
     {
@@ -110,7 +108,7 @@ impl Observers {
         );
     }
 
-    /// Returns the first observer that is marked as changed.
+    /// Returns the first observer that has a changed mark, or `None` if there is none.
     pub(crate) fn first_changed(&mut self) -> Option<Stale>
         ensures none { IfNone result (first_index is_some self.old.marks ≡ None) }
         ensures some { IfSome result (λ found. IsFirstMarked self.old.marks found) }
@@ -121,7 +119,7 @@ impl Observers {
         Some(Stale { index, mark })
     }
 
-    /// The one at an index.
+    /// Returns the observer at an index.
     pub(crate) fn get(&self, index: usize) -> &Observer
         requires { index < length self.now.entries }
         ensures { slice_get self.now.entries index ≡ Some (observer_value result.now) }
@@ -129,7 +127,7 @@ impl Observers {
         &self.entries[index]
     }
 
-    /// The one at an index was told the state with this mark: its changed mark is cleared.
+    /// Records that the observer at an index was sent the state with this mark, and clears its changed mark.
     pub(crate) fn tell(&mut self, index: usize, mark: u64)
         requires { index < length self.old.entries }
         ensures { (o : ObserverValue) → slice_get self.old.entries index ≡ Some o → self.new ≡ record self.old {
@@ -143,7 +141,7 @@ impl Observers {
         self.marked.put(index, false);
     }
 
-    /// The one at an index goes.
+    /// Removes the observer at an index.
     pub(crate) fn remove(&mut self, index: usize)
         requires { index < length self.old.entries }
         ensures { self.new
@@ -153,7 +151,7 @@ impl Observers {
         find_anew(&mut self.entries, &mut self.chains, &mut self.marked);
     }
 
-    /// The entry with this token goes. The others keep their changed marks.
+    /// Removes the observer with this token, if there is one. The others keep their changed marks.
     #[tactic(auto, unfolding(crate::specs::values::Sessions::without_entry))]
     pub(crate) fn forget(&mut self, token: &TokenRef)
         ensures entries { self.new.entries ≡ without_entry token.now self.old.entries }
@@ -169,7 +167,7 @@ impl Observers {
         }
     }
 
-    /// An entry that is not marked as changed goes last, for which there must be room.
+    /// Appends an observer without a changed mark. The list must not be full.
     pub(crate) fn enter(&mut self, mut observer: Observer)
         requires room { length self.old.entries < self.old.room }
         requires tagged { IsTagged observer }
@@ -183,7 +181,7 @@ impl Observers {
         self.entries.push_reserved(observer);
     }
 
-    /// All go.
+    /// Removes all observers.
     pub(crate) fn clear(&mut self)
         ensures { self.new ≡ record self.old { entries = []; marks = [] } }
     {
@@ -195,7 +193,9 @@ impl Observers {
     }
 }
 
-/// Sets the changed marks of the observers that what changed concerns, and their flags: the last one, and from each the one before it.
+/// Recomputes the changed marks and the flags of a chain, from its last observer to its first.
+///
+/// The store is read again only for an observer whose path differs from that of the last one.
 fn mark_chain(
     observers: &mut Vec<Observer>,
     marked: &mut Flags,
@@ -249,7 +249,8 @@ fn set_mark(observers: &mut Vec<Observer>, marked: &mut Flags, index: usize, cha
     marked.put(index, changed.is_some());
 }
 
-/// Makes the chains and the flags of observers anew. (Apart from its callers, since a function clears all its locals.)
+/// Rebuilds the chains and the flags of a list of observers.
+// Never inlined, since a function clears all its locals.
 #[inline(never)]
 fn find_anew(observers: &mut Vec<Observer>, chains: &mut Chains, marked: &mut Flags)
     requires few { length observers.old.items ≤ 256 }
@@ -265,7 +266,7 @@ fn find_anew(observers: &mut Vec<Observer>, chains: &mut Chains, marked: &mut Fl
     *marked = flags_of(observers);
 }
 
-/// Returns flags that tell which observers have a changed mark.
+/// Returns the flags of the observers that have a changed mark.
 fn flags_of(observers: &[Observer]) -> Flags
     requires { length observers.now ≤ 256 }
     ensures { AreFlagged result (map mark_in observers.now) }
@@ -277,7 +278,7 @@ fn flags_of(observers: &[Observer]) -> Flags
     flags
 }
 
-/// All stay but those with this token, and whether there were any is answered.
+/// Removes the observers with this token, and returns `true` if there were any.
 fn keep_others(observers: &mut Vec<Observer>, token: &TokenRef) -> bool
     ensures others { map observer_value observers.new.items
         ≡ without_entry token.now (map observer_value observers.old.items) }

@@ -1,11 +1,11 @@
-//! The hash of a path, by which the observers that a change concerns are found.
+//! The hash of a path, by which a change finds the observers that it affects.
 
 ghost use Rattle.std.specs.Prelude.{◌≡◌, ◌+◌, ◌*◌, ◌%◌};
 ghost use Rattle.coap_server_session.specs.Prelude.{hash_behind, path_hash};
 
 use coap_store::PathKey;
 
-/// The hash of a path, by which most of those that differ are told apart.
+/// Returns the hash of a path. Different paths may have the same hash.
 pub fn hash_of(path: &PathKey) -> u8
     ensures { result ≡ path_hash path.now }
 {
@@ -16,7 +16,7 @@ pub fn hash_of(path: &PathKey) -> u8
     hash
 }
 
-/// The hash of bytes behind others.
+/// Returns the hash of `bytes` appended to bytes whose hash is `hash`.
 fn hash_on(hash: u8, bytes: &[u8]) -> u8
     ensures { result ≡ hash_behind hash bytes.now }
 {
@@ -27,7 +27,7 @@ fn hash_on(hash: u8, bytes: &[u8]) -> u8
     so_far
 }
 
-/// The hash with one byte more.
+/// Returns the hash after one more byte.
 fn next_hash(hash: u8, byte: u8) -> u8
     ensures { result ≡ (hash * 31 + byte) % 256 }
 {

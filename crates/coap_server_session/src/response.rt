@@ -1,4 +1,4 @@
-//! Sends the answers to requests.
+//! Encodes and sends the responses to requests.
 
 ghost use Rattle.std.specs.Prelude.{◌≡◌, ◌≤◌, ◌<◌, ◌+◌, ◌++◌, true, [], length, option_map, IfSome};
 ghost use Rattle.coap_server_session.specs.Prelude.{last_number, encoded_size, path_size, with_option, IsAnswering};
@@ -13,11 +13,20 @@ use coap_store::{Plan, UriPath};
 use coap_wire::option_numbers::{CONTENT_FORMAT, ETAG, LOCATION_PATH, MAX_AGE, OBSERVE, SIZE1};
 use coap_wire::{CompactBuilder, SHORT_OPTIONS, TokenRef};
 
-/// The most bytes that the options of a response with Location-Path take.
+/// Largest encoded size of the options of a response with Location-Path, in bytes.
 const LOCATION_OPTIONS: usize = 368;
 
-/// Sends the response of a plan to the request with this token, as it fits the peer (RFC 7252 section 5.10), with
-/// Observe where it is a notification too (RFC 7641 section 4.2). Answers what was sent.
+/// Sends the response of a plan, with its options (RFC 7252 section 5.10), to the request with this token.
+///
+/// If `observes` is `true`, the response has Observe, as a notification has (RFC 7641 section 4.2). If the response
+/// exceeds the largest message that may be sent, it is sent *bare*, with code and token only. If that is too large too,
+/// the connection stops.
+///
+/// # Preconditions
+///
+/// - The peer's CSM was received, and the connection has not stopped.
+/// - The queue has room for a message of `max_sent` bytes.
+/// - The payload has at most 1,048,576 bytes.
 pub(crate) fn respond(link: &mut Link, token: &TokenRef, plan: &Plan, observes: bool) -> Reply
     requires ready { IsReady link.old }
     requires answering { IsAnswering link.old.phase }
@@ -33,7 +42,7 @@ pub(crate) fn respond(link: &mut Link, token: &TokenRef, plan: &Plan, observes: 
     }
 }
 
-/// As `respond`, with `N` bytes for the options, of which `path` is the Location-Path.
+/// Sends a response as `respond` does, with at most `N` bytes of options. `path` is its Location-Path.
 fn respond_from<'a, const N: usize>(
     link: &mut Link,
     token: &TokenRef,
@@ -71,7 +80,7 @@ fn wide(number: Option<u16>) -> Option<u32>
     number.map(u32::from)
 }
 
-/// Adds an option, for which there must be room.
+/// Adds an option. The builder must have space for it.
 #[tactic(auto, using(crate::proofs::values::ResponseLemmas::last_added))]
 fn add<const N: usize>(response: &mut CompactBuilder<N>, number: u16, value: &[u8])
     requires order { last_number 0 response.old.options ≤ number }
@@ -83,7 +92,7 @@ fn add<const N: usize>(response: &mut CompactBuilder<N>, number: u16, value: &[u
     response.option(number, value);
 }
 
-/// Adds ETag first, if there is one (RFC 7252 section 5.10.6).
+/// Adds ETag as the first option, if there is one (RFC 7252 section 5.10.6).
 fn add_etag<const N: usize>(response: &mut CompactBuilder<N>, etag: Option<&[u8]>)
     requires first { response.old.options ≡ [] }
     requires room { 13 ≤ N }
@@ -101,7 +110,7 @@ fn add_etag<const N: usize>(response: &mut CompactBuilder<N>, etag: Option<&[u8]
     }
 }
 
-/// Adds an empty Observe, if the response is a notification (RFC 8323 section 7.1).
+/// Adds an empty Observe, if `observes` is `true` (RFC 8323 section 7.1).
 fn add_observe<const N: usize>(response: &mut CompactBuilder<N>, observes: bool)
     requires order { last_number 0 response.old.options ≤ 4 }
     requires room { encoded_size response.old + 5 ≤ N }
@@ -115,7 +124,7 @@ fn add_observe<const N: usize>(response: &mut CompactBuilder<N>, observes: bool)
     }
 }
 
-/// Adds the path of a resource that was created, if there is one (RFC 7252 section 5.10.7).
+/// Adds the path of a created resource as Location-Path, if there is one (RFC 7252 section 5.10.7).
 fn add_location<const N: usize>(response: &mut CompactBuilder<N>, path: Option<UriPath>)
     requires path { IfSome path (λ path. is_path path ≡ true) }
     requires order { last_number 0 response.old.options ≤ 8 }
@@ -147,7 +156,7 @@ fn add_number<const N: usize>(response: &mut CompactBuilder<N>, number: u16, val
     }
 }
 
-/// Adds Location-Path, an option for each segment (RFC 7252 section 5.10.7).
+/// Adds Location-Path, one option for each segment (RFC 7252 section 5.10.7).
 fn add_path<const N: usize>(response: &mut CompactBuilder<N>, path: UriPath)
     requires path { is_path path ≡ true }
     requires order { last_number 0 response.old.options ≤ 8 }

@@ -1,4 +1,7 @@
-//! A connection of a server.
+//! One connection of a server: it accepts bytes, processes messages and queues its output.
+//!
+//! The *changed mark* of an observer identifies the current state of its path, and is absent if that state was sent to
+//! it last. Changed marks are *current* if they agree with the server state (`Host`).
 
 ghost use Rattle.std.specs.Prelude.{◌≡◌, ℕ, List, [], IfOk, OnOk, OnErr, false, None, ◌≤◌, ◌+◌, ◌++◌, ⊤, Some, length};
 ghost use Rattle.std.specs.Prelude.{take, IfErr};
@@ -25,19 +28,19 @@ pub use due::sooner;
 use std::alloc::{AllocError, Global};
 use std::marker::Model;
 
-/// What was taken of a piece.
+/// Result of `Session::take`.
 #[derive(Clone, Copy)]
 pub struct Taking {
-    /// How many bytes.
+    /// Number of accepted bytes, which are the first of the slice.
     pub count: usize,
-    /// Whether a message was handled.
+    /// `true` if a message was processed.
     pub handled: bool,
-    /// The hash of the path where a resource was put or deleted, if one was.
+    /// Hash of the path at which the message stored or deleted a resource, if it did.
     pub changed: Option<u8>,
 }
 
 impl Taking {
-    /// So many bytes without a message.
+    /// Returns a result with `count` bytes and no message.
     fn without_message(count: usize) -> Taking
         ensures { result ≡ record { count = count; handled = false; changed = None } }
     {
@@ -49,7 +52,7 @@ impl Taking {
     }
 }
 
-/// A connection: its framer, its link, and its observers. Contracts see a `MarkedSession`.
+/// Connection of a server: its framer, its link, and its observers. Contracts see a `MarkedSession`.
 #[derive(Drop)]
 pub struct Session {
     framer: Framer,
@@ -70,11 +73,14 @@ impl Model for Session {
 }
 
 impl Session {
-    /// A new connection with these limits, on which our Capabilities and Settings wait. All its room is reserved here.
+    /// Returns a new connection with these limits, and queues the server's Capabilities and Settings Message (CSM).
+    ///
+    /// All memory of the connection is allocated here. Later only `announce` and the storing of a representation can
+    /// run out of memory.
     ///
     /// # Errors
     ///
-    /// Where the room is refused.
+    /// Returns `AllocError` if allocation fails.
     pub fn open(alloc: Global, limits: Limits) -> Result<Session, AllocError>
         ensures value { IfOk result (λ s. s ≡ record { session = new_session limits; marks = [] }) }
         ensures ranges { OnOk result (AreInRange limits) }
@@ -86,20 +92,29 @@ impl Session {
         })
     }
 
-    /// Whether it takes bytes: there is room for the greatest message sent, and nothing has ended the connection.
+    /// Returns `true` if the connection accepts bytes.
+    ///
+    /// It does if its queue has room for a message of `max_sent` bytes, it has not stopped, and the peer has not
+    /// released it.
     pub fn takes(&self) -> bool
         ensures { result ≡ session_takes self.now.session }
     {
         self.link.phase().stop().is_none() && self.link.ready()
     }
 
-    /// Takes bytes of a piece up to the end of its first message, to the byte that stops the connection, or all of
-    /// them; none where there is no room for the greatest message sent or no message is taken any more.
+    /// Accepts the first bytes of `piece`, and processes at most one message.
+    ///
+    /// The accepted bytes end with the first message, with the byte at which malformed input is recognised, or with the
+    /// slice. None is accepted if `takes` returns `false`.
     ///
     /// # Errors
     ///
-    /// How many bytes were taken, where memory is refused for a representation that the message stores: all up to the
-    /// message's last. Nothing of the message was handled then.
+    /// Returns the number of accepted bytes if allocation fails for the representation that the message stores. All its
+    /// bytes but the last are accepted then, and it was not processed.
+    ///
+    /// # Preconditions
+    ///
+    /// The changed marks of the observers are current.
     #[tactic(auto, unfolding(crate::specs::values::Sessions::taking, coap_frame::specs::Framing::framing))]
     pub fn take(&mut self, host: &mut Host, piece: &[u8]) -> Result<Taking, usize>
         requires { IsMarked host.old self.old }
@@ -153,7 +168,8 @@ impl Session {
         }
     }
 
-    /// All bytes that wait.
+    /// Returns all queued bytes in one slice. If they wrap around the end of the queue, they are moved first; `parts`
+    /// moves none.
     pub fn front<'a>(&'a mut self) -> &'a [u8]
         ensures* unchanged { sem 𝓛 (follows_so the_row the_row self.entry.ghost_name none (λ _ _. ⊤)
             (λ s. s ≡ self.old)) }
@@ -169,7 +185,11 @@ impl Session {
         self.link.parts()
     }
 
-    /// The first so many bytes were written, and wait no more.
+    /// Removes the first `count` bytes from the queue, after the caller has written them.
+    ///
+    /// # Preconditions
+    ///
+    /// At least `count` bytes are queued.
     pub fn written(&mut self, count: usize)
         requires { count ≤ length self.old.session.link.waiting }
         ensures { self.new ≡ record self.old { session = session_written self.old.session count } }
@@ -177,7 +197,9 @@ impl Session {
         self.link.written(count);
     }
 
-    /// The input ended, within a frame where bytes of one are kept. Nothing changes where no message is taken any more.
+    /// Records the end of the input. Stops the connection, unless it has stopped or the peer has released it.
+    ///
+    /// If bytes of an unfinished frame are kept, the input ended within a frame, and the reason of the stop says so.
     pub fn end(&mut self)
         ensures after { self.new.session ≡ session_ended self.old.session }
         ensures marked { (host : HostValue) → IsMarked host self.old → IsMarked host self.new }
@@ -186,11 +208,15 @@ impl Session {
         give_up(&mut self.framer, &self.link, &mut self.observers);
     }
 
-    /// Sends Release and stops (RFC 8323 section 5.5).
+    /// Sends Release and stops the connection (RFC 8323 section 5.5). Pending entries are dropped.
     ///
     /// # Errors
     ///
-    /// As `Link::release`. Nothing has changed then.
+    /// In this order, and nothing has changed then:
+    ///
+    /// - `NotOpen`: the connection is not open.
+    /// - `NoRoom`: fewer than 2 bytes are free in the queue.
+    /// - `PeerTooSmall`: the peer accepts fewer than 2 bytes.
     pub fn release(&mut self) -> Result<(), SendFault>
         ensures answer { RefusedBy result (release_refusal self.old.session.link) }
         ensures after { OnOk result (self.new.session ≡ session_released self.old.session) }
@@ -202,12 +228,22 @@ impl Session {
         Ok(())
     }
 
-    /// Announces a size as the greatest message taken from now on, and keeps room for it (RFC 8323 section 5.3.1). What is
-    /// kept of a message stays.
+    /// Announces `size` as the largest message accepted from now on (RFC 8323 section 5.3.1).
+    ///
+    /// Allocates the memory for a message of that size, in bytes, and queues a CSM. Bytes of an unfinished frame stay.
     ///
     /// # Errors
     ///
-    /// As `Server::announce` but `NoSuch`. Nothing has changed then.
+    /// In this order, and nothing has changed then:
+    ///
+    /// - `NotOpen`: the connection is not open.
+    /// - `Lower`: the size is below the current one.
+    /// - `TooLarge`: the size is above 1,048,576 bytes.
+    /// - `NoRoom`: the queue has no room for a message of `max_sent` bytes.
+    /// - `PeerTooSmall`: the CSM exceeds the largest message that may be sent.
+    /// - `Memory`: the size is above the current one, and allocation fails.
+    ///
+    /// `NoSuch` is never returned.
     pub fn announce(&mut self, size: u32) -> Result<(), AnnounceFault>
         ensures answer { IsAnnounced size (Some self.old.session) result }
         ensures after { OnOk result (self.new.session ≡ session_announced self.old.session size) }
@@ -236,56 +272,57 @@ impl Session {
         Ok(())
     }
 
-    /// How it stands.
+    /// Returns the phase of the connection.
     pub fn phase(&self) -> Phase
         ensures { result ≡ self.now.session.link.phase }
     {
         self.link.phase()
     }
 
-    /// How many bytes of an unfinished frame are kept.
+    /// Returns the number of bytes kept of an unfinished frame.
     pub fn kept(&self) -> usize
         ensures { result ≡ length self.now.session.frame }
     {
         self.framer.kept()
     }
 
-    /// How many bytes wait.
+    /// Returns the number of queued bytes.
     pub fn waiting(&self) -> usize
         ensures { result ≡ length self.now.session.link.waiting }
     {
         self.link.waiting()
     }
 
-    /// How many answers and Pongs are held.
+    /// Returns the number of pending entries: delayed responses and Pongs with Custody.
     pub fn pending(&self) -> usize
         ensures { result ≡ length self.now.session.link.held }
     {
         self.link.pending()
     }
 
-    /// How many are held, and how many observers there are, together.
+    /// Returns the number of pending entries plus the number of observers, which bounds the iterations of `settle`.
     pub fn more(&self) -> usize
         ensures { result ≡ length self.now.session.link.held + length self.now.session.observers }
     {
         self.link.pending() + self.observers.len()
     }
 
-    /// How many observers there are.
+    /// Returns the number of observers.
     pub fn observers(&self) -> usize
         ensures { result ≡ length self.now.session.observers }
     {
         self.observers.len()
     }
 
-    /// The greatest message that the peer takes.
+    /// Returns the Max-Message-Size of the peer, in bytes.
     pub fn peer_max(&self) -> u32
         ensures { result ≡ self.now.session.link.peer_max }
     {
         self.link.peer_max()
     }
 
-    /// Whether nothing more is to be written.
+    /// Returns `true` if nothing remains to be written: the connection no longer accepts messages, no entry is pending,
+    /// and no byte is queued.
     pub fn finished(&self) -> bool
         ensures { result ≡ is_finished self.now.session.link }
     {
@@ -293,11 +330,11 @@ impl Session {
     }
 }
 
-/// Handles a message, and answers the hash of the path where a resource was put or deleted, if one was.
+/// Processes a message, and returns the hash of the path at which it stored or deleted a resource, if it did.
 ///
 /// # Errors
 ///
-/// Where memory is refused for the representation that the message stores. All is then as before.
+/// Returns `AllocError` if allocation fails for the representation that the message stores. Nothing has changed then.
 #[inline]
 fn handle(
     link: &mut Link,
@@ -330,8 +367,8 @@ fn handle(
     }
 }
 
-/// Gives up the observers where the connection is not open any more, and the bytes of a frame where no message is taken
-/// any more.
+/// Removes the observers if the connection is not open, and the bytes of an unfinished frame if the connection no
+/// longer accepts messages.
 fn give_up(framer: &mut Framer, link: &Link, observers: &mut Observers)
     ensures framer { framer.new ≡ framer_on link.now framer.old }
     ensures observers { observers.new ≡ observers_left link.now observers.old }

@@ -1,4 +1,5 @@
--- Scripts that differ only in where `in`s are cut leave the same server, and write the same lines but for those of the `in`s.
+-- Scripts that divide the bytes of their `in`s differently leave the same server, and write the same lines apart from
+-- those of the `in`s.
 use Rattle.std.proofs.Common.{◌≡◌, ℕ, ◌+◌, ◌<◌, ◌≤◌, ◌^◌, ◌==◌, nat_le, map, List, [], ◌∷◌, ◌++◌, length, drop, Option, Some, None, option_map, codes, refl, sym, ◌∙◌, arith}
 use Rattle.coap_server_engine.specs.Prelude.{concat, release_refusal, put_refusal, remove_refusal, EventValue, Open, In}
 use Rattle.coap_server_engine.specs.Prelude.{Drain, Tick, Remove, Release, Drop, Status, Ran, comes_to, open_number}
@@ -20,9 +21,9 @@ use Rattle.coap_server_engine.proofs.world.CallLaws.{not_refused}
 use Rattle.coap_model.proofs.OptionLemmas.{none_made}
 use Rattle.coap_store.proofs.RefusalLemmas.{passed}
 
--- ---- a server that shows a world shows one after each event of a script
+-- ---- a server that shows a history shows one after each event of a script
 
--- it shows the world of some events, and each of its numbers has 64 bits
+-- The server shows some history, and its ids fit in 64 bits.
 pub record IsShown (v : ServerValue) : Type 0 where
   pub events : List Event
   pub shows : Shows v events
@@ -94,7 +95,7 @@ event_shown v (Drop id) in_time shown =
     (λ s at. record { events = _; shows = shows_dropped v shown.events id s shown.shows at; ids = shown.ids })
 event_shown v (Status id) in_time shown = connection_shown v (codes "status") id (status_ran v id) (session_of id v.sessions) shown (λ s at. shown)
 
--- ---- an `in` that is cut
+-- ---- a divided `in`
 
 in_by : (v : ServerValue) (id : ℕ) (bytes : List ℕ) (found : Option SessionValue) → session_of id v.sessions ≡ found → (on_connection v (codes "in") id (λ s. in_ran id (fed v id bytes)) found).server ≡ (fed v id bytes).server
 in_by v id bytes None at = sym (stuck_turns v id (absent_stuck v id at) bytes (length bytes)).server
@@ -121,7 +122,7 @@ record RunAlike (v : ServerValue) (es fs : List EventValue) : Type 0 where
 run_same : (v : ServerValue) (es : List EventValue) → RunAlike v es es
 run_same v es = record { server = refl; lines = refl }
 
--- one event, and then others that run alike
+-- One event, followed by events that run alike.
 run_behind : (v : ServerValue) (e : EventValue) (es fs : List EventValue) → RunAlike (event_ran v e).server es fs → RunAlike v (e ∷ es) (e ∷ fs)
 unfolding replayed lines_of
 run_behind v e es fs alike = record { server = alike.server; lines = rw alike.lines }
@@ -140,7 +141,7 @@ run_before v id bytes (In other more ∷ es) shown =
     (λ differ. run_same v (In id bytes ∷ In other more ∷ es))
 run_before v id bytes es shown = run_same v (In id bytes ∷ es)
 
--- a script runs as the one whose `in`s are joined
+-- A script runs as the one with joined `in`s.
 joined_alike : (v : ServerValue) (es : List EventValue) → IsShown v → AreInTime es → RunAlike v es (joined es)
 unfolding joined
 joined_alike v [] shown in_time = run_same v []
@@ -151,14 +152,14 @@ joined_alike v (In id bytes ∷ es) shown in_time =
     record { server = behind.server ∙ before.server; lines = behind.lines ∙ before.lines }
 joined_alike v (e ∷ es) shown in_time = run_behind v e es (joined es) (joined_alike (event_ran v e).server es (event_shown v e in_time.0 shown) in_time.1)
 
--- ---- what is written
+-- ---- the written text
 
 pub text_of_lines : (v : ServerValue) (es : List EventValue) → concat (map (λ l. l.1) (lines_of v es)) ≡ (replayed v es).text
 unfolding replayed lines_of
 text_of_lines v [] = refl
 text_of_lines v (e ∷ es) = rw (text_of_lines (event_ran v e).server es)
 
--- ---- the law
+-- ---- the theorem
 
 module _ (v : ServerValue) (before : List Event) (es fs : List EventValue) (shows : Shows v before) (ids : v.ids < 2 ^ 64) (one : AreInTime es) (other : AreInTime fs) (alike : DifferInCuts es fs) where
   runs_alike : RunAlike v es fs

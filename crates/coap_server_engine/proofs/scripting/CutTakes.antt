@@ -1,4 +1,5 @@
--- Where a connection's bytes are cut into `in`s does not matter: takes without a written byte between them stop at one place.
+-- The division of a connection's bytes into `in`s does not matter: takes without a write between them lead to the same
+-- server.
 use Rattle.std.proofs.Common.{◌≡◌, ◌⊎◌, ℕ, zero, suc, ◌+◌, ◌-◌, ◌<◌, ◌≤◌, Bool, true, false, cond, List, [], ◌∷◌, ◌++◌, length, take, drop, map, Option, Some, None, refl, sym, ap, ◌∙◌, append_assoc, arith, inl, inr, lt-ltb, add_assoc, add-zero, zero-add, ◌≢◌}
 use Rattle.std.proofs.lemmas.Bool.{ne_eqb}
 use Rattle.std.proofs.lemmas.List.{append-nil, length-append, length-drop, drop-append-le, drop-drop, take-append-le, length-take}
@@ -24,9 +25,9 @@ use Rattle.coap_server_engine.proofs.scripting.ReplayLemmas.{all_turns_made}
 use Rattle.std.proofs.lemmas.Bool.Decides.{nat_tests}
 use Rattle.coap_server_engine.proofs.scripting.ShownLemmas.{IsStuck, absent_stuck, stuck_turns}
 
--- ---- servers that show the same
+-- ---- servers that show equal histories
 
--- a server is what the events that it shows leave
+-- A server is determined by the events that it shows.
 same_where_alike : (u v : ServerValue) (es fs : List Event) → u.config ≡ v.config → Shows u es → Shows v fs → SpellAlike v.config.limits.max_message es fs → world_after v.config es ≡ world_after v.config fs → u ≡ v
 unfolding server_of
 same_where_alike u v es fs config first second alike same =
@@ -37,12 +38,12 @@ same_where_alike u v es fs config first second alike same =
     ∙ ap (λ (s : ℕ → Stream). record (server_shown v.config es w) { sessions = map (λ p. (p.id, session_shown (s p.id).rest p.side)) w.sides }) streams
     ∙ sym second.same
 
--- ---- a take that takes nothing, or some bytes
+-- ---- a take that accepts no byte, or some bytes
 
 no_bytes_alike : (M : ℕ) (es : List Event) (id : ℕ) → SpellAlike M (es ++ Took id [] ∷ []) es
 no_bytes_alike M es id k = spelled_same M k es (Took id []) (grind arith) (λ N. refl)
 
--- the size in force on a connection, and what is left of its bytes
+-- The current message size of a connection, and the bytes of its unfinished frame.
 abbrev size_here : ServerValue → List Event → ℕ → ℕ
 size_here v es id = size_on v.config.limits.max_message id es
 
@@ -86,13 +87,13 @@ stuck_or_there v es id shows (Some s) at =
     let found = session_there v es id s shows at in
     stuck_or_handles v es id shows found.side found.there (handles found.side) refl
 
--- ---- how many bytes of a longer piece are taken
+-- ---- the number of accepted bytes of a longer slice
 
--- two fronts of pieces behind other bytes that are the same bytes
+-- Prefixes of two slices have corresponding lengths if they are the same bytes after the kept ones.
 same_lengths : (kept before xs ys : List ℕ) (n k : ℕ) → n ≤ length xs → k ≤ length ys → kept ++ take n xs ≡ before ++ take k ys → length kept + n ≡ length before + k
 same_lengths kept before xs ys n k few less same = grind (arith, length-append {A = ℕ}, length-take {A = ℕ})
 
--- the bytes of what stands at the front of bytes
+-- The bytes of the first frame or error, or all bytes if there is neither.
 abbrev bytes_in_front : List ℕ → Beginning → List ℕ
 bytes_in_front bytes Unfinished = bytes
 bytes_in_front bytes (Whole frame left) = frame
@@ -106,7 +107,7 @@ module _ (M : ℕ) (kept piece : List ℕ) where
   all_at : beginning M kept ≡ Unfinished → beginning M (kept ++ piece) ≡ Unfinished → front_of M kept piece ≡ length piece
   all_at unfinished is = nothing_taken M kept piece unfinished (finding_at Unfinished is)
 
-  -- they are taken
+  -- These bytes are the accepted ones.
   bytes_taken_are : beginning M kept ≡ Unfinished → (b : Beginning) → beginning M (kept ++ piece) ≡ b
       → kept ++ take (front_of M kept piece) piece ≡ bytes_in_front (kept ++ piece) b
   bytes_taken_are unfinished Unfinished is = rw (all_at unfinished is, take-length)
@@ -114,7 +115,7 @@ module _ (M : ℕ) (kept piece : List ℕ) where
   bytes_taken_are unfinished (Faulty fault) is = (fault_taken M kept piece fault unfinished (finding_at (Faulty fault) is)).1
 
 module _ (M : ℕ) (kept xs zs : List ℕ) (unfinished : beginning M kept ≡ Unfinished) where
-  -- where something was found, what stands behind it makes no difference
+  -- If a frame or an error is found, later bytes make no difference.
   same_front_taken : (b : Beginning) → b ≢ Unfinished → beginning M (kept ++ xs) ≡ b → front_of M kept (xs ++ zs) ≡ front_of M kept xs
   same_front_taken b found is =
       let within = taken_within M kept (xs ++ zs) unfinished in
@@ -130,7 +131,7 @@ module _ (M : ℕ) (kept xs zs : List ℕ) (unfinished : beginning M kept ≡ Un
           bytes_taken_are M kept (xs ++ zs) unfinished (Faulty fault) (rw append_assoc at (faulty_more M (kept ++ xs) zs fault is))
           ∙ rw append_assoc at (fault_bytes_more M (kept ++ xs) zs fault is) ∙ sym (bytes_taken_are M kept xs unfinished (Faulty fault) is)
 
-  -- where nothing was found, what stands behind is looked at as it would be behind what is kept
+  -- If neither is found, later bytes are read as if the earlier ones were kept.
   later_front : beginning M (kept ++ xs) ≡ Unfinished → front_of M kept (xs ++ zs) ≡ length xs + front_of M (kept ++ xs) zs
   later_front still =
       let b = beginning M (kept ++ (xs ++ zs)) in
@@ -140,9 +141,9 @@ module _ (M : ℕ) (kept xs zs : List ℕ) (unfinished : beginning M kept ≡ Un
       let same = same_lengths kept (kept ++ xs) (xs ++ zs) zs _ _ within (taken_within M (kept ++ xs) zs still) (cc (whole, part, append_assoc kept xs zs)) in
       omega (arith, same, length-append kept xs)
 
--- ---- takes one after the other
+-- ---- consecutive takes
 
--- so many bytes were taken before
+-- The same value after `n` bytes were accepted before.
 abbrev shifted : ℕ → Fed → Fed
 shifted n f = record f { count = n + f.count }
 
@@ -159,7 +160,7 @@ turns_shifted v id bytes n zero counted some within =
 turns_shifted v id bytes n (suc turns) counted some within =
     rw (turns_shifted v id bytes n turns counted some within) (once_shifted id bytes n (fed_turns turns (server_taken v id bytes) id (drop n bytes)) within)
 
--- each turn that goes on took a byte
+-- Each iteration that continues has accepted a byte.
 turn_takes : (id : ℕ) (bytes : List ℕ) (turns : ℕ) (f : Fed) → (goes_on bytes f ≡ true → turns ≤ f.count)
     → goes_on bytes (fed_once id bytes f) ≡ true → suc turns ≤ (fed_once id bytes f).count
 turn_takes id bytes turns f few goes = grind (arith, nat_tests)
@@ -172,7 +173,7 @@ turns_take v id bytes (suc turns) goes = turn_takes id bytes turns (fed_turns tu
 is_over : (v : ServerValue) (id : ℕ) (bytes : List ℕ) → goes_on bytes (fed v id bytes) ≡ false
 is_over v id bytes = grind (arith, nat_tests, turns_take v id bytes (length bytes))
 
--- the first take, and then those of the bytes that it left
+-- The first take, followed by those of the remaining bytes.
 fed_by : (v : ServerValue) (id : ℕ) (bytes : List ℕ) (n : ℕ) → count_taken v id bytes ≡ n → 1 ≤ n → n ≤ length bytes → fed v id bytes ≡ shifted n (fed (server_taken v id bytes) id (drop n bytes))
 fed_by v id bytes n counted some within =
     let all : length bytes ≡ suc (length bytes - 1) = omega (arith, some, within) in
@@ -181,13 +182,13 @@ fed_by v id bytes n counted some within =
     let enough = all_turns_made (server_taken v id bytes) id (drop n bytes) (length (drop n bytes)) over (length bytes - 1) left in
     cc (all, turns_shifted v id bytes n (length bytes - 1) counted some within, enough.0)
 
--- ---- an `in` that is cut
+-- ---- a divided `in`
 
 pub record IsFedInParts (v : ServerValue) (id : ℕ) (xs ys : List ℕ) : Type 0 where
   pub server : (fed v id (xs ++ ys)).server ≡ (fed (fed v id xs).server id ys).server
   pub count : (fed v id (xs ++ ys)).count ≡ (fed v id xs).count + (fed (fed v id xs).server id ys).count
 
--- nothing is taken, whole or in parts
+-- If the connection accepts no byte, it accepts none of the whole and none of the parts.
 stuck_parts : (v : ServerValue) (id : ℕ) (xs ys : List ℕ) → IsStuck v id → IsFedInParts v id xs ys
 stuck_parts v id xs ys stuck =
     let whole = stuck_turns v id stuck (xs ++ ys) (length (xs ++ ys)) in
@@ -195,7 +196,7 @@ stuck_parts v id xs ys stuck =
     let second = stuck_turns v id stuck ys (length ys) in
     record { server = cc (whole.server, first.server, second.server); count = cc (whole.count, first.count, first.server, second.count) }
 
--- one of the parts is none
+-- One of the parts is empty.
 no_first_part : (v : ServerValue) (id : ℕ) (ys : List ℕ) → IsFedInParts v id [] ys
 unfolding fed_turns
 no_first_part v id ys = record { server = refl; count = omega arith }
@@ -214,7 +215,7 @@ module _ (v : ServerValue) (es : List Event) (id : ℕ) (xs ys : List ℕ) (show
   took_shows : (bytes : List ℕ) (n : ℕ) → count_taken v id bytes ≡ n → Shows (server_taken v id bytes) (es ++ Took id (take n bytes) ∷ [])
   took_shows bytes n counted = rw counted at (shows_taken v es id bytes _ shows (side_there v es id goes.side shows goes.there))
 
-  -- something was found in the first part: the take is the same
+  -- A frame or an error is found in the first part: the first take is the same.
   found_parts : 0 < length xs → front_of (size_here v es id) (rest_here v es id) (xs ++ ys) ≡ front_of (size_here v es id) (rest_here v es id) xs
       → ((w : ServerValue) (fs : List Event) (zs : List ℕ) → Shows w fs → length zs < length xs → IsFedInParts w id zs ys)
       → IsFedInParts v id xs ys
@@ -233,7 +234,7 @@ module _ (v : ServerValue) (es : List Event) (id : ℕ) (xs ys : List ℕ) (show
       let first = fed_by v id xs n (goes.counts xs) takes_some within in
       record { server = rw (whole, parts.server, first); count = rw (whole, parts.count, first, add_assoc n) }
 
-  -- nothing was found in the first part: all of it is taken, and the next take goes on behind it
+  -- Neither is found in the first part: all of it is accepted, and the next take continues after it.
   later_parts : beginning (size_here v es id) (rest_here v es id ++ xs) ≡ Unfinished → 0 < length xs → 0 < length ys → IsFedInParts v id xs ys
   later_parts still some more =
       let M : ℕ = v.config.limits.max_message in
@@ -290,6 +291,6 @@ parts_within (suc few) v es id (x ∷ xs) ys shows within =
           (beginning (size_here v es id) (rest_here v es id ++ x ∷ xs)) refl
     ]
 
--- Bytes that are handed to a connection in two parts, one right behind the other, do what they do in one, and as many are taken.
+-- Bytes in two consecutive parts have the same effect as in one, and the same number of them is accepted.
 pub fed_in_parts : (v : ServerValue) (es : List Event) (id : ℕ) (xs ys : List ℕ) → Shows v es → IsFedInParts v id xs ys
 fed_in_parts v es id xs ys shows = parts_within (length xs) v es id xs ys shows (omega arith)

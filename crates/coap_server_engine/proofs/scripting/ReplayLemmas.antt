@@ -1,4 +1,4 @@
--- What events come to, one by one and one after the other.
+-- The results of events, of each one and of several in order.
 use Rattle.std.proofs.Common.{[], ◌≡◌, ◌≢◌, ℕ, zero, suc, ◌+◌, ◌-◌, ◌<◌, ◌≤◌, true, false, ◌==◌, List, ◌∷◌, ◌++◌, length, get_or, take, drop, map, Option, Some, None, Result, Ok, Err, is_none, refl, sym, ap, ◌∙◌, append_assoc, arith, lt-ltb, add-suc, add-zero, add-one}
 use Rattle.std.proofs.lemmas.Bool.{le-ltb, ne_eqb}
 use Rattle.std.proofs.lemmas.List.{append-nil, take-append-drop, length-drop, length-take-le, length-map}
@@ -21,25 +21,25 @@ use Rattle.coap_model.specs.declared.answers.TakeFault.TheVariants as taking
 
 -- ---- one event
 
--- this server and this line are what an event comes to
+-- The server and the line are the result of an event.
 abbrev pub IsWhat : Ran → ServerValue → List ℕ → Type 0
 IsWhat r after line = (after ≡ r.server) × (line ≡ r.text)
 
--- memory was refused for an event
+-- Allocation failed for an event.
 pub unrun : (v : ServerValue) (e : EventValue) (after : ServerValue) (r : Result Line AllocError) → IsErr r → IsUnrun v e after → IsRun v e after r
 unrun v e after (Ok line) is so = absurd cc
 unrun v e after (Err fault) is so = so
 
 -- ---- `remove`
 
--- the only refusal
+-- `NoSuch` is the only error.
 pub no_such_path : (s : StoreValue) (path : Path) → is_none (remove_refusal s path) ≡ false → remove_refusal s path ≡ Some NoSuch
 unfolding remove_refusal
 no_such_path s path refused = grind arith
 
 -- ---- `drain`
 
--- what waits is enough
+-- The queue has at least as many bytes as are drained.
 pub enough : (id : ℕ) (most : Option ℕ) (d : Drained) (o : Option SessionValue) → IsDrainable id most (Some d) o → (s : SessionValue) × (o ≡ Some s) × IsDrainable id most (Some d) (Some s)
 enough id most d None is = absurd is
 enough id most d (Some s) is = (s, refl, is)
@@ -50,7 +50,7 @@ none_drainable id most (Some s) is = absurd is
 
 -- ---- takes
 
--- some takes took bytes, and the server is now this one
+-- Some takes accepted bytes, and the server is `now`.
 pub record Feeds (v : ServerValue) (id : ℕ) (bytes : List ℕ) (now : ServerValue) (taken : ℕ) : Type 0 where
   pub turns : ℕ
   pub few : turns ≤ taken
@@ -58,11 +58,11 @@ pub record Feeds (v : ServerValue) (id : ℕ) (bytes : List ℕ) (now : ServerVa
   pub so_far : fed_turns turns v id bytes ≡ record { server = now; count = taken; done = false }
   pub shows : ShowsMore v now (took_turns turns v id bytes)
 
--- so many turns leave what so many others leave, and make the same takes
+-- Two numbers of iterations lead to the same value and make the same takes.
 abbrev pub AreTurnsOf : ServerValue → ℕ → List ℕ → ℕ → ℕ → Type 0
 AreTurnsOf v id bytes m n = (fed_turns m v id bytes ≡ fed_turns n v id bytes) × (took_turns m v id bytes ≡ took_turns n v id bytes)
 
--- once no take follows, more turns do nothing
+-- After the last take, further iterations do nothing.
 turns_stay : (v : ServerValue) (id : ℕ) (bytes : List ℕ) (n : ℕ) → goes_on bytes (fed_turns n v id bytes) ≡ false
     → (k : ℕ) → AreTurnsOf v id bytes (n + k) n
 unfolding fed_turns took_turns
@@ -76,7 +76,7 @@ all_turns_made v id bytes n is m few =
     let same : n + (m - n) ≡ m = omega arith in
     rw same at (turns_stay v id bytes n is (m - n))
 
--- what is shown behind one more take
+-- The server after one more take shows it.
 abbrev pub ShowsTake : ServerValue → ℕ → List ℕ → ServerValue → Type 0
 ShowsTake now id left after = ShowsMore now after (where_there (session_of id now.sessions) (λ s. Took id (take (count_taken now id left) left)))
 
@@ -90,7 +90,7 @@ module _ (v : ServerValue) (id : ℕ) (bytes : List ℕ) (now : ServerValue) (ta
   shows_more after more =
       rw (add-one, feeds.so_far, lt-ltb taken (length bytes) left) (shows_then v now after (took_turns feeds.turns v id bytes) _ feeds.shows more)
 
-  -- a take took some bytes
+  -- A take accepted some bytes.
   pub feeds_more : (k : ℕ) (after : ServerValue) → k ≤ length (drop taken bytes) → k ≡ count_taken now id (drop taken bytes) → k ≢ 0 → after ≡ server_taken now id (drop taken bytes) → ShowsTake now id (drop taken bytes) after → Feeds v id bytes after (taken + k)
   feeds_more k after within counted some is more = record {
     turns = feeds.turns + 1;
@@ -100,7 +100,7 @@ module _ (v : ServerValue) (id : ℕ) (bytes : List ℕ) (now : ServerValue) (ta
     shows = shows_more after more;
   }
 
-  -- a take took none
+  -- A take accepted none.
   stops_there : (after : ServerValue) → count_taken now id (drop taken bytes) ≡ 0 → after ≡ server_taken now id (drop taken bytes)
       → (fed v id bytes ≡ record { server = after; count = taken; done = true }) × (took v id bytes ≡ took_turns (feeds.turns + 1) v id bytes)
   stops_there after none is =
@@ -114,7 +114,7 @@ module _ (v : ServerValue) (id : ℕ) (bytes : List ℕ) (now : ServerValue) (ta
   pub stopped_shows : (after : ServerValue) → count_taken now id (drop taken bytes) ≡ 0 → after ≡ server_taken now id (drop taken bytes) → ShowsTake now id (drop taken bytes) after → ShowsMore v after (took v id bytes)
   stopped_shows after none is more = shows_as v after _ _ (sym (stops_there after none is).1) (shows_more after more)
 
-  -- memory was refused
+  -- Allocation failed.
   pub short : (count : ℕ) (after : ServerValue) → IsNotTaken now id (drop taken bytes) (taking.Memory count) after → IsPartlyFed v id bytes after
   short count after refused = record {
     turns = feeds.turns;
@@ -131,7 +131,7 @@ module _ (v : ServerValue) (id : ℕ) (bytes : List ℕ) (now : ServerValue) (ta
     shows = shows_then v now after (took_turns feeds.turns v id bytes) _ feeds.shows more;
   }
 
--- the bytes are used up
+-- No byte is left.
 module _ (v : ServerValue) (id : ℕ) (bytes : List ℕ) (now : ServerValue) (taken : ℕ) (feeds : Feeds v id bytes now taken) (none : length bytes ≤ taken) where
   all_used : AreTurnsOf v id bytes (length bytes) feeds.turns
   all_used = all_turns_made v id bytes feeds.turns (rw (feeds.so_far, le-ltb taken (length bytes) none)) (length bytes) (omega (arith, feeds.few, feeds.within))
@@ -142,7 +142,7 @@ module _ (v : ServerValue) (id : ℕ) (bytes : List ℕ) (now : ServerValue) (ta
   pub used_up_shows : ShowsMore v now (took v id bytes)
   used_up_shows = shows_as v now _ _ (sym all_used.1) feeds.shows
 
--- no connection has the number
+-- No connection has this id.
 module _ (v : ServerValue) (id : ℕ) (none : session_of id v.sessions ≡ None) where
   feeds_nothing : (bytes : List ℕ) → Feeds v id bytes v 0
   unfolding fed_turns took_turns
@@ -173,20 +173,20 @@ module _ (v : ServerValue) (id : ℕ) (none : session_of id v.sessions ≡ None)
             stopped_shows v id bytes v 0 (feeds_nothing bytes) left v (takes_nothing rest) (stays_as_it_is rest) (rw none (shows_same v v refl)),
           )
 
--- ---- one event after the other
+-- ---- several events
 
--- events behind others are replayed on the server after these
+-- Events after others are replayed on the server after these.
 pub replayed_on : (v : ServerValue) (es fs : List EventValue) → replayed v (es ++ fs) ≡ behind (replayed v es).text (replayed (replayed v es).server fs)
 unfolding replayed
 replayed_on v [] fs = refl
 replayed_on v (e ∷ es) fs = rw (replayed_on (event_ran v e).server es fs, append_assoc)
 
--- the first events were run, and their lines written
+-- The first events ran, and their lines were written.
 pub record Replays (v : ServerValue) (all : List EventValue) (index : ℕ) (now : ServerValue) (x y : Option (List ℕ)) : Type 0 where
   pub server_is : now ≡ (replayed v (take index all)).server
   pub written : AddsBytes x y (replayed v (take index all)).text
 
--- an event among others
+-- One event at its index in a list.
 pub record StandsAt (all : List EventValue) (index : ℕ) (e : EventValue) : Type 0 where
   pub within : index < length all
   pub all_is : all ≡ take index all ++ e ∷ drop (index + 1) all
@@ -207,7 +207,7 @@ stands events index x lt is =
     }
 
 module _ (v : ServerValue) (all : List EventValue) (index : ℕ) (now : ServerValue) (x y : Option (List ℕ)) (so_far : Replays v all index now x y) (e : EventValue) (stands : StandsAt all index e) where
-  -- memory was refused for the event
+  -- Allocation failed for the event.
   pub refused_at : (number : ℕ) (after : ServerValue) → number ≡ index + 1 → IsUnrun now e after → IsRefusedAt v all number after (AddsBytes x y)
   refused_at number after counted unrun = record {
     before = take index all;
@@ -219,7 +219,7 @@ module _ (v : ServerValue) (all : List EventValue) (index : ℕ) (now : ServerVa
     unrun = rw so_far.server_is at unrun;
   }
 
-  -- the event was run, and its line not written whole
+  -- The event ran, and its line is incomplete.
   pub cut_at : (after : ServerValue) (line : List ℕ) (z : Option (List ℕ)) → IsWhat (event_ran now e) after line → WritesPart y z line → ShowsMore v after (events_ran v (take index all ++ e ∷ [])) → IsCutAt v all after (AddsBytes x z)
   cut_at after line z ran wrote shows = record {
     before = take index all;
@@ -235,7 +235,7 @@ module _ (v : ServerValue) (all : List EventValue) (index : ℕ) (now : ServerVa
     shows = shows;
   }
 
-  -- the event was run, and its line written
+  -- The event ran, and its line was written.
   pub one_replayed : (after : ServerValue) (line : List ℕ) (z : Option (List ℕ)) → IsWhat (event_ran now e) after line → AddsBytes y z line → Replays v all (index + 1) after x z
   unfolding replayed
   one_replayed after line z ran wrote =
@@ -246,9 +246,9 @@ module _ (v : ServerValue) (all : List EventValue) (index : ℕ) (now : ServerVa
         written = rw (next, ← ran.1) (bytes_then x y z (replayed v (take index all)).text line so_far.written wrote);
       }
 
--- ---- Which world a server shows after the first events of a replay.
+-- ---- the history that a server shows after the first events of a replay
 
--- after the first events the server shows theirs
+-- After the first events, the server shows their calls.
 abbrev pub ShowsFirst : ServerValue → List EventValue → ℕ → ServerValue → Type 0
 ShowsFirst v all index now = ShowsMore v now (events_ran v (take index all))
 
@@ -257,15 +257,15 @@ module _ (v : ServerValue) (all : List EventValue) (index : ℕ) (now : ServerVa
   unfolding events_ran
   next_ran = rw (stands.more, events_ran_on v (take index all) (e ∷ []), append-nil, so_far.server_is)
 
-  -- the event was run
+  -- The event ran.
   pub one_shown : (after : ServerValue) → ShowsMore now after (events_made now e) → ShowsFirst v all (index + 1) after
   one_shown after more = shows_as v after _ _ next_ran (shows_then v now after (events_ran v (take index all)) (events_made now e) shown more)
 
-  -- it was run, and its line not written whole
+  -- The event ran, and its line is incomplete.
   pub cut_shown : (after : ServerValue) → ShowsMore now after (events_made now e) → ShowsMore v after (events_ran v (take index all ++ e ∷ []))
   cut_shown after more = shows_as v after _ _ (ap (events_ran v) stands.more) (one_shown after more)
 
-  -- memory was refused for it
+  -- Allocation failed for the event.
   pub refused_shown : (before : List world.Event) → Shows v before → (number : ℕ) (after : ServerValue) → number ≡ index + 1 → ShowsPart now e after → ShowsRefusedAt before v all number after
   refused_shown before shows number after counted refused = record {
     ran = take index all;

@@ -1,4 +1,4 @@
--- What a server shows after the calls that the events of a script make.
+-- The history that a server shows after the calls of a script's events.
 use Rattle.std.proofs.Common.{[], ◌≡◌, ℕ, false, List, ◌∷◌, ◌++◌, Option, Some, None, Result, Ok, Err, refl, subst, append_assoc, zero, suc, drop, arith}
 use Rattle.std.proofs.lemmas.List.{append-nil}
 use Rattle.std.proofs.lemmas.Bool.{cond_both}
@@ -9,42 +9,42 @@ use Rattle.coap_server_engine.specs.values.Fed.{goes_on}
 
 -- ---- servers
 
--- a server that is the same shows nothing more
+-- An unchanged server shows nothing more.
 pub shows_same : (v after : ServerValue) → after ≡ v → ShowsMore v after []
 shows_same v after is before shows = rw (is, append-nil) shows
 
--- one after the other
+-- Two changes, one after the other.
 pub shows_then : (u v w : ServerValue) (es fs : List Event) → ShowsMore u v es → ShowsMore v w fs → ShowsMore u w (es ++ fs)
 shows_then u v w es fs first second before shows = subst (Shows w) (append_assoc before es fs) (second (before ++ es) (first before shows))
 
--- the same events
+-- Equal events.
 pub shows_as : (v after : ServerValue) (es fs : List Event) → es ≡ fs → ShowsMore v after es → ShowsMore v after fs
 shows_as v after es fs same more = rw same at more
 
--- a take changes no configuration
+-- A take does not change the configuration.
 pub config_stays : (v : ServerValue) (id : ℕ) (piece : List ℕ) → (server_taken v id piece).config ≡ v.config
 unfolding server_taken
 config_stays v id piece = elim (session_of id v.sessions) as (λ found. (server_taken_on v id piece found).config ≡ v.config) [ None ↦ refl | Some s ↦ refl ]
 
 -- ---- one call
 
--- its connection is not there
+-- The connection does not exist.
 pub absent_is_none : {A : Type 0} (o : Option A) → is_there o ≡ false → o ≡ None
 absent_is_none o there = grind arith
 
 -- ---- events
 
--- events behind others are run on the server after these
+-- Events after others run on the server after these.
 pub events_ran_on : (v : ServerValue) (es fs : List EventValue) → events_ran v (es ++ fs) ≡ events_ran v es ++ events_ran (replayed v es).server fs
 unfolding events_ran replayed
 events_ran_on v [] fs = refl
 events_ran_on v (e ∷ es) fs = rw (events_ran_on (event_ran v e).server es fs, append_assoc)
 
--- memory was refused for an event that then makes none
+-- Allocation failed for an event that makes no calls then.
 pub nothing_made : (v : ServerValue) (e : EventValue) (after : ServerValue) → after ≡ v → IsPartlyMade v e after [] → ShowsPart v e after
 nothing_made v e after is part = record { more = []; part = part; shows = shows_same v after is }
 
--- it was refused within the takes of an `in`
+-- Allocation failed within the takes of an `in`.
 pub in_refused : (v : ServerValue) (id : ℕ) (bytes : List ℕ) (after : ServerValue) → ShowsPartlyFed v id bytes after → ShowsPart v (In id bytes) after
 in_refused v id bytes after partly = record { more = partly.more; part = partly.part; shows = partly.shows }
 
@@ -52,9 +52,9 @@ pub run_refused : {T : Type 0} (v : ServerValue) (e : EventValue) (after : Serve
 run_refused v e after (Ok line) is part = absurd cc
 run_refused v e after (Err fault) is part = part
 
--- ---- takes, one after the other
+-- ---- consecutive takes
 
--- what holds before all takes, and behind each where it held before it
+-- A property of the value before all takes holds after each, if each take keeps it.
 pub turns_keep : (P : Fed → Type 0) (id : ℕ) (bytes : List ℕ) → ((f : Fed) → P f → P (fed_more id (drop f.count bytes) f))
     → (v : ServerValue) → P (unfed v) → (turns : ℕ) → P (fed_turns turns v id bytes)
 unfolding fed_turns
@@ -63,7 +63,7 @@ turns_keep P id bytes next v first (suc turns) =
     let before = turns_keep P id bytes next v first turns in
     cond_both (goes_on bytes (fed_turns turns v id bytes)) _ _ P (λ goes. next (fed_turns turns v id bytes) before) (λ over. before)
 
--- no take takes a byte, nor changes the server
+-- No take accepts a byte or changes the server.
 pub record IsStuck (v : ServerValue) (id : ℕ) : Type 0 where
   pub none : (bytes : List ℕ) → count_taken v id bytes ≡ 0
   pub stays : (bytes : List ℕ) → server_taken v id bytes ≡ v
@@ -82,7 +82,7 @@ stuck_turns v id stuck bytes turns =
     (λ f is. record { server = cc (is.server, stuck.stays (drop f.count bytes)); count = cc (is.server, is.count, stuck.none (drop f.count bytes)) })
     v (record { server = refl; count = refl }) turns
 
--- no connection has the number
+-- No connection has this id.
 pub none_taken_there : (v : ServerValue) (id : ℕ) → is_there (session_of id v.sessions) ≡ false → (bytes : List ℕ) (turns : ℕ) → took_turns turns v id bytes ≡ []
 unfolding took_turns
 none_taken_there v id none bytes zero = refl

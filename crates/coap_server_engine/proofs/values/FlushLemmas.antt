@@ -1,17 +1,17 @@
--- A flush, one turn after the other, as the code makes it.
+-- A flush, one iteration after the other, as the code makes it.
 use Rattle.std.proofs.Common.{◌≡◌, ℕ, suc, ◌≤◌, List, [], ◌++◌, Option, Bool, true, false, refl, sym, ap, subst, ◌∙◌, append_assoc, inl, not}
 use Rattle.std.proofs.lemmas.List.{append-nil}
 use Rattle.coap_server_engine.specs.Prelude.{AddsBytes, WritesPart, ServerValue, waiting_at, more_at, flush_once}
 use Rattle.coap_server_engine.specs.Prelude.{flush_turns, IsFlushedOnce, IsFlushed, IsPartFlushed}
 use Rattle.coap_io.proofs.streams.DeviceLemmas.{bytes_none, bytes_then}
 
--- ---- turns
+-- ---- iterations
 
 pub turn_more : (turns id : ℕ) (v : ServerValue) → flush_turns (suc turns) id v ≡ flush_once id (flush_turns turns id v)
 unfolding flush_turns
 turn_more turns id v = refl
 
--- after so many turns the server is now this one; the outlet told x before the flush and tells y
+-- After these iterations the server is `now`. The outlet recorded `x` before the flush, and records `y`.
 pub record Flushing (id : ℕ) (v : ServerValue) (turns : ℕ) (now : ServerValue) (x y : Option (List ℕ)) : Type 0 where
   pub server : now ≡ (flush_turns turns id v).server
   pub written : AddsBytes x y (flush_turns turns id v).text
@@ -20,7 +20,7 @@ pub flush_begins : (id : ℕ) (v : ServerValue) (x : Option (List ℕ)) → Flus
 unfolding flush_turns
 flush_begins id v x = record { server = refl; written = bytes_none x }
 
--- a part was written in one turn more
+-- A part was written in one more iteration.
 pub flush_cut : (id : ℕ) (v : ServerValue) (turns : ℕ) (now : ServerValue) (x y z : Option (List ℕ)) → Flushing id v turns now x y → (w : List ℕ) → suc turns ≤ suc (more_at id v) → w ≡ waiting_at id now → WritesPart y z w → IsPartFlushed id v (WritesPart x z)
 flush_cut id v turns now x y z so_far w within waits wrote =
     let text : List ℕ = (flush_turns turns id v).text in
@@ -37,9 +37,9 @@ flush_cut id v turns now x y z so_far w within waits wrote =
       );
     }
 
--- ---- one turn of the code
+-- ---- one iteration of the code
 
--- after so many turns the server is now this one, where the last one wrote something; else nothing waits
+-- The state after an iteration: the same as above if it wrote something, otherwise the flush is complete.
 abbrev pub Flushed : ℕ → ServerValue → ℕ → ServerValue → Option (List ℕ) → Option (List ℕ) → Bool → Type 0
 Flushed id v turns now x y true = Flushing id v turns now x y
 Flushed id v turns now x y false = IsFlushed id v now (AddsBytes x y)

@@ -1,4 +1,4 @@
--- The connections of a server that a change of a path, or of the moment, does not touch stay settled.
+-- The connections of a server that a change of a path or of the time does not affect stay settled.
 use Rattle.std.proofs.Common.{◌≡◌, true, ℕ, zero, suc, ◌+◌, ◌-◌, add-zero, ◌<◌, ◌≤◌, ◌^◌, false, List, [], ◌∷◌, length, Option, Some, None, refl, sym, ap, subst, ◌∙◌, arith}
 use Rattle.coap_server_engine.specs.Prelude.{map, nat_lt, slice_get, AllByRecursion, values_of, set_value_at, Path}
 use Rattle.coap_server_engine.specs.Prelude.{StoreValue, put_in, removed_in, Change, Nothing, Put, Delete, IsStore, Host}
@@ -19,7 +19,7 @@ use Rattle.std.proofs.lemmas.Map.Entries.{length-values_of}
 use Rattle.coap_server_session.proofs.values.DueLemmas.{at_moment, stays_settled}
 use Rattle.coap_server_session.proofs.values.CauseLemmas.{but_changed, but_later, but_none, marked_untouched, settled_elsewhere}
 
--- ---- the marks that a change sets anew
+-- ---- recomputed marks
 
 pub all_but_changed : (host : Host) (c : Change) (hash : ℕ) (es : MarkedEntries) → change_hash c ≡ Some hash → AreAllMarked host es → AreMarkedBut (cause.Path hash) (host_changed host c) es
 all_but_changed host c hash es is =
@@ -35,9 +35,9 @@ all_but_put host path format bytes hash es store is same marked = rw is (all_but
 pub all_but_removed : (host : Host) (path : Path) (hash : ℕ) (es : MarkedEntries) (store : StoreValue) → store ≡ removed_in host.store path → hash ≡ path_hash path → AreAllMarked host es → AreMarkedBut (cause.Path hash) (record host { store = store }) es
 all_but_removed host path hash es store is same marked = rw is (all_but_changed host (Delete path) hash es (ap Some (sym same)) marked)
 
--- ---- the loop over them that sets marks anew
+-- ---- the loop that recomputes marks
 
--- the connections before an index have them
+-- The changed marks of the connections before an index are current.
 abbrev pub AreMarkedUpTo : ℕ → Cause → Host → MarkedEntries → Type 0
 AreMarkedUpTo zero why host es = AreMarkedBut why host es
 AreMarkedUpTo (suc n) why host [] = Unit {0}
@@ -65,7 +65,7 @@ all_up (suc n) why host [] many marked = tt
 all_up zero why host (e ∷ es) many marked = absurd (omega (arith, many))
 all_up (suc n) why host (e ∷ es) many marked = (marked.0, all_up n why host es (omega (arith, many)) marked.1)
 
--- ---- the search for the next one that is touched
+-- ---- the search for the next affected connection
 
 pub none_passed : (why : Cause) (now from : ℕ) (es : MarkedEntries) → AreUntouched why now from from es
 none_passed why now from es i s first last at = absurd (omega (arith, first, last))
@@ -90,14 +90,14 @@ pub untouched_by_moment : (host : Host) (later : ℕ) (es : Entries) → IsStore
 untouched_by_moment host later [] store more fits settled = tt
 untouched_by_moment host later (e ∷ es) store more fits settled = (λ before. stays_settled host later e.1 store settled.0 more fits before, untouched_by_moment host later es store more fits settled.1)
 
--- the same after calls: a representation was put, a resource was removed, the moment moved on
+-- The same after a `put`, a `remove` and a `tick`.
 pub untouched_by_put : (host : Host) (path : Path) (format : Option ℕ) (bytes : List ℕ) (hash : ℕ) (es : Entries) (store : StoreValue) → store ≡ put_in host.store path format bytes → hash ≡ path_hash path → AreSettled host es → AreSettledUntouched (cause.Path hash) (record host { store = store }) es
 untouched_by_put host path format bytes hash es store is same settled = rw is (untouched_by_change host (Put path format bytes) hash es (ap Some (sym same)) settled)
 
 pub untouched_by_removal : (host : Host) (path : Path) (hash : ℕ) (es : Entries) (store : StoreValue) → store ≡ removed_in host.store path → hash ≡ path_hash path → AreSettled host es → AreSettledUntouched (cause.Path hash) (record host { store = store }) es
 untouched_by_removal host path hash es store is same settled = rw is (untouched_by_change host (Delete path) hash es (ap Some (sym same)) settled)
 
--- ---- the loop over them
+-- ---- the loop that settles
 
 not_yet_settled : (n : ℕ) (host : Host) (es : Entries) → slice_get (values_of (settled_up_to n host es)) n ≡ slice_get (values_of es) n
 unfolding settled_up_to
@@ -105,17 +105,17 @@ not_yet_settled zero host es = refl
 not_yet_settled (suc n) host [] = refl
 not_yet_settled (suc n) host (e ∷ es) = not_yet_settled n host es
 
--- the next one is settled where it is not touched
+-- The next connection is settled if the change does not affect it.
 pub next_untouched : (why : Cause) (n : ℕ) (host : Host) (es now : Entries) (s : SessionValue) → now ≡ settled_up_to n host es → AreSettledUntouched why host es → slice_get (values_of now) n ≡ Some s → IsUntouched why host.now s → IsSettled host s
 next_untouched why n host es now s is all at untouched =
     let before : slice_get (values_of es) n ≡ Some s = sym (ap (λ (fs : Entries). slice_get (values_of fs) n) is ∙ not_yet_settled n host es) ∙ at in
     one_of_all (λ u. IsUntouched why host.now u → IsSettled host u) n es s all before untouched
 
--- the connections before an index are settled, and their marks are as they are to be
+-- The connections before an index are settled, and their changed marks are current.
 abbrev pub AreUpTo : ℕ → Cause → Host → MarkedEntries → MarkedEntries → Type 0
 AreUpTo n why host es now = (unmarked now ≡ settled_up_to n host (unmarked es)) × AreMarkedUpTo n why host now
 
--- the next one is not touched
+-- The change does not affect the next connection.
 pass_one : (n : ℕ) (why : Cause) (host : Host) (es now : MarkedEntries) (s : MarkedSession) → AreUpTo n why host es now → AreSettledUntouched why host (unmarked es) → slice_get (values_of now) n ≡ Some s → IsUntouched why host.now s.session × ConcernsNone why s.session.observers
     → AreUpTo (n + 1) why host es now
 pass_one n why host es now s before untouched at calm =
@@ -126,7 +126,7 @@ pass_one n why host es now s before untouched at calm =
       subst (AreMarkedUpTo (n + 1) why host) (same_written now n s at) (one_more_up n why host now s before.1 marked),
     )
 
--- the next ones are not touched
+-- The change does not affect the next connections.
 pass_some : (k n : ℕ) (why : Cause) (host : Host) (es now : MarkedEntries) → n + k ≤ length now → AreUpTo n why host es now → AreSettledUntouched why host (unmarked es) → AreUntouched why host.now n (n + k) now → AreUpTo (n + k) why host es now
 pass_some zero n why host es now within before untouched calm = rw add-zero before
 pass_some (suc k) n why host es now within before untouched calm =
@@ -141,27 +141,27 @@ passed n m why host es now from within before untouched calm =
     subst (λ (k : ℕ). AreUpTo k why host es now) to
     (pass_some (m - n) n why host es now (omega (arith, within, to)) before untouched (subst (λ (k : ℕ). AreUntouched why host.now n k now) (sym to) calm))
 
--- a connection is settled, and the ones before it are
+-- One connection settles, and those before it are settled.
 pub one_more : (n : ℕ) (why : Cause) (host : Host) (es now : MarkedEntries) (s after : MarkedSession) → AreUpTo n why host es now → slice_get (values_of now) n ≡ Some s → after.session ≡ session_settled host s.session → IsMarked host after → AreUpTo (n + 1) why host es (set_value_at now n after)
 one_more n why host es now s after before at settles marked = (
   set_unmarked now n after after.session refl ∙ one_more_settled n host (unmarked es) (unmarked now) s.session after.session before.0 (unmarked_at now n s at) settles,
   one_more_up n why host now after before.1 marked,
 )
 
--- all are
+-- All connections are settled.
 pub none_left : (n : ℕ) (why : Cause) (host : Host) (es now : MarkedEntries) → length now ≡ n → AreUpTo n why host es now → (unmarked now ≡ map (settled_entry host) (unmarked es)) × AreAllMarked host now
 none_left n why host es now all up =
     let many = as_many_settled n host es now up.0 in
     (all_settled n host (unmarked es) (unmarked now) up.0 (omega (arith, all, many, length-map es unmarked_entry)), all_up n why host now (omega (arith, all)) up.1)
 
--- a change that touches no connection
+-- A change that affects no connection.
 pub none_touched : (why : Cause) (host : Host) (es : MarkedEntries) → AreSettledUntouched why host (unmarked es) → AreMarkedBut why host es → AreUntouched why host.now 0 (length es) es → (unmarked es ≡ map (settled_entry host) (unmarked es)) × AreAllMarked host es
 none_touched why host es untouched marked calm =
     none_left (length es) why host es es refl (passed 0 (length es) why host es es (omega arith) (omega arith) (none_settled host (unmarked es), marked) untouched calm)
 
--- ---- the one that changed something
+-- ---- the connection that made the change
 
--- it settles first
+-- This connection settles first.
 settled_first : (host : Host) (i : ℕ) (es : Entries) (s : SessionValue) → slice_get (values_of es) i ≡ Some s → map (settled_entry host) (changed_at i (λ _. session_settled host s) es) ≡ map (settled_entry host) es
 unfolding changed_at
 settled_first host i [] s at = absurd cc
@@ -184,13 +184,13 @@ one_in_place P i [] s u all here = tt
 one_in_place P zero (e ∷ es) s u all here = (here e.0, all.1)
 one_in_place P (suc i) (e ∷ es) s u all here = (all.0, one_in_place P i es s u all.1 here)
 
--- what a connection took changed something: the others are settled where it does not touch them
+-- The input of a connection made a change: the others are settled if the change does not affect them.
 pub others_settled : (host : Host) (c : Change) (i : ℕ) (es : Entries) (u : SessionValue) (found : Option ℕ) → found ≡ change_hash c → AreSettled host es → AreOthersSettled found i (host_changed host c) (set_value_at es i u)
 others_settled host c i es u None is settled = tt
 others_settled host c i es u (Some hash) is settled = λ s here.
     one_in_place (λ e. IsUntouched (cause.Path hash) host.now e.1 → IsSettled (host_changed host c) e.1) i es s u (untouched_by_change host c hash es (sym is) settled) (λ n _. here)
 
--- the marks of all, where what a connection took changed something or nothing
+-- The changed marks of all connections after the input of one, which made a change or none.
 pub marked_after_take : (host : Host) (c : Change) (i : ℕ) (es : MarkedEntries) (s : MarkedSession) (found : Option ℕ) → found ≡ change_hash c → AreAllMarked host es → IsMarked (host_changed host c) s → AreMarkedAfter found (host_changed host c) (set_value_at es i s)
 marked_after_take host Nothing i es s None is all one = all_written (IsMarked host) es i s all one
 marked_after_take host (Put path format bytes) i es s None is all one = absurd cc

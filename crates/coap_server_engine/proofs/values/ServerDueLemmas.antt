@@ -1,4 +1,4 @@
--- What is not due yet on a server: a tick to a moment before each that is due changes nothing but the moment.
+-- A tick to a time before each deadline of a server changes nothing but the time.
 use Rattle.std.proofs.Common.{◌≡◌, ℕ, ◌<◌, ◌≤◌, ◌^◌, [], ◌∷◌, ap, subst, arith, inl, inr}
 use Rattle.coap_server_engine.specs.Prelude.{AllByRecursion, IsStore, Host, ServerValue, AreSettled, due_on, IsBefore}
 use Rattle.coap_server_engine.specs.Prelude.{WaitsForWhatIsDue}
@@ -10,7 +10,7 @@ stay_settled : (host : Host) (later : ℕ) (es : Entries) → IsStore host.store
 stay_settled host later [] store settled more fits before = tt
 stay_settled host later (e ∷ es) store settled more fits before = (stays_settled host later e.1 store settled.0 more fits before.0, stay_settled host later es store settled.1 more fits before.1)
 
--- time alone queues nothing before it is due
+-- Time alone queues nothing before it is due.
 pub waits_for_what_is_due : (v : ServerValue) (later : ℕ) → IsStore v.host.store → AreSettled v.host v.sessions → v.host.now ≤ later → later < 2 ^ 64 → WaitsForWhatIsDue v later
 waits_for_what_is_due v later store settled on fits before =
     let still : AreSettled (at_moment v.host later) v.sessions = elim (cases_lt v.host.now later) [

@@ -1,4 +1,4 @@
--- The connections of a server, found by their numbers and changed where they lie.
+-- The connections of a server: found by id, and changed at their index.
 use Rattle.std.proofs.Common.{◌≡◌, ℕ, zero, suc, ◌+◌, ◌<◌, ◌≤◌, Bool, true, false, cond, List, [], ◌∷◌, ◌++◌, length, Option, Some, None, is_some, refl, sym, ap, subst, ◌∙◌, arith, map, filter, remove, IfNone, IfSome, OnOk, OnErr, Result, Ok, Err, not, nat_eq, option_map, nat_lt, slice_get, ◌==◌, if◌then◌else◌}
 use Rattle.coap_server_engine.specs.Prelude.{AllByRecursion, IsDistinct, position_or_len, position, lookup, keys_of}
 use Rattle.coap_server_engine.specs.Prelude.{values_of, nat_eq_equiv, set_value_at, insert_entry, Host, SessionValue}
@@ -22,15 +22,15 @@ Entries = List (ℕ × SessionValue)
 abbrev pub MarkedEntries : Type 0
 MarkedEntries = List (ℕ × MarkedSession)
 
--- ---- found
+-- ---- search
 
--- what is so of all connections is so of the one at an index
+-- A property of all connections holds for the one at an index.
 pub one_of_all : {S : Type 0} (P : S → Type 0) (i : ℕ) (es : List (ℕ × S)) (s : S) → AllByRecursion (λ e. P e.1) es → slice_get (values_of es) i ≡ Some s → P s
 one_of_all P i [] s all at = absurd cc
 one_of_all P zero (e ∷ es) s all at = subst P (let is : e.1 ≡ s = cc in is) all.0
 one_of_all P (suc i) (e ∷ es) s all at = one_of_all P i es s all.1 at
 
--- what the map finds is the connection with the number
+-- The lookup of the map finds the connection with this id.
 pub session_looked_up : (id : ℕ) (es : Entries) → session_of id es ≡ lookup (nat_eq id) es
 unfolding session_of
 session_looked_up id [] = refl
@@ -65,7 +65,7 @@ unmarked_written (e ∷ es) (suc i) s = ap (λ (rest : Entries). unmarked_entry 
 pub set_unmarked : (es : MarkedEntries) (i : ℕ) (s : MarkedSession) (v : SessionValue) → s.session ≡ v → unmarked (set_value_at es i s) ≡ set_value_at (unmarked es) i v
 set_unmarked es i s v is = unmarked_written es i s ∙ ap (set_value_at (unmarked es) i) is
 
--- what is so of all is so of all still where it is so of the one that is written
+-- A property of all connections still holds for all if it holds for the one that is written.
 pub all_written : (P : MarkedSession → Type 0) (es : MarkedEntries) (i : ℕ) (s : MarkedSession) → AllByRecursion (λ e. P e.1) es → P s → AllByRecursion (λ e. P e.1) (set_value_at es i s)
 all_written P [] i s all one = tt
 all_written P (e ∷ es) zero s all one = (one, all.1)
@@ -96,7 +96,7 @@ pub still_unmarked : {T E : Type 0} (r : Result T E) (es fs : MarkedEntries) →
 still_unmarked (Ok x) es fs same = tt
 still_unmarked (Err e) es fs same = ap unmarked same
 
--- what the map found, where it found none and where it found one
+-- The result of the lookup, for an absent and for a present id.
 pub none_where_none : (id : ℕ) (es : MarkedEntries) (r : Option ℕ) → is_some r ≡ is_some (lookup (nat_eq id) es) → IfNone r (session_of id (unmarked es) ≡ None)
 none_where_none id es None found = unmarked_looked_up id es ∙ ap (option_map (λ (s : MarkedSession). s.session)) (there_is_none (lookup (nat_eq id) es) (sym found))
 none_where_none id es (Some i) found = tt
@@ -111,21 +111,21 @@ one_where_some id es (Some i) distinct index within value =
       found = unmarked_looked_up id es ∙ ap (option_map (λ (s : MarkedSession). s.session)) (sym value) ∙ sym (value_unmarked es i);
     }
 
--- ---- changed
+-- ---- changes
 
--- a value written at an index
+-- A connection is written at an index.
 pub written_at_index : (f : SessionValue → SessionValue) (es : Entries) (i : ℕ) (s : SessionValue) → slice_get (values_of es) i ≡ Some s → set_value_at es i (f s) ≡ changed_at i f es
 unfolding changed_at
 written_at_index f [] i s at = refl
 written_at_index f (e ∷ es) zero s at = ap (λ v. (e.0, f v) ∷ es) (let is : e.1 ≡ s = cc in sym is)
 written_at_index f (e ∷ es) (suc i) s at = ap (λ rest. e ∷ rest) (written_at_index f es i s at)
 
--- a value written at an index, where its connection became what a function makes of it
+-- A connection is written at an index, with the value that a function makes of it.
 pub written_unmarked : (f : SessionValue → SessionValue) (es : MarkedEntries) (i : ℕ) (s after : MarkedSession) → slice_get (values_of es) i ≡ Some s → after.session ≡ f s.session → unmarked (set_value_at es i after) ≡ changed_at i f (unmarked es)
 written_unmarked f es i s after at is =
     unmarked_written es i after ∙ ap (set_value_at (unmarked es) i) is ∙ written_at_index f (unmarked es) i s.session (unmarked_at es i s at)
 
--- where the value that is there is written, all stays
+-- Writing the present value changes nothing.
 pub same_written : {S : Type 0} (es : List (ℕ × S)) (i : ℕ) (s : S) → slice_get (values_of es) i ≡ Some s → set_value_at es i s ≡ es
 same_written [] i s at = refl
 same_written (e ∷ es) zero s at = ap (λ v. (e.0, v) ∷ es) (let is : e.1 ≡ s = cc in sym is)
@@ -136,25 +136,25 @@ length-written [] i s = refl
 length-written (e ∷ es) zero s = refl
 length-written (e ∷ es) (suc i) s = ap suc (length-written es i s)
 
--- a write and a change at one index
+-- A write and a change at the same index.
 pub changed_written : (i : ℕ) (f : SessionValue → SessionValue) (es : Entries) (s : SessionValue) → changed_at i f (set_value_at es i s) ≡ changed_at i (λ _. f s) es
 unfolding changed_at
 changed_written i f [] s = refl
 changed_written zero f (e ∷ es) s = refl
 changed_written (suc i) f (e ∷ es) s = ap (λ (rest : Entries). e ∷ rest) (changed_written i f es s)
 
--- what was there, written again
+-- The present value is written again.
 pub written_back : {S : Type 0} (es : List (ℕ × S)) (i : ℕ) (s back : S) → slice_get (values_of es) i ≡ Some s → back ≡ s → set_value_at es i back ≡ es
 written_back [] i s back at is = refl
 written_back (e ∷ es) zero s back at is = ap (λ v. (e.0, v) ∷ es) (let same : back ≡ e.1 = cc in same)
 written_back (e ∷ es) (suc i) s back at is = ap (λ rest. e ∷ rest) (written_back es i s back at is)
 
--- connections with other numbers stay
+-- Connections with other ids stay the same.
 pub others_same : (id : ℕ) (f : SessionValue → SessionValue) (es : Entries) → AllByRecursion (λ k. nat_eq id k ≡ false) (keys_of es) → map (session_becomes id f) es ≡ es
 others_same id f [] apart = refl
 others_same id f (e ∷ es) apart = rw (nat_eq_equiv.symm e.0 id ∙ apart.0) (ap (λ (rest : Entries). e ∷ rest) (others_same id f es apart.1))
 
--- what is so of entries from the one with a number on, at its index, is shown by going there from the first one
+-- Induction for a property of the entries from the one with this id on, from the first entry.
 at_number : (P : Entries → ℕ → Type 0) (id : ℕ) → ((e : ℕ × SessionValue) (es : Entries) → nat_eq e.0 id ≡ true → AllByRecursion (λ k. nat_eq id k ≡ false) (keys_of es) → P (e ∷ es) 0)
     → ((e : ℕ × SessionValue) (es : Entries) (i : ℕ) → nat_eq e.0 id ≡ false → P es i → P (e ∷ es) (suc i)) → (es : Entries) (i : ℕ) → IsDistinct nat_eq (keys_of es) → position_or_len (nat_eq id) (keys_of es) ≡ i → i < length es → P es i
 unfolding IsDistinct
@@ -166,14 +166,14 @@ at_number P id here behind (e ∷ es) (suc i) distinct index within =
     let later : (nat_eq id e.0 ≡ false) × (position_or_len (nat_eq id) (keys_of es) ≡ i) = grind arith in
     behind e es i (nat_eq_equiv.symm e.0 id ∙ later.0) (at_number P id here behind es i distinct.1 later.1 (omega arith))
 
--- what happens at its index happens to it alone
+-- A change at the index of an id is a change of the connection with this id alone.
 pub changed_one : (id : ℕ) (f : SessionValue → SessionValue) (es : Entries) (i : ℕ) → IsDistinct nat_eq (keys_of es) → position_or_len (nat_eq id) (keys_of es) ≡ i → i < length es → changed_at i f es ≡ map (session_becomes id f) es
 unfolding changed_at
 changed_one id f =
     at_number (λ es i. changed_at i f es ≡ map (session_becomes id f) es) id (λ e es here apart. cc (here, others_same id f es apart))
     (λ e es i other rest. cc (other, rest))
 
--- ---- settled
+-- ---- settling
 
 abbrev pub settling : Host → (SessionValue → SessionValue) → SessionValue → SessionValue
 settling host f s = session_settled host (f s)
@@ -182,7 +182,7 @@ entry_settles : (host : Host) (f : SessionValue → SessionValue) (b : Bool) (e 
 entry_settles host f true e settled = refl
 entry_settles host f false e settled = ap (λ (v : SessionValue). (e.0, v)) (sym (settled_stays host e.1 settled))
 
--- where all were settled, only the one to which something happened has to settle
+-- If all connections were settled, only the changed one needs to settle.
 pub one_settles : (host : Host) (id : ℕ) (f : SessionValue → SessionValue) (es : Entries) → AreSettled host es → map (session_becomes id (settling host f)) es ≡ map (settled_entry host) (map (session_becomes id f) es)
 one_settles host id f [] all = refl
 one_settles host id f (e ∷ es) all = cc (entry_settles host f (nat_eq e.0 id) e all.0, one_settles host id f es all.1)
@@ -195,11 +195,11 @@ pub all_settled_stay : (host : Host) (es : Entries) → AreSettled host es → m
 all_settled_stay host [] all = refl
 all_settled_stay host (e ∷ es) all = cc (ap {B = ℕ × SessionValue} (λ (v : SessionValue). (e.0, v)) (settled_stays host e.1 all.0), all_settled_stay host es all.1)
 
--- what holds of each still holds where one changes so that it holds of it
+-- A property of all entries still holds if the changed entry keeps it.
 pub all_still : (P : ℕ × SessionValue → Type 0) (id : ℕ) (f : SessionValue → SessionValue) → ((e : ℕ × SessionValue) → P e → P (e.0, f e.1)) → (es : Entries) → AllByRecursion P es → AllByRecursion P (map (session_becomes id f) es)
 all_still P id f to = all_map P P (session_becomes id f) (λ e holds. cond_both (nat_eq e.0 id) (e.0, f e.1) e P (λ _. to e holds) (λ _. holds))
 
--- ---- a server of which every connection settles, and before it one may have changed
+-- ---- a server after one connection may have changed and all have settled
 
 pub settled_server : (v : ServerValue) (entries : Entries) → entries ≡ map (settled_entry v.host) v.sessions → AllByRecursion (λ e. e.0 ≤ v.ids) v.sessions → length v.sessions ≤ v.config.connections → IsServer (record v { sessions = entries })
 settled_server v entries is numbered few = rw is (record {
@@ -213,7 +213,7 @@ taken_server_with v id f host server =
     let few : length (map (session_becomes id f) v.sessions) ≤ v.config.connections = rw (length-map v.sessions (session_becomes id f)) server.few in
     settled_server (record (on_session id f v) { host = host }) _ refl (all_still (λ e. e.0 ≤ v.ids) id f (λ e low. low) v.sessions server.numbered) few
 
--- numbers stay where they are
+-- Ids keep their index.
 keys_where_one_changed : (id : ℕ) (f : SessionValue → SessionValue) (es : Entries) → keys_of (map (session_becomes id f) es) ≡ keys_of es
 keys_where_one_changed id f [] = refl
 keys_where_one_changed id f (e ∷ es) = cc (cond_both (nat_eq e.0 id) (e.0, f e.1) e (λ x. x.0 ≡ e.0) (λ _. refl) (λ _. refl), keys_where_one_changed id f es)
@@ -242,7 +242,7 @@ module _ (v : ServerValue) (id i : ℕ) (f : SessionValue → SessionValue) (ent
   pub changed_lies : LiesAt id i entries
   changed_lies = rw entries_changed (lies_where_taken id i f v.host v.sessions lies)
 
--- the same of a call that may be refused, and changes nothing then
+-- The same for a call that may fail and changes nothing then.
 pub changed_server_or_not : {T E : Type 0} (r : Result T E) (v : ServerValue) (id i : ℕ) (f : SessionValue → SessionValue) (entries : Entries) → IsServer v → LiesAt id i v.sessions
     → OnOk r (entries ≡ changed_at i (settling v.host f) v.sessions) → OnErr r (entries ≡ v.sessions) → IsServer (record v { sessions = entries })
 changed_server_or_not (Ok x) v id i f entries server lies ok err = changed_server v id i f entries server lies ok
@@ -253,14 +253,14 @@ pub changed_value_or_not : {T E : Type 0} (r : Result T E) (v w : ServerValue) (
 changed_value_or_not (Ok x) v w id i f entries server lies same ok = changed_value v id i f entries server lies ok ∙ ap (λ u. server_settled (on_session id f u)) same
 changed_value_or_not (Err e) v w id i f entries server lies same ok = tt
 
--- a tick to the same moment changes nothing
+-- A tick to the current time changes nothing.
 pub same_moment : (v : ServerValue) (now : ℕ) → IsServer v → now ≡ v.host.now → v ≡ server_ticked v now
 same_moment v now server same =
     ap (λ (es : Entries). record v { sessions = es }) (sym (all_settled_stay v.host v.sessions server.settled)) ∙ ap (server_ticked v) (sym same)
 
--- ---- every connection settles, one after the other
+-- ---- all connections settle, one after the other
 
--- the first so many have
+-- The first `n` connections have settled.
 unfoldable pub settled_up_to : ℕ → Host → Entries → Entries
 settled_up_to zero host es = es
 settled_up_to (suc n) host [] = []
@@ -287,7 +287,7 @@ next_settles zero host (e ∷ es) = refl
 next_settles (suc n) host [] = refl
 next_settles (suc n) host (e ∷ es) = ap (λ (rest : Entries). settled_entry host e ∷ rest) (next_settles n host es)
 
--- the next one settles
+-- The next connection settles.
 pub one_more_settled : (n : ℕ) (host : Host) (es now : Entries) (s after : SessionValue) → now ≡ settled_up_to n host es → slice_get (values_of now) n ≡ Some s → after ≡ session_settled host s → set_value_at now n after ≡ settled_up_to (n + 1) host es
 one_more_settled n host es now s after is at settles =
     let next : suc n ≡ n + 1 = omega arith in
@@ -298,21 +298,21 @@ unfolding settled_up_to
 settled_to_the_end host [] = refl
 settled_to_the_end host (e ∷ es) = ap (λ (rest : Entries). settled_entry host e ∷ rest) (settled_to_the_end host es)
 
--- all have
+-- All connections have settled.
 pub all_settled : (n : ℕ) (host : Host) (es now : Entries) → now ≡ settled_up_to n host es → n ≡ length es → now ≡ map (settled_entry host) es
 all_settled n host es now is end = cc (settled_to_the_end host es)
 
--- ---- a connection goes
+-- ---- a connection is removed
 
 abbrev pub is_other : ℕ → ℕ × SessionValue → Bool
 is_other id e = not (e.0 == id)
 
--- where none has the number, all stay
+-- If no connection has this id, all stay.
 others_are_kept : (id : ℕ) (es : Entries) → AllByRecursion (λ k. nat_eq id k ≡ false) (keys_of es) → filter (is_other id) es ≡ es
 others_are_kept id [] apart = refl
 others_are_kept id (e ∷ es) apart = rw (nat_eq_equiv.symm e.0 id ∙ apart.0) (ap (λ (rest : Entries). e ∷ rest) (others_are_kept id es apart.1))
 
--- the one at the index of its number goes
+-- The connection at the index of its id is removed.
 module _ (v : ServerValue) (id i : ℕ) (entries : Entries) (server : IsServer v) (lies : LiesAt id i v.sessions) (is : entries ≡ remove v.sessions i) where
   one_gone : entries ≡ map (settled_entry v.host) (filter (is_other id) v.sessions)
   one_gone =
@@ -329,9 +329,9 @@ module _ (v : ServerValue) (id i : ℕ) (entries : Entries) (server : IsServer v
       settled_server (record v { sessions = filter (is_other id) v.sessions }) entries one_gone (all_filter (λ e. e.0 ≤ v.ids) (is_other id) v.sessions server.numbered)
       (omega (arith, length-filter (is_other id) v.sessions, count_by-le-length (is_other id) v.sessions, server.few))
 
--- ---- a connection comes
+-- ---- a connection is added
 
--- a number that was not given goes last
+-- A new id is added at the end.
 goes_last : (n : ℕ) (s : SessionValue) (es : Entries) → AllByRecursion (λ e. e.0 ≤ n) es → insert_entry nat_eq es (n + 1) s ≡ es ++ (n + 1, s) ∷ []
 goes_last n s [] all = refl
 goes_last n s (e ∷ es) all = rw (ne_eqb (n + 1) e.0 (λ is. omega (arith, all.0))) (ap (λ (rest : Entries). e ∷ rest) (goes_last n s es all.1))
@@ -356,7 +356,7 @@ module _ (v : ServerValue) (entries : Entries) (server : IsServer v) (is : entri
       settled_server (record v { ids = v.ids + 1; sessions = with_new }) entries one_more_last (all_append (λ e. e.0 ≤ v.ids + 1) v.sessions _ lower (omega arith, tt))
       (omega (arith, length_push v.sessions (v.ids + 1, new_session v.config.limits)))
 
--- ---- what calls answer
+-- ---- the results of calls
 
 pub opens : (v : ServerValue) → length v.sessions < v.config.connections → (v.ids ≡ 18446744073709551615 → ⊥) → open_refusal v ≡ None
 opens v few left = grind (arith, few, left)

@@ -1,4 +1,5 @@
--- A piece that changes no resource leaves no connection of a server to settle but the one that took it, if that holds something.
+-- After input that changes no resource, a server only has to settle the connection that received it, and only if an
+-- entry is pending.
 use Rattle.std.proofs.Common.{◌≡◌, ℕ, Bool, false, cond, List, take, Option, Some, sym, ap, subst, ◌∙◌, map, slice_get}
 use Rattle.coap_server_engine.specs.Prelude.{values_of, set_value_at, stop_of, Reason, changes, Host, SessionValue, Taking}
 use Rattle.coap_server_engine.specs.Prelude.{session_takes, taking, host_changed, IsSettled, RefusesPiece, settled_held}
@@ -29,7 +30,7 @@ module _ (v : ServerValue) (id i : ℕ) (s : SessionValue) (piece : List ℕ) (s
   written_is =
       written_at_index (λ _. taking_here.session) v.sessions i s here ∙ changed_one id (λ _. taking_here.session) v.sessions i lies.distinct lies.index lies.within
 
-  -- where no resource changed, the others are settled
+  -- If no resource changed, the other connections are settled.
   quiet_is : changes taking_here.change ≡ false → changed_at i (settled_held host_after) (set_value_at v.sessions i taking_here.session) ≡ map (settled_entry host_after) with_it
   quiet_is quiet =
       let last : SessionValue → SessionValue = λ _. taking_here.session in
@@ -40,7 +41,7 @@ module _ (v : ServerValue) (id i : ℕ) (s : SessionValue) (piece : List ℕ) (s
       ∙ changed_one id (settling v.host last) v.sessions i lies.distinct lies.index lies.within
       ∙ one_settles v.host id last v.sessions server.settled)
 
-  -- the same where it holds still
+  -- The same if this connection is still settled.
   pub still_is : changes taking_here.change ≡ false → IsSettled v.host taking_here.session → set_value_at v.sessions i taking_here.session ≡ map (settled_entry host_after) with_it
   still_is quiet still =
       let settled : AreSettled host_after with_it =
@@ -48,11 +49,11 @@ module _ (v : ServerValue) (id i : ℕ) (s : SessionValue) (piece : List ℕ) (s
       (all_still (λ e. IsSettled v.host e.1) id (λ _. taking_here.session) (λ e _. still) v.sessions server.settled) in
       written_is ∙ sym (all_settled_stay host_after with_it settled)
 
-  -- all settle where a resource changed, and else the one, where it holds something
+  -- All connections settle if a resource changed, otherwise this one, if an entry is pending.
   abbrev left_so : Host → SessionValue → Bool → Entries
   left_so host after changed = cond changed (map (settled_entry host) (set_value_at v.sessions i after)) (changed_at i (settled_held host) (set_value_at v.sessions i after))
 
-  -- a server with these connections
+  -- A server with these connections.
   module _ (host : Host) (entries : Entries) (host_is : host ≡ host_after) (all : entries ≡ map (settled_entry host_after) with_it) where
     pub becomes : IsServer (record v { host = host; sessions = entries }) × (record v { host = host; sessions = entries } ≡ server_taken v id piece)
     unfolding server_taken
@@ -74,12 +75,12 @@ module _ (v : ServerValue) (id i : ℕ) (s : SessionValue) (piece : List ℕ) (s
     pub taken_lies : LiesAt id i entries
     taken_lies = rw all_are (lies_where_taken id i (λ _. taking_here.session) host_after v.sessions lies)
 
-    -- what was handled, where the connection stands so afterwards
+    -- The result of the call, from the state of the connection after it.
     pub taken_handled : (takes message : Bool) (stop : Option Reason) (now : SessionValue) → takes ≡ session_takes s → message ≡ taking_here.handled → slice_get (values_of entries) i ≡ Some now → stop ≡ stop_of now.link.phase → handled_so takes message stop ≡ handled_by v id piece
     unfolding handled_by
     taken_handled takes message stop now takes_is message_is there stop_is = cc (taken_lies.found, taken_value, lies.found)
 
--- ---- the server where memory was refused
+-- ---- the server after allocation failed
 
 module _ (v : ServerValue) (id i : ℕ) (s : SessionValue) (piece : List ℕ) (count : ℕ) (server : IsServer v) (lies : LiesAt id i v.sessions) (here : slice_get (values_of v.sessions) i ≡ Some s) (refuses : RefusesPiece v.host s piece count) where
   pub refuses_on : RefusesPieceOn v piece count (session_of id v.sessions)

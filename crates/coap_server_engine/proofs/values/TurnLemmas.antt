@@ -1,4 +1,4 @@
--- One turn of a flush, on the connection where it lies.
+-- One iteration of a flush, on a connection at its index.
 use Rattle.std.proofs.Common.{◌≡◌, ℕ, Bool, true, false, List, length, Option, Some, Result, Ok, Err, OnErr, sym, ap, subst, ◌∙◌, slice_get}
 use Rattle.coap_server_engine.specs.Prelude.{values_of, SessionValue, session_written, ServerValue, LiesAt, IsFlushedAt}
 use Rattle.coap_server_engine.specs.Prelude.{IsFlushedOnce, IsServer}
@@ -7,7 +7,7 @@ use Rattle.coap_server_engine.proofs.values.ServerLemmas.{Entries, changed_serve
 pub same_session : (o : Option SessionValue) (s t : SessionValue) → o ≡ Some s → o ≡ Some t → s ≡ t
 same_session o s t is also = let both : ◌≡◌ {A = Option SessionValue} (Some s) (Some t) = sym is ∙ also in cc
 
--- what is so of one connection, and is told of each that is this one
+-- A property of one connection, stated for every value that is equal to it.
 pub for_one_on_fault : {T E : Type 0} (r : Result T E) (o : Option SessionValue) (P : SessionValue → Type 0) (t : SessionValue) → o ≡ Some t → P t → OnErr r ((s : SessionValue) → o ≡ Some s → P s)
 for_one_on_fault (Ok x) o P t is holds = tt
 for_one_on_fault (Err e) o P t is holds = λ s also. subst P (same_session o t s is also) holds

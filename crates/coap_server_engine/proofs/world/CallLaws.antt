@@ -1,4 +1,4 @@
--- What the clauses of each call of a server say of its value shows the call's event.
+-- A server that meets the clauses of a call on its value shows the event of this call.
 use Rattle.std.proofs.Common.{◌≡◌, ℕ, ◌+◌, ◌<◌, ◌^◌, true, List, [], ◌∷◌, ◌++◌, take, Option, Some, None, Result, Ok, Err, refl, sym, ◌∙◌, arith, is_ok, nat_le, option_map, IfOk, IfErr, OnOk}
 use Rattle.std.proofs.lemmas.Bool.Decides.{nat_tests}
 use Rattle.std.proofs.lemmas.Bool.{leb-true}
@@ -22,7 +22,7 @@ use Rattle.coap_server_engine.proofs.world.ShowLaws.{shows_opened, shows_written
 use Rattle.coap_model.proofs.world.StepLaws.{world_first}
 use Rattle.coap_model.proofs.OptionLemmas.{none_made}
 
--- the connection with this number where one is there, and where nothing refuses a call on it
+-- The connection with this id, if it exists and a call on it does not fail.
 where_one : (o : Option SessionValue) → true ≡ is_there o → (s : SessionValue) × (o ≡ Some s)
 where_one None there = absurd cc
 where_one (Some s) there = (s, refl)
@@ -91,7 +91,7 @@ drop_shows (Err e) v new id there is = tt
 pub not_refused : (refusal : Option SendFault) → option_map release_fault refusal ≡ None → refusal ≡ None
 not_refused refusal none = none_made release_fault refusal none
 
--- what nothing refuses may be announced
+-- A size that has no refusal may be announced.
 raises_where_free : (s : SessionValue) (size : ℕ) → session_refusal s size ≡ None → session_raises s size ≡ true
 raises_where_free s size none = grind (arith, nat_tests)
 

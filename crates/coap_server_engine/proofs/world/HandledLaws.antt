@@ -1,4 +1,5 @@
--- What was taken on a connection was handled: each message of the stream once and in order, and its fault stops the connection.
+-- A connection has processed each message of its accepted bytes once and in order, and the error after them is the
+-- reason of its stop.
 use Rattle.std.proofs.Common.{◌≡◌, ℕ, ◌+◌, Bool, true, List, [], ◌∷◌, ◌++◌, length, take, Option, Some, None, Result}
 use Rattle.std.proofs.Common.{Ok, Err, refl, sym, ap, subst, ◌∙◌, ◌⊎◌, inl, inr, arith, option_map, IfOk, ◌≢◌}
 use Rattle.std.proofs.lemmas.Bool.{lt-ltb, le-ltb, cases_eq, cases_Bool}
@@ -36,7 +37,7 @@ module _ (c : ConfigValues) (es : List Event) (id : ℕ) (piece : List ℕ) (s :
   abbrev handling_size : ℕ
   handling_size = size_on c.limits.max_message id es
 
-  -- what is taken of the piece
+  -- The accepted bytes of the slice.
   abbrev pub bytes_taken : List ℕ
   bytes_taken = take (takes c es id piece) piece
 
@@ -61,7 +62,7 @@ module _ (c : ConfigValues) (es : List Event) (id : ℕ) (piece : List ℕ) (s :
     found_so (AFrame frame) e = frame_so frame (message_of frame) e refl
     found_so (AFault fault) e = OneFault refl does (OfFrame fault) _ (piece_adds_fault c.limits.max_message id es piece no_fault_before fault e)
 
-  -- what is taken of any piece
+  -- The accepted bytes of any slice.
   pub took_so : (host : Host) → TakesSo c.limits.max_message id es bytes_taken s (taking host session_before piece).handled
   took_so host =
       elim (cases_Bool (handles s)) [
@@ -71,7 +72,7 @@ module _ (c : ConfigValues) (es : List Event) (id : ℕ) (piece : List ℕ) (s :
             (NoStep refl (no_bytes_steps c.limits.max_message id es) (rw (no_bytes_stream c.limits.max_message id es) refl) (rw (no_bytes_stream c.limits.max_message id es) refl))
       ]
 
--- the same of all bytes of an accepted take
+-- The same for all bytes of an accepted take.
 accepted_so : (c : ConfigValues) (es : List Event) (id : ℕ) (bytes : List ℕ) (s : Side) → IsReached c es → side_of id (world_after c es).sides ≡ Some s → takes c es id bytes ≡ length bytes
     → (message : Bool) × TakesSo c.limits.max_message id es bytes s message
 accepted_so c es id bytes s is there all =
@@ -87,14 +88,14 @@ took_became c es id bytes s t is all there then =
     let after = became c es id bytes s so.0 there so.1 in
     (so.0, rw (same_there after.0 t (sym after.1 ∙ then)) at after.2)
 
--- ---- what it says that it handled
+-- ---- the result that a take reports
 
 tells_what_became : (before after : Stream) (s t : Side) (message : Bool) → Became before after s t message → handled_so (handles s) message (stop_of t.history.phase) ≡ handled_between (Some s) (Some t)
 tells_what_became before after s t message became = grind (arith, le-ltb, lt-ltb, length-append)
 
 -- ---- the clause of a take
 
--- why the connection takes no message any more, where it is there
+-- The reason for which a connection no longer accepts messages, if it exists.
 abbrev side_stop : Option Side → Option Reason
 side_stop None = None
 side_stop (Some t) = stop_of t.history.phase
@@ -106,7 +107,7 @@ module _ (v : ServerValue) (es : List Event) (id : ℕ) (piece : List ℕ) (show
   abbrev stop_then : Option Reason
   stop_then = stop_on (session_of id (server_taken v id piece).sessions)
 
-  -- why the connection of the server takes no message any more is told by the world
+  -- This reason is the same in the server and in the model.
   stop_shown : (s : SessionValue) → session_of id v.sessions ≡ Some s → stop_then ≡ side_stop (side_of id (world_after v.config (es ++ event_then ∷ [])).sides)
   unfolding server_taken
   stop_shown s e =
@@ -137,12 +138,12 @@ take_says (Ok t) v id piece count says = λ es shows.
     ∙ ap (λ (n : ℕ). handled_in v.config es (Took id (take n piece)) id) (sym count)
 take_says (Err e) v id piece count says = tt
 
--- ---- how many messages were handled
+-- ---- the number of processed messages
 
 counted : (before after : Stream) (s t : Side) (message : Bool) → Became before after s t message → length t.history.handled ≡ length s.history.handled + count_of (handled_between (Some s) (Some t))
 counted before after s t message became = grind (arith, le-ltb, lt-ltb, length-append, no_message_reason)
 
--- What is taken of a piece handled as many messages as what it says counts.
+-- A take has processed as many messages as its result counts.
 pub messages_counted : (c : ConfigValues) (es : List Event) (id : ℕ) (piece : List ℕ) (s t : Side) → AreAccepted c es → side_of id (world_after c es).sides ≡ Some s → side_of id (world_after c (es ++ Took id (take (takes c es id piece) piece) ∷ [])).sides ≡ Some t
     → length t.history.handled ≡ length s.history.handled + count_of (handled_in c es (Took id (take (takes c es id piece) piece)) id)
 unfolding IsAccepted
@@ -153,7 +154,7 @@ messages_counted c es id piece s t accepted there then =
     let after = took_became c es id bytes s t is all there then in
     rw (there, then) (counted _ _ s t after.0 after.1)
 
--- what is taken of a piece makes no step, or one: it spells one at most beyond the bytes before it
+-- A take makes at most one step, since its bytes complete at most one message or error.
 pub one_step_at_most : (c : ConfigValues) (es : List Event) (id : ℕ) (piece : List ℕ) (s : Side) → IsReached c es → side_of id (world_after c es).sides ≡ Some s
     → (beyond id (stream_on c.limits.max_message id es) (stream_on c.limits.max_message id (es ++ Took id (take (takes c es id piece) piece) ∷ [])) ≡ [])
     ⊎ ((st : Step) × (beyond id (stream_on c.limits.max_message id es) (stream_on c.limits.max_message id (es ++ Took id (take (takes c es id piece) piece) ∷ [])) ≡ st ∷ []))
@@ -162,7 +163,7 @@ one_step_at_most c es id piece s is there =
     let so = took_so c es id piece s is there (record { store = (world_after c es).store; now = (world_after c es).now }) in grind arith
 
 module _ (c : ConfigValues) (es : List Event) (id : ℕ) (is : IsReached c es) (before : AgreesOn c es id) where
-  -- the connection, or a new one, after a step that is none of its messages or faults
+  -- The connection, or a new one, after a step that is none of its messages or errors.
   from_agrees : (st : Step) (t : Side) → OpensNext c (world_after c es) st → HoldsFrom (Between HandlesNone) c.limits (world_after c es) st id t → Agrees (stream_on c.limits.max_message id es) t
   from_agrees st t next (inl old) = rests_agrees (stream_on c.limits.max_message id es) old.0 t (before old.0 old.1) old.2
   from_agrees st t next (inr new) =
@@ -170,7 +171,7 @@ module _ (c : ConfigValues) (es : List Event) (id : ℕ) (is : IsReached c es) (
       rests_agrees (stream_on c.limits.max_message id es) (new_side c.limits) t
       (silent_agrees c.limits c.limits.max_message id es (is.silent id (omega (arith, opened.0)))) new.2
 
-  -- an event that makes one step and takes no byte of the connection
+  -- An event that makes one step and accepts no byte on the connection.
   step_agrees : (e : Event) (st : Step) → steps_by c.limits.max_message es e ≡ st ∷ [] → OpensNext c (world_after c es) st → IsElsewhere st id → taken_in id e ≡ [] → AgreesOn c (es ++ e ∷ []) id
   step_agrees e st one next away none t there =
       let at : side_of id (world.step c.limits (world_after c es) st).sides ≡ Some t = ap (λ (w : World). side_of id w.sides) (sym (world_step c es e st one)) ∙ there in

@@ -1,5 +1,5 @@
--- The last byte of a message for which memory is refused: the bytes before it make no step, and with it comes one message more,
--- which stores a representation.
+-- A failed allocation in a take: the bytes before the last one of the message make no step. This byte completes the
+-- message, which stores a representation.
 use Rattle.std.proofs.Common.{◌≡◌, ℕ, suc, ◌+◌, ◌<◌, List, [], ◌∷◌, ◌++◌, length, take, drop, get_or, Some, None, Result, refl, sym, ap, subst, ◌∙◌, append_assoc, arith, IfErr, inl, inr, ◌⊎◌}
 use Rattle.coap_server_engine.specs.Prelude.{AllByRecursion, Message, Stream, split, split_on, Framing, IsPut, ConfigValues}
 use Rattle.coap_server_engine.specs.Prelude.{Host, SessionValue, change_by, RefusesPiece, ServerValue, session_of, count_on}
@@ -23,11 +23,11 @@ use Rattle.coap_model.specs.declared.answers.WrittenFault.TheVariants as writing
 use Rattle.coap_model.specs.declared.answers.ReleaseFault.TheVariants as releasing
 use Rattle.coap_model.specs.world.View as view
 
--- what a connection has spelled, gone on with more bytes
+-- The stream of a connection, continued with more bytes.
 abbrev gone_on_with : ConfigValues → List Event → ℕ → List ℕ → Stream
 gone_on_with c es id more = split_on (size_on c.limits.max_message id es) (stream_on c.limits.max_message id es) more
 
--- Memory was refused for the message whose last byte stands behind the first n bytes of a piece.
+-- Allocation failed for the message that ends with the byte after the first `n` bytes of a slice.
 pub record RefusesLast (v : ServerValue) (es : List Event) (id : ℕ) (piece : List ℕ) (n : ℕ) : Type 0 where
   pub last : ℕ
   pub behind : List ℕ
@@ -39,9 +39,9 @@ pub record RefusesLast (v : ServerValue) (es : List Event) (id : ℕ) (piece : L
       ≡ record { messages = (gone_on_with v.config es id (take n piece)).messages ++ message ∷ []; rest = []; fault = None }
   pub stores : IsPut (change_made (world_after v.config es) id message)
 
--- ---- where memory is refused
+-- ---- a failed allocation
 
--- Where memory is refused for a piece, it is refused for the message that its next byte would end.
+-- If allocation fails for a slice, it fails for the message that the next byte would complete.
 pub refuses_last : (v : ServerValue) (es : List Event) (id : ℕ) (piece : List ℕ) (n : ℕ) (s : SessionValue) → Shows v es → session_of id v.sessions ≡ Some s → RefusesPiece v.host s piece n → RefusesLast v es id piece n
 unfolding steps_by
 refuses_last v es id piece n s shows e refused =
@@ -76,9 +76,9 @@ refuses_last v es id piece n s shows e refused =
           (subst (λ (h : Host). IsPut (change_by h (session_shown so_far.rest t).link stored.message)) (host_shown v es shows) stored.puts);
     }
 
--- ---- Where a take is refused memory, the events say for which message: the one that the next byte of the piece would end.
+-- ---- the message for which allocation failed, from the events: the next byte of the slice would complete it
 
--- memory is refused for a message that is stored
+-- This message stores a representation.
 pub refused_is_stored : (v after : ServerValue) (es : List Event) (id : ℕ) (piece : List ℕ) (n : ℕ) → Shows v es → IsNotTaken v id piece (fault.Memory n) after → IsRefusedStored v.config es id piece n
 unfolding count_taken steps_by
 refused_is_stored v after es id piece n shows not =
@@ -93,7 +93,7 @@ refused_is_stored v after es id piece n shows not =
       stores = last.stores;
     }
 
--- and so for no other
+-- Allocation fails for no other message.
 pub other_not_refused : (v after : ServerValue) (es : List Event) (id : ℕ) (piece : List ℕ) (n : ℕ) → Shows v es → StoresNothing v.config es id piece → IsNotTaken v id piece (fault.Memory n) after → ⊥
 other_not_refused v after es id piece n shows nothing not =
     let c : ConfigValues = v.config in

@@ -1,4 +1,4 @@
--- Events that are heard alike, and that leave equal bytes kept, leave equal servers.
+-- Events with equal normalised steps, and with equal bytes kept of unfinished messages, leave equal servers.
 use Rattle.std.proofs.Common.{◌≡◌, ℕ, List, map, Some, ap}
 use Rattle.coap_server_engine.specs.Prelude.{ConfigValues, Side}
 use Rattle.coap_server_engine.specs.Prelude.{World, side_of}
@@ -11,7 +11,7 @@ use Rattle.coap_model.proofs.world.HearingLaws.{each_same, same_heard}
 
 -- ---- servers
 
--- equal steps and equal bytes kept are equal servers
+-- Equal steps and equal kept bytes determine equal servers.
 pub same_servers : (c : ConfigValues) (es fs : List Event) → steps_heard c es ≡ steps_heard c fs → ((id : ℕ) → kept_at c es id ≡ kept_at c fs id) → server_of c es ≡ server_of c fs
 unfolding server_of
 same_servers c es fs alike kept =

@@ -1,4 +1,4 @@
--- Each call of a server shows its event: what a server holds after calls is what their events leave.
+-- Each call of a server shows its event: the value of a server is determined by its events.
 use Rattle.std.proofs.Common.{◌≡◌, ◌≢◌, ℕ, ◌+◌, ◌≤◌, Bool, true, false, List, [], ◌∷◌, ◌++◌, length, map, take, Some, None, Result, Ok, Err, refl, sym, ap, subst, ◌∙◌, take-take, arith, not, filter, option_map, ◌==◌, if◌then◌else◌, ◌<◌, Option, inl, inr}
 use Rattle.std.proofs.lemmas.Bool.Decides.{nat_tests}
 use Rattle.std.proofs.lemmas.Bool.{cases_Bool}
@@ -40,9 +40,9 @@ use Rattle.coap_conn.proofs.LinkLemmas.{new_shown}
 use Rattle.coap_store.specs.Answer as store_change
 use Rattle.coap_model.specs.world.World as world
 
--- ---- connections by their numbers
+-- ---- connections by id
 
--- the connection of a server with a number shows the one of the world
+-- The connection of a server with this id represents that of the model.
 session_found : (M id : ℕ) (es : List Event) (ps : List Place) → session_of id (map (place_shown M es) ps) ≡ option_map (session_shown (stream_on M id es).rest) (side_of id ps)
 unfolding session_of side_of
 session_found M id es [] = refl
@@ -50,8 +50,8 @@ session_found M id es (p ∷ ps) = grind (arith, nat_tests, session_found M id e
 
 -- ---- a change of one connection
 
--- numbers are distinct, so it is enough that the connection t becomes after fs what g makes of its value after es, and that the
--- streams of the others are the same
+-- Ids are distinct. So it is enough that `g` maps the value of `t` after `es` to its value after `fs`, and that the
+-- other streams are equal.
 one_becomes : (M id : ℕ) (es fs : List Event) (f : Side → Side) (g : SessionValue → SessionValue) (t : Side) (ps : List Place) → AreDistinct ps → side_of id ps ≡ Some t
     → ((n : ℕ) → id ≢ n → stream_on M n fs ≡ stream_on M n es) → session_shown (stream_on M id fs).rest (f t) ≡ g (session_shown (stream_on M id es).rest t)
     → map (place_shown M fs) (map (changed_at id f) ps) ≡ map (session_becomes id g) (map (place_shown M es) ps)
@@ -63,7 +63,7 @@ one_becomes M id es fs f g t ps distinct there same becomes =
 
 -- ---- settling
 
--- a server settles as its world does
+-- A server settles as its model does.
 server_after_settling : (c : ConfigValues) (es : List Event) (w : World) → IsKnownWorld w → server_shown c es (all_settled w) ≡ server_settled (server_shown c es w)
 server_after_settling c es w known =
     let shown : Place → ℕ × SessionValue = place_shown c.limits.max_message es in
@@ -75,18 +75,18 @@ server_after_settling c es w known =
     (λ p is. ap (λ (v : SessionValue). (p.id, v))
     (settled_shown w.store w.now known.moment known.versioned (stream_on c.limits.max_message p.id es).rest p.side is)) w.sides known.places))
 
--- what is known of a connection of a world that was reached
+-- The history of a connection of a reached world is valid.
 history_there : (c : ConfigValues) (es : List Event) (id : ℕ) (t : Side) → c.starts.moment ≤ 18446744073709551615 → side_of id (world_after c es).sides ≡ Some t → IsHistory t.history
 history_there c es id t small there =
     (of_number (λ n s. IsKnownSide (world_after c es).store s) id t (world_after c es).sides (world_known c es small).places there).is_history
 
--- ---- what a session takes
+-- ---- the bytes that a session accepts
 
 pub taking_stopped : (host : Host) (s : SessionValue) (piece : List ℕ) → session_takes s ≡ false → taking host s piece ≡ record { count = 0; handled = false; session = s; change = store_change.Nothing }
 unfolding taking
 taking_stopped host s piece stopped = rw stopped refl
 
--- a connection that handles messages takes what is left of the bytes so far and the piece spell
+-- A connection that accepts bytes finds in the kept bytes and the slice the frame or error that `framing` finds.
 pub taking_front : (host : Host) (M : ℕ) (rest piece : List ℕ) (t : Side) → t.history.own_max ≡ M → handles t ≡ true
     → taking host (session_shown rest t) piece ≡ taking_found host (session_shown rest t) (framing M rest piece) (framing M rest piece).finding
 unfolding taking
@@ -95,14 +95,14 @@ taking_front host M rest piece t most does = rw ((handles_parts t does).0, (hand
 count_found : (host : Host) (s : SessionValue) (f : Framing) (found : Finding) → (taking_found host s f found).count ≡ f.taken
 count_found host s f found = grind arith
 
--- and so many bytes of it
+-- The number of bytes that it accepts.
 pub taking_count : (host : Host) (M : ℕ) (rest piece : List ℕ) (t : Side) → t.history.own_max ≡ M → (taking host (session_shown rest t) piece).count ≡ (if handles t then front_of M rest piece else 0)
 taking_count host M rest piece t most =
     let s : SessionValue = session_shown rest t in
     let f : Framing = framing M rest piece in
     grind (arith, taking_front host M rest piece t most, count_found host s f f.finding, taking_stopped host s piece)
 
--- a representation is stored only with a frame that spells a message that stores it
+-- A representation is stored only by a frame whose message stores it.
 pub record StoresBy (host : Host) (s : SessionValue) (found : Finding) : Type 0 where
   pub frame : List ℕ
   pub message : Message
@@ -118,7 +118,7 @@ stores_by host s f (AFrame frame) put = by (message_of frame) refl put
     by (Err fault) e puts = absurd puts
 stores_by host s f other put = absurd put
 
--- ---- what a server takes
+-- ---- the bytes that a server accepts
 
 module _ (c : ConfigValues) (es : List Event) (id : ℕ) (piece : List ℕ) (t : Side) (small : c.starts.moment ≤ 18446744073709551615) (is : IsReached c es) (there : side_of id (world_after c es).sides ≡ Some t) where
   abbrev most : ℕ
@@ -136,7 +136,7 @@ module _ (c : ConfigValues) (es : List Event) (id : ℕ) (piece : List ℕ) (t :
   abbrev pub host_then : Host
   host_then = host_of world_then.store world_then.now
 
-  -- the size in force
+  -- The current message size.
   abbrev in_force : ℕ
   in_force = size_on c.limits.max_message id es
 
@@ -146,11 +146,11 @@ module _ (c : ConfigValues) (es : List Event) (id : ℕ) (piece : List ℕ) (t :
   abbrev front_taken_then : List ℕ
   front_taken_then = take (front_of in_force so_far piece) piece
 
-  -- the server that took so is the one after the bytes taken
+  -- The server after this effect is that after the accepted bytes.
   abbrev pub TakesAs : Taking → Type 0
   TakesAs k = server_taken_so (server_of c es) id k ≡ server_of c (es ++ Took id (take k.count piece) ∷ [])
 
-  -- bytes that make f of the connection, which then shows as v
+  -- Bytes that change the connection by `f`, whose value is `v` then.
   took : (bytes : List ℕ) (f : Side → Side) (v : SessionValue) (store : StoreValue) → IsKnownWorld (record (on_side id f world_then) { store = store })
       → world_after c (es ++ Took id bytes ∷ []) ≡ all_settled (record (on_side id f world_then) { store = store })
       → session_shown (stream_on most id (es ++ Took id bytes ∷ [])).rest (f t) ≡ v
@@ -163,7 +163,7 @@ module _ (c : ConfigValues) (es : List Event) (id : ℕ) (piece : List ℕ) (t :
       ∙ ap (λ (os : List (ℕ × SessionValue)). server_settled (record (server_shown c es world_then) { host = host; sessions = os }))
       (one_becomes most id es fs f (λ s. v) t world_then.sides (events_distinct c es) there (λ k apart. stream_elsewhere most k id es bytes apart) shown))
 
-  -- bytes that make no step
+  -- Bytes that make no step.
   took_quietly : (bytes : List ℕ) (v : SessionValue) → steps_by most es (Took id bytes) ≡ [] → session_shown (stream_on most id (es ++ Took id bytes ∷ [])).rest t ≡ v
       → server_settled (on_session id (λ s. v) (server_of c es)) ≡ server_of c (es ++ Took id bytes ∷ [])
   unfolding server_of
@@ -187,7 +187,7 @@ module _ (c : ConfigValues) (es : List Event) (id : ℕ) (piece : List ℕ) (t :
         (ap (λ (u : Stream). session_shown u.rest (side_faulted t fault)) adds.stream
         ∙ faulted_shown so_far rest t fault (history_there c es id t small there) does)
 
-    -- what a frame spells
+    -- The bytes of a frame, from the result of the parser.
     frame_takes : (frame : List ℕ) (read : Result Message FormatFault) → Adds most id es front_taken_then (frame_then frame read (record { messages = []; rest = []; fault = None }))
         → TakesAs (taking_read host_then session_then framing_then.taken read)
     unfolding server_of acted world.step
@@ -212,7 +212,7 @@ module _ (c : ConfigValues) (es : List Event) (id : ℕ) (piece : List ℕ) (t :
     found_takes (AFrame frame) e adds = frame_takes frame (message_of frame) adds
     found_takes (AFault fault) e adds = fault_takes (OfFrame fault) _ adds
 
-  -- what is taken of any piece
+  -- The accepted bytes of any slice.
   server_takes : TakesAs (taking host_then session_then piece)
   server_takes =
       elim (cases_Bool (handles t)) [
@@ -222,19 +222,19 @@ module _ (c : ConfigValues) (es : List Event) (id : ℕ) (piece : List ℕ) (t :
         | inr stopped ↦ rw (taking_stopped host_then session_then piece stopped) stopped_takes
       ]
 
--- ---- the connections of a server are those of its world
+-- ---- the connections of a server are those of its model
 
--- what is left of the bytes that a connection of a server took
+-- The bytes kept of a connection's unfinished frame.
 abbrev rest_on : ServerValue → List Event → ℕ → List ℕ
 rest_on v es id = (stream_on v.config.limits.max_message id es).rest
 
--- the connection of the world that a session shows
+-- The connection of the model that a session represents.
 pub record SessionThere (v : ServerValue) (events : List Event) (id : ℕ) (s : SessionValue) : Type 0 where
   pub side : Side
   pub there : side_of id (world_after v.config events).sides ≡ Some side
   pub shown : s ≡ session_shown (stream_on v.config.limits.max_message id events).rest side
 
--- what a server has under a number is what its world has
+-- A server has a connection with an id if and only if its model has, and their values correspond.
 pub sessions_shown : (v : ServerValue) (es : List Event) (id : ℕ) → Shows v es → session_of id v.sessions ≡ option_map (session_shown (stream_on v.config.limits.max_message id es).rest) (side_of id (world_after v.config es).sides)
 unfolding server_of
 sessions_shown v es id shows =
@@ -245,36 +245,36 @@ session_there v es id s shows e =
     let made = one_made (session_shown (rest_on v es id)) (side_of id (world_after v.config es).sides) s (sym (sessions_shown v es id shows) ∙ e) in
     record { side = made.0; there = made.1; shown = sym made.2 }
 
--- and back
+-- The session of a connection of the model.
 pub side_there : (v : ServerValue) (es : List Event) (id : ℕ) (t : Side) → Shows v es → side_of id (world_after v.config es).sides ≡ Some t → session_of id v.sessions ≡ Some (session_shown (stream_on v.config.limits.max_message id es).rest t)
 side_there v es id t shows e = sessions_shown v es id shows ∙ rw e refl
 
--- none is there where none is in the world, and only there
+-- A server has no connection with an id if its model has none.
 pub no_session : (v : ServerValue) (es : List Event) (id : ℕ) → Shows v es → side_of id (world_after v.config es).sides ≡ None → session_of id v.sessions ≡ None
 no_session v es id shows e = sessions_shown v es id shows ∙ rw e refl
 
--- the resources and the moment
+-- The resources and the time.
 pub host_shown : (v : ServerValue) (es : List Event) → Shows v es → v.host ≡ host_of (world_after v.config es).store (world_after v.config es).now
 unfolding server_of
 host_shown v es shows = ap (λ (u : ServerValue). u.host) shows.same
 
 -- ---- no change is lost
 
--- On each connection where there is room, each observer was told the state that its path has now.
+-- A connection is up to date if its queue has room, since the one of the model is.
 pub no_change_is_lost : (v : ServerValue) (es : List Event) (id : ℕ) (s : SessionValue) (t : Side) → Shows v es → session_of id v.sessions ≡ Some s → side_of id (world_after v.config es).sides ≡ Some t → HearsAll v.host.store v.host.now t
 no_change_is_lost v es id s t shows e there =
     let w : World = world_after v.config es in
     rw (host_shown v es shows) (of_number (λ n u. HearsAll w.store w.now u) id t w.sides (world_hears v.config es) there)
 
--- ---- calls that take no byte
+-- ---- calls that accept no byte
 
--- a server that is the one shown behind an event that is accepted shows that event too
+-- A server with the value after one more accepted event shows that event too.
 shows_event : (v new : ServerValue) (es : List Event) (e : Event) → Shows v es → IsAccepted v.config es e → new ≡ server_of v.config (es ++ e ∷ []) → Shows new (es ++ e ∷ [])
 unfolding server_of
 shows_event v new es e shows accepted same =
     rw same (record { accepted = accepted_more v.config es e shows.accepted accepted; same = refl; moment = shows.moment })
 
--- an event with no byte and one step, where g makes of the server what the step makes of its world
+-- An event without bytes that makes one step, where `g` changes the server as the step changes its model.
 shows_step : (v : ServerValue) (es : List Event) (e : Event) (st : Step) (g : ServerValue → ServerValue) → Shows v es → IsAccepted v.config es e → steps_by v.config.limits.max_message es e ≡ st ∷ [] → ((id : ℕ) → taken_in id e ≡ [])
     → server_shown v.config es (acted v.config.limits (world_after v.config es) st) ≡ g (server_of v.config es) → Shows (server_settled (g v)) (es ++ e ∷ [])
 unfolding server_of world.step
@@ -290,7 +290,7 @@ shows_step v es e st g shows accepted one none becomes =
     ∙ sym (ap (server_shown c fs) (world_step c es e st one)
     ∙ server_after_settling c fs did (acted_known c.limits (world_after c es) st (world_known c es shows.moment)) ∙ ap server_settled (streams ∙ becomes)))
 
--- on a connection that is there, of which P holds, and which the step alone changes
+-- The same for a step that changes only one connection, which has the property `P`.
 shows_on : (v : ServerValue) (es : List Event) (id : ℕ) (s : SessionValue) (e : Event) (st : Step) (f : Side → Side) (g : SessionValue → SessionValue) (P : SessionValue → Type 0)
     → Shows v es → session_of id v.sessions ≡ Some s → P s → steps_by v.config.limits.max_message es e ≡ st ∷ [] → ((k : ℕ) → taken_in k e ≡ [])
     → acted v.config.limits (world_after v.config es) st ≡ on_side id f (world_after v.config es)
@@ -308,35 +308,35 @@ shows_on v es id s e st f g P shows there holds one none acts accepts becomes =
     (one_becomes c.limits.max_message id es es f g at.side w.sides (events_distinct c es) at.there (λ n apart. refl)
     (becomes at.side (history_there c es id at.side shows.moment at.there) here)))
 
--- bytes that were written
+-- `written`.
 pub shows_written : (v : ServerValue) (es : List Event) (id n : ℕ) (s : SessionValue) → Shows v es → session_of id v.sessions ≡ Some s → n ≤ length s.link.waiting → Shows (server_written v id n) (es ++ Wrote id n ∷ [])
 unfolding IsAccepted acted steps_by
 shows_written v es id n s shows there within =
     shows_on v es id s (Wrote id n) _ (λ t. side_written t n) (λ u. session_written u n) (λ u. n ≤ length u.link.waiting) shows there within
     refl (λ k. refl) refl (λ ok. ok) (λ t history few. written_shown (rest_on v es id) t n history few)
 
--- the end of the input
+-- `ended`.
 pub shows_ended : (v : ServerValue) (es : List Event) (id : ℕ) (s : SessionValue) → Shows v es → session_of id v.sessions ≡ Some s → Shows (server_ended v id) (es ++ Ended id ∷ [])
 unfolding IsAccepted acted steps_by
 shows_ended v es id s shows there =
     shows_on v es id s (Ended id) _ (λ t. side_ended t (is_cut (rest_on v es id))) session_ended (λ u. Unit {0}) shows there tt
     refl (λ k. refl) refl (λ ok. ok) (λ t history any. ended_side_shown (rest_on v es id) t history)
 
--- Release
+-- `release`.
 pub shows_released : (v : ServerValue) (es : List Event) (id : ℕ) (s : SessionValue) → Shows v es → session_of id v.sessions ≡ Some s → release_refusal s.link ≡ None → Shows (server_released v id) (es ++ Released id ∷ [])
 unfolding IsAccepted acted steps_by
 shows_released v es id s shows there none =
     shows_on v es id s (Released id) _ side_released session_released (λ u. release_refusal u.link ≡ None) shows there none
     refl (λ k. refl) refl (λ ok. ok) (released_shown (rest_on v es id))
 
--- an announcement
+-- `announce`.
 pub shows_announced : (v : ServerValue) (es : List Event) (id size : ℕ) (s : SessionValue) → Shows v es → session_of id v.sessions ≡ Some s → session_raises s size ≡ true → Shows (server_announced v id size) (es ++ Announced id size ∷ [])
 unfolding IsAccepted acted steps_by
 shows_announced v es id size s shows there raises =
     shows_on v es id s (Announced id size) _ (λ t. side_announced t size) (λ u. session_announced u size) (λ u. session_raises u size ≡ true) shows there raises
     refl (λ k. refl) refl (λ ok. ok) (λ t history may. announced_shown (rest_on v es id) t size history may)
 
--- a connection goes
+-- `drop_conn`.
 pub shows_dropped : (v : ServerValue) (es : List Event) (id : ℕ) (s : SessionValue) → Shows v es → session_of id v.sessions ≡ Some s → Shows (server_dropped v id) (es ++ Dropped id ∷ [])
 unfolding IsAccepted server_of acted steps_by
 shows_dropped v es id s shows there =
@@ -347,14 +347,14 @@ shows_dropped v es id s shows there =
     (ap (λ (os : List (ℕ × SessionValue)). record (server_of c es) { sessions = os })
     (mapped_filter (place_shown c.limits.max_message es) others (world_after c es).sides))
 
--- time
+-- `tick`.
 pub shows_ticked : (v : ServerValue) (es : List Event) (now : ℕ) → Shows v es → v.host.now ≤ now → now ≤ 18446744073709551615 → Shows (server_ticked v now) (es ++ Ticked now ∷ [])
 unfolding IsAccepted server_of acted steps_by
 shows_ticked v es now shows later small =
     let ticks_there : ticks (world_after v.config es).now now ≡ true = grind (arith, nat_tests, host_shown v es shows) in
     shows_step v es (Ticked now) _ (λ u. record u { host = record u.host { now = now } }) shows ticks_there refl (λ k. refl) (rw ticks_there refl)
 
--- a representation
+-- `put`.
 pub shows_put : (v : ServerValue) (es : List Event) (path : Path) (format : Option ℕ) (bytes : List ℕ) → Shows v es → put_refusal v.host.store path bytes ≡ None → Shows (server_put v path format bytes) (es ++ Stored path format bytes ∷ [])
 unfolding IsAccepted server_of acted steps_by
 shows_put v es path format bytes shows none =
@@ -362,14 +362,14 @@ shows_put v es path format bytes shows none =
     shows_step v es (Stored path format bytes) _ (λ u. record u { host = record u.host { store = put_in u.host.store path format bytes } }) shows free
     refl (λ k. refl) (rw free refl)
 
--- a removal
+-- `remove`.
 pub shows_removed : (v : ServerValue) (es : List Event) (path : Path) → Shows v es → remove_refusal v.host.store path ≡ None → Shows (server_removed v path) (es ++ Removed path ∷ [])
 unfolding IsAccepted server_of acted steps_by
 shows_removed v es path shows none =
     shows_step v es (Removed path) _ (λ u. record u { host = record u.host { store = removed_in u.host.store path } }) shows
     (rw (host_shown v es shows) at none) refl (λ k. refl) refl
 
--- a connection more
+-- `open`.
 pub shows_opened : (v : ServerValue) (es : List Event) → Shows v es → v.ids + 1 ≤ 18446744073709551615 → length v.sessions < v.config.connections → Shows (server_opened v) (es ++ Opened (v.ids + 1) ∷ [])
 unfolding IsAccepted server_of steps_by
 shows_opened v es shows left room =
@@ -390,14 +390,14 @@ shows_opened v es shows left room =
     (map-append shown w.sides (record { id = id; side = new_side c.limits } ∷ [])
     ∙ ap (λ (s : SessionValue). map shown w.sides ++ (id, s) ∷ []) new_shown_then))
 
--- ---- bytes that are taken
+-- ---- accepted bytes
 
 takes_by : (v : ServerValue) (es : List Event) (id : ℕ) (piece : List ℕ) (side : Option Side) → IsReached v.config es → side_of id (world_after v.config es).sides ≡ side
     → count_on v piece (option_map (session_shown (rest_on v es id)) side) ≡ takes_of (size_on v.config.limits.max_message id es) (rest_on v es id) piece side
 takes_by v es id piece None is e = refl
 takes_by v es id piece (Some t) is e = taking_count v.host (size_on v.config.limits.max_message id es) (rest_on v es id) piece t (is.sizes id t e)
 
--- how many bytes of a piece a server takes is a function of the events alone
+-- The number of bytes that a server accepts is a function of its events.
 pub takes_shown : (v : ServerValue) (es : List Event) (id : ℕ) (piece : List ℕ) → Shows v es → count_taken v id piece ≡ takes v.config es id piece
 unfolding count_taken takes
 takes_shown v es id piece shows =
@@ -422,14 +422,14 @@ shows_taken v es id piece s shows e =
     (ap (server_taken_on v id piece) e ∙ ap (server_taken_so v id) same ∙ ap (λ (u : ServerValue). server_taken_so u id taken) shows.same
     ∙ server_takes c es id piece at.side shows.moment is at.there ∙ ap (λ (n : ℕ). server_of c (es ++ Took id (take n piece) ∷ [])) count))
 
--- ---- memory was refused
+-- ---- allocation failed
 
--- to a connection that is there
+-- The connection exists.
 pub refused_on : (v : ServerValue) (piece : List ℕ) (n : ℕ) (found : Option SessionValue) → RefusesPieceOn v piece n found → (s : SessionValue) × (found ≡ Some s) × RefusesPiece v.host s piece n
 refused_on v piece n None refuses = absurd refuses
 refused_on v piece n (Some s) refuses = (s, refl, refuses)
 
--- for a piece on a connection of the world
+-- A slice on a connection of the model.
 module _ (v : ServerValue) (es : List Event) (id : ℕ) (piece : List ℕ) (n : ℕ) (t : Side) (shows : Shows v es) (there : side_of id (world_after v.config es).sides ≡ Some t) (refuses : RefusesPiece v.host (session_shown (stream_on v.config.limits.max_message id es).rest t) piece n) where
   abbrev stream_then : Stream
   stream_then = stream_on v.config.limits.max_message id es
@@ -448,7 +448,7 @@ module _ (v : ServerValue) (es : List Event) (id : ℕ) (piece : List ℕ) (n : 
       let none = handling_goes_on v.config es id t (accepted_is v.config es shows.accepted) there refusing_handles in
       (none, rest_unfinished v.config.limits.max_message id es none)
 
-  -- it begins with a frame whose message is stored, and that ends behind n bytes more
+  -- The slice begins with a frame whose message stores a representation, and that ends after `n` more bytes.
   pub refused_message : StoresBy v.host (session_shown stream_then.rest t) (framing size_so_far stream_then.rest piece).finding
   refused_message =
       stores_by v.host (session_shown stream_then.rest t) (framing size_so_far stream_then.rest piece) _
@@ -465,7 +465,7 @@ module _ (v : ServerValue) (es : List Event) (id : ℕ) (piece : List ℕ) (n : 
       takes_shown v es id (take n piece) shows ∙ takes_there v.config es id (take n piece) t there
       ∙ rw refusing_handles (ap (λ (f : Framing). f.taken) nothing ∙ length-take-le n piece (omega (arith, within)))
 
--- All but the last byte of a piece that stores a representation is taken whole, and leaves a server that shows that they were.
+-- All bytes but the last of a message that stores a representation are accepted, and the server shows this.
 pub shows_refused_take : (v : ServerValue) (es : List Event) (id : ℕ) (piece : List ℕ) (n : ℕ) (s : SessionValue) → Shows v es → session_of id v.sessions ≡ Some s → RefusesPiece v.host s piece n
     → Shows (server_taken v id (take n piece)) (es ++ Took id (take n piece) ∷ [])
 shows_refused_take v es id piece n s shows e refuses =

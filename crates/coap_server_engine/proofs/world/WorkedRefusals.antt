@@ -1,4 +1,4 @@
--- Worked values: why a size is not announced on a connection of a server (RFC 8323 section 5.3.1).
+-- Worked values: reasons for which a size is not announced on a connection of a server (RFC 8323 section 5.3.1).
 use Rattle.std.proofs.Common.{◌≡◌, ℕ, List, [], ◌∷◌, ◌++◌, map, Option, Some, None, refl}
 use Rattle.coap_server_engine.specs.Prelude.{ConfigValues, SessionValue, announced_refusal_on, AnnounceFault, Side, side_of}
 use Rattle.coap_server_engine.specs.Prelude.{Event, Opened, Took, Wrote, Announced, stream_on, world_after, session_shown}
@@ -10,7 +10,7 @@ use Rattle.coap_model.proofs.world.Worked.{config_with, narrow_limits}
 narrow_config : ConfigValues
 narrow_config = config_with (narrow_limits 1152) 0
 
--- the connection with a number, as a server has it after events
+-- The connection with this id of a server after these events.
 abbrev there : List Event → ℕ → Option SessionValue
 there events id = found (side_of id (world_after narrow_config events).sides)
   where
@@ -27,19 +27,20 @@ opened_events = greeted_events ++ Took 1 (hex "00e1") ∷ []
 small_peer : List Event
 small_peer = greeted_events ++ Took 1 (hex "20e12104") ∷ []
 
--- why a size is not announced on a connection after events
+-- The refusals of sizes on connections after events.
 abbrev refusals : List (List Event × ℕ × ℕ) → List (Option AnnounceFault)
 refusals rows = map (λ r. announced_refusal_on r.2 (there r.0 r.1)) rows
 
 not_announced : refusals (
-    -- before the peer's Capabilities and Settings, and on no connection
+    -- The peer's CSM was not received. No connection has this id.
     (greeted_events, 1, 2000)
     ∷ (greeted_events, 2, 2000)
     ∷ (opened_events, 1, 1048577)
     ∷ (opened_events, 1, 1000)
-    -- before the announcement is written
+    -- The announcement is not written yet.
     ∷ (opened_events ++ Announced 1 1152 ∷ [], 1, 2000)
-    -- A peer that takes 4 bytes does not take the 5 of an announcement; a lower size is no refusal of the room, and none of the peer.
+    -- A peer that accepts 4 bytes does not accept the 5 of an announcement. A lower size is reported before room and
+    -- peer are checked.
     ∷ (small_peer, 1, 2000)
     ∷ (small_peer, 1, 1000)
     ∷ (opened_events, 1, 2000)

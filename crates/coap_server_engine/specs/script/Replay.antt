@@ -1,4 +1,4 @@
--- What the events of a script do to a server, and the lines that they write (our definition).
+-- Defined by this project: the effect of the events of a script on a server, and the lines that they write.
 use Rattle.std.specs.Prelude.{ℕ, ◌+◌, List, [], ◌∷◌, ◌++◌, length, take, Option, Some, None, option_map, nat_le, codes, if◌then◌else◌}
 use Rattle.coap_conn.specs.Phases.{stop_of}
 use Rattle.coap_conn.specs.Reasons.{reason_number}
@@ -16,15 +16,16 @@ use Rattle.coap_model.specs.declared.answers.OpenFault.TheVariants as opening
 use Rattle.coap_model.specs.declared.answers.ReleaseFault.{ReleaseFault}
 use Rattle.coap_model.specs.declared.answers.ReleaseFault.TheVariants as releasing
 
--- what events come to: the server after them, and what they write
+-- The result of events: the server after them, and the text that they write.
 pub record Ran : Type 0 where
   pub server : ServerValue
   pub text : List ℕ
 
+-- The result with this server and this text.
 abbrev pub comes_to : ServerValue → List ℕ → Ran
 comes_to v line = record { server = v; text = line }
 
--- ---- the numbers of refusals
+-- ---- the numbers of errors
 
 abbrev pub open_number : OpenFault → ℕ
 open_number opening.Full = 1
@@ -45,52 +46,55 @@ release_number releasing.NotOpen = 2
 release_number releasing.NoRoom = 3
 release_number releasing.PeerTooSmall = 4
 
--- the moment does not go back
+-- The number of the error of `tick`, if the time is before that of the server.
 abbrev pub tick_refusal : ServerValue → ℕ → Option ℕ
 tick_refusal v now = if nat_le v.host.now now then None else Some 1
 
--- ---- refusals
+-- ---- events that fail
 
--- a refusal changes nothing
+-- The result of an event that fails with this number: the server is unchanged.
 abbrev pub refused : ServerValue → List ℕ → Option ℕ → ℕ → Ran
 refused v word id number = comes_to v (fault_line word id number)
 
--- what an event comes to, or its refusal with a number
+-- The result of an event, unless it fails with a number.
 abbrev pub unless_refused : ServerValue → List ℕ → Option ℕ → Ran → Option ℕ → Ran
 unless_refused v word id does None = does
 unless_refused v word id does (Some number) = refused v word id number
 
--- what an event comes to on a connection, which is refused with 1 where none has the number
+-- The result of an event on a connection. It fails with 1 if there is no connection.
 abbrev pub on_connection : ServerValue → List ℕ → ℕ → (SessionValue → Ran) → Option SessionValue → Ran
 on_connection v word id does None = refused v word (Some id) 1
 on_connection v word id does (Some s) = does s
 
 -- ---- `in`
 
--- the number of the reason for which a connection takes no message any more
+-- The number of the reason for which a connection no longer accepts messages, if there is one.
 abbrev pub stop_number : Option SessionValue → Option ℕ
 stop_number None = None
 stop_number (Some s) = option_map reason_number (stop_of s.link.phase)
 
+-- The result of an `in` after the takes of its bytes.
 abbrev pub in_ran : ℕ → Fed → Ran
 in_ran id f = comes_to f.server (in_line id f.count (stop_number (session_of id f.server.sessions)))
 
 -- ---- `drain` and `status`
 
--- the bytes that are written of those that wait: all, or at most so many
+-- The queued bytes that are drained: all, or at most `most`.
 abbrev pub drained : Option ℕ → List ℕ → List ℕ
 drained None waiting = waiting
 drained (Some most) waiting = take most waiting
 
+-- The result of a `drain` of these bytes.
 abbrev pub drain_ran : ServerValue → ℕ → List ℕ → Ran
 drain_ran v id bytes = comes_to (server_written v id (length bytes)) (out_line id bytes)
 
+-- The result of a `status`.
 abbrev pub status_ran : ServerValue → ℕ → SessionValue → Ran
 status_ran v id s = comes_to v (status_line id s.link.phase (length s.frame) (length s.link.waiting) (length s.link.held) (length s.observers))
 
 -- ---- events
 
--- what an event does to a server, and its line
+-- The result of an event: the server after it, and its line.
 unfoldable pub event_ran : ServerValue → EventValue → Ran
 event_ran v Open = unless_refused v (codes "open") None (comes_to (server_opened v) (open_line (v.ids + 1))) (option_map open_number (open_refusal v))
 event_ran v (In id bytes) = on_connection v (codes "in") id (λ s. in_ran id (fed v id bytes)) (session_of id v.sessions)
@@ -104,11 +108,11 @@ event_ran v (Release id) = unless_refused v (codes "release") (Some id) (comes_t
 event_ran v (Drop id) = on_connection v (codes "drop") id (λ s. comes_to (server_dropped v id) (word_line (codes "drop") id)) (session_of id v.sessions)
 event_ran v (Status id) = on_connection v (codes "status") id (status_ran v id) (session_of id v.sessions)
 
--- what stands before what more events write
+-- The result `r` with its text after the text `before`.
 abbrev pub behind : List ℕ → Ran → Ran
 behind before r = comes_to r.server (before ++ r.text)
 
--- the server after all events, one after the other, and all their lines
+-- The server after all events in order, and all their lines.
 unfoldable pub replayed : ServerValue → List EventValue → Ran
 replayed v [] = comes_to v []
 replayed v (e ∷ es) = behind (event_ran v e).text (replayed (event_ran v e).server es)

@@ -1,4 +1,4 @@
--- What a replay of events answers.
+-- Defined by this project: the results of a replay of events.
 use Rattle.std.specs.Prelude.{◌≡◌, ◌≢◌, ℕ, ◌+◌, Bool, true, false, List, [], ◌∷◌, ◌++◌, length, None, Result, Ok, Err}
 use Rattle.coap_store.specs.Refusals.{put_refusal, remove_refusal}
 use Rattle.coap_script.specs.script.Events.{EventValue, Open, In, Drain, Tick, Put, Remove, End, Release, Drop, Status}
@@ -10,12 +10,14 @@ use Rattle.coap_server_engine.specs.values.ServerAnswers.{open_refusal}
 use Rattle.coap_server_engine.specs.declared.replay.ReplayFault.{ReplayFault}
 use Rattle.coap_server_engine.specs.declared.replay.ReplayFault.TheVariants.{Write, Memory}
 
+-- The number of an error of a replay.
 abbrev pub replay_number : ReplayFault → ℕ
 replay_number Write = 1
 replay_number (Memory event) = 2
 
--- Memory was refused for an event, which can be an `open` or a `put` that has no other refusal, an `in`, or one whose line needs
--- memory and that is not refused. The server is as before, but after an `in` it has taken what came before.
+-- States the server after allocation failed for an event. Such an event is an `in`, or it is an `open`, `drain`, `put`,
+-- `remove` or `status` that would not fail otherwise. The server is unchanged, except that an `in` has accepted its
+-- bytes before the last one of the message that needed memory.
 abbrev pub IsUnrun : ServerValue → EventValue → ServerValue → Type 0
 IsUnrun v Open after = (open_refusal v ≡ None) × (after ≡ v)
 IsUnrun v (In id bytes) after = IsPartlyFed v id bytes after
@@ -28,7 +30,8 @@ IsUnrun v (Release id) after = ⊥
 IsUnrun v (Drop id) after = ⊥
 IsUnrun v (Status id) after = (is_there (session_of id v.sessions) ≡ true) × (after ≡ v)
 
--- memory was refused for the event with this number, from 1: those before it were run, and their lines written
+-- Holds if allocation failed for the event with this number, from 1. The events before it ran, and their lines were
+-- written.
 pub record IsRefusedAt (v : ServerValue) (events : List EventValue) (number : ℕ) (after : ServerValue) (HasWritten : List ℕ → Type 0) : Type 0 where
   pub before : List EventValue
   pub event : EventValue
@@ -38,7 +41,8 @@ pub record IsRefusedAt (v : ServerValue) (events : List EventValue) (number : �
   pub written : HasWritten (replayed v before).text
   pub unrun : IsUnrun (replayed v before).server event after
 
--- a write failed: the last event that was run has no whole line, and the server shows it and those before it
+-- Holds if a write failed. The last event that ran has an incomplete line. The server shows this event and those before
+-- it.
 pub record IsCutAt (v : ServerValue) (events : List EventValue) (after : ServerValue) (HasWritten : List ℕ → Type 0) : Type 0 where
   pub before : List EventValue
   pub event : EventValue
@@ -52,12 +56,13 @@ pub record IsCutAt (v : ServerValue) (events : List EventValue) (after : ServerV
   pub written : HasWritten ((replayed v before).text ++ part)
   pub shows : ShowsMore v after (events_ran v (before ++ event ∷ []))
 
--- the server after a replay, and what it wrote
+-- States the server after a replay, and the bytes that it wrote.
 abbrev pub IsReplayed : {T : Type 0} → ServerValue → List EventValue → ServerValue → (List ℕ → Type 0) → Result T ReplayFault → Type 0
 IsReplayed v events after HasWritten (Ok x) = (after ≡ (replayed v events).server) × HasWritten (replayed v events).text
 IsReplayed v events after HasWritten (Err Write) = IsCutAt v events after HasWritten
 IsReplayed v events after HasWritten (Err (Memory number)) = IsRefusedAt v events number after HasWritten
 
+-- `true` if a replay ended with the failure of a write.
 abbrev pub fails_write : {T : Type 0} → Result T ReplayFault → Bool
 fails_write (Ok x) = false
 fails_write (Err Write) = true

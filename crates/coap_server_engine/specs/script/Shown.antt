@@ -1,4 +1,4 @@
--- Which world a server shows after the events of a script: that of the calls which they make.
+-- Defined by this project: the events of a server's history that the events of a script make.
 use Rattle.std.specs.Prelude.{◌≡◌, ℕ, ◌+◌, List, [], ◌∷◌, ◌++◌, length, Option, Some, None, Result, Ok, Err}
 use Rattle.std.specs.declared.alloc.AllocError.{AllocError}
 use Rattle.coap_store.specs.Refusals.{put_refusal, remove_refusal}
@@ -14,12 +14,12 @@ use Rattle.coap_server_engine.specs.declared.replay.ReplayFault.TheVariants.{Wri
 
 -- ---- the calls of one event
 
--- a call that has no refusal
+-- The event of a call, unless the call fails.
 abbrev pub unless : {F : Type 0} → Option F → Event → List Event
 unless None e = e ∷ []
 unless (Some refusal) e = []
 
--- what an event of a script is to the world of a server: the calls that it makes and that are not refused
+-- The calls that an event of a script makes and that succeed.
 unfoldable pub events_made : ServerValue → EventValue → List Event
 events_made v Open = unless (open_refusal v) (Opened (v.ids + 1))
 events_made v (In id bytes) = took v id bytes
@@ -32,14 +32,14 @@ events_made v (Release id) = unless (released_refusal v id) (Released id)
 events_made v (Drop id) = where_there (session_of id v.sessions) (λ s. Dropped id)
 events_made v (Status id) = []
 
--- each on the server that the ones before it left
+-- The calls of all events, each on the server after those before it.
 unfoldable pub events_ran : ServerValue → List EventValue → List Event
 events_ran v [] = []
 events_ran v (e ∷ es) = events_made v e ++ events_ran (event_ran v e).server es
 
 -- ---- one event
 
--- what an event made before memory was refused for it: none, but for an `in`
+-- Holds if `more` are the calls that an event made before allocation failed for it. Only an `in` makes any.
 abbrev pub IsPartlyMade : ServerValue → EventValue → ServerValue → List Event → Type 0
 IsPartlyMade v Open after more = more ≡ []
 IsPartlyMade v (In id bytes) after more = IsPartlyTaken v id bytes after more
@@ -52,20 +52,21 @@ IsPartlyMade v (Release id) after more = more ≡ []
 IsPartlyMade v (Drop id) after more = more ≡ []
 IsPartlyMade v (Status id) after more = more ≡ []
 
--- memory was refused for an event, and the server shows what it made before
+-- Holds if allocation failed for an event, and the server shows the calls that it made before.
 pub record ShowsPart (v : ServerValue) (e : EventValue) (after : ServerValue) : Type 0 where
   pub more : List Event
   pub part : IsPartlyMade v e after more
   pub shows : ShowsMore v after more
 
--- an event was run, or memory was refused for it
+-- States the calls that a server shows after an event, whether it ran or allocation failed for it.
 abbrev pub ShowsRun : {T : Type 0} → ServerValue → EventValue → ServerValue → Result T AllocError → Type 0
 ShowsRun v e after (Ok line) = ShowsMore v after (events_made v e)
 ShowsRun v e after (Err fault) = ShowsPart v e after
 
 -- ---- a replay
 
--- memory was refused for the event with this number, from 1: the server shows those before it, and what this one made before
+-- Holds if allocation failed for the event with this number, from 1. The server shows the calls of those before it, and
+-- those that it made itself before.
 pub record ShowsRefusedAt (before : List Event) (v : ServerValue) (es : List EventValue) (number : ℕ) (after : ServerValue) : Type 0 where
   pub ran : List EventValue
   pub event : EventValue
@@ -76,7 +77,8 @@ pub record ShowsRefusedAt (before : List Event) (v : ServerValue) (es : List Eve
   pub part : IsPartlyMade (replayed v ran).server event after more
   pub shows : Shows after ((before ++ events_ran v ran) ++ more)
 
--- the world that a server shows after a replay, where it showed that of these events; where a write failed `IsCutAt` tells it
+-- States the history that a server shows after a replay, if it showed `before` at its start. After a failed write,
+-- `IsCutAt` states it.
 abbrev pub IsShownReplay : {T : Type 0} → List Event → ServerValue → List EventValue → ServerValue → Result T ReplayFault → Type 0
 IsShownReplay before v es after (Ok x) = Shows after (before ++ events_ran v es)
 IsShownReplay before v es after (Err Write) = Unit {0}

@@ -1,5 +1,5 @@
--- The calls of `take` that consume all bytes that a connection received, and those before an allocation fails
--- (project-defined).
+-- Defined by this project: the calls of `take` that accept all bytes that a connection received, and those before an
+-- allocation fails.
 use Rattle.std.specs.Prelude.{◌≡◌, ℕ, zero, suc, ◌+◌, Bool, true, false, not, ◌&&◌, List, [], ◌∷◌, ◌++◌, length, take, drop}
 use Rattle.std.specs.Prelude.{Option, Some, None, nat_lt, ◌==◌, if◌then◌else◌}
 use Rattle.coap_server_session.specs.values.Sessions.{SessionValue}
@@ -9,37 +9,41 @@ use Rattle.coap_model.specs.world.Events.{Event, Took}
 use Rattle.coap_server_engine.specs.world.Shows.{Shows}
 use Rattle.coap_model.specs.declared.answers.TakeFault.TheVariants as taking
 
--- ---- takes, until the bytes are used up or one takes none
+-- ---- takes, until no byte is left or one accepts none
 
--- the server after some takes, how many bytes they took, and whether the last one took none
+-- The server after some takes, the number of bytes that they accepted, and whether the last one accepted none.
 pub record Fed : Type 0 where
   pub server : ServerValue
   pub count : ℕ
   pub done : Bool
 
+-- The value before the first take.
 abbrev pub unfed : ServerValue → Fed
 unfed v = record { server = v; count = 0; done = false }
 
--- one more take, of the bytes that are left
+-- The value after one more take, of the remaining bytes `left`.
 abbrev pub fed_more : ℕ → List ℕ → Fed → Fed
 fed_more id left f = record { server = server_taken f.server id left; count = f.count + count_taken f.server id left; done = count_taken f.server id left == 0 }
 
--- bytes are left, and the last take took some
+-- `true` if bytes remain, and the last take accepted some.
 abbrev pub goes_on : List ℕ → Fed → Bool
 goes_on bytes f = nat_lt f.count (length bytes) && not f.done
 
+-- The value after one more take, if one is to be made.
 abbrev pub fed_once : ℕ → List ℕ → Fed → Fed
 fed_once id bytes f = if goes_on bytes f then fed_more id (drop f.count bytes) f else f
 
+-- The value after at most this number of takes.
 unfoldable pub fed_turns : ℕ → ServerValue → ℕ → List ℕ → Fed
 fed_turns zero v id bytes = unfed v
 fed_turns (suc turns) v id bytes = fed_once id bytes (fed_turns turns v id bytes)
 
--- Each take but the last takes a byte at least, so no more turns are needed than there are bytes.
+-- The value after all takes. Each take but the last accepts at least one byte, so no more takes are needed than there
+-- are bytes.
 abbrev pub fed : ServerValue → ℕ → List ℕ → Fed
 fed v id bytes = fed_turns (length bytes) v id bytes
 
--- Some takes were made, and the next one was not taken for want of memory.
+-- Holds if allocation failed in a take, after the takes before it. `after` is the server then.
 pub record IsPartlyFed (v : ServerValue) (id : ℕ) (bytes : List ℕ) (after : ServerValue) : Type 0 where
   pub turns : ℕ
   pub count : ℕ
@@ -47,39 +51,41 @@ pub record IsPartlyFed (v : ServerValue) (id : ℕ) (bytes : List ℕ) (after : 
   pub refused :
       IsNotTaken (fed_turns turns v id bytes).server id (drop (fed_turns turns v id bytes).count bytes) (taking.Memory count) after
 
--- ---- which world a server shows after them
+-- ---- the events of these takes
 
--- a call on a connection that is there
+-- The event of a call on a connection, if the connection exists.
 abbrev pub where_there : Option SessionValue → (SessionValue → Event) → List Event
 where_there None call = []
 where_there (Some s) call = call s ∷ []
 
--- one more take, of the bytes that are left
+-- The event of one more take, of the remaining bytes `left`.
 abbrev pub took_more : ℕ → List ℕ → Fed → List Event
 took_more id left f = where_there (session_of id f.server.sessions) (λ s. Took id (take (count_taken f.server id left) left))
 
+-- The event of one more take, if one is to be made.
 abbrev pub took_once : ℕ → List ℕ → Fed → List Event
 took_once id bytes f = if goes_on bytes f then took_more id (drop f.count bytes) f else []
 
--- as many takes as `fed_turns` makes in so many turns
+-- The events of the takes that `fed_turns` makes.
 unfoldable pub took_turns : ℕ → ServerValue → ℕ → List ℕ → List Event
 took_turns zero v id bytes = []
 took_turns (suc turns) v id bytes = took_turns turns v id bytes ++ took_once id bytes (fed_turns turns v id bytes)
 
--- the takes of `fed`: the last one takes none where bytes are left
+-- The events of the takes that `fed` makes. If bytes are left, the last one accepted none.
 abbrev pub took : ServerValue → ℕ → List ℕ → List Event
 took v id bytes = took_turns (length bytes) v id bytes
 
--- whatever a server shows, the one after it shows with these events behind it
+-- Holds if the server `after` shows every history that `v` shows, followed by the events `more`.
 abbrev pub ShowsMore : ServerValue → ServerValue → List Event → Type 0
 ShowsMore v after more = (before : List Event) → Shows v before → Shows after (before ++ more)
 
--- Memory was refused within the takes: some were made, and then that of the bytes which were taken all the same.
+-- Holds if `more` are the events of the takes before an allocation failed, followed by that of the bytes which the
+-- failing take accepted.
 pub record IsPartlyTaken (v : ServerValue) (id : ℕ) (bytes : List ℕ) (after : ServerValue) (more : List Event) : Type 0 where
   pub fed : IsPartlyFed v id bytes after
   pub made : more ≡ took_turns fed.turns v id bytes ++ Took id (take fed.count (drop (fed_turns fed.turns v id bytes).count bytes)) ∷ []
 
--- Memory was refused within the takes: the server shows those that were made, and that of the bytes which were taken all the same.
+-- Holds if an allocation failed in a take, and the server shows these events.
 pub record ShowsPartlyFed (v : ServerValue) (id : ℕ) (bytes : List ℕ) (after : ServerValue) : Type 0 where
   pub more : List Event
   pub part : IsPartlyTaken v id bytes after more

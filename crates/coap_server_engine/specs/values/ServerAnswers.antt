@@ -1,4 +1,4 @@
--- What the calls of a server answer, and why they are refused.
+-- Defined by this project: the results of a server's calls, and the reasons for which they fail.
 use Rattle.std.specs.Prelude.{◌≡◌, ℕ, Bool, true, false, List, length, take, Option, Some, None, Result, Ok, Err, option_map, nat_le, nat_lt, ◌==◌, if◌then◌else◌}
 use Rattle.coap_conn.specs.declared.reason.Reason.{Reason}
 use Rattle.coap_conn.specs.declared.phase.SendFault.{SendFault}
@@ -23,90 +23,95 @@ use Rattle.coap_model.specs.declared.answers.ReleaseFault.TheVariants as releasi
 
 -- ---- open
 
--- as many connections are there as may be, or every number was given
+-- The reason for which `open` fails, apart from memory: the connection limit is reached, or no id is left.
 abbrev pub open_refusal : ServerValue → Option OpenFault
 open_refusal v =
     if nat_le v.config.connections (length v.sessions) then Some opening.Full
     else (if v.ids == 18446744073709551615 then Some opening.IdsSpent else None)
 
--- the refusal that a fault tells: refused memory is none
+-- The refusal that an error reports, or `None` for `Memory`.
 abbrev pub open_refusal_in : OpenFault → Option OpenFault
 open_refusal_in opening.Full = Some opening.Full
 open_refusal_in opening.IdsSpent = Some opening.IdsSpent
 open_refusal_in opening.Memory = None
 
--- Ok only where there is no refusal, a fault other than Memory only where it is the refusal, and Memory only where there is none
+-- States the results that `open` may have: success or `Memory` if there is no refusal, otherwise the refusal.
 abbrev pub OpenedOrMemory : {T : Type 0} → Result T OpenFault → Option OpenFault → Type 0
 OpenedOrMemory (Ok x) refusal = refusal ≡ None
 OpenedOrMemory (Err fault) refusal = refusal ≡ open_refusal_in fault
 
 -- ---- written
 
--- no connection has the number, or fewer bytes wait
+-- The reason for which `written` fails: there is no connection, or `count` exceeds the number of queued bytes.
 abbrev pub written_refusal_on : ℕ → Option SessionValue → Option WrittenFault
 written_refusal_on count None = Some writing.NoSuch
 written_refusal_on count (Some s) = if nat_lt (length s.link.waiting) count then Some writing.TooMany else None
 
+-- The same for the connection with this id.
 abbrev pub written_refusal : ServerValue → ℕ → ℕ → Option WrittenFault
 written_refusal v id count = written_refusal_on count (session_of id v.sessions)
 
 -- ---- release
 
--- no connection has the number, or its link refuses
+-- The reason for which `release` fails: there is no connection, or its link does not send Release.
 abbrev pub released_refusal_on : Option SessionValue → Option ReleaseFault
 released_refusal_on None = Some releasing.NoSuch
 released_refusal_on (Some s) = option_map release_fault (release_refusal s.link)
 
+-- The same for the connection with this id.
 abbrev pub released_refusal : ServerValue → ℕ → Option ReleaseFault
 released_refusal v id = released_refusal_on (session_of id v.sessions)
 
 -- ---- take
 
--- a connection is there, and takes bytes
+-- `true` if there is a connection, and it accepts bytes.
 abbrev pub can_take_on : Option SessionValue → Bool
 can_take_on None = false
 can_take_on (Some s) = session_takes s
 
--- the connection with this number, where there is one, has this reason to take no message any more
+-- The reason for which a connection no longer accepts messages, if there is a connection and such a reason.
 abbrev pub stop_on : Option SessionValue → Option Reason
 stop_on None = None
 stop_on (Some s) = stop_of s.link.phase
 
--- what was handled: nothing where nothing was taken; else the reason where the connection then takes no message any more
+-- The result of a `take`: `Nothing` if the connection did not accept bytes (`takes`), `Stopped` if it no longer accepts
+-- messages. Otherwise it says whether a message was processed.
 abbrev pub handled_so : (takes message : Bool) → Option Reason → Handled
 handled_so false message stop = handled.Nothing
 handled_so true message (Some why) = handled.Stopped why
 handled_so true true None = handled.Message
 handled_so true false None = handled.Nothing
 
+-- The result of a `take` of `piece` on a connection that has the reason `stop` afterwards.
 abbrev pub handled_on : ServerValue → List ℕ → Option SessionValue → Option Reason → Handled
 handled_on v piece None stop = handled.Nothing
 handled_on v piece (Some s) stop = handled_so (session_takes s) (taking v.host s piece).handled stop
 
--- what a connection handles of a piece
+-- The result of a `take` of `piece` on the connection with this id.
 unfoldable pub handled_by : ServerValue → ℕ → List ℕ → Handled
 handled_by v id piece = handled_on v piece (session_of id v.sessions) (stop_on (session_of id (server_taken v id piece).sessions))
 
--- memory was refused to the connection with this number
+-- Holds if there is a connection, and allocation may fail in its `take` of `piece`.
 abbrev pub RefusesPieceOn : ServerValue → List ℕ → ℕ → Option SessionValue → Type 0
 RefusesPieceOn v piece bytes None = ⊥
 RefusesPieceOn v piece bytes (Some s) = RefusesPiece v.host s piece bytes
 
--- A piece is not taken: no connection has the number, and nothing changes; or memory was refused, and the server is the one that
--- took so many bytes of the piece.
+-- States the server after a `take` that failed. If no connection has this id, nothing has changed. If allocation
+-- failed, the server has accepted the first `bytes` bytes of `piece`.
 abbrev pub IsNotTaken : ServerValue → ℕ → List ℕ → TakeFault → ServerValue → Type 0
 IsNotTaken v id piece taken.NoSuch after = (session_of id v.sessions ≡ None) × (after ≡ v)
 IsNotTaken v id piece (taken.Memory bytes) after =
     RefusesPieceOn v piece bytes (session_of id v.sessions) × (after ≡ server_taken v id (take bytes piece))
 
--- ---- front
+-- ---- output
 
--- all bytes that wait on the connection with this number
+-- The queued bytes of the connection with this id.
 abbrev pub front_of : ServerValue → ℕ → Option (List ℕ)
 front_of v id = option_map (λ s. s.link.waiting) (session_of id v.sessions)
 
 -- ---- status
 
+-- The status of a connection.
 abbrev pub session_status : SessionValue → Status
 session_status s = record {
   phase = s.link.phase;
@@ -118,6 +123,6 @@ session_status s = record {
   finished = is_finished s.link;
 }
 
--- how the connection with this number is
+-- The status of the connection with this id.
 abbrev pub status_of : ServerValue → ℕ → Option Status
 status_of v id = option_map session_status (session_of id v.sessions)

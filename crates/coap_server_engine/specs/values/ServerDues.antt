@@ -1,4 +1,4 @@
--- Waiting until something is due on a server, the outlook of a connection, and the stamp of a server.
+-- Defined by this project: the deadlines of a server, the work left on a connection, and the change stamp of a server.
 use Rattle.std.specs.Prelude.{◌≡◌, ◌&&◌, ℕ, Bool, length, Option, nat_lt, option_map, ◌==◌}
 use Rattle.std.specs.List.{AllByRecursion}
 use Rattle.coap_conn.specs.Phases.{is_over}
@@ -10,13 +10,13 @@ use Rattle.coap_server_session.specs.values.Sessions.{SessionValue, session_take
 use Rattle.coap_server_session.specs.values.Dues.{IsBefore, due_on}
 use Rattle.coap_server_engine.specs.values.Servers.{ServerValue, session_of, server_ticked}
 
--- Only the moment changes as it moves on to one before each that is due: on every connection what waits, what is held and who observes are
--- as they were.
+-- States that only the time changes when it advances to `later`, if `later` is before each deadline. The queued bytes,
+-- the pending entries and the observers of every connection stay the same.
 abbrev pub WaitsForWhatIsDue : ServerValue → ℕ → Type 0
 WaitsForWhatIsDue v later =
     AllByRecursion (λ e. IsBefore later (due_on v.host.now e.1)) v.sessions → server_ticked v later ≡ record v { host = record v.host { now = later } }
 
--- ---- what is told of a connection
+-- ---- the work left on a connection
 
 abbrev pub session_outlook : ℕ → SessionValue → Outlook
 session_outlook now s = record {
@@ -27,16 +27,16 @@ session_outlook now s = record {
   due = due_on now s;
 }
 
--- how things stand on the connection with this number
+-- The work left on the connection with this id.
 abbrev pub outlook_of : ServerValue → ℕ → Option Outlook
 outlook_of v id = option_map (session_outlook v.host.now) (session_of id v.sessions)
 
--- ---- what may concern all connections
+-- ---- change stamps
 
--- they are the same
+-- `true` if two stamps are equal.
 abbrev pub same_stamp : Stamp → Stamp → Bool
 same_stamp one other = (one.moment == other.moment) && (one.versions == other.versions) && (one.resources == other.resources)
 
--- the moment, and what tells the store from those that it was before
+-- The change stamp: the time, and the counts that differ for any two states of the store in its history.
 abbrev pub stamp_of : Host → Stamp
 stamp_of host = record { moment = host.now; versions = host.store.versions; resources = length host.store.resources }

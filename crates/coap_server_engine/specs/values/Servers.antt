@@ -1,4 +1,4 @@
--- A server as the code holds it, and what its calls do to it.
+-- Defined by this project: the value of a server, and the effect of each call on it.
 use Rattle.std.specs.Prelude.{◌≡◌, ℕ, zero, suc, ◌+◌, ◌<◌, Bool, true, false, not, List, [], ◌∷◌, ◌++◌, length, map, filter, Option, Some, None, slice_get, nat_eq, ◌==◌, if◌then◌else◌}
 use Rattle.std.specs.List.{AllByRecursion, IsDistinct, position_or_len}
 use Rattle.std.specs.Map.{keys_of, values_of}
@@ -8,7 +8,7 @@ use Rattle.coap_model.specs.Configs.{ConfigValues}
 use Rattle.coap_server_session.specs.declared.host.Host.{Host}
 use Rattle.coap_server_session.specs.values.Sessions.{empty_host, SessionValue, MarkedSession, IsMarked, Taking, new_session, taking, host_changed, session_written, session_ended, session_released, session_announced, session_settled, IsSettled}
 
--- the configuration, the resources and the moment, the number given last, and the connections in order of their numbers
+-- A server: its configuration, the resources with the time, the last id, and the connections in ascending order of ids.
 pub record ServerValue : Type 0 where
   pub config : ConfigValues
   pub host : Host
@@ -17,68 +17,72 @@ pub record ServerValue : Type 0 where
 
 -- ---- connections
 
+-- The connection with this id, if there is one.
 unfoldable pub session_of : ℕ → List (ℕ × SessionValue) → Option SessionValue
 session_of id [] = None
 session_of id (e ∷ es) = if e.0 == id then Some e.1 else session_of id es
 
+-- One entry of the list, changed by `f` if it has this id.
 abbrev pub session_becomes : ℕ → (SessionValue → SessionValue) → ℕ × SessionValue → ℕ × SessionValue
 session_becomes id f e = if e.0 == id then (e.0, f e.1) else e
 
--- something happens to the connection at an index
+-- The list after the connection at an index is changed by `f`.
 unfoldable pub changed_at : ℕ → (SessionValue → SessionValue) → List (ℕ × SessionValue) → List (ℕ × SessionValue)
 changed_at i f [] = []
 changed_at zero f (e ∷ es) = (e.0, f e.1) ∷ es
 changed_at (suc i) f (e ∷ es) = e ∷ changed_at i f es
 
--- the connection with this number lies at this index, and each has a number of its own
+-- Holds if the connection with this id is at the index `i`, and all ids are distinct.
 pub record LiesAt (id i : ℕ) (sessions : List (ℕ × SessionValue)) : Type 0 where
   pub distinct : IsDistinct nat_eq (keys_of sessions)
   pub index : position_or_len (nat_eq id) (keys_of sessions) ≡ i
   pub within : i < length sessions
   pub found : session_of id sessions ≡ slice_get (values_of sessions) i
 
--- something happens to a connection
+-- The server after the connection with this id is changed by `f`.
 abbrev pub on_session : ℕ → (SessionValue → SessionValue) → ServerValue → ServerValue
 on_session id f v = record v { sessions = map (session_becomes id f) v.sessions }
 
+-- An entry of the list after its connection settled.
 abbrev pub settled_entry : Host → ℕ × SessionValue → ℕ × SessionValue
 settled_entry host e = (e.0, session_settled host e.1)
 
--- every connection settles
+-- The server after every connection settled.
 abbrev pub server_settled : ServerValue → ServerValue
 server_settled v = record v { sessions = map (settled_entry v.host) v.sessions }
 
--- every connection is settled
+-- Holds if every connection is settled.
 abbrev pub AreSettled : Host → List (ℕ × SessionValue) → Type 0
 AreSettled host sessions = AllByRecursion (λ e. IsSettled host e.1) sessions
 
 -- ---- the changed marks
 
--- the connections without the marks
+-- An entry of the list without the changed marks.
 abbrev pub unmarked_entry : ℕ × MarkedSession → ℕ × SessionValue
 unmarked_entry e = (e.0, e.1.session)
 
+-- The list without the changed marks.
 abbrev pub unmarked : List (ℕ × MarkedSession) → List (ℕ × SessionValue)
 unmarked sessions = map unmarked_entry sessions
 
--- every observer of every connection has the mark that it is to have
+-- Holds if the changed marks of all observers of all connections are current.
 abbrev pub AreAllMarked : Host → List (ℕ × MarkedSession) → Type 0
 AreAllMarked host sessions = AllByRecursion (λ e. IsMarked host e.1) sessions
 
--- ---- what is seen
+-- ---- queries
 
--- whether a connection has this number
+-- `true` if there is such a connection.
 abbrev pub is_there : {A : Type 0} → Option A → Bool
 is_there None = false
 is_there (Some x) = true
 
 -- ---- calls
 
--- at first nothing is stored
+-- The server state (`Host`) of a new server, which stores nothing.
 abbrev pub new_host : ConfigValues → Host
 new_host c = empty_host c.dynamic_max c.rep_max c.starts.versions c.starts.moment
 
--- a new server has no connection
+-- A new server, which has no connection.
 abbrev pub new_server : ConfigValues → ServerValue
 new_server c = record {
   config = c;
@@ -90,22 +94,25 @@ new_server c = record {
 abbrev pub server_opened : ServerValue → ServerValue
 server_opened v = server_settled (record v { ids = v.ids + 1; sessions = v.sessions ++ (v.ids + 1, new_session v.config.limits) ∷ [] })
 
+-- The server after a `take` with the effect `t` on the connection with this id.
 abbrev pub server_taken_so : ServerValue → ℕ → Taking → ServerValue
 server_taken_so v id t = server_settled (record (on_session id (λ s. t.session) v) { host = host_changed v.host t.change })
 
+-- The server after a `take` on a connection, unchanged if there is none.
 abbrev pub server_taken_on : ServerValue → ℕ → List ℕ → Option SessionValue → ServerValue
 server_taken_on v id piece None = v
 server_taken_on v id piece (Some s) = server_taken_so v id (taking v.host s piece)
 
--- the server that took what it takes of a piece
+-- The server after a `take` of `piece`.
 unfoldable pub server_taken : ServerValue → ℕ → List ℕ → ServerValue
 server_taken v id piece = server_taken_on v id piece (session_of id v.sessions)
 
--- how many bytes it takes
+-- The number of bytes that a `take` of `piece` accepts on a connection.
 abbrev pub count_on : ServerValue → List ℕ → Option SessionValue → ℕ
 count_on v piece None = 0
 count_on v piece (Some s) = (taking v.host s piece).count
 
+-- The same for the connection with this id.
 unfoldable pub count_taken : ServerValue → ℕ → List ℕ → ℕ
 count_taken v id piece = count_on v piece (session_of id v.sessions)
 

@@ -1,4 +1,4 @@
--- How an event that was run, and its line, are seen in contracts.
+-- The values that contracts see for an event that was run, and for its line.
 use Rattle.std.specs.Prelude.{◌≡◌, ℕ, List, length, Option, Some, None, Result, Ok, Err}
 use Rattle.std.specs.declared.alloc.AllocError.{AllocError}
 use Rattle.coap_script.specs.script.Events.{EventValue}
@@ -15,12 +15,13 @@ abbrev pub line_bytes : Line → List ℕ
 line_bytes (Short line) = line.items
 line_bytes (Long line) = line.items
 
--- an event was run and has this line, or memory was refused for it
+-- States the results that the run of an event may have: its line, or the failure of an allocation.
 abbrev pub IsRun : ServerValue → EventValue → ServerValue → Result Line AllocError → Type 0
 IsRun v e after (Ok line) = (after ≡ (event_ran v e).server) × (line_bytes line ≡ (event_ran v e).text)
 IsRun v e after (Err fault) = IsUnrun v e after
 
--- the line with the bytes that are drained from a connection, and how many there are
+-- States the result of `drain`: the line with the bytes that are drained, and their number, or `None` if there is no
+-- connection.
 abbrev pub IsDrainable : ℕ → Option ℕ → Option Drained → Option SessionValue → Type 0
 IsDrainable id most None None = Unit {0}
 IsDrainable id most None (Some s) = ⊥

@@ -1,4 +1,4 @@
--- Which world a server shows: the server as the code holds it, computed from the events alone.
+-- Defined by this project: the value of a server after a list of events, computed from the events alone.
 use Rattle.std.specs.Prelude.{◌≡◌, ℕ, ◌≤◌, List, [], map, ◌∷◌, ◌++◌, take}
 use Rattle.coap_model.specs.Configs.{ConfigValues}
 use Rattle.coap_server_session.specs.values.Sessions.{SessionValue}
@@ -9,9 +9,11 @@ use Rattle.coap_model.specs.world.Events.{Event, Took, stream_on, world_after, A
 use Rattle.coap_model.specs.declared.answers.TakeFault.{TakeFault}
 use Rattle.coap_model.specs.declared.answers.TakeFault.TheVariants as fault
 
+-- The entry of a connection of the model, with the bytes of its unfinished frame.
 abbrev pub place_shown : ℕ → List Event → Place → ℕ × SessionValue
 place_shown M events p = (p.id, session_shown (stream_on M p.id events).rest p.side)
 
+-- The value of a server for a world that was reached by these events.
 abbrev pub server_shown : ConfigValues → List Event → World → ServerValue
 server_shown c events w = record {
   config = c;
@@ -20,21 +22,21 @@ server_shown c events w = record {
   sessions = map (place_shown c.limits.max_message events) w.sides;
 }
 
--- the server after events
+-- The value of a server after these events.
 unfoldable pub server_of : ConfigValues → List Event → ServerValue
 server_of c events = server_shown c events (world_after c events)
 
--- a server shows the world after events: calls accepted them, and all that the server holds is what they leave. `Shows`
--- does not ask that a path names a resource, that a format has 16 bits or that a byte is below 256. No call can be
--- given others.
+-- A server shows a list of events if its calls accepted them, and its value is exactly what they determine. `Shows`
+-- does not require that a path names a resource, that a format has 16 bits, or that a byte is below 256. The types of
+-- the calls exclude other values.
 pub record Shows (v : ServerValue) (events : List Event) : Type 0 where
   pub accepted : AreAccepted v.config events
   pub same : v ≡ server_of v.config events
-  -- the moment at which the server begins is a number of 64 bits
+  -- The time at which the server starts fits in 64 bits.
   pub moment : v.config.starts.moment ≤ 18446744073709551615
 
--- a piece was not taken: no connection has the number, and the server shows what it showed; or memory was refused, and it shows
--- that so many bytes were taken
+-- States the events that a server shows after a `take` that failed. If no connection has this id, they are the same. If
+-- allocation failed, the first `bytes` bytes of `piece` were accepted.
 abbrev pub ShowsRefused : List Event → ℕ → List ℕ → TakeFault → ServerValue → Type 0
 ShowsRefused events id piece fault.NoSuch v = Shows v events
 ShowsRefused events id piece (fault.Memory bytes) v = Shows v (events ++ Took id (take bytes piece) ∷ [])

@@ -1,4 +1,4 @@
-//! The bytes of a server's connections: taken, and written.
+//! The input and the output of a server's connections.
 
 use super::sessions::{find, flush_at, settle_after, what_was_handled, written_at};
 use super::{Flushed, Server};
@@ -18,8 +18,10 @@ impl Server {
     ghost use Rattle.coap_server_engine.specs.Prelude.{IsRefusedFor};
     ghost use Rattle.coap_server_engine.specs.contracts.server.Server.{the_row};
 
-    /// Whether a connection takes bytes: it is there, has neither stopped nor been released, and has room in its queue
-    /// for the greatest message sent.
+    /// Returns `true` if a connection accepts bytes.
+    ///
+    /// It does if it exists, has not stopped, was not released by the peer, and its queue has room for a message of
+    /// `max_sent` bytes.
     #[tactic(auto, using(crate::proofs::values::ServerLemmas::unmarked_at, crate::proofs::values::ServerLemmas::within_unmarked))]
     pub fn can_take(&self, id: ConnId) -> bool
         ensures { result ≡ can_take_on (session_of id self.now.sessions) }
@@ -30,15 +32,16 @@ impl Server {
         self.sessions[at].takes()
     }
 
-    /// Takes bytes of what came on a connection: up to the end of the first message, to the byte of a fault, or all of
-    /// them; none where there is no room in its queue for the greatest message sent, or where it takes no message any
-    /// more. The caller offers the others again.
+    /// Accepts the first bytes of `piece`, which a connection received, and processes at most one message.
+    ///
+    /// The accepted bytes end with the first message, with the byte at which malformed input is recognised, or with the
+    /// slice. None is accepted if `can_take` returns `false`. The caller offers the other bytes again.
     ///
     /// # Errors
     ///
-    /// `NoSuch` where no connection has the number: nothing has changed then. `Memory` where memory was refused for a
-    /// representation that the message stores: the bytes before its last one are taken then, and nothing of it was
-    /// handled.
+    /// - `NoSuch`: no connection has this id. Nothing has changed.
+    /// - `Memory`: allocation failed for the representation that the message stores. The bytes before its last one are
+    ///   accepted, and the message was not processed. The caller may offer the last byte again.
     #[tactic(auto, using(crate::proofs::values::ServerLemmas::unmarked_at, crate::proofs::values::ServerLemmas::within_unmarked))]
     pub fn take(&mut self, id: ConnId, piece: &[u8]) -> Result<Taken, TakeFault>
         ensures within { IfOk result (λ t. t.bytes ≤ length piece.now) }
@@ -64,11 +67,11 @@ impl Server {
         self.take_at(at, id, piece)
     }
 
-    /// Takes bytes as `take`, on the connection with this number, whose index is known.
+    /// Accepts bytes as `take` does, on the connection at an index.
     ///
     /// # Errors
     ///
-    /// `Memory` as `take`.
+    /// - `Memory`: as for `take`.
     #[inline(always)]
     fn take_at(&mut self, at: usize, _id: ConnId, piece: &[u8]) -> Result<Taken, TakeFault>
         requires { LiesAt _id at self.old.sessions }
@@ -104,11 +107,13 @@ impl Server {
         }
     }
 
-    /// Takes bytes until they are used up, or none is taken, and answers how many were.
+    /// Accepts bytes until none is left or none is accepted, and returns the number accepted.
+    ///
+    /// Returns 0 if no connection has this id.
     ///
     /// # Errors
     ///
-    /// Where memory is refused.
+    /// Returns `AllocError` if allocation fails. The messages before the failure were processed then.
     pub fn take_all(&mut self, id: ConnId, bytes: &[u8]) -> Result<usize, AllocError>
         ensures count { IfOk result (λ n. n ≡ (fed self.old id bytes.now).count) }
         ensures within { IfOk result (λ n. n ≤ length bytes.now) }
@@ -136,8 +141,9 @@ impl Server {
         Ok(taken)
     }
 
-    /// Returns all queued bytes of a connection in one slice, or `None` if no connection has the number. If they wrap
-    /// around the end of the queue's ring, they are moved first: `parts` moves none.
+    /// Returns all queued bytes of a connection in one slice, or `None` if no connection has this id.
+    ///
+    /// If the bytes wrap around the end of the queue, they are moved first; `parts` moves none.
     #[tactic(auto, using(crate::proofs::values::ServerLemmas::unmarked_at, crate::proofs::values::ServerLemmas::within_unmarked))]
     pub fn front<'a>(&'a mut self, id: ConnId) -> Option<&'a [u8]>
         ensures* unchanged { sem 𝓛 (follows_so the_row the_row self.entry.ghost_name none (λ _ _. ⊤)
@@ -148,8 +154,10 @@ impl Server {
         Some(self.sessions[at].front())
     }
 
-    /// Returns the queued bytes of a connection in the two slices that they occupy, the first ones and those after them,
-    /// or `None` if no connection has the number. Unlike `front`, it moves no bytes.
+    /// Returns the queued bytes of a connection in the two slices that they occupy, or `None` if no connection has this
+    /// id.
+    ///
+    /// The first slice comes before the second in the output. Unlike `front`, this function moves no bytes.
     #[tactic(auto, using(crate::proofs::values::ServerLemmas::unmarked_at, crate::proofs::values::ServerLemmas::within_unmarked))]
     pub fn parts(&self, id: ConnId) -> Option<(&[u8], &[u8])>
         ensures there { is_some result ≡ is_there (session_of id self.now.sessions) }
@@ -159,12 +167,14 @@ impl Server {
         Some(self.sessions[at].parts())
     }
 
-    /// The first so many bytes of a connection were written, and wait no more.
+    /// Removes the first `count` bytes from the queue of a connection, after the caller has written them.
     ///
     /// # Errors
     ///
-    /// In this order: `NoSuch` where no connection has the number, `TooMany` where fewer bytes wait. Nothing has
-    /// changed then.
+    /// In this order, and nothing has changed then:
+    ///
+    /// - `NoSuch`: no connection has this id.
+    /// - `TooMany`: `count` exceeds the number of queued bytes.
     #[tactic(auto, using(crate::proofs::values::ServerLemmas::unmarked_at, crate::proofs::values::ServerLemmas::within_unmarked))]
     pub fn written(&mut self, id: ConnId, count: usize) -> Result<(), WrittenFault>
         ensures answer { RefusedBy result (written_refusal self.old id count) }
@@ -183,12 +193,15 @@ impl Server {
         Ok(())
     }
 
-    /// Writes all that waits on a connection, where anything does, and settles then. Answers whether anything waited,
-    /// how much was held and how many observers there were, and why the connection takes no message any more.
+    /// Writes all queued bytes of a connection, if there are any, and settles the connection.
     ///
     /// # Errors
     ///
-    /// Where a write failed.
+    /// Returns `WriteFailed` if a write fails. A prefix of the queued bytes was written then.
+    ///
+    /// # Preconditions
+    ///
+    /// The outlet has not failed before.
     #[tactic(auto, using(crate::proofs::values::ServerLemmas::unmarked_at, crate::proofs::values::ServerLemmas::within_unmarked))]
     pub fn flush_once<W: Outlet>(
         &mut self,

@@ -1,4 +1,4 @@
-//! What changes for every connection of a server: the moment, and what is stored.
+//! The changes that may affect every connection of a server: of the time, and of the store.
 
 use super::sessions::{next_touched, settle_touched};
 use super::{Server, Stamp};
@@ -12,11 +12,14 @@ impl Server {
     ghost use Rattle.coap_server_engine.specs.Prelude.{remove_refusal, stamp_of, AreSettled, server_ticked, server_put};
     ghost use Rattle.coap_server_engine.specs.Prelude.{server_removed, Event, Ticked, Stored, Removed, Shows};
 
-    /// The moment is now this one, in seconds.
+    /// Sets the time of the server, in seconds.
+    ///
+    /// Then the server sends the delayed responses that are due and notifies the observers of the time, as far as the
+    /// queues have room.
     ///
     /// # Errors
     ///
-    /// Where it is before the moment of the server. Nothing has changed then.
+    /// - `Backwards`: `now` is earlier than the time of the server. Nothing has changed.
     pub fn tick(&mut self, now: u64) -> Result<(), Backwards>
         ensures settled { AreSettled self.old.host self.old.sessions }
         ensures answer { is_ok result ≡ nat_le self.old.host.now now }
@@ -41,11 +44,20 @@ impl Server {
         Ok(())
     }
 
-    /// Stores a representation as `Store::put`, and answers its version. Who observes the path is notified.
+    /// Stores a representation at a path, notifies the observers of the path, and returns the version of the
+    /// representation.
+    ///
+    /// An observer whose connection has no room in its queue is notified later, of the state at that time.
     ///
     /// # Errors
     ///
-    /// As `Store::put`. Nothing has changed then.
+    /// In this order, and nothing has changed then:
+    ///
+    /// - `TooLarge`: the representation has too many bytes.
+    /// - `BadPath`: the path is that of a built-in resource.
+    /// - `Limit`: the path is absent, and the resource limit is reached.
+    /// - `VersionsSpent`: no version is left.
+    /// - `Memory`: allocation failed.
     pub fn put(
         &mut self,
         path: &PathKey,
@@ -65,11 +77,11 @@ impl Server {
         Ok(version)
     }
 
-    /// Takes the resource at a path away as `Store::remove`. Who observes it is notified.
+    /// Removes the resource at a path, and notifies the observers of the path as `put` does.
     ///
     /// # Errors
     ///
-    /// As `Store::remove`. Nothing has changed then.
+    /// - `NoSuch`: the path is absent, or that of a built-in resource. Nothing has changed.
     pub fn remove(&mut self, path: &PathKey) -> Result<(), StoreFault>
         ensures settled { AreSettled self.old.host self.old.sessions }
         ensures answer { RefusedBy result (remove_refusal self.old.host.store path.now) }
@@ -83,14 +95,15 @@ impl Server {
         Ok(())
     }
 
-    /// Whether `remove` would take a resource away at a path. It changes nothing, and takes no memory.
+    /// Returns `true` if `remove` would succeed at a path. Changes nothing and allocates no memory.
     pub fn can_remove(&self, path: &PathKey) -> bool
         ensures { result ≡ is_none (remove_refusal self.now.host.store path.now) }
     {
         self.host.store.can_remove(path)
     }
 
-    /// What may concern every connection, if it changes. Each of them is settled, as after every call.
+    /// Returns the change stamp of the server. Its contract also states that every connection is settled, as after
+    /// every call.
     pub fn stamp(&self) -> Stamp
         ensures stamp { result ≡ stamp_of self.now.host }
         ensures store { IsStore self.now.host.store }

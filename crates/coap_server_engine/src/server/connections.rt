@@ -1,4 +1,4 @@
-//! The connections of a server: opened, ended, released, dropped, and how each is.
+//! The connections of a server: opened, ended, released, dropped, and their status.
 
 use super::sessions::{announce_at, end_at, find, release_at};
 use super::{Outlook, Server};
@@ -13,7 +13,7 @@ impl Server {
     ghost use Rattle.coap_server_engine.specs.Prelude.{IsAnnounced, status_of, outlook_of, Event, Opened, Ended};
     ghost use Rattle.coap_server_engine.specs.Prelude.{Released, Announced, Dropped, Shows};
 
-    /// Whether `open` would be refused for want of memory alone.
+    /// Returns `true` if `open` can fail only for lack of memory.
     pub fn can_open(&self) -> bool
         ensures answer { result ≡ is_none (open_refusal self.now) }
         ensures settled { AreSettled self.now.host self.now.sessions }
@@ -21,13 +21,17 @@ impl Server {
         self.sessions.len() < self.config.connections() && self.ids < u64::MAX
     }
 
-    /// Opens a connection, on which our Capabilities and Settings wait, and answers its number: one more than the last
-    /// one.
+    /// Opens a connection, queues the server's Capabilities and Settings Message (CSM) on it, and returns its id.
+    ///
+    /// Ids count up: the new one is the last id plus one.
     ///
     /// # Errors
     ///
-    /// In this order: `Full` where as many connections are there as the configuration allows, `IdsSpent` where every
-    /// number was given, `Memory` where memory was refused. Nothing has changed then.
+    /// In this order, and nothing has changed then:
+    ///
+    /// - `Full`: the connection limit of the configuration is reached.
+    /// - `IdsSpent`: no id is left.
+    /// - `Memory`: allocation failed.
     pub fn open(&mut self) -> Result<ConnId, OpenFault>
         ensures answer { OpenedOrMemory result (open_refusal self.old) }
         ensures id { IfOk result (λ id. id ≡ self.old.ids + 1) }
@@ -54,11 +58,12 @@ impl Server {
         Ok(id)
     }
 
-    /// The input of a connection ended.
+    /// Records the end of the input of a connection. The connection stops, unless it has stopped or the peer has
+    /// released it.
     ///
     /// # Errors
     ///
-    /// Where no connection has the number. Nothing has changed then.
+    /// - `NoSuch`: no connection has this id. Nothing has changed.
     #[tactic(auto, using(crate::proofs::values::ServerLemmas::unmarked_at, crate::proofs::values::ServerLemmas::within_unmarked))]
     pub fn ended(&mut self, id: ConnId) -> Result<(), NoSuch>
         ensures answer { is_ok result ≡ is_there (session_of id self.old.sessions) }
@@ -78,9 +83,12 @@ impl Server {
     ///
     /// # Errors
     ///
-    /// In this order: `NoSuch` where no connection has the number, `NotOpen` where it is not open, `NoRoom` where fewer
-    /// than 2 bytes are free in its queue, `PeerTooSmall` where less than 2 bytes may be sent. Nothing has changed
-    /// then.
+    /// In this order, and nothing has changed then:
+    ///
+    /// - `NoSuch`: no connection has this id.
+    /// - `NotOpen`: the connection is not open.
+    /// - `NoRoom`: fewer than 2 bytes are free in the queue.
+    /// - `PeerTooSmall`: the peer accepts fewer than 2 bytes.
     #[tactic(auto, using(crate::proofs::values::ServerLemmas::unmarked_at, crate::proofs::values::ServerLemmas::within_unmarked))]
     pub fn release(&mut self, id: ConnId) -> Result<(), ReleaseFault>
         ensures answer { RefusedBy result (released_refusal self.old id) }
@@ -95,16 +103,23 @@ impl Server {
         release_at(&mut self.sessions, at, &self.host)
     }
 
-    /// Announces the greatest message that is taken on a connection from now on (RFC 8323 section 5.3.1), and keeps room
-    /// for it: Capabilities and Settings with this size are queued. The size in force is announced again as it is. What
-    /// is kept of a message stays; the message is judged by the new size where its length has not come in whole.
+    /// Announces `new` as the largest message accepted on a connection from now on (RFC 8323 section 5.3.1).
+    ///
+    /// Allocates the memory for a message of that size, in bytes, and queues a CSM. The current size may be announced
+    /// again. Bytes of an unfinished message stay. The new size applies to that message if its length was not received
+    /// in full.
     ///
     /// # Errors
     ///
-    /// In this order: `NoSuch` where no connection has the number, `NotOpen` where it is not open, `Lower` where the
-    /// size is below the one announced last, `TooLarge` where it is above 1,048,576 bytes, `NoRoom` where its queue has
-    /// no room for the greatest message sent, `PeerTooSmall` where the peer takes no message as great as the
-    /// announcement, `Memory` where the size is greater and its room is refused. Nothing has changed then.
+    /// In this order, and nothing has changed then:
+    ///
+    /// - `NoSuch`: no connection has this id.
+    /// - `NotOpen`: the connection is not open.
+    /// - `Lower`: the size is below the current one.
+    /// - `TooLarge`: the size is above 1,048,576 bytes.
+    /// - `NoRoom`: the queue has no room for a message of `max_sent` bytes.
+    /// - `PeerTooSmall`: the CSM exceeds the largest message that may be sent.
+    /// - `Memory`: the size is above the current one, and allocation failed.
     #[tactic(auto, using(crate::proofs::values::ServerLemmas::unmarked_at, crate::proofs::values::ServerLemmas::within_unmarked))]
     pub fn announce(&mut self, id: ConnId, new: u32) -> Result<(), AnnounceFault>
         ensures answer { IsAnnounced new (session_of id self.old.sessions) result }
@@ -119,11 +134,11 @@ impl Server {
         announce_at(&mut self.sessions, at, &self.host, new)
     }
 
-    /// Drops a connection, with all that waits on it.
+    /// Removes a connection, with its queued bytes and pending entries.
     ///
     /// # Errors
     ///
-    /// Where no connection has the number. Nothing has changed then.
+    /// - `NoSuch`: no connection has this id. Nothing has changed.
     #[tactic(auto, using(crate::proofs::values::ServerLemmas::unmarked_at, crate::proofs::values::ServerLemmas::within_unmarked))]
     pub fn drop_conn(&mut self, id: ConnId) -> Result<(), NoSuch>
         ensures answer { is_ok result ≡ is_there (session_of id self.old.sessions) }
@@ -139,7 +154,7 @@ impl Server {
         Ok(())
     }
 
-    /// How a connection is, where one has the number.
+    /// Returns the status of a connection, or `None` if no connection has this id.
     pub fn status(&self, id: ConnId) -> Option<Status>
         ensures { result ≡ status_of self.now id }
     {
@@ -155,7 +170,7 @@ impl Server {
         })
     }
 
-    /// What is to be done on a connection, where one has the number.
+    /// Returns the work left on a connection, or `None` if no connection has this id.
     pub fn outlook(&self, id: ConnId) -> Option<Outlook>
         ensures { result ≡ outlook_of self.now id }
     {

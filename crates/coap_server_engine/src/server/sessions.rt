@@ -1,4 +1,4 @@
-//! What is done to the connections that a server holds, each by its index.
+//! Operations on the connections of a server, by index.
 
 ghost use Rattle.std.specs.Prelude.{◌≡◌, ◌<◌, ◌≤◌, ◌+◌, ◌^◌, false, None, Some, length, map, slice_get, if◌then◌else◌};
 ghost use Rattle.std.specs.Prelude.{is_err, is_some, IfNone, IfSome, IfOk, OnOk, OnErr};
@@ -16,7 +16,7 @@ use coap_io::{Outlet, WriteFailed, write_parts};
 use coap_model::{AnnounceFault, ConnId, Handled, ReleaseFault};
 use coap_server_session::{Cause, Host};
 
-/// The index of a connection.
+/// Returns the index of a connection, or `None` if no connection has this id.
 pub(super) fn find(sessions: &Sessions, id: ConnId) -> Option<usize>
     ensures none { IfNone result (session_of id (unmarked sessions.now.entries) ≡ None) }
     ensures some { IfSome result (λ at. LiesAt id at (unmarked sessions.now.entries)) }
@@ -24,8 +24,8 @@ pub(super) fn find(sessions: &Sessions, id: ConnId) -> Option<usize>
     sessions.get_index_of(&id)
 }
 
-/// Returns the index of the first connection, from an index on, that a change may touch. A connection that it passes
-/// costs a look at one or two bytes.
+/// Returns the index of the first connection, from an index on, that a change may affect. Skipping an unaffected
+/// connection reads one or two bytes of it.
 pub(super) fn next_touched(
     sessions: &Sessions,
     from: usize,
@@ -46,8 +46,8 @@ pub(super) fn next_touched(
     None
 }
 
-/// Every connection that a change may touch marks the observers that it concerns, and settles. The others are settled
-/// already.
+/// Recomputes the marks on every connection that a change may affect, and settles these connections. The others are
+/// settled already.
 pub(super) fn settle_touched(sessions: &mut Sessions, host: &Host, cause: Cause)
     requires settled { AreSettledUntouched cause host.now (unmarked sessions.old.entries) }
     requires marked { AreMarkedBut cause host.now sessions.old.entries }
@@ -62,8 +62,8 @@ pub(super) fn settle_touched(sessions: &mut Sessions, host: &Host, cause: Cause)
     }
 }
 
-/// Every connection settles where the one at an index changed the resource at a path with this hash, and else that one
-/// alone, where it holds something.
+/// Settles every connection if the one at an index changed the resource at a path with this hash. If nothing changed,
+/// settles only that connection, and only if an entry is pending.
 pub(super) fn settle_after(changed: Option<u8>, sessions: &mut Sessions, at: usize, host: &Host)
     requires within { at < length sessions.old.entries }
     requires others { AreOthersSettled changed at host.now (unmarked sessions.old.entries) }
@@ -83,8 +83,8 @@ pub(super) fn settle_after(changed: Option<u8>, sessions: &mut Sessions, at: usi
     }
 }
 
-/// What was handled where a connection took bytes or not, handled a message or not, and then takes no message any more,
-/// if so.
+/// Returns the result of a `take`: whether the connection accepted bytes, whether a message was processed, and the
+/// reason of a stop decide it.
 pub(super) fn what_was_handled(takes: bool, message: bool, stop: Option<Reason>) -> Handled
     ensures { result ≡ handled_so takes message stop }
 {
@@ -103,7 +103,7 @@ pub(super) fn what_was_handled(takes: bool, message: bool, stop: Option<Reason>)
     }
 }
 
-/// The first so many bytes of the connection at an index were written. It settles.
+/// Removes the first `count` bytes from the queue of the connection at an index, and settles it.
 pub(super) fn written_at(sessions: &mut Sessions, at: usize, host: &Host, count: usize)
     requires within { at < length sessions.old.entries }
     requires waiting { IfSome (slice_get (values_of (unmarked sessions.old.entries)) at)
@@ -117,7 +117,7 @@ pub(super) fn written_at(sessions: &mut Sessions, at: usize, host: &Host, count:
     sessions[at].written_and_settled(host, count);
 }
 
-/// The input of the connection at an index ended. It settles.
+/// Records the end of the input of the connection at an index, and settles it.
 pub(super) fn end_at(sessions: &mut Sessions, at: usize, host: &Host)
     requires within { at < length sessions.old.entries }
     requires marked { AreAllMarked host.now sessions.old.entries }
@@ -130,7 +130,7 @@ pub(super) fn end_at(sessions: &mut Sessions, at: usize, host: &Host)
     session.settle(host);
 }
 
-/// Releases the connection at an index. It settles.
+/// Releases the connection at an index, and settles it.
 ///
 /// # Errors
 ///
@@ -155,7 +155,7 @@ pub(super) fn release_at(
     Ok(())
 }
 
-/// Announces a size on the connection at an index. It settles.
+/// Announces a size on the connection at an index, and settles it.
 ///
 /// # Errors
 ///
@@ -181,12 +181,11 @@ pub(super) fn announce_at(
     Ok(())
 }
 
-/// Writes all that waits on the connection at an index, where anything does, and answers whether it did. It settles
-/// then.
+/// Writes all queued bytes of the connection at an index and settles it. Returns `false` if no byte was queued.
 ///
 /// # Errors
 ///
-/// Where a write failed. The connection is then as before.
+/// Returns `WriteFailed` if a write fails. The connection is unchanged then.
 pub(super) fn flush_at<W: Outlet>(
     sessions: &mut Sessions,
     at: usize,

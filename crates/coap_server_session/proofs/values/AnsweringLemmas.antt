@@ -1,4 +1,4 @@
--- What is entered, held and sent where a request is answered, where what is held is due, and where an observer is notified.
+-- The link and the entries after a request, after a due entry was sent, and after a notification.
 use Rattle.std.proofs.Common.{◌≡◌, ℕ, Bool, true, false, ◌&&◌, List, [], Option, Some, None, refl, sym, ap, ◌∙◌, ◌==◌, slice_get, slice_set, if◌then◌else◌}
 use Rattle.coap_server_session.specs.Prelude.{remove, Message, Reply, fit, bare_response, first_due, link_after, LinkValue}
 use Rattle.coap_server_session.specs.Prelude.{limit_in, can_hold, path_of, says, answer_of, unheld, prompt_answer, changes}
@@ -24,31 +24,31 @@ use Rattle.coap_model.proofs.world.EntryLemmas.{asks_to_enter}
 pub may_watch : (host : Host) (m : Message) → asks_entry (answer_on host m).watch ≡ true → MayWatch host.store host.now (path_of m) (answer_on host m)
 may_watch host m asks = promptly_watched_is_there host.store host.now m (asks_to_enter (answer_on host m).watch asks)
 
--- a request that changes something is not one of an observer
+-- A request that changes the store gets no entry.
 unobserved : (host : Host) (m : Message) (room : ℕ) (others : List ObserverValue) → changes (answer_on host m).change ≡ true → is_observed host room others m ≡ false
 unobserved host m room others does =
     and_left _ _ (false_from_ne_true (asks_entry (answer_on host m).watch) (λ asks. both_ways (changes (answer_on host m).change) (ap changes (may_watch host m asks).quiet) does))
 
--- what is not nothing is a change
+-- A change that changes something is not `Nothing`.
 pub nothing_changed : (c : answer.Change) → changes c ≡ false → c ≡ answer.Nothing
 nothing_changed answer.Nothing e = refl
 nothing_changed (answer.Put path format bytes) e = absurd cc
 nothing_changed (answer.Delete path) e = absurd cc
 
--- ---- a request whose answer asks to be held
+-- ---- a request whose response is to be delayed
 
 module _ (host : Host) (m : Message) (seconds room : ℕ) (others : List ObserverValue) (holds : hold_on host m ≡ Some seconds) where
   pub late_quiet : (answer_on host m).change ≡ answer.Nothing
   late_quiet = same_change host.store host.now m ∙ (held_of host.store host.now m seconds holds).change
 
-  -- it is not one of an observer
+  -- It gets no entry.
   late_unobserved : is_observed host room others m ≡ false
   unfolding prompt_answer
   late_unobserved =
       let same : (answer_of host.store host.now m).watch ≡ (answer_on host m).watch = cc holds in
       and_left _ _ (false_from_ne_true (asks_entry (answer_on host m).watch) (λ asks. held_unwatched host.store host.now m seconds holds (same ∙ asks_to_enter (answer_on host m).watch asks)))
 
-  -- it is held where there is room, and else refused for now
+  -- Its response is delayed if the pending list has room, and is 5.03 otherwise.
   pub late_link : (l after : LinkValue) (moment : ℕ) → moment ≡ moment_after host.now seconds
       → after ≡ (if can_hold l then link_after l (call.Hold m.token moment) else link_after l (call.Reply (response_message m.token (unheld (answer_of host.store host.now m)).response))) → after ≡ link_replied host l room others m (held_in l (hold_on host m))
   unfolding prompt_answer
@@ -79,7 +79,7 @@ module _ (host : Host) (m : Message) (l : LinkValue) (room : ℕ) (others : List
   pub prompt_entries : (enters : Bool) → enters ≡ (is_observed host room others m && is_sent l (response_on host room others m)) → with_entry enters others (new_entry host m) ≡ entries_replied host l room others m (held_in l (hold_on host m))
   prompt_entries enters is = cc
 
-  -- one that changes something has a response without a payload, and nobody is entered
+  -- A request that changes the store has a response without a payload, and gets no entry.
   module _ (does : changes (answer_on host m).change ≡ true) where
     pub change_link : (after : LinkValue) → (answer_on host m).response.payload ≡ [] → after ≡ link_after l (call.Reply (response_with_observe m.token false (record (answer_on host m).response { payload = [] }))) → after ≡ link_replied host l room others m (held_in l (hold_on host m))
     change_link after bare is =
@@ -91,25 +91,25 @@ module _ (host : Host) (m : Message) (l : LinkValue) (room : ℕ) (others : List
     pub change_entries : others ≡ entries_replied host l room others m (held_in l (hold_on host m))
     change_entries = prompt_entries false (cc (unobserved host m room others does))
 
--- ---- what is held
+-- ---- pending entries
 
--- where nothing is due nothing is sent
+-- If no entry is due, nothing is sent.
 pub nothing_sent : (l : LinkValue) (now : ℕ) → first_due now l.held ≡ None → link_after l (call.Due now) ≡ l
 nothing_sent l now none = rw (none, (due_nothing now l.held none).1, append-nil l.waiting) refl
 
 -- ---- a notification
 
--- a notification is a 2.05 and fits the peer
+-- `true` if a notification is a 2.05 and is sent whole.
 abbrev pub goes_whole : Host → LinkValue → ObserverValue → Bool
 goes_whole host l o = goes_on (notification_of host.store host.now o.path o.format) && is_sent l (notification_on host o)
 
--- the entries once this one, which is at the index of the first that is stale, was notified
+-- The entries after the notification of the observer at the index of the first stale one.
 pub notified_entries : (host : Host) (l : LinkValue) (entries : List ObserverValue) (index : ℕ) (o : ObserverValue) (stays : Bool) → first_index (is_stale host) entries ≡ Some index → stays ≡ goes_whole host l o
     → (if stays then slice_set entries index (record o { mark = mark_of host.now (state_on host o.path) }) else remove entries index) ≡ entries_notified host l entries o
 notified_entries host l entries index o true first is = (is_first (is_stale host) entries index first).becomes _ ∙ cc
 notified_entries host l entries index o false first is = (is_first (is_stale host) entries index first).goes ∙ cc
 
--- whether an observer stays, by what the code computes of the one at the index
+-- An observer stays if and only if the code computes so from the entry at the index.
 pub observer_stays_by : (host : Host) (l : LinkValue) (entries : List ObserverValue) (index : ℕ) (seen o : ObserverValue) (a : Answer) (c : ℕ) (goes : Bool) (reply : Reply) → slice_get entries index ≡ Some seen → slice_get entries index ≡ Some o
     → a ≡ says (notification_of host.store host.now seen.path seen.format) → c ≡ a.response.code → goes ≡ (c == code.content)
     → reply ≡ fit (limit_in l) (response_with_observe seen.token goes a.response) (bare_response (response_with_observe seen.token goes a.response)) → (goes && is_whole reply) ≡ goes_whole host l o

@@ -1,4 +1,5 @@
--- A connection that a change of a path, or of the moment, does not touch stays settled, and the marks that a change sets anew.
+-- A change of a path or of the time leaves the connections settled that it does not affect. These lemmas also give the
+-- marks that it recomputes.
 use Rattle.std.proofs.Common.{◌≡◌, ◌≢◌, ℕ, false, List, [], ◌∷◌, Option, Some, None, is_some, refl, sym, ap, ◌∙◌, ◌==◌, if◌then◌else◌}
 use Rattle.coap_server_session.specs.Prelude.{find, map, not, AllByRecursion, Path, StoreValue, found_in, place_of, key_for}
 use Rattle.coap_server_session.specs.Prelude.{state_at, Root, Time, Async, Listing, Dynamic, Change, Nothing, Put, Delete}
@@ -23,7 +24,7 @@ hash_where_changed Nothing = refl
 hash_where_changed (Put path format bytes) = refl
 hash_where_changed (Delete path) = refl
 
--- what is stored at a path with another hash is kept
+-- The resource at a path with another hash is unchanged.
 kept_elsewhere : (s : StoreValue) (c : Change) (hash : ℕ) → change_hash c ≡ Some hash → (q : Path) → path_hash q ≢ hash → found_in (changed s c).resources q ≡ found_in s.resources q
 kept_elsewhere s Nothing hash is q other = absurd cc
 kept_elsewhere s (Put path format bytes) hash is q other = other_is_kept_on_put s path q format bytes (λ e. other cc)
@@ -31,7 +32,7 @@ kept_elsewhere s (Delete path) hash is q other = other_is_kept_on_delete s path 
 
 -- ---- a state that did not change
 
--- what is built in has the moment as its mark, whatever is stored
+-- The mark of a built-in resource is the time, whatever the store has.
 marked_alike : (s t : StoreValue) (now mark : ℕ) (key : Option Path) (p : Place) → ((q : Path) → key ≡ Some q → found_in t.resources q ≡ found_in s.resources q) → is_marked now mark (state_at t now key p) ≡ is_marked now mark (state_at s now key p)
 unfolding state_at
 marked_alike s t now mark key Root same = refl
@@ -56,7 +57,7 @@ mark_alike s t now key Listing same = refl
 mark_alike s t now None Dynamic same = refl
 mark_alike s t now (Some q) Dynamic same = ap (mark_of now) (sym (same q refl))
 
--- whom the change does not concern has the same mark
+-- An observer that the change does not affect keeps its changed mark.
 mark_elsewhere : (host : Host) (c : Change) (hash : ℕ) (o : ObserverValue) → change_hash c ≡ Some hash → is_concerned (cause.Path hash) o ≡ false → changed_mark host o ≡ changed_mark (host_changed host c) o
 unfolding changed_mark
 mark_elsewhere host c hash o is other =
@@ -74,14 +75,14 @@ pub settled_elsewhere : (host : Host) (c : Change) (hash : ℕ) (v : SessionValu
 settled_elsewhere host c hash v is others =
     settled_still host (host_changed host c) v (λ none. none) (λ fresh. none_elsewhere host c hash v.observers is others (none_due (is_stale host) v.observers fresh))
 
--- ---- the marks that a change sets anew
+-- ---- recomputed marks
 
 pub but_changed : (host : Host) (c : Change) (hash : ℕ) (s : MarkedSession) → change_hash c ≡ Some hash → IsMarked host s → IsMarkedBut (cause.Path hash) (host_changed host c) s
 but_changed host c hash s is marked =
     let os = s.session.observers in
     ap (marks_anew (cause.Path hash) (host_changed host c) os) marked ∙ anew_after (cause.Path hash) host (host_changed host c) os (λ o other. mark_elsewhere host c hash o is other)
 
--- the same of the marks of one connection, after a change or none
+-- The same for the marks of one connection, after a change or none.
 pub marked_after : (host : Host) (c : Change) (os : List ObserverValue) (marks : List (Option ℕ)) → AreMarked host os marks → marks_after (change_hash c) (host_changed host c) os marks ≡ map (changed_mark (host_changed host c)) os
 marked_after host Nothing os marks marked = marked
 marked_after host (Put path format bytes) os marks marked =
@@ -98,7 +99,7 @@ but_later host later before s store marked =
     let os = s.session.observers in
     ap (marks_anew (cause.Moment before) (at_moment host later) os) marked ∙ anew_after (cause.Moment before) host (at_moment host later) os (λ o other. mark_later host later o store other)
 
--- whose marks are as they are to be need none anew
+-- Current marks need no recomputation.
 pub but_none : (why : Cause) (host : Host) (s : MarkedSession) → IsMarked host s → IsMarkedBut why host s
 but_none why host s marked = ap (marks_anew why host s.session.observers) marked ∙ anew_same why host s.session.observers
 

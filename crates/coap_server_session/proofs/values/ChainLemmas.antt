@@ -1,4 +1,4 @@
--- The chains of observers: a change finds by them those that it concerns, and no others.
+-- The chains lead from a change to exactly the observers that it affects.
 use Rattle.std.proofs.Common.{◌≡◌, ℕ, zero, suc, ◌+◌, ◌<◌, ◌≤◌, ◌==◌, Bool, true, false, List, [], ◌∷◌, ◌++◌, length, map, set, get_or, Option, Some, None, is_some, inl, inr, refl, sym, ap, subst, ◌∙◌, arith, option_map, slice_get, slice_set, if◌then◌else◌}
 use Rattle.std.proofs.lemmas.Bool.{cases_lt, or_parts, or_right, eqb-false}
 use Rattle.std.proofs.lemmas.List.{length-map, length_push, map-set, map_push}
@@ -13,9 +13,9 @@ use Rattle.coap_server_session.proofs.values.EntryLemmas.{read_at}
 use Rattle.coap_server_session.proofs.values.MarkLemmas.{marks_from, from_end, passed_over, one_set}
 use Rattle.coap_server_session.proofs.values.TagLemmas.{all_set}
 
--- ---- entries that are chained
+-- ---- linked observers
 
--- entries before an index are the same
+-- A list that agrees before an index has the same last observer before it.
 last_moved : (why : Cause) (n : ℕ) (os ps : List Linked) (last : Option ℕ) → ((k : ℕ) → k < n → slice_get ps k ≡ slice_get os k) → IsLastBefore why n os last → IsLastBefore why n ps last
 last_moved why n os ps last same is = record {
   within = is.within;
@@ -30,11 +30,11 @@ none_before : (why : Cause) (os : List Linked) (last : Option ℕ) → last ≡ 
 none_before why os last none =
     subst (IsLastBefore why 0 os) (sym none) (record { within = omega arith; concerned = λ k o here at. absurd cc; others = λ k o low high at. absurd (omega (arith, high)) })
 
--- nothing is chained yet
+-- No observer is linked yet.
 pub none_chained : (chains : Chains) (os : List Linked) → ((why : Cause) → last_in why chains ≡ None) → AreChainedTo 0 chains os
 none_chained chains os none = record { last = λ why. none_before why os (last_in why chains) (none why); each = λ why k o low at is. absurd (omega (arith, low)) }
 
--- one more is
+-- One more observer is linked.
 pub one_chained : (n : ℕ) (before after : Chains) (os ps : List Linked) (o : Linked) → AreChainedTo n before os → slice_get ps n ≡ Some o → ((k : ℕ) → k < n → slice_get ps k ≡ slice_get os k) → ((why : Cause) → concerns_path why o.path ≡ true → previous_in why o ≡ last_in why before) → ((why : Cause) → last_in why after ≡ (if concerns_path why o.path then Some n else last_in why before)) → AreChainedTo (suc n) after ps
 one_chained n before after os ps o all at same previous last = record { last = λ why. is_last why; each = λ why k p low there is. is_each why k p low there is }
   where
@@ -82,9 +82,9 @@ one_chained n before after os ps o all at same previous last = record { last = �
               rw (← index, last_is) (last_moved why n os ps (last_in why before) same (all.last why)))
         ]
 
--- ---- a loop that chains them
+-- ---- the loop that links observers
 
--- those before an index are chained, and nothing else of any has changed
+-- The observers before an index are linked, and nothing else has changed.
 pub record IsChaining (n : ℕ) (chains : Chains) (old now : List Observer) : Type 0 where
   pub entries : map observer_value now ≡ map observer_value old
   pub marks : map mark_in now ≡ map mark_in old
@@ -113,7 +113,7 @@ one_more_chained n before after old now x y all within read value mark tag previ
       chained = subst (λ (k : ℕ). AreChainedTo k after (map linked (set now n y))) next one;
     }
 
--- an entry comes last
+-- An observer is appended.
 pub entered_chained : (before after : Chains) (xs : List Observer) (x y : Observer) → AreChainedTo (length xs) before (map linked xs) → observer_value y ≡ observer_value x → ((why : Cause) → concerns_path why x.path ≡ true → previous_in why (linked y) ≡ last_in why before) → ((why : Cause) → last_in why after ≡ (if concerns_path why x.path then Some (length xs) else last_in why before)) → AreChainedTo (length (xs ++ y ∷ [])) after (map linked (xs ++ y ∷ []))
 entered_chained before after xs x y all value previous last =
     let os = map linked xs in
@@ -126,13 +126,13 @@ entered_chained before after xs x y all value previous last =
     (λ why is. previous why (ap (concerns_path why) (sym path) ∙ is))
     (λ why. last why ∙ ap (λ (p : Path). if concerns_path why p then Some (length xs) else last_in why before) (sym path)))
 
--- ---- what is found by them
+-- ---- search by chains
 
 concerned_by_path : (why : Cause) (o : ObserverValue) → is_concerned why o ≡ concerns_path why o.path
 concerned_by_path (cause.Path hash) o = refl
 concerned_by_path (cause.Moment before) o = refl
 
--- the entry that is seen
+-- The observer of a value in the list.
 seen_at : (xs : List Observer) (i : ℕ) (o : ObserverValue) → slice_get (map observer_value xs) i ≡ Some o → (x : Observer) × (slice_get (map linked xs) i ≡ Some (linked x)) × (o ≡ observer_value x)
 seen_at [] i o at = absurd cc
 seen_at (x ∷ xs) zero o at = (x, refl, let same : observer_value x ≡ o = cc in sym same)
@@ -141,7 +141,7 @@ seen_at (x ∷ xs) (suc i) o at = seen_at xs i o at
 pub linked_at : (xs : List Observer) (i : ℕ) (x : Observer) → i < length xs → x ≡ get_or xs i x → slice_get (map linked xs) i ≡ Some (linked x)
 linked_at xs i x within read = slice_get-map linked xs i ∙ ap (option_map linked) (slice_get_read xs (length xs) i x refl within read)
 
--- no observer from an index up to another one is concerned
+-- No observer between the last affected one and an index is affected.
 others_unconcerned : (why : Cause) (n : ℕ) (xs : List Observer) (last : Option ℕ) → IsLastBefore why n (map linked xs) last → (i : ℕ) (o : ObserverValue) → next_index last ≤ i → i < n → slice_get (map observer_value xs) i ≡ Some o → is_concerned why o ≡ false
 others_unconcerned why n xs last is i o low high at =
     let x = seen_at xs i o at in
@@ -156,7 +156,7 @@ one_of due [] k within one = absurd (omega (arith, within))
 one_of due (x ∷ xs) zero within one = rw (one (linked x) refl) refl
 one_of due (x ∷ xs) (suc k) within one = or_right (due x.path) (list_any (λ o. due o.path) (map observer_value xs)) (one_of due xs k (omega (arith, within)) one)
 
--- there is a last one exactly if there is one
+-- A chain has a last observer if and only if the change affects an observer.
 pub last_tells : (why : Cause) (chains : Chains) (xs : List Observer) → AreChainedTo (length xs) chains (map linked xs) → is_some (last_in why chains) ≡ list_any (λ o. concerns_path why o.path) (map observer_value xs)
 last_tells why chains xs all = by (last_in why chains) (all.last why)
   where
@@ -170,9 +170,9 @@ none_observes hash (o ∷ os) none =
     let parts = or_parts (path_hash o.path == hash) (list_any (observes_hash hash) os) none in
     (eqb-false (path_hash o.path) hash parts.0, none_observes hash os parts.1)
 
--- ---- a loop that marks those that a change concerns, from the last one on
+-- ---- the loop that recomputes the marks of a chain, from its last observer on
 
--- those behind this one are marked, and nothing else of any has changed
+-- The marks of the observers after this one are recomputed, and nothing else has changed.
 pub record IsMarkedFrom (at : Option ℕ) (why : Cause) (host : Host) (old now : List Observer) (flags : List Bool) : Type 0 where
   pub entries : map observer_value now ≡ map observer_value old
   pub links : map linked now ≡ map linked old
@@ -182,7 +182,7 @@ pub record IsMarkedFrom (at : Option ℕ) (why : Cause) (host : Host) (old now :
   pub within : next_index at ≤ length old
   pub concerned : (k : ℕ) (o : Linked) → at ≡ Some k → slice_get (map linked old) k ≡ Some o → concerns_path why o.path ≡ true
 
--- the last one is marked first
+-- The loop begins with the last observer of the chain.
 pub mark_first : (why : Cause) (host : Host) (chains : Chains) (xs : List Observer) (flags : List Bool) → AreChainedTo (length xs) chains (map linked xs) → AllByRecursion IsTagged xs → AreFlagged flags (map mark_in xs) → IsMarkedFrom (last_in why chains) why host xs xs flags
 mark_first why host chains xs flags all tagged flagged =
     let is = all.last why in
@@ -198,7 +198,7 @@ mark_first why host chains xs flags all tagged flagged =
       concerned = is.concerned;
     }
 
--- one more is
+-- One iteration recomputes one more mark.
 pub mark_next : (k : ℕ) (why : Cause) (host : Host) (chains : Chains) (old now after : List Observer) (before flags : List Bool) (x : Observer) (mark : Option ℕ)
     → AreChainedTo (length old) chains (map linked old) → IsMarkedFrom (Some k) why host old now before → x ≡ get_or now k x → mark ≡ changed_mark host (observer_value x)
     → map observer_value after ≡ map observer_value now → map linked after ≡ map linked now → AllByRecursion IsTagged after → map mark_in after ≡ slice_set (map mark_in now) k mark → AreFlagged flags (map mark_in after)
@@ -226,12 +226,12 @@ mark_next k why host chains old now after before flags x mark all so_far read ma
       },
     )
 
--- all are
+-- At the end, all affected marks are recomputed.
 pub all_marked : (why : Cause) (host : Host) (old now : List Observer) (flags : List Bool) → IsMarkedFrom None why host old now flags → map mark_in now ≡ marks_anew why host (map observer_value old) (map mark_in old)
 unfolding marks_from
 all_marked why host old now flags all = all.marks
 
--- the entry that is read later has the path that it had before
+-- An entry that is read again has the same path as before.
 pub same_path : (xs ys : List Observer) (i : ℕ) (x y : Observer) → map observer_value xs ≡ map observer_value ys → i < length xs → i < length ys → x ≡ get_or xs i x → y ≡ get_or ys i y → x.path ≡ y.path
 same_path xs ys i x y same here there read written =
     let both : Some (observer_value x) ≡ Some (observer_value y) = sym (read_at xs i x here read) ∙ ap (λ (os : List ObserverValue). slice_get os i) same ∙ read_at ys i y there written in

@@ -1,4 +1,4 @@
--- What is not due yet: on a connection that is settled, nothing is due before the moment that is due.
+-- On a settled connection, nothing becomes due before its next deadline.
 use Rattle.std.proofs.Common.{◌≡◌, ℕ, ◌+◌, ◌<◌, ◌≤◌, ◌^◌, true, false, List, [], ◌∷◌, Option, Some, None, min, refl, sym, ap, subst, ◌∙◌, arith, find, fold, if◌then◌else◌}
 use Rattle.coap_server_session.specs.Prelude.{AllByRecursion, list_any, filter_map, reduce, HeldValue, Answer, Pong, come}
 use Rattle.coap_server_session.specs.Prelude.{to_come, next_moment, first_due, Path, Representation, StoreValue, place_of}
@@ -17,14 +17,14 @@ use Rattle.coap_model.proofs.world.SideLaws.{nothing_due_first}
 abbrev pub at_moment : Host → ℕ → Host
 at_moment host later = record host { now = later }
 
--- ---- the lesser of two moments
+-- ---- the earlier of two times
 
 before_both : (later : ℕ) (a b : Option ℕ) → IsBefore later (sooner a b) → IsBefore later a × IsBefore later b
 before_both later None b h = (tt, h)
 before_both later (Some a) None h = (h, tt)
 before_both later (Some a) (Some b) h = (omega (arith, h), omega (arith, h))
 
--- what comes before the least comes before each
+-- A time before the minimum is before each.
 before_fold : (later a : ℕ) (xs : List ℕ) → later < fold min a xs → (later < a) × AllByRecursion (λ x. later < x) xs
 before_fold later a [] h = (h, tt)
 before_fold later a (x ∷ xs) h = let r = before_fold later (min a x) xs h in (omega (arith, r.0), (omega (arith, r.0), r.1))
@@ -33,9 +33,9 @@ before_each : (later : ℕ) (xs : List ℕ) → IsBefore later (reduce min xs) �
 before_each later [] h = tt
 before_each later (x ∷ xs) h = before_fold later x xs h
 
--- ---- what is held
+-- ---- pending entries
 
--- an answer that has not come has not come later either, where that is before its moment
+-- A response that is not due yet is not due later either, if the later time is before its deadline.
 not_come : (now later : ℕ) (e : HeldValue) → come now e ≡ None → ((m : ℕ) → to_come now e ≡ Some m → later < m) → come later e ≡ None
 not_come now later (Pong token) none after = refl
 not_come now later (Answer token moment) none after = grind (arith, after moment)
@@ -51,13 +51,13 @@ not_due_later now later held none before =
     let nothing = (due_nothing now held none).0 in
     nothing_due_first later held (none_come_later now later held nothing.0 (before_each later (filter_map (to_come now) held) before), nothing.1)
 
--- ---- what is observed
+-- ---- observers
 
 stored_numbered : (s : StoreValue) (key : Option Path) (r : Representation) → IsStore s → stored_at s key ≡ Some r → 1 ≤ r.version
 stored_numbered s None r store e = absurd cc
 stored_numbered s (Some path) r store e = (found_kept s path r store e).numbered
 
--- what is not built in is stored
+-- The state of a path that is not built in is the stored one.
 state_is_stored : (s : StoreValue) (now : ℕ) (key : Option Path) (p : Place) → is_dynamic p ≡ true → state_at s now key p ≡ stored_at s key
 unfolding state_at
 state_is_stored s now key Root is = absurd cc
@@ -77,7 +77,7 @@ stale_so host later o store stored =
     let there = λ (now : ℕ). state_is_stored host.store now key (place_of o.path) (not-false (is_dynamic (place_of o.path)) stored) in
     cc (there host.now, there later, marked_so host.now later o.mark (stored_at host.store key) (λ r. stored_numbered host.store key r store))
 
--- what is stored keeps its mark, and so does whoever observes it
+-- A stored representation keeps its mark when the time changes, so its observers keep their changed marks.
 mark_so : (now later : ℕ) (o : Option Representation) → ((r : Representation) → o ≡ Some r → 1 ≤ r.version) → mark_of now o ≡ mark_of later o
 mark_so now later None numbered = refl
 mark_so now later (Some r) numbered = let some = numbered r refl in rw (ne_eqb r.version 0 (λ e. omega (arith, e, some))) refl
@@ -98,7 +98,7 @@ none_stale host later (o ∷ os) store stored none =
     let parts = or_parts (tells_time o) (list_any tells_time os) stored in
     rw (sym (stale_so host later o store parts.0) ∙ none.0) (none_stale host later os store parts.1 none.1)
 
--- where somebody observes the moment, no later one comes before the next one
+-- If an observer observes the time, no later second is before the next one.
 none_tells_time_before : (now later : ℕ) (observers : List ObserverValue) → now < later → later < 2 ^ 64 → IsBefore later (next_told now observers) → list_any tells_time observers ≡ false
 none_tells_time_before now later observers more fits before =
     false_from_ne_true (list_any tells_time observers) (λ is.

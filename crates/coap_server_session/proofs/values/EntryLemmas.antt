@@ -1,4 +1,4 @@
--- Entries by their index, and what becomes of the first one that is stale.
+-- Entries by their index, and the list after the first stale entry is changed.
 use Rattle.std.proofs.Common.{◌≡◌, ℕ, zero, suc, ◌<◌, ◌≤◌, Bool, true, false, List, [], ◌∷◌, length, map, get_or, Some, None, refl, ap, subst, ◌∙◌, arith, find, filter, not, option_map, slice_get, slice_set, if◌then◌else◌}
 use Rattle.coap_server_session.specs.Prelude.{AllByRecursion, AllWithin, remove, same_bytes}
 use Rattle.coap_server_session.specs.Prelude.{first_becomes}
@@ -11,7 +11,7 @@ use Rattle.coap_model.proofs.world.EntryLemmas.{all_map}
 
 -- ---- the first index
 
--- what the code does at the first index is what becomes of the first one
+-- Operations at the first index agree with `find` and `first_becomes`.
 pub record IsFirst {O : Type 0} (due : O → Bool) (os : List O) (i : ℕ) : Type 0 where
   pub within : i < length os
   pub found : find due os ≡ slice_get os i
@@ -45,9 +45,9 @@ pub none_in : {O : Type 0} (due : O → Bool) (os : List O) → AllByRecursion (
 none_in due [] none = refl
 none_in due (o ∷ os) none = rw none.0 (none_in due os none.1)
 
--- ---- a loop that looks for it, in what is seen of elements
+-- ---- a loop that searches by the views of elements
 
--- what holds of each element up to the end holds of each that is seen
+-- If a property holds for the view of each element up to the end, it holds for the whole list of views.
 pub all_seen : {X O : Type 0} (P : O → Type 0) (seen : X → O) (xs : List X) (end : ℕ) → AllWithin (λ x. P (seen x)) xs 0 end → length xs ≤ end → AllByRecursion P (map seen xs)
 all_seen P seen xs end before all =
     all_map (λ x. P (seen x)) P seen (λ x is. is) xs (recursion_from_All (λ x. P (seen x)) xs (λ k d below. before k d (omega arith) (omega arith)))
@@ -64,11 +64,11 @@ first_at due seen (y ∷ xs) zero x within read is none = cc
 first_at due seen (y ∷ xs) (suc i) x within read is none =
     cc (none 0 y (omega arith) (omega arith), first_at due seen xs i x (omega arith) read is (λ k d low below. none (suc k) d (omega arith) (omega arith)))
 
--- the entry that is read is the one that is seen
+-- The view of an entry that is read is at the same index in the list of views.
 pub read_at : (xs : List Observer) (i : ℕ) (x : Observer) → i < length xs → x ≡ get_or xs i x → slice_get (map observer_value xs) i ≡ Some (observer_value x)
 read_at xs i x within read = slice_get-map observer_value xs i ∙ ap (option_map observer_value) (slice_get_read xs (length xs) i x refl within read)
 
--- ---- a filter of what is seen
+-- ---- filtered views
 
 pub others_seen : (token : List ℕ) (os : List Observer) → map observer_value (filter (λ o. not (same_bytes o.token.items token)) os) ≡ without_entry token (map observer_value os)
 unfolding without_entry

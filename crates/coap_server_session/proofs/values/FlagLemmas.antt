@@ -1,15 +1,15 @@
--- Flags beside the changed marks of observers.
+-- Flags and the changed marks of observers.
 use Rattle.std.proofs.Common.{◌≡◌, ◌≢◌, ℕ, zero, suc, ◌+◌, ◌<◌, Bool, true, false, List, [], ◌∷◌, ◌++◌, length, map, take, set, get_or, replicate, Option, Some, None, is_some, refl, ap, subst, arith, slice_get}
 use Rattle.coap_server_session.specs.Prelude.{Stale, first_index, IsFirstMarked, flag_of, AreFlagged, mark_in}
 use Rattle.coap_server_session.specs.declared.observer.Observer.{Observer}
 
--- a list of the default reads as that everywhere
+-- A list of default values has the default at every index.
 pub all_default : {X : Type 0} (n i : ℕ) (x : X) → get_or (replicate n x) i x ≡ x
 all_default zero i x = refl
 all_default (suc n) zero x = refl
 all_default (suc n) (suc i) x = all_default n i x
 
--- ---- an element that is written
+-- ---- one written element
 
 pub written : {X : Type 0} (xs : List X) (i : ℕ) (x : X) → i < length xs → slice_get (set xs i x) i ≡ Some x
 written [] i x within = absurd (omega arith)
@@ -34,11 +34,11 @@ not_pushed (y ∷ xs) (suc k) x within = not_pushed xs k x (omega arith)
 
 -- ---- flags
 
--- where none is set, nothing is marked
+-- Flags of which none is set are the flags of an empty list.
 pub none_flagged : (flags : List Bool) → ((i : ℕ) → get_or flags i false ≡ false) → AreFlagged flags []
 none_flagged flags none = λ i. none i
 
--- a flag is put with the mark at its index
+-- A flag is written together with the mark at its index.
 pub put_flagged : (flags : List Bool) (marks : List (Option ℕ)) (i : ℕ) (mark : Option ℕ) → i < length flags → i < length marks → AreFlagged flags marks → (k : ℕ) → get_or (set flags i (is_some mark)) k false ≡ flag_of (slice_get (set marks i mark) k)
 put_flagged [] marks i mark here there flagged k = absurd (omega arith)
 put_flagged (f ∷ fs) [] i mark here there flagged k = absurd (omega arith)
@@ -47,7 +47,7 @@ put_flagged (f ∷ fs) (m ∷ ms) zero mark here there flagged (suc k) = flagged
 put_flagged (f ∷ fs) (m ∷ ms) (suc i) mark here there flagged zero = flagged 0
 put_flagged (f ∷ fs) (m ∷ ms) (suc i) mark here there flagged (suc k) = put_flagged fs ms i mark (omega arith) (omega arith) (λ j. flagged (suc j)) k
 
--- an entry comes last
+-- An entry is appended.
 pub pushed_flagged : (flags : List Bool) (marks : List (Option ℕ)) (mark : Option ℕ) → length marks < length flags → AreFlagged flags marks → (k : ℕ) → get_or (set flags (length marks) (is_some mark)) k false ≡ flag_of (slice_get (marks ++ mark ∷ []) k)
 pushed_flagged [] marks mark within flagged k = absurd (omega arith)
 pushed_flagged (f ∷ fs) [] mark within flagged zero = refl
@@ -55,7 +55,7 @@ pushed_flagged (f ∷ fs) [] mark within flagged (suc k) = flagged (suc k)
 pushed_flagged (f ∷ fs) (m ∷ ms) mark within flagged zero = flagged 0
 pushed_flagged (f ∷ fs) (m ∷ ms) mark within flagged (suc k) = pushed_flagged fs ms mark (omega arith) (λ j. flagged (suc j)) k
 
--- an entry that is not marked comes last
+-- An entry without a changed mark is appended.
 pub entered_flagged : (flags : List Bool) (marks : List (Option ℕ)) → AreFlagged flags marks → (k : ℕ) → get_or flags k false ≡ flag_of (slice_get (marks ++ None ∷ []) k)
 entered_flagged flags [] flagged zero = flagged 0
 entered_flagged flags [] flagged (suc k) = flagged (suc k)
@@ -64,7 +64,7 @@ entered_flagged [] (m ∷ ms) flagged (suc k) = entered_flagged [] ms (λ j. fla
 entered_flagged (f ∷ fs) (m ∷ ms) flagged zero = flagged 0
 entered_flagged (f ∷ fs) (m ∷ ms) flagged (suc k) = entered_flagged fs ms (λ j. flagged (suc j)) k
 
--- ---- the first one
+-- ---- the first set flag
 
 pub none_marked : (marks : List (Option ℕ)) → ((i : ℕ) → flag_of (slice_get marks i) ≡ false) → first_index is_some marks ≡ None
 unfolding first_index
@@ -80,7 +80,7 @@ first_flagged (m ∷ ms) (suc i) is before = rw (before 0 (omega arith), first_f
 pub first_is : (found : Stale) (marks : List (Option ℕ)) → slice_get marks found.index ≡ Some (Some found.mark) → ((k : ℕ) → k < found.index → flag_of (slice_get marks k) ≡ false) → IsFirstMarked marks found
 first_is found marks there before = record { first = first_flagged marks found.index (ap flag_of there) before; mark = there }
 
--- a flag is set only where there is an entry
+-- A flag is set only at the index of an entry.
 pub flag_within : (marks : List (Option ℕ)) (i : ℕ) → flag_of (slice_get marks i) ≡ true → i < length marks
 flag_within [] i is = absurd cc
 flag_within (m ∷ ms) zero is = omega arith

@@ -1,4 +1,4 @@
--- The changed marks of observers: what each is, what a change sets anew, and what stays as it is.
+-- The changed marks of observers: their values, and which of them a change recomputes or keeps.
 use Rattle.std.proofs.Common.{◌≡◌, ℕ, zero, suc, ◌≤◌, ◌<◌, true, false, List, [], ◌∷◌, ◌++◌, length, map, set, Option, Some, None, is_some, refl, sym, ap, subst, ◌∙◌, arith, ◌==◌, option_map, slice_get, slice_set, not, remove, if◌then◌else◌}
 use Rattle.coap_server_session.specs.Prelude.{list_any, Path, StoreValue}
 use Rattle.coap_server_session.specs.Prelude.{key_for, place_of, state_at, is_dynamic, Root, Time, Async, Listing, Dynamic}
@@ -19,7 +19,7 @@ use Rattle.coap_server_session.proofs.values.SettleLemmas.{marked_now}
 
 -- ---- the mark of one observer
 
--- what the code compares
+-- The comparison in the code gives the changed mark.
 pub untold_is_changed : (host : Host) (o : ObserverValue) → untold_by (present_mark host o.path) o.mark ≡ changed_mark host o
 unfolding changed_mark is_stale
 untold_is_changed host o =
@@ -36,22 +36,22 @@ built_in_at s now key Async is = refl
 built_in_at s now key Listing is = refl
 built_in_at s now key Dynamic is = absurd cc
 
--- what is built in has the moment as its mark
+-- The mark of a built-in resource is the time.
 pub built_in_mark : (host : Host) (path : Path) → not (is_dynamic (place_of path)) ≡ true → present_mark host path ≡ Some host.now
 built_in_mark host path is = built_in_at host.store host.now (key_for path) (place_of path) is
 
--- who was told the state now has none
+-- An observer that was sent the current state has no changed mark.
 pub fresh_unmarked : (host : Host) (o : ObserverValue) → is_stale host o ≡ false → changed_mark host o ≡ None
 unfolding changed_mark
 fresh_unmarked host o fresh = rw fresh refl
 
--- whoever is marked is stale, and the mark is that of the state now
+-- A changed mark is the mark of the current state.
 pub mark_of_stale : (host : Host) (o : ObserverValue) (mark : ℕ) → changed_mark host o ≡ Some mark → mark ≡ mark_of host.now (state_on host o.path)
 unfolding changed_mark
 mark_of_stale host o mark is =
     elim (is_stale host o) as (λ b. (if b then Some (mark_of host.now (state_on host o.path)) else None) ≡ Some mark → mark ≡ mark_of host.now (state_on host o.path)) [ true ↦ λ e. cc | false ↦ λ e. absurd cc ] is
 
--- ---- the first one that is marked
+-- ---- the first changed mark
 
 first_marked : (host : Host) (os : List ObserverValue) → first_index is_some (map (changed_mark host) os) ≡ first_index (is_stale host) os
 unfolding first_index changed_mark
@@ -72,12 +72,12 @@ marked_is_stale host os marks found marked is = record {
 pub unmarked_is_told : (host : Host) (os : List ObserverValue) (marks : List (Option ℕ)) → AreMarked host os marks → first_index is_some marks ≡ None → first_index (is_stale host) os ≡ None
 unmarked_is_told host os marks marked none = sym (first_marked host os) ∙ ap (first_index is_some) (sym marked) ∙ none
 
--- ---- entries that come, go, or are told
+-- ---- entries that are added, removed or notified
 
 pub told_marked : (host : Host) (os : List ObserverValue) (marks : List (Option ℕ)) (i : ℕ) (o : ObserverValue) → AreMarked host os marks → changed_mark host o ≡ None → AreMarked host (slice_set os i o) (slice_set marks i None)
 told_marked host os marks i o marked none = rw marked (sym (map-set (changed_mark host) os i o ∙ ap (set (map (changed_mark host) os) i) none))
 
--- who was notified was told the state now
+-- An observer that was just notified has no changed mark.
 pub told_unmarked : (host : Host) (o : ObserverValue) (mark : ℕ) → goes_on (notification_of host.store host.now o.path o.format) ≡ true → mark ≡ mark_of host.now (state_on host o.path) → changed_mark host (record o { mark = mark }) ≡ None
 told_unmarked host o mark goes is =
     let told : Response = notification_of host.store host.now o.path o.format in
@@ -97,9 +97,9 @@ left_marked host l o marked =
 pub left_marked_by : (host : Host) (l : LinkValue) (o p : ObserversValue) → p ≡ observers_left l o → AreMarked host o.entries o.marks → AreMarked host p.entries p.marks
 left_marked_by host l o p is marked = subst (λ (q : ObserversValue). AreMarked host q.entries q.marks) (sym is) (left_marked host l o marked)
 
--- ---- the marks that are set anew
+-- ---- recomputed marks
 
--- where all are as they are to be, they stay so
+-- Current marks stay the same.
 pub anew_same : (why : Cause) (host : Host) (os : List ObserverValue) → marks_anew why host os (map (changed_mark host) os) ≡ map (changed_mark host) os
 unfolding marks_anew
 anew_same why host [] = refl
@@ -107,7 +107,7 @@ anew_same why host (o ∷ os) =
     let one = elim (is_concerned why o) as (λ b. (if b then changed_mark host o else changed_mark host o) ≡ changed_mark host o) [ true ↦ refl | false ↦ refl ] in
     cc (one, anew_same why host os)
 
--- where the marks of the others are the same on both hosts
+-- All marks are current in the new server state if those of unaffected observers are the same in both states.
 pub anew_after : (why : Cause) (before after : Host) (os : List ObserverValue) → ((o : ObserverValue) → is_concerned why o ≡ false → changed_mark before o ≡ changed_mark after o) → marks_anew why after os (map (changed_mark before) os) ≡ map (changed_mark after) os
 unfolding marks_anew
 anew_after why before after [] same = refl
@@ -115,7 +115,7 @@ anew_after why before after (o ∷ os) same =
     let one = elim (is_concerned why o) as (λ b. is_concerned why o ≡ b → (if b then changed_mark after o else changed_mark before o) ≡ changed_mark after o) [ true ↦ λ _. refl | false ↦ λ other. same o other ] refl in
     cc (one, anew_after why before after os same)
 
--- where none is concerned, all stay
+-- If no observer is affected, all marks stay.
 pub anew_none : (why : Cause) (host : Host) (os : List ObserverValue) (marks : List (Option ℕ)) → first_index (is_concerned why) os ≡ None → marks_anew why host os marks ≡ marks
 unfolding marks_anew first_index
 anew_none why host [] marks none = refl
@@ -141,16 +141,16 @@ none_concerned (cause.Moment before) (o ∷ os) none =
 pub anew_unconcerned : (why : Cause) (host : Host) (os : List ObserverValue) (marks : List (Option ℕ)) → ConcernsNone why os → marks_anew why host os marks ≡ marks
 anew_unconcerned why host os marks none = anew_none why host os marks (none_concerned why os none)
 
--- ---- a loop that sets them anew, from the last one on
+-- ---- a loop that recomputes them, from the last one on
 
--- those from an index on are
+-- The marks from an index on are recomputed.
 unfoldable pub marks_from : ℕ → Cause → Host → List ObserverValue → List (Option ℕ) → List (Option ℕ)
 marks_from zero why host os marks = marks_anew why host os marks
 marks_from (suc n) why host [] marks = marks
 marks_from (suc n) why host (o ∷ os) [] = []
 marks_from (suc n) why host (o ∷ os) (mark ∷ marks) = mark ∷ marks_from n why host os marks
 
--- none is yet
+-- At first, none is recomputed.
 pub from_end : (n : ℕ) (why : Cause) (host : Host) (os : List ObserverValue) (marks : List (Option ℕ)) → length os ≤ n → length marks ≡ length os → marks_from n why host os marks ≡ marks
 unfolding marks_from marks_anew
 from_end zero why host [] marks many same = refl
@@ -159,7 +159,7 @@ from_end zero why host (o ∷ os) marks many same = absurd (omega (arith, many))
 from_end (suc n) why host (o ∷ os) [] many same = refl
 from_end (suc n) why host (o ∷ os) (mark ∷ marks) many same = ap (λ (ms : List (Option ℕ)). mark ∷ ms) (from_end n why host os marks (omega (arith, many)) (omega (arith, same)))
 
--- those between two indices are not concerned
+-- Observers between two indices that are not affected can be skipped.
 pub passed_over : (k n : ℕ) (why : Cause) (host : Host) (os : List ObserverValue) (marks : List (Option ℕ)) → k ≤ n → ((i : ℕ) (o : ObserverValue) → k ≤ i → i < n → slice_get os i ≡ Some o → is_concerned why o ≡ false) → marks_from n why host os marks ≡ marks_from k why host os marks
 unfolding marks_from marks_anew
 passed_over zero zero why host os marks less others = refl
@@ -173,7 +173,7 @@ passed_over zero (suc n) why host (o ∷ os) (mark ∷ marks) less others =
 passed_over (suc k) (suc n) why host (o ∷ os) (mark ∷ marks) less others =
     ap (λ (ms : List (Option ℕ)). mark ∷ ms) (passed_over k n why host os marks (omega (arith, less)) (λ i p low high at. others (suc i) p (omega (arith, low)) (omega (arith, high)) at))
 
--- the one at an index is
+-- The mark at an index is recomputed.
 pub one_set : (k : ℕ) (why : Cause) (host : Host) (os : List ObserverValue) (marks : List (Option ℕ)) (o : ObserverValue) → slice_get os k ≡ Some o → is_concerned why o ≡ true → set (marks_from (suc k) why host os marks) k (changed_mark host o) ≡ marks_from k why host os marks
 unfolding marks_from marks_anew
 one_set k why host [] marks o at is = absurd cc

@@ -1,19 +1,19 @@
--- The options of a response, one after the other.
+-- The options of a response, in the order in which they are added.
 use Rattle.std.proofs.Common.{◌≡◌, ℕ, Bool, List, [], ◌∷◌, ◌++◌, ap, ◌∙◌, append_assoc}
 use Rattle.coap_server_session.specs.Prelude.{CoapOption, Message, last_number, with_option, Path, Response, option_at}
 use Rattle.coap_server_session.specs.Prelude.{empty_at, number_at, each_at, response_with_observe}
 use Rattle.coap_wire.specs.OptionNumbers as numbers
 use Rattle.coap_wire.proofs.OptionLists.{last_number-push}
 
--- the option added last has its number
+-- After an option was added, the last number of the list is its number.
 pub last_added : (m new : Message) (number : ℕ) (value : List ℕ) → new ≡ with_option m number value → last_number 0 new.options ≡ number
 last_added m new number value is = ap (λ (k : Message). last_number 0 k.options) is ∙ last_number-push 0 m.options (record { number = number; value = value })
 
--- a message with more options behind its own
+-- A message with further options after its own.
 abbrev pub with_options : Message → List CoapOption → Message
 with_options m more = record m { options = m.options ++ more }
 
--- a segment of a path was added, and the others are left
+-- One segment of a path was added, and the others remain.
 pub segment_added : (start old new : Message) (path before left : Path) (segment : List ℕ) → before ≡ segment ∷ left → new ≡ with_option old numbers.location_path segment
     → with_options old (each_at numbers.location_path before) ≡ with_options start (each_at numbers.location_path path) → with_options new (each_at numbers.location_path left) ≡ with_options start (each_at numbers.location_path path)
 segment_added start old new path before left segment first is so_far =
@@ -21,7 +21,7 @@ segment_added start old new path before left segment first is so_far =
 
 -- ---- the whole response
 
--- a message to which the options of a response were added, one after the other, and its payload
+-- States that a message was built by adding the options of a response in order, followed by the payload.
 pub record IsBuilt (token : List ℕ) (observes : Bool) (r : Response) (tagged observed located formatted aged sized whole : Message) : Type 0 where
   pub etag : tagged ≡ with_options (record { code = r.code; token = token; options = []; payload = [] }) (option_at numbers.etag r.etag)
   pub observe : observed ≡ with_options tagged (empty_at numbers.observe observes)

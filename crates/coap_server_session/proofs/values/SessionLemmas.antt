@@ -1,4 +1,4 @@
--- What holds of a session as the code holds it, and what its calls do.
+-- The invariant of a session, and its values after each call.
 use Rattle.std.proofs.Common.{◌≡◌, ℕ, ◌-◌, ◌≤◌, Bool, true, false, List, [], ◌++◌, length, take, Option, Some, None, Result, Ok, Err, refl, sym, ap, subst, ◌∙◌, arith, inl, inr, ◌⊎◌, ◌||◌, slice_get, nat_le, is_some, OnOk, IsTrue, if◌then◌else◌}
 use Rattle.std.proofs.lemmas.Bool.{le-leb, leb-true, cond_both, false≢true, false_from_ne_true}
 use Rattle.std.proofs.lemmas.List.{length-take, length-take-le, take-take}
@@ -26,9 +26,9 @@ use Rattle.coap_server_session.proofs.values.EntryLemmas.{is_first}
 use Rattle.coap_server_session.proofs.values.SettleLemmas.{found_ready}
 use Rattle.coap_model.proofs.OptionLemmas.{there_is, there_at}
 
--- ---- what a stop gives up
+-- ---- the state that a stop discards
 
--- a session whose fields were changed, and which then gave up what a stop gives up
+-- The invariant holds after fields were changed and the state that a stop discards was removed.
 pub given_up : (s : Inside) (l : LinkValue) (f g : FramerValue) (o p : ObserversValue) → IsSession s → sizes_of l ≡ sizes_of s.link → f.max ≡ s.framer.max → IsFramer f → o.room ≡ s.observers.room → g ≡ framer_on l f → p ≡ observers_left l o
     → IsSession (record { framer = g; link = l; observers = p })
 given_up s l f g o p is sizes max framer room g_is p_is =
@@ -44,7 +44,7 @@ given_up s l f g o p is sizes max framer room g_is p_is =
       open_only = elim (is_open l.phase) as (λ b. (b ≡ true) ⊎ ((if b then o.entries else []) ≡ [])) [ true ↦ inl refl | false ↦ inr refl ];
     })
 
--- a session that takes messages of another size from then on
+-- The invariant holds after a larger message size was announced.
 pub announced_session : (s : Inside) (size : ℕ) (f : FramerValue) (l : LinkValue) → IsSession s → is_open s.link.phase ≡ true → fits (limit_in s.link) (own_csm size) ≡ true → raise_refusal s.framer.max size ≡ None
     → f ≡ with_size s.framer size → l ≡ link_after s.link (call.Announce size) → IsSession (record { framer = f; link = l; observers = s.observers })
 announced_session s size f l is opened fit allowed f_is l_is =
@@ -53,7 +53,7 @@ announced_session s size f l is opened fit allowed f_is l_is =
 
 -- ---- a message
 
--- a request was answered or its answer is held, by the parts of either
+-- The connection after a request, from its link and its entries.
 replied_as : (host : Host) (l : LinkValue) (others : List ObserverValue) (m : Message) (hold : Option ℕ) → session_with [] (link_replied host l l.limits.observers others m hold) (entries_replied host l l.limits.observers others m hold) ≡ session_replied host l others m hold
 replied_as host l others m None = refl
 replied_as host l others m (Some seconds) = refl
@@ -69,7 +69,7 @@ on_request (Ok x) host v m l after o p asks is room entries link_is p_is = λ fr
     cc (replied_as host first (without_entry m.token v.observers) m (held_in first (hold_on host m)))
 on_request (Err e) host v m l after o p asks is room entries link_is p_is = tt
 
--- what is no request
+-- A verdict other than `Request` is no request.
 pub no_request_told : (what : Verdict) → (what ≡ told.Request → ⊥) → is_request (verdict_value what) ≡ false
 no_request_told told.Request other = absurd (other refl)
 no_request_told what other = refl
@@ -78,9 +78,9 @@ pub message_handled : (host : Host) (v : SessionValue) (m : Message) (l : LinkVa
 unfolding session_handled
 message_handled host v m l other is = cc
 
--- ---- a piece
+-- ---- an input slice
 
--- a piece in which a frame was found
+-- An input slice in which the framer found a frame.
 module _ (s : Inside) (is : IsSession s) (piece frame : List ℕ) (found : (framing_of s.framer piece).finding ≡ AFrame frame) where
   abbrev frame_count : ℕ
   frame_count = (framing_of s.framer piece).taken
@@ -112,30 +112,30 @@ module _ (s : Inside) (is : IsSession s) (piece frame : List ℕ) (found : (fram
       let kept = ap (λ (f : FramerValue). f.kept) (unread_one_less s.framer piece frame is.framer found) in
       cc (takes, is.greatest, cut, kept, unread_nothing s.framer piece frame is.framer found)
 
--- a session that took a piece, and then gave up what a stop gives up
+-- The invariant holds after a session accepted bytes and removed the state that a stop discards.
 pub taken_session : (s : Inside) (piece : List ℕ) (l : LinkValue) (g : FramerValue) (o p : ObserversValue) → IsSession s → sizes_of l ≡ sizes_of s.link → o.room ≡ s.observers.room → g ≡ framer_on l (framer_after s.framer piece) → p ≡ observers_left l o → IsSession (record { framer = g; link = l; observers = p })
 taken_session s piece l g o p is sizes room = given_up s l (framer_after s.framer piece) g o p is sizes refl (framing_is_framer s.framer piece is.framer) room
 
--- a session whose framer alone was changed
+-- The invariant holds after a change of the framer alone.
 pub reframed : (s : Inside) (f : FramerValue) (l : LinkValue) (o : ObserversValue) → IsSession s → f.max ≡ s.framer.max → IsFramer f → l ≡ s.link → o ≡ s.observers → IsSession (record { framer = f; link = l; observers = o })
 reframed s f l o is max framer link_is o_is =
     rw (link_is, o_is) (record { ranges = is.ranges; greatest = max ∙ is.greatest; framer = framer; room = is.room; open_only = is.open_only })
 
 -- ---- settling
 
--- what the code finds is whether there is room
+-- The code's test for room agrees with the definition.
 pub ready_is : (l : LinkValue) (b : Bool) → (IsTrue b → IsReady l) × (IsReady l → IsTrue b) → nat_le l.limits.max_sent (free_in l) ≡ b
 ready_is l true same = le-leb l.limits.max_sent (free_in l) (same.0 refl)
 ready_is l false same = false_from_ne_true (nat_le l.limits.max_sent (free_in l)) (λ fits. false≢true (same.1 (leb-true l.limits.max_sent (free_in l) fits)))
 
--- what is seen of a session that gave up what a stop gives up
+-- The value of a session after the state that a stop discards was removed.
 given_up_seen : (s : Inside) (l : LinkValue) (g : FramerValue) (o p : ObserversValue) → g ≡ framer_on l s.framer → p ≡ observers_left l o → record { frame = g.kept; link = l; observers = p.entries } ≡ session_with s.framer.kept l o.entries
 given_up_seen s l g o p g_is p_is =
     let kept : (framer_on l s.framer).kept ≡ frame_on l s.framer.kept =
     elim (takes_messages l.phase) as (λ b. (if b then s.framer else record s.framer { kept = []; spent = [] }).kept ≡ (if b then s.framer.kept else [])) [ true ↦ refl | false ↦ refl ] in
     cc
 
--- a session in which the first stale observer, at this index, was session_is_notified
+-- A session whose first stale observer, at this index, was notified.
 module _ (host : Host) (s : Inside) (index : ℕ) (l : LinkValue) (o : ObserversValue) (ready : session_ready (session_value s) ≡ true) (first : first_index (is_stale host) s.observers.entries ≡ Some index)
     (link : (e : ObserverValue) → slice_get s.observers.entries index ≡ Some e → l ≡ link_after s.link (call.Reply (notification_on host e)))
     (entries : (e : ObserverValue) → slice_get s.observers.entries index ≡ Some e → o.entries ≡ entries_notified host s.link s.observers.entries e) where
@@ -161,13 +161,13 @@ module _ (host : Host) (s : Inside) (index : ℕ) (l : LinkValue) (o : Observers
       ∙ ap (λ (k : LinkValue). session_with s.framer.kept k (entries_notified host s.link s.observers.entries session_is_notified.0)) (link session_is_notified.0 session_is_notified.1)
       ∙ ap (session_notified host (session_value s)) (sym next_is)
 
--- ---- what is held
+-- ---- pending entries
 
 sent_sizes : (l : LinkValue) (now : ℕ) (e : HeldValue) → sizes_of (link_sent l now e) ≡ sizes_of l
 sent_sizes l now (Answer token moment) = let due : LinkValue = link_after l (call.Due now) in stays_so sizes_of (answers due.phase) due _ refl
 sent_sizes l now (Pong token) = refl
 
--- a session in which what was held and due first was sent
+-- A session whose first due entry was sent.
 module _ (host : Host) (s : Inside) (l : LinkValue) (ready : session_ready (session_value s) ≡ true) (some : is_some (first_due host.now s.link.held) ≡ true)
     (link : (e : HeldValue) → first_due host.now s.link.held ≡ Some e → l ≡ link_sent s.link host.now e) where
   abbrev due : (e : HeldValue) × (first_due host.now s.link.held ≡ Some e)

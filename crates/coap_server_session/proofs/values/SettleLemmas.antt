@@ -1,4 +1,4 @@
--- What settling leaves: nothing that is held is due and no observer is stale, or there is no room.
+-- After settling, no pending entry is due and no observer is stale, or the queue has no room.
 use Rattle.std.proofs.Common.{◌≡◌, ℕ, zero, suc, ◌+◌, ◌≤◌, Bool, true, false, ◌&&◌, List, [], length, Some, None, refl, sym, ap, ◌∙◌, arith, ◌||◌, find, is_some, if◌then◌else◌}
 use Rattle.std.proofs.lemmas.Bool.{eq-eqb, eqb-true, and_parts, or_parts, cond_both, false_from_ne_true}
 use Rattle.coap_server_session.specs.Prelude.{Message, answers, is_open, fit, bare_response, HeldValue, Answer}
@@ -18,7 +18,7 @@ use Rattle.coap_model.proofs.OptionLemmas.{there_is_none, none_made_where, some_
 use Rattle.coap_model.proofs.world.SideLaws.{send_held, due_held}
 use Rattle.coap_model.proofs.world.EntryLemmas.{count_due, count_within, none_counted, count_less}
 
--- ---- how much is held
+-- ---- the number of pending entries
 
 reply_held : (l : LinkValue) (m : Message) → length (link_after l (call.Reply m)).held ≤ length l.held
 reply_held l m =
@@ -29,20 +29,20 @@ held_where_sent : (l : LinkValue) (now : ℕ) (e : HeldValue) → length (link_s
 held_where_sent l now (Answer token moment) = reply_held (link_after l (call.Due now)) (held_message token)
 held_where_sent l now (Pong token) = omega arith
 
--- a turn that finds what is due leaves less
+-- An iteration that finds a due entry leaves fewer entries.
 pub fewer_held : (l : LinkValue) (now : ℕ) (e : HeldValue) → first_due now l.held ≡ Some e → length (link_sent l now e).held + 1 ≤ length l.held
 fewer_held l now e found =
     let out : length (link_after l (call.Due now)).held ≤ length (without_due now l.held) = due_held (standing_due now (standing_in l)) (first_due now l.held) in
     omega (arith, held_where_sent l now e, out, due_fewer now l.held e found)
 
--- ---- one turn
+-- ---- one iteration
 
--- an observer that was told the state now is not stale
+-- An observer that was sent the current state is not stale.
 pub marked_now : (host : Host) (o : ObserverValue) (r : Representation) → state_on host o.path ≡ Some r → is_stale host (record o { mark = mark_of host.now (state_on host o.path) }) ≡ false
 unfolding is_stale
 marked_now host o r there = rw (there, eq-eqb (mark_at host.now r) (mark_at host.now r) refl) refl
 
--- what stays of an observer is not stale: a notification that goes on tells a state that is there
+-- The entry that remains of a notified observer is not stale, since a 2.05 reports the current state.
 left_is_told : (host : Host) (o : ObserverValue) (whole stays : Bool) → stays ≡ (goes_on (notification_of host.store host.now o.path o.format) && whole) → count_due (is_stale host) (entry_left host o stays) ≡ 0
 unfolding count_due
 left_is_told host o whole true is =
@@ -51,12 +51,12 @@ left_is_told host o whole true is =
     rw (marked_now host o tells.representation tells.there) refl
 left_is_told host o whole false is = refl
 
--- the observers of a connection that is open, or none
+-- Removing the observers of a connection that is not open adds no stale one.
 fewer_open : (host : Host) (l : LinkValue) (os : List ObserverValue) → count_due (is_stale host) (observers_on l os) ≤ count_due (is_stale host) os
 unfolding count_due
 fewer_open host l os = elim (is_open l.phase) as (λ b. count_due (is_stale host) (if b then os else []) ≤ count_due (is_stale host) os) [ true ↦ omega arith | false ↦ omega arith ]
 
--- a turn that finds a stale observer leaves fewer
+-- An iteration that finds a stale observer leaves fewer.
 fewer_stale : (host : Host) (v : SessionValue) (o : ObserverValue) → find (is_stale host) v.observers ≡ Some o → count_due (is_stale host) (session_notified host v (Some o)).observers + 1 ≤ count_due (is_stale host) v.observers
 fewer_stale host v o first =
     let m : Message = notification_on host o in
@@ -64,9 +64,9 @@ fewer_stale host v o first =
     let left = entry_left host o (goes_on (notification_of host.store host.now o.path o.format) && whole) in
     omega (arith, count_less (is_stale host) v.observers o left (left_is_told host o whole _ refl) first, fewer_open host (link_after v.link (call.Reply m)) (first_becomes (is_stale host) left v.observers))
 
--- ---- all turns
+-- ---- all iterations
 
--- where nothing is left to settle, a turn does nothing
+-- If nothing is left to settle, an iteration does nothing.
 pub stays_once : (host : Host) (v : SessionValue) → IsSettled host v → session_settled_once host v ≡ v
 unfolding session_settled_once
 stays_once host v settled = ap (session_settled_so host v) settled.0 ∙ ap (session_notified host v) settled.1
@@ -76,29 +76,29 @@ unfolding session_settled_within
 stays_within host v zero settled = refl
 stays_within host v (suc turns) settled = ap (session_settled_within turns host) (stays_once host v settled) ∙ stays_within host v turns settled
 
--- settling what is settled changes nothing
+-- Settling a settled connection changes nothing.
 pub settled_stays : (host : Host) (v : SessionValue) → IsSettled host v → session_settled host v ≡ v
 unfolding session_settled
 settled_stays host v settled = stays_within host v (length v.link.held + length v.observers) settled
 
--- ---- what is settled
+-- ---- conditions for a settled connection
 
--- where nothing that is held is due and no observer is stale
+-- A connection is settled if no pending entry is due and no observer is stale.
 pub settled_quiet : (host : Host) (v : SessionValue) → first_due host.now v.link.held ≡ None → find (is_stale host) v.observers ≡ None → IsSettled host v
 unfolding next_held_in next_stale
 settled_quiet host v none fresh = (none_made_where (session_ready v) _ none, none_made_where (session_ready v) _ fresh)
 
--- where there is no room
+-- A connection is settled if its queue has no room.
 pub settled_unready : (host : Host) (v : SessionValue) → session_ready v ≡ false → IsSettled host v
 unfolding next_held_in next_stale
 settled_unready host v full = rw full (refl, refl)
 
--- where there is room, what is due first and who is stale first are found
+-- If the queue has room, the first due entry and the first stale observer are found.
 pub found_ready : (host : Host) (v : SessionValue) → session_ready v ≡ true → (next_held_in host.now v ≡ first_due host.now v.link.held) × (next_stale host v ≡ find (is_stale host) v.observers)
 unfolding next_held_in next_stale
 found_ready host v ready = rw ready (refl, refl)
 
--- on another host, where what was quiet is so still
+-- A settled connection stays settled in another server state in which nothing more is due or stale.
 pub settled_still : (host after : Host) (v : SessionValue) → (first_due host.now v.link.held ≡ None → first_due after.now v.link.held ≡ None)
     → (find (is_stale host) v.observers ≡ None → find (is_stale after) v.observers ≡ None) → IsSettled host v → IsSettled after v
 settled_still host after v none fresh settled =
@@ -107,20 +107,20 @@ settled_still host after v none fresh settled =
       | false ↦ λ full. settled_unready after v full
     ] refl
 
--- where there was room, nothing is due, and so nothing is behind what was written
+-- If the queue had room, nothing was due, so nothing is due after the write either.
 pub settled_where_room : (host : Host) (v : SessionValue) (n : ℕ) → session_ready v ≡ true → IsSettled host v → IsSettled host (session_written v n)
 settled_where_room host v n ready settled =
     settled_quiet host (session_written v n) (sym (found_ready host v ready).0 ∙ settled.0) (sym (found_ready host v ready).1 ∙ settled.1)
 
--- where nothing is held, nothing is due
+-- If no entry is pending, none is due.
 pub none_held : (now : ℕ) (held : List HeldValue) → length held ≤ 0 → first_due now held ≡ None
 none_held now held few =
     let fewer = λ (some : is_some (first_due now held) ≡ true). due_fewer now held _ (there_is (first_due now held) some).1 in
     there_is_none (first_due now held) (false_from_ne_true (is_some (first_due now held)) (λ some. omega (arith, few, fewer some)))
 
--- ---- as many turns as there is to settle
+-- ---- the number of iterations
 
--- as many turns as there are of both leave nothing to settle: each turn that finds any leaves less
+-- As many iterations as there are pending entries and stale observers suffice, since each leaves fewer of them.
 enough_turns : (host : Host) (turns : ℕ) (v : SessionValue) → length v.link.held + count_due (is_stale host) v.observers ≤ turns → IsSettled host (session_settled_within turns host v)
 unfolding session_settled_within session_settled_once next_held_in next_stale
 enough_turns host zero v many =
@@ -139,14 +139,14 @@ enough_turns host (suc turns) v many =
       ] refl)
     ] refl
 
--- settling leaves nothing to settle
+-- A connection that settled is settled.
 pub settled_is_settled : (host : Host) (v : SessionValue) → IsSettled host (session_settled host v)
 unfolding session_settled
 settled_is_settled host v = enough_turns host (length v.link.held + length v.observers) v (omega (arith, count_within (is_stale host) v.observers))
 
--- ---- a loop of turns
+-- ---- the loop
 
--- where a turn finds nothing, all turns have done what they do
+-- If an iteration finds nothing, the remaining iterations change nothing.
 pub last_turn : (host : Host) (v after : SessionValue) (turns : ℕ) → after ≡ session_settled_once host v → false ≡ (is_some (next_held_in host.now v) || is_some (next_stale host v)) → after ≡ session_settled_within turns host v
 last_turn host v after turns is none =
     let parts = or_parts (is_some (next_held_in host.now v)) (is_some (next_stale host v)) (sym none) in

@@ -1,4 +1,4 @@
--- What is kept beside each observer: its hash, whether its path is built in, and its changed mark.
+-- Values stored with each observer: the hash of its path, whether the path is built in, and the changed mark.
 use Rattle.std.proofs.Common.{◌≡◌, ℕ, zero, suc, ◌<◌, ◌≤◌, Bool, true, false, List, [], ◌∷◌, length, map, set, get_or, Option, Some, None, refl, sym, ap, subst, ◌∙◌, arith, option_map, slice_get, filter, remove, if◌then◌else◌}
 use Rattle.coap_server_session.specs.Prelude.{AllByRecursion, ObserverValue, ObserversValue, observer_value, mark_in}
 use Rattle.std.proofs.lemmas.List.{map-set}
@@ -7,7 +7,7 @@ use Rattle.std.proofs.lemmas.Option.{slice_get_read, slice_get-map}
 use Rattle.coap_server_session.proofs.values.EntryLemmas.{read_at}
 use Rattle.coap_server_session.specs.declared.observer.Observer.{Observer}
 
--- ---- what holds of each
+-- ---- properties of all elements
 
 pub all_set : {O : Type 0} (P : O → Type 0) (os : List O) (i : ℕ) (o : O) → AllByRecursion P os → P o → AllByRecursion P (set os i o)
 all_set P [] i o all one = tt
@@ -25,7 +25,7 @@ all_at P [] i o all within read = absurd (omega arith)
 all_at P (p ∷ os) zero o all within read = subst P (sym read) all.0
 all_at P (p ∷ os) (suc i) o all within read = all_at P os i o all.1 (omega arith) read
 
--- ---- those that stay when others go
+-- ---- elements that a filter keeps
 
 pub others_keep_marks : (keep : Observer → Bool) (mark : ObserverValue → Option ℕ) (xs : List Observer) → map mark_in xs ≡ map mark (map observer_value xs) → map mark_in (filter keep xs) ≡ map mark (map observer_value (filter keep xs))
 others_keep_marks keep mark [] same = refl
@@ -35,7 +35,7 @@ others_keep_marks keep mark (x ∷ xs) same =
     let kept = others_keep_marks keep mark xs rest in
     elim (keep x) as (λ b. map mark_in (if b then x ∷ filter keep xs else filter keep xs) ≡ map mark (map observer_value (if b then x ∷ filter keep xs else filter keep xs))) [ true ↦ cc (one, kept) | false ↦ kept ]
 
--- where as many stay as there were, all do
+-- If a filter keeps as many elements as there were, it keeps all.
 pub all_kept_stay : {X : Type 0} (keep : X → Bool) (xs : List X) → length xs ≤ length (filter keep xs) → filter keep xs ≡ xs
 all_kept_stay keep [] many = refl
 all_kept_stay keep (x ∷ xs) many =
@@ -44,11 +44,11 @@ all_kept_stay keep (x ∷ xs) many =
       | false ↦ λ m. absurd (omega (arith, m, length-filter keep xs, count_by-le-length keep xs))
     ] many
 
--- the mark of the entry that is read
+-- The changed mark of an entry that is read.
 pub marked_at : (xs : List Observer) (i : ℕ) (x : Observer) → i < length xs → x ≡ get_or xs i x → slice_get (map mark_in xs) i ≡ Some (mark_in x)
 marked_at xs i x within read = slice_get-map mark_in xs i ∙ ap (option_map mark_in) (slice_get_read xs (length xs) i x refl within read)
 
--- ---- one that is written
+-- ---- one written element
 
 pub two_lists : (room : ℕ) (es fs : List ObserverValue) (ms ns : List (Option ℕ)) → es ≡ fs → ms ≡ ns → ◌≡◌ {A = ObserversValue} (record { room = room; entries = es; marks = ms }) (record { room = room; entries = fs; marks = ns })
 two_lists room es fs ms ns entries marks =

@@ -1,4 +1,4 @@
--- A piece that changes no resource leaves nothing to settle on its connection but what is held.
+-- After input that changes no resource, a connection has nothing to settle but its pending entries.
 use Rattle.std.proofs.Common.{◌≡◌, ℕ, ◌+◌, ◌-◌, Bool, true, false, ◌&&◌, List, [], ◌++◌, length, take, Option, Some, None, refl, sym, ap, subst, ◌∙◌, arith, not, nat_lt, ◌==◌, Result, Ok, Err}
 use Rattle.coap_server_session.specs.Prelude.{AllByRecursion, Message, Beginning, Unfinished, Faulty, beginning}
 use Rattle.coap_server_session.specs.Prelude.{FormatFault, message_of, Framing, Finding, AFrame, AFault, framing_at}
@@ -32,16 +32,16 @@ use Rattle.coap_server_session.proofs.values.SettleLemmas.{none_held, settled_qu
 abbrev NoneStale : Host → List ObserverValue → Type 0
 NoneStale host os = AllByRecursion (λ o. is_stale host o ≡ false) os
 
--- where no observer is stale, a connection settles where it holds something
+-- If no observer is stale, a connection settles only if an entry is pending.
 settled_held_none : (host : Host) (v : SessionValue) → NoneStale host v.observers → settled_held host v ≡ session_settled host v
 settled_held_none host v none =
     cond_both (length v.link.held == 0) v (session_settled host v) (λ w. w ≡ session_settled host v)
     (λ nothing. sym (settled_stays host v (settled_quiet host v (none_held host.now v.link.held (omega (arith, eqb-true (length v.link.held) 0 nothing))) (none_in (is_stale host) v.observers none))))
     (λ _. refl)
 
--- ---- a message is handled
+-- ---- a message
 
--- an entry of a request is told a state that is there
+-- The entry that a request adds is not stale.
 replied_none : (host : Host) (l : LinkValue) (others : List ObserverValue) (m : Message) (hold : Option ℕ) → NoneStale host others → NoneStale host (session_replied host l others m hold).observers
 replied_none host l others m None none =
     let fresh : ObserverValue → Type 0 = λ o. is_stale host o ≡ false in
@@ -57,7 +57,7 @@ replied_none host l others m None none =
 replied_none host l others m (Some seconds) none =
     all_if (λ o. is_stale host o ≡ false) (is_open (link_after l (call.Hold m.token (moment_after host.now seconds))).phase) others none
 
--- ---- the front of a piece
+-- ---- an input slice
 
 read_none : (host : Host) (v : SessionValue) (count : ℕ) (r : Result Message FormatFault) → NoneStale host v.observers → NoneStale host (taking_read host v count r).session.observers
 unfolding session_handled without_entry
@@ -76,7 +76,7 @@ found_none host v f (AFrame frame) none = read_none host v f.taken (message_of f
 found_none host v f (AFault fault) none =
     all_if (λ o. is_stale host o ≡ false) (is_open (link_after v.link (call.Reject (reject_of (OfFrame fault)))).phase) v.observers none
 
--- a connection that was settled settles where it holds something, while the host stays as it was
+-- A connection that was settled has only its pending entries to settle, if the server state is unchanged.
 pub taking_settles_held : (host : Host) (v : SessionValue) (piece : List ℕ) → IsSettled host v → settled_held host (taking host v piece).session ≡ session_settled host (taking host v piece).session
 unfolding taking
 taking_settles_held host v piece settled =
@@ -88,9 +88,9 @@ taking_settles_held host v piece settled =
     settled_held_none host _ (found_none host v f f.finding (none_due (is_stale host) v.observers (sym ((found_ready host v ready).1) ∙ settled.1))))
     (λ _. cond_both (length v.link.held == 0) v (session_settled host v) (λ w. w ≡ session_settled host v) (λ _. sym (settled_stays host v settled)) (λ _. refl))
 
--- ---- memory was refused
+-- ---- allocation failed
 
--- a front that lacks a byte of a frame is unfinished
+-- Input that lacks the last byte of a frame is unfinished.
 before_whole : (M : ℕ) (kept piece frame rest : List ℕ) (count : ℕ) → beginning M (kept ++ piece) ≡ Whole frame rest → length piece - length rest ≡ count + 1 → beginning M (kept ++ take count piece) ≡ Unfinished
 before_whole M kept piece frame rest count whole taken =
     let parts = whole_parts M (kept ++ piece) frame rest whole in
@@ -100,7 +100,7 @@ before_whole M kept piece frame rest count whole taken =
     ∙ take-append-le (length frame - 1) frame rest (omega arith) in
     rw front (front_unfinished M frame (whole_itself M (kept ++ piece) frame rest whole))
 
--- what a whole frame took
+-- The effect of an input slice, from the result of `beginning`.
 abbrev taking_begun : Host → SessionValue → List ℕ → Beginning → Taking
 taking_begun host v piece b = taking_found host v (framing_at v.frame piece b) (framing_at v.frame piece b).finding
 
@@ -118,7 +118,7 @@ taking_where_takes : (host : Host) (v : SessionValue) (piece : List ℕ) → ses
 unfolding taking framing
 taking_where_takes host v piece takes = rw takes refl
 
--- without its last byte, the message is not handled: its bytes are kept
+-- Without its last byte, the message is not processed, and its bytes are kept.
 module _ (host : Host) (v : SessionValue) (piece : List ℕ) (count : ℕ) (refuses : RefusesPiece host v piece count) where
   front_taken : taking host v (take count piece) ≡ taking_begun host v (take count piece) Unfinished
   front_taken =
@@ -134,7 +134,7 @@ module _ (host : Host) (v : SessionValue) (piece : List ℕ) (count : ℕ) (refu
   unfolding next_held_in next_stale
   refused_stays_settled settled = subst (λ (t : Taking). IsSettled host t.session) (sym front_taken) settled
 
--- ---- the host
+-- ---- the server state
 
 pub host_stays : (host : Host) (c : Change) → changes c ≡ false → host_changed host c ≡ host
 host_stays host c quiet = ap (host_changed host) (nothing_changed c quiet)

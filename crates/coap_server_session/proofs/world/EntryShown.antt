@@ -1,11 +1,11 @@
--- Lists of observers and of the values that show them change alike.
+-- Lists of observers and the values that represent them change in the same way.
 use Rattle.std.proofs.Common.{◌≡◌, ℕ, Bool, true, false, List, [], ◌∷◌, ◌++◌, map, refl, ap, ◌∙◌, arith, find, not, option_map}
 use Rattle.coap_server_session.specs.Prelude.{AllByRecursion, same_bytes, ObserverValue, without_entry, Observer}
 use Rattle.coap_server_session.specs.Prelude.{without_token, with_entry, first_becomes, observer_shown}
 use Rattle.std.proofs.lemmas.List.{map-append}
 use Rattle.coap_model.proofs.world.EntryLemmas.{mapped_filter}
 
--- ---- the values that show them
+-- ---- the values of observers
 
 pub without_shown : (token : List ℕ) (os : List Observer) → map observer_shown (without_token token os) ≡ without_entry token (map observer_shown os)
 unfolding without_token without_entry
@@ -15,7 +15,7 @@ pub entered_shown : (enters : Bool) (os : List Observer) (o : Observer) (v : Obs
 entered_shown true os o v same = map-append observer_shown os (o ∷ []) ∙ ap (λ w. map observer_shown os ++ w ∷ []) (same refl)
 entered_shown false os o v same = refl
 
--- a test of observers and one of values that tell the same
+-- Holds if a test of observers and a test of their values agree on a list.
 abbrev pub TellTheSame : (Observer → Bool) → (ObserverValue → Bool) → List Observer → Type 0
 TellTheSame due stale os = AllByRecursion (λ o. due o ≡ stale (observer_shown o)) os
 

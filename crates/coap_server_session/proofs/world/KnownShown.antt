@@ -12,12 +12,12 @@ use Rattle.coap_store.specs.declared.place.Place.{Place}
 use Rattle.coap_model.proofs.world.KnownLaws.{KnowsStored, IsKnownAt, IsKnown, IsVersioned, state_itself, state_is}
 use Rattle.coap_model.proofs.world.KnownLaws.{IsWatchable, told_known}
 
--- ---- the moment
+-- ---- the time
 
 digits_back : (n : ℕ) → n ≤ 18446744073709551615 → digits_value 10 (decimal n) ≡ n
 digits_back n small = (decimal_is_IsNumeral n (omega arith)).1
 
--- moments are told apart by what they say
+-- Two times are equal if and only if their decimal texts are.
 moment_same : (told now : ℕ) → told ≤ 18446744073709551615 → now ≤ 18446744073709551615 → same_bytes (decimal told) (decimal now) ≡ (now == digits_value 10 (decimal told))
 moment_same told now small_told small_now =
     let bytes = bytes_decides (decimal told) (decimal now) in
@@ -27,11 +27,11 @@ moment_same told now small_told small_now =
 
 -- ---- marks
 
--- a version that was given is the mark
+-- The mark of a stored representation is its version.
 version_marks : (n : ℕ) (r : Representation) → 1 ≤ r.version → (if r.version == 0 then n else r.version) ≡ r.version
 version_marks n r some = cond-false (r.version == 0) n r.version (ne_eqb r.version 0 (λ none. omega arith))
 
--- what is found against what was told
+-- For a stored path: two states are equal if and only if their marks are.
 stored_same : (store : StoreValue) (now : ℕ) (o : Observer) (known : KnowsStored store o) (found : Option Representation) → IsVersioned store → found_in store.resources o.path ≡ found → same_state (Some known.state) found ≡ is_marked now (mark_told (Some known.state)) found
 stored_same store now o known None is at = refl
 stored_same store now o known (Some r) is at =
@@ -49,12 +49,12 @@ marked_at store now o other known small is = absurd known
 known_marked_now : (store : StoreValue) (now : ℕ) (o : Observer) → IsKnown store o → now ≤ 18446744073709551615 → IsVersioned store → same_state o.told (state_of store now o.path) ≡ is_marked now (mark_told o.told) (state_of store now o.path)
 known_marked_now store now o known small is = rw known.key (marked_at store now o (place_of o.path) known.state small is)
 
--- a mark tells whether the state that was told is the state now
+-- The mark decides whether the current state is the one sent last.
 pub due_is_stale : (store : StoreValue) (now : ℕ) (o : Observer) → IsKnown store o → now ≤ 18446744073709551615 → IsVersioned store → is_due store now o ≡ is_stale (record { store = store; now = now }) (observer_shown o)
 unfolding is_due is_stale
 due_is_stale store now o known small is = ap not (known_marked_now store now o known small is)
 
--- its mark is that of the state now
+-- The mark of the current state in the model is that of the code.
 pub mark_now : (store : StoreValue) (now : ℕ) (path : Path) → now ≤ 18446744073709551615 → IsVersioned store → IsWatchable store now path → mark_told (state_of store now path) ≡ mark_of now (state_of store now path)
 mark_now store now path small is can =
     let state : Option Representation = state_of store now path in

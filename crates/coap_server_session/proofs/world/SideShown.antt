@@ -1,4 +1,5 @@
--- A connection of the world and the code's value of it change alike: over each call, and as they settle.
+-- A connection of the model and the value that represents it change in the same way, in each call and while they
+-- settle.
 use Rattle.std.proofs.Common.{◌≡◌, ℕ, ◌+◌, ◌≤◌, Bool, true, false, cond, List, [], length, map, Option, Some, None}
 use Rattle.std.proofs.Common.{refl, sym, ap, ◌∙◌, ◌&&◌, if◌then◌else◌, zero, suc, find, option_map}
 use Rattle.coap_server_session.specs.Prelude.{Message, StreamFault, takes_messages, is_open, fit, bare_response, reject_of}
@@ -31,19 +32,19 @@ use Rattle.coap_conn.specs.Calls as call
 use Rattle.coap_model.proofs.world.SideLaws.{next_known, once_known, AreKnown, IsKnownSide, handles_parts}
 use Rattle.coap_conn.specs.Held as held
 
--- what a host holds
+-- The server state of a store and a time.
 abbrev pub host_of : StoreValue → ℕ → Host
 host_of store now = record { store = store; now = now }
 
--- ---- what is kept where the connection is open, or takes messages
+-- ---- state that depends on the phase
 
--- what is left of a connection shows as what is left of its value
+-- The value of a connection whose history has changed, from its link.
 shown_as : (rest : List ℕ) (h : History) (l : LinkValue) (os : List Observer) → link_of h ≡ l → session_shown rest (side_with h os) ≡ session_with rest l (map observer_shown os)
 shown_as rest h l os same =
     let kept = elim (is_open h.phase) as (λ b. map observer_shown (cond b os []) ≡ cond b (map observer_shown os) []) [ true ↦ refl | false ↦ refl ] in
     ap (λ vs. record (session_shown rest (side_with h os)) { observers = vs }) kept ∙ ap (λ k. session_with rest k (map observer_shown os)) same
 
--- where it went on, no frame is kept that was not kept before
+-- If the history only continues, no frame is kept that was not kept before.
 side_shown : (rest : List ℕ) (s : Side) (h : History) (l : LinkValue) (os : List Observer) → GoesOn s.history h → link_of h ≡ l → session_shown rest (side_with h os) ≡ session_with (kept_on s rest) l (map observer_shown os)
 side_shown rest s h l os goes same =
     let with_frame : List ℕ → SessionValue = λ frame. session_with frame (link_of h) (map observer_shown os) in
@@ -51,7 +52,7 @@ side_shown rest s h l os goes same =
     ∙ cond_both (takes_messages s.history.phase) rest [] (λ frame. with_frame rest ≡ with_frame frame) (λ takes. refl) (λ none. rw (goes.over none) refl)
     ∙ ap (λ k. session_with (kept_on s rest) k (map observer_shown os)) same
 
--- ---- what needs no resource
+-- ---- calls that need no resource
 
 pub faulted_shown : (rest left : List ℕ) (s : Side) (fault : StreamFault) → IsHistory s.history → handles s ≡ true → session_shown left (side_faulted s fault) ≡ session_rejected (session_shown rest s) (reject_of fault)
 unfolding side_faulted
@@ -64,7 +65,7 @@ unfolding side_written
 written_shown rest s n is within =
     rw (le-leb n (length (waiting_on s)) within) (ap (λ l. record (session_shown rest s) { link = l }) (after_link s.history (call.Written n) within is))
 
--- the input ends within a frame where bytes of one are left
+-- The input ends within a frame if bytes of a frame are kept.
 pub ended_side_shown : (rest : List ℕ) (s : Side) → IsHistory s.history → session_shown rest (side_ended s (is_cut rest)) ≡ session_ended (session_shown rest s)
 unfolding side_ended
 ended_side_shown rest s is =
@@ -102,7 +103,7 @@ module _ (store : StoreValue) (now : ℕ) (small : now ≤ 18446744073709551615)
   replied_shown h os m (Some seconds) history =
       let held : Call = call.Hold m.token (moment_after now seconds) in shown_as [] (after h held) _ os (after_link h held tt history)
 
-  -- a message that is handled
+  -- A message that is processed.
   pub handled_shown : (rest : List ℕ) (s : Side) (m : Message) → IsHistory s.history → handles s ≡ true → session_shown [] (side_after store now s m) ≡ session_handled (host_of store now) (session_shown rest s) m
   unfolding side_after session_handled
   handled_shown rest s m history e =
@@ -127,7 +128,7 @@ pub change_shown : (store : StoreValue) (now : ℕ) (s : Side) (m : Message) →
 unfolding change_after
 change_shown store now s m e = ap (λ b. cond (b && asks_answer s m) (prompt_answer store now m).change Nothing) e
 
--- ---- the link after what is held was sent
+-- ---- the link after a pending entry was sent
 
 pub sent_link : (h : History) (now : ℕ) (e : HeldValue) → IsHistory h → link_of (after_sent h now e) ≡ link_sent (link_of h) now e
 sent_link h now (held.Answer token moment) is =
@@ -135,7 +136,7 @@ sent_link h now (held.Answer token moment) is =
     ∙ ap (λ l. link_after l (call.Reply (held_message token))) (after_link h (call.Due now) tt is)
 sent_link h now (held.Pong token) is = after_link h (call.Due now) tt is
 
--- ---- one turn of settling, and all of them
+-- ---- one iteration of settling, and all of them
 
 module _ (store : StoreValue) (now : ℕ) (small : now ≤ 18446744073709551615) (is : IsVersioned store) where
   left_shown : (o : Observer) (stays : Bool) → IsKnown store o → (stays ≡ true → goes_on (notification store now o) ≡ true) → map observer_shown (left_of store now o stays) ≡ entry_left (host_of store now) (observer_shown o) stays
@@ -144,7 +145,7 @@ module _ (store : StoreValue) (now : ℕ) (small : now ≤ 18446744073709551615)
       cc (ap format_of tells.there ∙ tells.same, mark_now store now o.path small is (left_watchable store now o known (on refl)))
   left_shown o false known on = refl
 
-  -- the tests of an observer and of its value
+  -- The tests of an observer and of its value agree.
   same_tests : (os : List Observer) → AreKnown store os → TellTheSame (is_due store now) (is_stale (host_of store now)) os
   same_tests os known = all_to (IsKnown store) (λ o. is_due store now o ≡ is_stale (host_of store now) (observer_shown o)) (λ o of. due_is_stale store now o of small is) os known
 
@@ -184,7 +185,7 @@ module _ (store : StoreValue) (now : ℕ) (small : now ≤ 18446744073709551615)
   within_shown (suc turns) rest s known =
       within_shown turns rest (settled_once store now s) (once_known store now small is s known) ∙ ap (session_settled_within turns (host_of store now)) (once_shown rest s known)
 
-  -- a connection settles as its value does
+  -- A connection settles as its value does.
   pub settled_shown : (rest : List ℕ) (s : Side) → IsKnownSide store s → session_shown rest (settled store now s) ≡ session_settled (host_of store now) (session_shown rest s)
   unfolding settled session_settled
   settled_shown rest s known =

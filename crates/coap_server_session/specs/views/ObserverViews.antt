@@ -1,4 +1,4 @@
--- How the code's observers are seen in contracts.
+-- The values that contracts see for `Observer` and `Observers`, and their invariants.
 use Rattle.std.specs.Prelude.{◌≡◌, ◌≤◌, Option, ℕ, length, map}
 use Rattle.std.specs.List.{AllByRecursion}
 use Rattle.std.specs.Vec.{vec_capacity}
@@ -19,13 +19,13 @@ mark_in o = o.changed
 abbrev pub observers_value : Inside → ObserversValue
 observers_value o = record { room = o.room; entries = map observer_value o.entries.items; marks = map mark_in o.entries.items }
 
--- an observer keeps the hash of its path, and whether that is built in
+-- Holds if an observer stores the hash of its path, and whether the path is built in.
 pub record IsTagged (o : Observer) : Type 0 where
   pub hash : o.hash ≡ path_hash o.path
   pub built_in : o.built_in ≡ tells_time (observer_value o)
 
--- no more are there than there is room for, and that was reserved; a change finds those that it concerns, and a flag tells who is
--- marked as changed
+-- The invariant of `Observers`: the capacity was allocated and is not exceeded. The chains link the observers, and the
+-- flags are set for those with a changed mark.
 pub record AreObservers (o : Inside) : Type 0 where
   pub few : length o.entries.items ≤ o.room
   pub reserved : o.room ≤ vec_capacity o.entries

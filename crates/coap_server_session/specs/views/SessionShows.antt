@@ -1,4 +1,4 @@
--- The code's value that shows a connection of the world.
+-- The value of the code that represents a connection of the model.
 use Rattle.std.specs.Prelude.{ℕ, List, map}
 use Rattle.coap_conn.specs.History.{link_of}
 use Rattle.coap_server_session.specs.values.Sessions.{ObserverValue, SessionValue}

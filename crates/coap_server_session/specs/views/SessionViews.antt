@@ -1,4 +1,4 @@
--- How the code's connection is seen in contracts.
+-- The value that contracts see for `Session`, and its invariant.
 use Rattle.std.specs.Prelude.{◌≡◌, ◌⊎◌, true, []}
 use Rattle.coap_frame.specs.Framing.{IsFramer}
 use Rattle.coap_conn.specs.Limits.{AreInRange}
@@ -12,7 +12,8 @@ session_value s = record { frame = s.framer.kept; link = s.link; observers = s.o
 abbrev pub marked_session : Inside → MarkedSession
 marked_session s = record { session = session_value s; marks = s.observers.marks }
 
--- the framer takes what was announced last, the observers have the room that the limits name, and there are observers only while the connection is open
+-- The invariant of `Session`. The framer accepts messages up to the size announced last, the observers have the
+-- capacity of the limits, and only an open connection has observers.
 pub record IsSession (s : Inside) : Type 0 where
   pub ranges : AreInRange s.link.limits
   pub greatest : s.framer.max ≡ s.link.own_max

@@ -1,4 +1,4 @@
-//! The times at which time alone, or a change, may queue something on a connection of a server.
+//! The times and the changes that may make something due on a connection of a server.
 
 ghost use Rattle.std.specs.Prelude.{◌≡◌, ℕ, false, None, ◌+◌, ◌||◌, Some};
 ghost use Rattle.coap_server_session.specs.Prelude.{sooner as lesser, IsUntouched, ConcernsNone, due_on, IsBefore};
@@ -8,8 +8,10 @@ use super::Session;
 use crate::cause::Cause;
 
 impl Session {
-    /// Returns `true` if a change may make something due: an observer has a path with that hash, or observes the time, or
-    /// a pending response came due.
+    /// Returns `true` if a change may make something due on this connection at the time `now`, in seconds.
+    ///
+    /// - `Cause::Path`: an observer observes a path with that hash.
+    /// - `Cause::Moment`: an observer observes the time, or a pending response became due after the previous time.
     #[tactic(auto, using(crate::proofs::values::ChainLemmas::none_observes))]
     pub fn is_touched(&self, cause: Cause, now: u64) -> bool
         ensures exact { result ≡ may_touch cause now self.now.session }
@@ -24,14 +26,14 @@ impl Session {
         }
     }
 
-    /// Returns `true` if time alone may make anything due: something is pending, or an observer of the moment may be there.
+    /// Returns `true` if time alone may make something due: an entry is pending, or an observer observes the time.
     fn may_come_due(&self) -> bool
         ensures { result ≡ false → (now : ℕ) → due_on now self.now.session ≡ None }
     {
         self.link.pending() > 0 || self.observers.tell_time()
     }
 
-    /// Returns `true` if something came due after a moment, up to now.
+    /// Returns `true` if something became due after the time `before`, up to `now`.
     fn comes_due(&self, before: u64, now: u64) -> bool
         ensures exact { result ≡ has_come now (due_on before self.now.session) }
         ensures before { result ≡ false → IsBefore now (due_on before self.now.session) }
@@ -42,15 +44,16 @@ impl Session {
         }
     }
 
-    /// The next moment, in seconds, at which time alone may queue something: until then an answer is held, or an
-    /// observer of the moment is to be told it.
+    /// Returns the next time, in seconds, at which time alone may make something due, or `None` if there is none.
+    ///
+    /// At that time a delayed response is due, or an observer of the time must be notified.
     pub fn due(&self, now: u64) -> Option<u64>
         ensures { result ≡ due_on now self.now.session }
     {
         sooner(self.link.next_moment(now), self.next_told(now))
     }
 
-    /// The moment behind this one, where an observer is to be told it.
+    /// Returns the next second if an observer of the time must be notified then.
     fn next_told(&self, now: u64) -> Option<u64>
         ensures { result ≡ next_told_of now self.now.session.observers }
     {
@@ -61,7 +64,7 @@ impl Session {
     }
 }
 
-/// The lesser of two moments, where there are any.
+/// Returns the earlier of two times, or the only one that is present.
 pub fn sooner(one: Option<u64>, other: Option<u64>) -> Option<u64>
     ensures { result ≡ lesser one other }
 {

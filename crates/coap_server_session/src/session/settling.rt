@@ -1,4 +1,4 @@
-//! Sends everything that is due on a connection of a server, as long as its queue has room.
+//! Settles a connection of a server: queues everything that is due, as long as the queue has room.
 
 use super::{Session, give_up};
 use crate::answering::{notify, send_due};
@@ -11,8 +11,15 @@ impl Session {
     ghost use Rattle.coap_server_session.specs.Prelude.{session_notified, session_settled_once, session_written};
     ghost use Rattle.coap_server_session.specs.Prelude.{session_settled, IsSettled, settled_held};
 
-    /// Sends what is held and due, and notifies the observers that are due, one after the other, as long as there is
-    /// room for the greatest message sent (RFC 8323 section 5.4.1, RFC 7641 section 4.2).
+    /// Settles the connection: sends the pending entries that are due, then notifies the stale observers, one after the
+    /// other.
+    ///
+    /// Ends early if the queue has no room for a message of `max_sent` bytes. (RFC 8323 section 5.4.1, RFC 7641 section
+    /// 4.2)
+    ///
+    /// # Preconditions
+    ///
+    /// The changed marks of the observers are current.
     #[inline]
     pub fn settle(&mut self, host: &Host)
         requires { IsMarked host.now self.old }
@@ -25,7 +32,8 @@ impl Session {
         }
     }
 
-    /// Settles as `settle`, turn by turn. (Apart from `settle`, so that a connection with nothing to send costs a test.)
+    /// Settles the connection as `settle` does, in at most `more` iterations.
+    // Never inlined, so that `settle` costs one comparison on a connection with nothing to send.
     #[inline(never)]
     fn settle_each(&mut self, host: &Host)
         requires { IsMarked host.now self.old }
@@ -40,7 +48,11 @@ impl Session {
         }
     }
 
-    /// Marks the observers that a change concerns, and settles.
+    /// Recomputes the changed marks of the observers that a change affects, and settles the connection.
+    ///
+    /// # Preconditions
+    ///
+    /// The changed marks of all other observers are current.
     pub fn mark_and_settle(&mut self, host: &Host, cause: Cause)
         requires { IsMarkedBut cause host.now self.old }
         ensures after { self.new.session ≡ session_settled host.entry.now self.old.session }
@@ -50,7 +62,11 @@ impl Session {
         self.settle(host);
     }
 
-    /// The same where something is held: no observer is due then.
+    /// Settles the connection if an entry is pending. Use it when no observer is stale.
+    ///
+    /// # Preconditions
+    ///
+    /// The changed marks of the observers are current.
     pub fn settle_held(&mut self, host: &Host)
         requires { IsMarked host.now self.old }
         ensures after { self.new.session ≡ settled_held host.entry.now self.old.session }
@@ -61,8 +77,8 @@ impl Session {
         }
     }
 
-    /// Sends what is held and due first, or else notifies the first observer that is due, where there is room, and
-    /// answers whether there was any.
+    /// Sends the first due entry, or notifies the first stale observer if none is due. Returns `false` if there was
+    /// neither, or if the queue has no room.
     fn settle_once(&mut self, host: &Host) -> bool
         requires { IsMarked host.now self.old }
         ensures after { self.new.session ≡ session_settled_once host.entry.now self.old.session }
@@ -80,8 +96,7 @@ impl Session {
         self.notify_once(host)
     }
 
-    /// Notifies the first observer that is marked as changed, where there is one, and answers whether there was. There
-    /// must be room.
+    /// Notifies the first stale observer, and returns `true` if there was one. The queue must have room.
     fn notify_once(&mut self, host: &Host) -> bool
         requires ready { IsReady self.old.session.link }
         requires marked { IsMarked host.now self.old }
@@ -98,8 +113,15 @@ impl Session {
         true
     }
 
-    /// The same of a settled one, and it settles: where there was room before, nothing is due, and so nothing is behind
-    /// it.
+    /// Removes the first `count` bytes from the queue as `written` does, and settles the connection.
+    ///
+    /// The connection must be settled before. If its queue had room then, nothing was due, so nothing needs to be sent
+    /// now.
+    ///
+    /// # Preconditions
+    ///
+    /// At least `count` bytes are queued, the connection is settled, and the changed marks of the observers are
+    /// current.
     pub fn written_and_settled(&mut self, host: &Host, count: usize)
         requires within { count ≤ length self.old.session.link.waiting }
         requires settled { IsSettled host.now self.old.session }

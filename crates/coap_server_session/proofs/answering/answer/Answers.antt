@@ -11,7 +11,7 @@ use Rattle.coap_io.proofs.streams.WriteLemmas.{on_any_fault}
 use Rattle.coap_server_session.proofs.answering.answer.Goals.{After-respond-reply, then-asks_entry, else-asks_entry, else-observes-via-then-observes+else-is_whole, else-observes-via-else-observes}
 use Rattle.coap_server_session.proofs.answering.answer.Goals as goal
 
--- an answer that asks to be held
+-- A request whose response is to be delayed.
 pub returns-in-Some : goal.returns-in-Some
 returns-in-Some c =
     let host = c.args.host.now in
@@ -41,7 +41,7 @@ enter-requires-clause-watched c =
       | else-asks_entry w ↦ absurd (let bad : ◌≡◌ {A = Bool} false true = cc (w.if-asks_entry.false) in cc)
     ]
 
--- it changes nothing, its response is sent, and what was entered, where anything was, is what is to be
+-- The request changes nothing: its response is sent, and the entries after it are the defined ones.
 prompted : (c : After-respond-reply) (enters : Bool) (after : ObserversValue) → (c.if-asks_entry.observes && is_whole c.respond-reply.result) ≡ enters
     → after.entries ≡ with_entry enters c.forget-2.new.self.entries (new_entry c.args.host.now c.args.request.now) → after.room ≡ c.forget-2.new.self.room
     → (AreMarked c.args.host.now c.forget-2.new.self.entries c.forget-2.new.self.marks → AreMarked c.args.host.now after.entries after.marks)
@@ -92,7 +92,7 @@ returns-else-observes c =
     ] in
     assumption (prompted (goal.at.returns-else-observes c).After-respond-reply false _ misses refl refl (λ marked. marked))
 
--- ---- a change whose memory was refused, and one that was made
+-- ---- a change for which allocation failed, and one that was applied
 
 pub returns-in_err-changed-clause-put : goal.returns-in_err-changed-clause-put
 returns-in_err-changed-clause-put c =

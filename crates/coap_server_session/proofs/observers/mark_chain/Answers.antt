@@ -7,7 +7,7 @@ use Rattle.coap_server_session.proofs.values.TagLemmas.{all_at}
 use Rattle.coap_server_session.proofs.observers.mark_chain.Goals.{After-last, After-set_mark, After-index, After-set_mark-in-Some-at}
 use Rattle.coap_server_session.proofs.observers.mark_chain.Goals as goal
 
--- the last one is marked first
+-- The loop begins with the last observer of the chain, and no mark is recomputed yet.
 from_last : (c : After-last) → IsMarkedFrom c.last.result c.args.cause c.args.host.now c.args.observers.now.items c.args.observers.now.items c.args.marked.now
 from_last c =
     let items = c.args.observers.now.items in
@@ -33,7 +33,7 @@ loop-at-init c =
     let next = mark_next k c.args.cause c.args.host.now c.args.chains.now items items c.set_mark.new.observers.items c.args.marked.now c.set_mark.new.marked x c.untold_by-changed.result c.requires.chained first read mark_is e.entries e.linked e.tagged marks e.flagged in
     (rw c.previous-at.ensures next.1, e.capacity)
 
--- those behind this one are marked
+-- The marks of the observers after this one are recomputed.
 so_far : (c : After-index) → IsMarkedFrom (Some c.in-Some-at.index) c.args.cause c.args.host.now c.args.observers.now.items c.loop-at.observers.items c.loop-at.marked
 so_far c = subst (λ (at : Option ℕ). IsMarkedFrom at c.args.cause c.args.host.now c.args.observers.now.items c.loop-at.observers.items c.loop-at.marked) c.in-Some-at.is c.loop-at.invariant.0
 
@@ -55,7 +55,7 @@ changed_by-changed-requires-clause-present c =
     let same = same_path items now c.from-last.result c.index-known.result.now c.index.result.now (sym (so_far c).entries) here (omega (arith, here, as_many c)) c.index-known.ensures c.index.ensures in
     c.present-present.ensures ∙ ap (present_mark c.args.host.now) same
 
--- one more is marked
+-- One iteration recomputes one more mark.
 one_more : (c : After-set_mark-in-Some-at) → (next_index c.previous-at-in-Some-at.result ≤ c.in-Some-at.index) × IsMarkedFrom c.previous-at-in-Some-at.result c.args.cause c.args.host.now c.args.observers.now.items c.set_mark-in-Some-at.new.observers.items c.set_mark-in-Some-at.new.marked
 one_more c =
     let now = c.loop-at.observers.items in

@@ -4,7 +4,7 @@ use Rattle.coap_server_session.specs.Prelude.{next_index}
 use Rattle.coap_server_session.proofs.values.ChainLemmas.{IsMarkedFrom}
 use Rattle.coap_server_session.proofs.observers.mark_chain.Given as goal
 
--- those behind this one are marked
+-- The marks of the observers after this one are recomputed.
 abbrev pub invariant-loop-at : goal.invariant-loop-at
 invariant-loop-at l = IsMarkedFrom l.at l.cause l.host l.fn.observers.items l.observers.items l.marked × (vec_capacity l.observers ≡ vec_capacity l.fn.observers)
 

@@ -2,7 +2,7 @@ use Rattle.std.proofs.Common.{◌≡◌}
 use Rattle.coap_server_session.specs.Prelude.{segments_hash, path_hash}
 use Rattle.coap_server_session.proofs.path_hash.hash_of.Given as goal
 
--- the segments that are left lead to the hash of all
+-- Hashing the remaining segments results in the hash of the path.
 abbrev pub invariant-loop-segment : goal.invariant-loop-segment
 invariant-loop-segment l = record {
   goes : (goal.iterator-loop-segment).can_next l.segment-iterator;

@@ -3,7 +3,8 @@ use Rattle.coap_server_session.specs.Prelude.{last_number, encoded_size, path_si
 use Rattle.coap_wire.specs.OptionNumbers as numbers
 use Rattle.coap_server_session.proofs.response.add_path.Given as goal
 
--- the segments that are left are added behind those that were, and there is room for them
+-- The options so far, followed by those of the remaining segments, are the final options. There is space for the
+-- latter.
 abbrev pub invariant-loop-segment : goal.invariant-loop-segment
 invariant-loop-segment g l = record {
   goes : (goal.iterator-loop-segment g).can_next l.segment-iterator;

@@ -5,7 +5,7 @@ use Rattle.coap_server_engine.proofs.scripting.ShownLemmas.{shows_same, nothing_
 use Rattle.coap_server_engine.proofs.server.Server.run_remove.Goals as goal
 use Rattle.coap_conn.proofs.AskingLaws.{none_where}
 
--- the store refuses
+-- The store cannot remove the resource.
 pub returns-then-not-can_remove : goal.returns-then-not-can_remove
 unfolding event_ran events_made
 returns-then-not-can_remove c =

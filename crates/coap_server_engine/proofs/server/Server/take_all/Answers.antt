@@ -20,7 +20,7 @@ loop-taken-preserved c =
       t.lies,
     )
 
--- a take took none
+-- A take accepted no byte.
 pub returns-then-piece-eq0 : goal.returns-then-piece-eq0
 returns-then-piece-eq0 c =
     let t = rw (rest_of c.loop-taken.taken c.args.bytes.now) at c.in-Ok.ensures in
@@ -28,7 +28,7 @@ returns-then-piece-eq0 c =
     rw (fed_and_stopped _ _ _ _ _ c.loop-taken.invariant.0 c.loop-taken-test.true _ none t.ok)
     (search (rules, stopped_shows _ _ _ _ _ c.loop-taken.invariant.0 c.loop-taken-test.true _ none t.ok (rw ((there_is _ t.there).1, ← t.count) t.shows)))
 
--- no connection has the number
+-- No connection has this id.
 pub returns-in-Err-NoSuch : goal.returns-in-Err-NoSuch
 unfolding server_taken count_taken
 returns-in-Err-NoSuch c =
@@ -42,13 +42,13 @@ returns-in-Err-Memory c =
     let partly = short _ _ _ _ _ c.loop-taken.invariant.0 c.loop-taken-test.true _ _ e.refused in
     search (rules, partly, short_shows _ _ _ _ _ c.loop-taken.invariant.0 c.loop-taken-test.true _ _ e.refused e.shows_refused)
 
--- the bytes are used up
+-- No byte is left.
 pub returns : goal.returns
 returns c =
     let none : length c.args.bytes.now ≤ c.loop-taken.taken = omega (arith, c.loop-taken-test.false) in
     rw (used_up _ _ _ _ _ c.loop-taken.invariant.0 none) (search (rules, used_up_shows _ _ _ _ _ c.loop-taken.invariant.0 none))
 
--- no connection has the number from the start
+-- No connection had this id at the start.
 pub returns-in_default : goal.returns-in_default
 returns-in_default c =
     let none = subst (λ v. session_of c.args.id v.sessions ≡ None) c.self.view_is c.in_default.ensures.none in

@@ -27,7 +27,7 @@ invariant_of-self c =
 pub returns-then-is_some-clause-shows : goal.returns-then-is_some-clause-shows
 returns-then-is_some-clause-shows c = tick_shows {T = Unit {0}} {F = Unit {0}} (Ok tt) c.args.self.now _ c.args.now c.ranges.now.fits (search rules) (search rules)
 
--- no connection is touched: all are settled as they are
+-- The change affects no connection, so all are settled as they are.
 all_stay : (c : Else-is_some) → let es = c.self.inside.sessions.entries in (unmarked es ≡ map (settled_entry c.move_to.new.self) (unmarked es)) × AreAllMarked c.move_to.new.self es
 all_stay c =
     let host = c.self.inside.host in

@@ -1,6 +1,6 @@
 use Rattle.coap_server_engine.specs.Prelude.{AreUntouched}
 use Rattle.coap_server_engine.proofs.server.sessions.next_touched.Given as goal
 
--- none so far is touched
+-- No connection so far is affected.
 abbrev pub invariant-loop-at : goal.invariant-loop-at
 invariant-loop-at l = AreUntouched l.cause l.now l.from l.at l.sessions.entries

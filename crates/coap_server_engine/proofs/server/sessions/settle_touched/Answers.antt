@@ -8,7 +8,7 @@ use Rattle.coap_server_engine.proofs.server.sessions.settle_touched.Goals as goa
 pub loop-at-init : goal.loop-at-init
 loop-at-init c = (omega arith, (none_settled c.args.host.now (unmarked c.args.sessions.now.entries), c.requires.marked))
 
--- those before the one that is found are settled
+-- The connections before the one that was found are settled.
 up_to_found : (c : After-index_mut) → AreUpTo c.in-Some.at c.args.cause c.args.host.now c.args.sessions.now.entries c.loop-at.sessions.entries
 up_to_found c =
     let e = c.in-Some.ensures in

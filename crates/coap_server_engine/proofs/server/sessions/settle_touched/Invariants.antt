@@ -2,7 +2,7 @@ use Rattle.std.proofs.Common.{◌≤◌, ◌-◌, length}
 use Rattle.coap_server_engine.proofs.values.ServerCauseLemmas.{AreUpTo}
 use Rattle.coap_server_engine.proofs.server.sessions.settle_touched.Given as goal
 
--- those before this one are settled, and their marks are as they are to be
+-- The connections before this one are settled, and their changed marks are current.
 abbrev pub invariant-loop-at : goal.invariant-loop-at
 invariant-loop-at l = (l.from ≤ length l.sessions.entries) × AreUpTo l.from l.cause l.host l.fn.sessions.entries l.sessions.entries
 

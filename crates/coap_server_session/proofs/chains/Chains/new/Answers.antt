@@ -4,7 +4,7 @@ use Rattle.coap_server_session.specs.declared.cause.Cause.TheVariants as cause
 use Rattle.coap_server_session.proofs.values.FlagLemmas.{all_default}
 use Rattle.coap_server_session.proofs.chains.Chains.new.Goals as goal
 
--- the chains of no observers
+-- The chains without an observer.
 abbrev empty : Chains
 empty = record { hashed = replicate 256 None; built_in = None }
 

@@ -11,7 +11,7 @@ pub returns-in_err-index-clause-none : goal.returns-in_err-index-clause-none
 returns-in_err-index-clause-none c =
     rw (c.from_residual.ensures, ← c.self.view_is) (none_marked (map mark_in c.self.inside.entries.items) (λ i. sym (c.self.invariant.flagged i) ∙ c.in_err-index.ensures.none i))
 
--- there is an entry at the index of a flag that is set
+-- The index of a set flag is within the list.
 within : (c : In_ok-index) → c.in_ok-index.index < length c.self.inside.entries.items
 within c =
     let items = c.self.inside.entries.items in

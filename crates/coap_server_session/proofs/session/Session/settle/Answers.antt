@@ -3,7 +3,7 @@ use Rattle.coap_server_session.specs.Prelude.{IsSettled, session_settled, sessio
 use Rattle.coap_server_session.proofs.values.SettleLemmas.{settled_is_settled}
 use Rattle.coap_server_session.proofs.session.Session.settle.Goals as goal
 
--- nothing is held, and nobody observes
+-- No entry is pending, and there is no observer.
 pub returns-else-more-gt0 : goal.returns-else-more-gt0
 unfolding session_settled session_settled_within
 returns-else-more-gt0 c =

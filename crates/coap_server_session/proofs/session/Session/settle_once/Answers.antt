@@ -21,7 +21,7 @@ returns-then-not-ready c =
       marked = c.requires;
     }
 
--- what is held and due first was sent
+-- The pending entry that was due first was sent.
 pub invariant_of-self : goal.invariant_of-self
 invariant_of-self c =
     let ready = ready_is c.self.inside.link c.ready.result c.ready.ensures ∙ c.if-not-ready.false in
@@ -47,7 +47,7 @@ returns-then-send_due c =
 pub notify_once-requires-clause-marked : goal.notify_once-requires-clause-marked
 notify_once-requires-clause-marked c = subst (IsMarked c.args.host.now) (sym c.self.view_is) c.requires
 
--- nothing that is held is due
+-- No pending entry is due.
 pub returns : goal.returns
 unfolding session_settled_once
 returns c =

@@ -27,7 +27,7 @@ invariant_of-self-in-Ok-handle c =
     taken_session c.self.inside c.args.piece.now c.handle.new.link c.give_up-in-Ok-handle.new.framer c.handle.new.observers c.give_up-in-Ok-handle.new.observers c.self.invariant c.in-Ok-handle.ensures.sizes c.in-Ok-handle.ensures.room
     (rw c.next-framed.follows.holds-at-none at c.give_up-in-Ok-handle.ensures.framer) c.give_up-in-Ok-handle.ensures.observers
 
--- a frame was found
+-- The framer found a frame.
 frame_found : (c : In-Ok-Some) → (framing_of c.self.inside.framer c.args.piece.now).finding ≡ AFrame c.in-Ok-Some.frame.now
 frame_found c = sym c.next-framed.ensures.framed.what ∙ sym c.frame.ensures ∙ ap finding_read c.in-Ok-Some.is ∙ ap (λ o. finding_read (Ok o)) c.in-Ok-Some.field-0-is
 
@@ -42,7 +42,7 @@ overflow_sub-result c =
     let some = frame_takes_some c.self.inside c.self.invariant c.args.piece.now c.in-Ok-Some.frame.now (frame_found (goal.at.overflow_sub-result c).In-Ok-Some) in
     omega (arith, some, c.next-framed.ensures.framed.taken)
 
--- it was taken back
+-- The frame was given back to the framer without its last byte.
 taken_back : (c : After-unread) → c.unread.new.self ≡ unread_after c.self.inside.framer c.args.piece.now
 taken_back c = rw (c.next-framed.follows.holds-at-none, c.next-framed.ensures.framed.taken) at c.unread.ensures
 
