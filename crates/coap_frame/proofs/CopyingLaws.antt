@@ -1,4 +1,4 @@
--- What the calls of a framer add to its count.
+-- The changes of the count of copied bytes by the calls of a framer.
 use Rattle.std.proofs.Common.{◌≡◌, ◌≢◌, ℕ, ◌+◌, ◌-◌, ◌≤◌, List, [], ◌∷◌, ◌++◌, length, refl, ap, arith}
 use Rattle.std.proofs.lemmas.List.{length-append, length-take}
 use Rattle.coap_frame.specs.Prelude.{Beginning, Unfinished, Whole, Faulty, beginning, FramerValue, IsFramer, Finding}
@@ -10,24 +10,24 @@ use Rattle.coap_wire.proofs.StreamSteps.{whole_parts}
 use Rattle.coap_frame.proofs.RaiseLemmas.{asked_is_framer, asked_copied}
 use Rattle.coap_frame.proofs.FramingLemmas.{empty_framer, framing_is_framer, unread_is_framer}
 
--- ---- a piece
+-- ---- a chunk
 
 copied_alone_within : (taken : ℕ) (finding : Finding) → copied_alone taken finding ≤ taken
 copied_alone_within taken Nothing = omega arith
 copied_alone_within taken (AFrame frame) = omega arith
 copied_alone_within taken (AFault fault) = omega arith
 
--- at most what is taken is copied
+-- At most the bytes taken are copied.
 copied_within : (kept : List ℕ) (f : Framing) → copied_of kept f ≤ f.taken
 copied_within [] f = copied_alone_within f.taken f.finding
 copied_within (b ∷ kept) f = omega arith
 
--- of a frame that the piece has by itself nothing is
+-- No byte of a frame that is whole in the chunk is copied.
 none_copied : (kept frame : List ℕ) (f : Framing) → kept ≡ [] → f.finding ≡ AFrame frame → copied_of kept f ≡ 0
 none_copied [] frame f none found = ap (copied_alone f.taken) found
 none_copied (b ∷ kept) frame f none found = absurd cc
 
--- what lies in the buffer was kept or is copied
+-- The bytes in the buffer were kept or are copied.
 lies_at : (max : ℕ) (kept piece : List ℕ) (b : Beginning) → beginning max (kept ++ piece) ≡ b → length (framing_at kept piece b).kept + length (framing_at kept piece b).spent ≤ length kept + copied_of kept (framing_at kept piece b)
 lies_at max [] piece Unfinished e = omega arith
 lies_at max (b ∷ kept) piece Unfinished e = omega (arith, length-append (b ∷ kept) piece)

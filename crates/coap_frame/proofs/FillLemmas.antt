@@ -1,4 +1,4 @@
--- How a piece stands by itself, and filling a buffer with the bytes of a frame.
+-- The status of a chunk by itself, and the filling of a buffer with the bytes of a frame.
 use Rattle.std.proofs.Common.{◌≡◌, ℕ, ◌+◌, ◌-◌, ◌<◌, ◌≤◌, List, [], ◌∷◌, ◌++◌, length, get_or, take, drop, refl, sym, ap, ◌∙◌, append_assoc, arith, inl, inr}
 use Rattle.std.proofs.lemmas.Bool.{cases_lt}
 use Rattle.std.proofs.lemmas.List.{append-nil, take-append-drop, take_more, take_all, length-append, length-take, length-drop}
@@ -9,7 +9,7 @@ use Rattle.coap_wire.proofs.StreamSteps.{begin_unknown, begin_bad_token, begin_t
 use Rattle.coap_frame.specs.declared.filling.Standing.TheVariants as standing
 use Rattle.std.proofs.Math.Seq.{take-append-add}
 
--- a beginning that tells its size has fewer bytes, and is not too large
+-- An unfinished frame with a known size has fewer bytes than that, and the size is not too large.
 pub told_unfinished : (M : ℕ) (s : List ℕ) (n : ℕ) → beginning M s ≡ Unfinished → declared_of s ≡ Size n → (n ≤ M) × (length s < n)
 told_unfinished M s n unfinished told =
     elim (cases_lt M n) [
@@ -20,9 +20,9 @@ told_unfinished M s n unfinished told =
       ]
     ]
 
--- a token length is read in the first byte
+-- The first `taken` bytes of a chunk are appended to an unfinished frame.
 module _ (M : ℕ) (old piece new : List ℕ) (taken : ℕ) (size : Declared) (unfinished : beginning M old ≡ Unfinished) (h : IsTakenTo old piece new taken size) where
-  -- the bytes that are not taken
+  -- The bytes of the chunk that are not taken.
   abbrev behind : List ℕ
   behind = drop taken piece
 
@@ -35,13 +35,13 @@ module _ (M : ℕ) (old piece new : List ℕ) (taken : ℕ) (size : Declared) (u
   none_taken : taken ≡ 0 → new ≡ old
   none_taken e = h.bytes ∙ ap (λ (n : ℕ). old ++ take n piece) e ∙ append-nil old
 
-  -- the last byte taken
+  -- The new bytes end with the last byte taken.
   last_byte_taken : (before : ℕ) → taken ≡ before + 1 → new ≡ (old ++ take before piece) ++ get_or piece before 0 ∷ []
   last_byte_taken before e =
       let lt : before < length piece = let w = h.within in omega arith in
       h.bytes ∙ ap (λ (n : ℕ). old ++ take n piece) e ∙ ap (λ (p : List ℕ). old ++ p) (take_more piece before 0 lt) ∙ sym (append_assoc old (take before piece) (get_or piece before 0 ∷ []))
 
-  -- a size that is told is above what lies in the buffer
+  -- A declared size is above the number of bytes in the buffer.
   pub size_above_filled : (n : ℕ) → size ≡ Size n → length new < n
   size_above_filled n is =
       let now : declared_of new ≡ Size n = sym h.size_is ∙ is in
@@ -84,7 +84,7 @@ module _ (M : ℕ) (old piece new : List ℕ) (taken : ℕ) (size : Declared) (u
         stands = (ap (beginning M) (sym bytes) ∙ begin_unknown M new (sym h.size_is ∙ is), all, bytes);
       }
 
-  -- the size of the bytes and those behind them
+  -- The size stays the same with the bytes that follow.
   size_of_all : (n : ℕ) → size ≡ Size n → declared_of (old ++ piece) ≡ Size n
   size_of_all n is = ap declared_of all_bytes ∙ declared_more new behind n (sym h.size_is ∙ is)
 
@@ -112,17 +112,17 @@ module _ (M : ℕ) (old piece new : List ℕ) (taken : ℕ) (size : Declared) (u
         stands = (rest, begin_whole M (old ++ piece) n (size_of_all n is) fits enough ∙ ap (λ (f : List ℕ). Whole f rest) frame, omega (arith, length_all, length_new, length-append old piece));
       }
 
--- ---- a piece by itself
+-- ---- a chunk by itself
 
 module _ (M : ℕ) (piece : List ℕ) where
-  -- all of it is taken
+  -- All of an unfinished chunk is taken.
   pub stands_more : beginning M piece ≡ Unfinished → IsFilled M [] piece (take (length piece) piece) (length piece) standing.Unfinished
   stands_more unfinished = record {
     within = omega arith;
     stands = (unfinished, refl, take_all (length piece) piece (omega arith));
   }
 
-  -- a fault is known at the last of the bytes that state the size
+  -- An error is known at the last byte that states the size.
   stands_fault : (fault : FrameFault) → beginning M piece ≡ Faulty fault → IsFilled M [] piece (take (size_bytes piece) piece) (size_bytes piece) (standing.Fault fault)
   stands_fault fault faulty =
       let there = fault_has_bytes M piece fault faulty in

@@ -1,4 +1,4 @@
--- What is given, by what was found and by how the buffer stands.
+-- The result of `next`, by the status of the bytes and the content of the buffer.
 use Rattle.std.proofs.Common.{◌≡◌, ℕ, List, [], take, sym, ap, ◌∙◌}
 use Rattle.coap_frame.specs.Prelude.{Nothing, AFrame, AFault, framing, spent_in, frame_in, finding_in, finding_of}
 use Rattle.coap_frame.specs.Prelude.{lent_of, IsFramed, Held, Found, Standing, FrameFault}

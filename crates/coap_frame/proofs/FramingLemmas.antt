@@ -1,4 +1,4 @@
--- What a framer does, by how its piece or its buffer stands.
+-- The effect of a chunk on a framer, by the status of the chunk or of the buffer.
 use Rattle.std.proofs.Common.{◌≡◌, ◌≢◌, ℕ, ◌-◌, ◌<◌, ◌≤◌, List, [], ◌∷◌, ◌++◌, length, take, drop, refl, sym, ap, ◌∙◌, arith, inl, inr, ◌⊎◌}
 use Rattle.std.proofs.lemmas.Bool.{cases_lt}
 use Rattle.std.proofs.lemmas.List.{length-append, length-drop, take-append-drop}
@@ -38,21 +38,21 @@ module _ (max : ℕ) (kept piece new : List ℕ) (taken : ℕ) where
       ap (framing_at kept piece) s.0
       ∙ ap (λ (n : ℕ). record { taken = n; finding = AFault fault; kept = []; spent = [] }) count
 
--- ---- nothing was kept
+-- ---- no byte was kept
 
 module _ (max c taken : ℕ) (piece : List ℕ) where
-  -- a framer that keeps nothing
+  -- A framer that keeps no byte.
   abbrev bare : FramerValue
   bare = framer_of max held.Beginning [] c
 
-  -- the piece begins a frame without ending it
+  -- The chunk begins a frame that it does not end.
   pub alone_more : (buffer : List ℕ) (copied : ℕ) → IsFilled max [] piece (take taken piece) taken standing.Unfinished → buffer ≡ piece → copied ≡ counted c taken → framer_of max held.Beginning buffer copied ≡ framer_after bare piece
   alone_more buffer copied filled lies count =
       ap (λ (b : List ℕ). framer_of max held.Beginning b copied) (lies ∙ sym (filled.stands.2))
       ∙ ap (λ (n : ℕ). framer_of max held.Beginning (take taken piece) n) count
       ∙ sym (ap (framed bare) (framing_unfinished max [] piece (take taken piece) taken filled))
 
-  -- the piece has all of what is found
+  -- The chunk alone has the frame or the error.
   alone_found : (f : Framing) → c ≤ 18446744073709551615 → framing max [] piece ≡ f → f.kept ≡ [] → f.spent ≡ [] → copied_of [] f ≡ 0 → bare ≡ framer_after bare piece
   alone_found f count is kept spent none =
       let same : c ≡ counted c (copied_of [] f) = omega (arith, count, none) in
@@ -78,7 +78,7 @@ split_behind [] frame some = absurd (omega arith)
 split_behind (b ∷ kept) frame some = refl
 
 module _ (max c : ℕ) (kept piece new : List ℕ) (taken copied : ℕ) (some : 0 < length kept) (count : copied ≡ counted c taken) where
-  -- a framer that keeps these bytes
+  -- A framer that keeps these bytes.
   abbrev keeping : FramerValue
   keeping = framer_of max held.Beginning kept c
 
@@ -99,13 +99,13 @@ module _ (max c : ℕ) (kept piece new : List ℕ) (taken copied : ℕ) (some : 
   pub behind_fault : (fault : FrameFault) → IsFilled max kept piece new taken (standing.Fault fault) → framer_of max held.Beginning [] copied ≡ framer_after keeping piece
   behind_fault fault filled = behind_found _ (framing_fault max kept piece new taken fault filled) refl
 
--- no frame was found
+-- No frame was found.
 abbrev HasNoFrame : Finding → Type 0
 HasNoFrame Nothing = Unit {0}
 HasNoFrame (AFrame frame) = ⊥
 HasNoFrame (AFault fault) = Unit {0}
 
--- without a frame, nothing is spent
+-- Without a frame, there is no split frame.
 spent_at : (kept piece : List ℕ) (b : Beginning) (finding : Finding) → (framing_at kept piece b).finding ≡ finding → HasNoFrame finding → (framing_at kept piece b).spent ≡ []
 spent_at kept piece Unfinished finding e none = refl
 spent_at kept piece (Whole frame rest) Nothing e none = absurd cc
@@ -117,7 +117,7 @@ pub none_spent : (max : ℕ) (kept piece : List ℕ) (finding : Finding) → (fr
 unfolding framing
 none_spent max kept piece finding e none = spent_at kept piece (beginning max (kept ++ piece)) finding e none
 
--- ---- what a framer keeps
+-- ---- the invariant of a framer
 
 pub empty_framer : (max : ℕ) (kept : List ℕ) (copied : ℕ) → 1152 ≤ max → max ≤ 1048576 → copied ≤ 18446744073709551615 → kept ≡ [] → IsFramer (record { max = max; kept = kept; spent = []; copied = copied })
 empty_framer max kept copied low high countable e = record {
@@ -143,25 +143,25 @@ framed_by v piece (Whole frame rest) is e = record {
 }
 framed_by v piece (Faulty fault) is e = empty_framer v.max [] _ is.low is.high (omega arith) refl
 
--- a framer stays one
+-- A chunk keeps the invariant of a framer.
 pub framing_is_framer : (v : FramerValue) (piece : List ℕ) → IsFramer v → IsFramer (framer_after v piece)
 unfolding framing
 framing_is_framer v piece is = framed_by v piece (beginning v.max (v.kept ++ piece)) is refl
 
--- what is kept is shorter than the greatest frame
+-- The kept bytes are fewer than the maximum.
 pub kept_below : (v : FramerValue) → IsFramer v → length v.kept < v.max
 kept_below v is = unfinished_below v.max v.kept (omega (arith, is.low)) is.unfinished
 
 -- ---- a frame that is taken back
 
--- all but the last and the last
+-- The bytes but the last, followed by the last.
 without_last_then : (frame : List ℕ) → 1 ≤ length frame → frame ≡ without_last frame ++ drop (length frame - 1) frame
 without_last_then frame some = sym (take-append-drop (length frame - 1) frame)
 
 last_is_some : (frame : List ℕ) → 1 ≤ length frame → length (drop (length frame - 1) frame) ≡ 1
 last_is_some frame some = omega (arith, length-drop (length frame - 1) frame)
 
--- without its last byte, a frame is unfinished
+-- Without its last byte, a frame is unfinished.
 front_stands : (M : ℕ) (front last : List ℕ) (b : Beginning) → length last ≡ 1 → beginning M (front ++ last) ≡ Whole (front ++ last) [] → beginning M front ≡ b → beginning M front ≡ Unfinished
 front_stands M front last Unfinished one e is = is
 front_stands M front last (Whole frame rest) one e is =
@@ -181,7 +181,7 @@ front_unfinished M frame e =
 pub frame_is_small : (M : ℕ) (frame : List ℕ) → beginning M frame ≡ Whole frame [] → (2 ≤ length frame) × (length frame ≤ M)
 frame_is_small M frame e = let c = whole_parts M frame frame [] e in (c.some, c.small)
 
--- which frame is taken back
+-- The frame that is taken back.
 pub record IsBack (v : FramerValue) (piece frame : List ℕ) : Type 0 where
   pub is : frame_back v.spent piece ≡ frame
   pub whole : beginning v.max frame ≡ Whole frame []
@@ -199,16 +199,16 @@ piece_back v piece [] e (inl some) none = absurd (some refl)
 piece_back v piece [] e (inr whole) none = record { is = ap (λ (x : List ℕ). frame_back x piece) e; whole = whole.0 }
 piece_back v piece (b ∷ s) e back none = absurd (omega arith)
 
--- where nothing is spent, the piece is the frame
+-- If there is no split frame, the chunk is the frame.
 pub back_piece : (v : FramerValue) (piece : List ℕ) → (v.spent ≢ []) ⊎ ((beginning v.max piece ≡ Whole piece []) × (v.kept ≡ [])) → length v.spent ≤ 0 → IsBack v piece piece
 back_piece v piece back none = piece_back v piece v.spent refl back none
 
--- the bytes of a split frame lie in the buffer
+-- The bytes of a split frame are those of the buffer.
 pub spent_lies : (held : Held) (bytes : List ℕ) → 0 < length (spent_in held bytes) → spent_in held bytes ≡ bytes
 spent_lies held.Beginning bytes some = absurd (omega arith)
 spent_lies held.Split bytes some = refl
 
--- a framer that keeps a frame but its last byte
+-- A framer that keeps a frame without its last byte.
 pub front_framer : (max : ℕ) (bytes frame : List ℕ) (copied : ℕ) → 1152 ≤ max → max ≤ 1048576 → copied ≤ 18446744073709551615 → beginning max frame ≡ Whole frame [] → bytes ≡ without_last frame → IsFramer (record { max = max; kept = bytes; spent = []; copied = copied })
 front_framer max bytes frame copied low high countable whole is = record {
   low = low;
@@ -218,7 +218,7 @@ front_framer max bytes frame copied low high countable whole is = record {
   whole = inl refl;
 }
 
--- a framer that takes back the frame that it gave stays one
+-- Taking back a frame keeps the invariant of a framer.
 back_is_framer : (v : FramerValue) (piece frame : List ℕ) → IsFramer v → IsBack v piece frame → IsFramer (with_frame_back v piece)
 back_is_framer v piece frame is back = front_framer v.max _ frame _ is.low is.high (omega arith) back.whole (ap without_last back.is)
 

@@ -1,4 +1,4 @@
--- What is found of a piece is found of the bytes that are taken of it, and what those add to a stream.
+-- The bytes taken of a chunk have the finding of the chunk, and add it to the stream.
 use Rattle.std.proofs.Common.{◌≡◌, ℕ, zero, suc, ◌-◌, ◌<◌, ◌≤◌, List, [], ◌∷◌, ◌++◌, length, take, drop, Some, None, refl, sym, ap, ◌∙◌, append_assoc, arith}
 use Rattle.std.proofs.lemmas.List.{append-nil, length-append, length-take-le, take-append-drop, take_all}
 use Rattle.coap_frame.specs.Prelude.{message_of, FrameFault, Beginning, Unfinished, Whole, Faulty, beginning}
@@ -7,9 +7,9 @@ use Rattle.coap_frame.specs.Prelude.{AFrame, AFault, split_frame, framing_at, fr
 use Rattle.coap_wire.proofs.StreamSteps.{unfinished_empty, whole_itself, whole_more, faulty_more, fault_at_last, fault_bytes_more, split_step, split_unfinished, split_faulty}
 use Rattle.coap_frame.proofs.GivenLaws.{taken_within, frame_taken, fault_taken}
 
--- ---- what was found of bytes
+-- ---- the finding in bytes
 
--- where nothing was found, nothing is finished
+-- If nothing is found, the bytes are unfinished.
 finding_nothing : (kept piece : List ℕ) (b : Beginning) → (framing_at kept piece b).finding ≡ Nothing → b ≡ Unfinished
 finding_nothing kept piece Unfinished e = refl
 finding_nothing kept piece (Whole frame rest) e = absurd cc
@@ -19,7 +19,7 @@ pub nothing_finished : (M : ℕ) (kept piece : List ℕ) → (framing M kept pie
 unfolding framing
 nothing_finished M kept piece e = finding_nothing kept piece (beginning M (kept ++ piece)) e
 
--- where a frame was found, it stands at the front
+-- A frame that is found is at the beginning of the bytes.
 finding_frame : (kept piece frame : List ℕ) (b : Beginning) → (framing_at kept piece b).finding ≡ AFrame frame → (rest : List ℕ) × (b ≡ Whole frame rest)
 finding_frame kept piece frame Unfinished e = absurd cc
 finding_frame kept piece frame (Whole found rest) e =
@@ -31,21 +31,21 @@ pub frame_first : (M : ℕ) (kept piece frame : List ℕ) → (framing M kept pi
 unfolding framing
 frame_first M kept piece frame e = finding_frame kept piece frame (beginning M (kept ++ piece)) e
 
--- it stands alone, where all of the piece is taken
+-- If all of the chunk is taken, the frame has all of the bytes.
 pub frame_alone : (M : ℕ) (kept piece frame : List ℕ) → beginning M kept ≡ Unfinished → (framing M kept piece).finding ≡ AFrame frame → (framing M kept piece).taken ≡ length piece → beginning M (kept ++ piece) ≡ Whole frame []
 frame_alone M kept piece frame u e all =
     let first = frame_first M kept piece frame e in
     let bytes : frame ≡ kept ++ piece = frame_taken M kept piece frame u e ∙ ap (λ (n : ℕ). kept ++ take n piece) all ∙ ap (λ (p : List ℕ). kept ++ p) (take_all (length piece) piece (omega arith)) in
     ap (beginning M) (sym bytes) ∙ whole_itself M (kept ++ piece) frame first.0 first.1
 
--- which bytes are kept then: all of them, or none
+-- If nothing is found, all bytes are kept.
 pub nothing_kept : (M : ℕ) (kept piece : List ℕ) → (framing M kept piece).finding ≡ Nothing → (framing M kept piece).kept ≡ kept ++ piece
 unfolding framing
 nothing_kept M kept piece e = ap (λ (b : Beginning). (framing_at kept piece b).kept) (nothing_finished M kept piece e)
 
--- ---- the front of a piece
+-- ---- the prefix of a chunk
 
--- behind what is unfinished, the bytes of a fault have that fault
+-- The bytes of an error, up to the byte at which the error is known, have that error.
 fault_bytes_step : (M : ℕ) (kept : List ℕ) (b : ℕ) (piece : List ℕ) (fault : FrameFault) (at : Beginning) → beginning M kept ≡ Unfinished → beginning M ((kept ++ b ∷ []) ++ piece) ≡ Faulty fault → beginning M (kept ++ b ∷ []) ≡ at
     → (beginning M (kept ++ b ∷ []) ≡ Unfinished → beginning M (fault_bytes ((kept ++ b ∷ []) ++ piece)) ≡ Faulty fault) → beginning M (fault_bytes ((kept ++ b ∷ []) ++ piece)) ≡ Faulty fault
 fault_bytes_step M kept b piece fault Unfinished u e is again = again is
@@ -66,7 +66,7 @@ fault_bytes_faulty M kept (b ∷ piece) fault u e =
     ap (λ (s : List ℕ). beginning M (fault_bytes s)) (sym same)
     ∙ fault_bytes_step M kept b piece fault (beginning M (kept ++ b ∷ [])) u cut refl (λ is. fault_bytes_faulty M (kept ++ b ∷ []) piece fault is cut)
 
--- the framing of a front of a piece, where this stands at the front of what was kept and the piece
+-- The effect of the bytes taken is that of the chunk, by the beginning of the kept bytes followed by the chunk.
 front_at : (M : ℕ) (kept piece : List ℕ) (b : Beginning) → beginning M kept ≡ Unfinished → beginning M (kept ++ piece) ≡ b → framing M kept piece ≡ framing_at kept piece b → framing M kept (take (framing_at kept piece b).taken piece) ≡ framing_at kept piece b
 unfolding framing
 front_at M kept piece Unfinished u e is = ap (framing M kept) (take_all (length piece) piece (omega arith)) ∙ is
@@ -89,11 +89,11 @@ front_at M kept piece (Faulty fault) u e is =
     ap (framing_at kept (take n piece)) faulty
     ∙ ap (λ (s : List ℕ). record { taken = length s - length kept; finding = AFault fault; kept = []; spent = [] }) same
 
--- the bytes taken of a piece
+-- The bytes taken of a chunk.
 abbrev pub front : ℕ → List ℕ → List ℕ → List ℕ
 front M kept piece = take (framing M kept piece).taken piece
 
--- what is taken of a piece is taken whole, and the same is found of it
+-- The bytes taken have the same effect as the chunk, and are all taken.
 pub front_framing : (M : ℕ) (kept piece : List ℕ) → beginning M kept ≡ Unfinished → framing M kept (front M kept piece) ≡ framing M kept piece
 unfolding framing
 front_framing M kept piece u = front_at M kept piece (beginning M (kept ++ piece)) u refl refl
@@ -103,12 +103,12 @@ front_whole M kept piece u =
     ap (λ (f : Framing). f.taken) (front_framing M kept piece u)
     ∙ sym (length-take-le (framing M kept piece).taken piece (taken_within M kept piece u))
 
--- where no byte comes, nothing is found
+-- Without bytes, nothing is found.
 none_framing : (M : ℕ) (kept : List ℕ) → beginning M kept ≡ Unfinished → framing M kept [] ≡ framing_at kept [] Unfinished
 unfolding framing
 none_framing M kept u = ap (framing_at kept []) (ap (beginning M) (append-nil kept) ∙ u)
 
--- something is taken of a piece, where there is one
+-- At least one byte of a chunk is taken, if it has one.
 some_fronted : (M : ℕ) (kept piece : List ℕ) (n : ℕ) → beginning M kept ≡ Unfinished → (framing M kept piece).taken ≡ n → 0 < length piece → 1 ≤ n
 some_fronted M kept piece zero u none some =
     let same : framing M kept piece ≡ framing_at kept [] Unfinished = sym (front_framing M kept piece u) ∙ ap (λ (k : ℕ). framing M kept (take k piece)) none ∙ none_framing M kept u in
@@ -119,9 +119,9 @@ some_fronted M kept piece (suc n) u none some = omega arith
 pub some_in_front : (M : ℕ) (kept piece : List ℕ) → beginning M kept ≡ Unfinished → 0 < length piece → 1 ≤ (framing M kept piece).taken
 some_in_front M kept piece u some = some_fronted M kept piece (framing M kept piece).taken u refl some
 
--- ---- what bytes add to a stream
+-- ---- the addition of bytes to a stream
 
--- what bytes that are taken whole spell behind kept ones, where this is found of them
+-- The messages, the rest and the error that bytes add after kept bytes, if they are all taken and have this finding.
 abbrev pub added_by : List ℕ → List ℕ → Finding → Stream
 added_by kept bytes Nothing = record { messages = []; rest = kept ++ bytes; fault = None }
 added_by kept bytes (AFrame frame) = frame_then frame (message_of frame) (record { messages = []; rest = []; fault = None })
@@ -135,25 +135,25 @@ added_at M kept bytes (Whole frame rest) u e is all =
     split_step M (kept ++ bytes) ∙ rw alone (ap (frame_then frame (message_of frame)) (split_unfinished M [] (unfinished_empty M)))
 added_at M kept bytes (Faulty fault) u e is all = split_faulty M (kept ++ bytes) fault e
 
--- bytes that are taken whole add what is found of them
+-- Bytes that are all taken add their finding.
 pub added_whole : (M : ℕ) (kept bytes : List ℕ) → beginning M kept ≡ Unfinished → (framing M kept bytes).taken ≡ length bytes → split M (kept ++ bytes) ≡ added_by kept bytes (framing M kept bytes).finding
 unfolding framing
 added_whole M kept bytes u all = added_at M kept bytes (beginning M (kept ++ bytes)) u refl refl all
 
--- the front of a piece adds what is found of the piece
+-- The bytes taken of a chunk add the finding of the chunk.
 pub added_front : (M : ℕ) (kept piece : List ℕ) → beginning M kept ≡ Unfinished → split M (kept ++ front M kept piece) ≡ added_by kept (front M kept piece) (framing M kept piece).finding
 added_front M kept piece u =
     added_whole M kept (front M kept piece) u (front_whole M kept piece u)
     ∙ ap (λ (f : Framing). added_by kept (front M kept piece) f.finding) (front_framing M kept piece u)
 
--- ---- what is kept
+-- ---- the kept bytes
 
 kept_at : (kept piece : List ℕ) (b : Beginning) → (framing_at kept piece b).finding ≡ Nothing → ((framing_at kept piece b).taken ≡ length piece) × ((framing_at kept piece b).kept ≡ kept ++ piece)
 kept_at kept piece Unfinished e = (refl, refl)
 kept_at kept piece (Whole frame rest) e = absurd cc
 kept_at kept piece (Faulty fault) e = absurd cc
 
--- where nothing is found, all of the piece is taken and kept
+-- If nothing is found, all of the chunk is taken and kept.
 pub front_kept : (M : ℕ) (kept piece : List ℕ) → (framing M kept piece).finding ≡ Nothing → (framing M kept piece).kept ≡ kept ++ front M kept piece
 unfolding framing
 front_kept M kept piece e =

@@ -1,4 +1,4 @@
--- The laws of framers: what they give is what the stream has, where they take a piece to, and that an unread frame comes again.
+-- The theorems on framers: the output agrees with the stream, the number of bytes taken of a chunk, and `unread`.
 use Rattle.std.proofs.Common.{◌≡◌, ℕ, ◌+◌, ◌-◌, ◌≤◌, Bool, true, false, List, [], ◌∷◌, ◌++◌, length, take, drop, refl, sym, ap, subst, ◌∙◌, append_assoc, arith, inl, inr, is_none, if◌then◌else◌}
 use Rattle.std.proofs.lemmas.Bool.{cases_lt}
 use Rattle.std.proofs.lemmas.List.{append-nil, take-append-drop, take-append-le, take_all, take_at, length-append, length-drop}
@@ -16,9 +16,9 @@ use Rattle.coap_frame.specs.Given.{Size}
 use Rattle.coap_frame.proofs.FramingLemmas.{framing_is_framer, frame_is_small, front_unfinished}
 use Rattle.coap_frame.proofs.RaiseLemmas.{unfinished_with, allowed_by, asked_is_framer}
 
--- ---- where a fault is known
+-- ---- the byte at which an error is known
 
--- behind the kept bytes the fault is known at the last byte of this front of the piece
+-- After the kept bytes, the error is known at the last byte of this prefix of the chunk.
 record IsKnownAtFront (M : ℕ) (kept piece : List ℕ) (fault : FrameFault) : Type 0 where
   front : List ℕ
   more : List ℕ
@@ -44,7 +44,7 @@ known_step M kept b piece fault (Faulty first) u e again is =
     let now : beginning M (kept ++ b ∷ []) ≡ Faulty fault = is ∙ sym (faulty_more M (kept ++ b ∷ []) piece first is) ∙ e in
     record { front = b ∷ []; more = piece; bytes = refl; faulty = now; is = fault_at_last M kept b fault u now }
 
--- where the kept bytes are unfinished, a fault is known in the piece
+-- If the kept bytes are unfinished, the error is known within the chunk.
 known : (M : ℕ) (kept piece : List ℕ) (fault : FrameFault) → beginning M kept ≡ Unfinished → beginning M (kept ++ piece) ≡ Faulty fault → IsKnownAtFront M kept piece fault
 known M kept [] fault u e =
     let bad : ◌≡◌ {A = Beginning} Unfinished (Faulty fault) = sym u ∙ ap (beginning M) (sym (append-nil kept)) ∙ e in
@@ -55,7 +55,7 @@ known M kept (b ∷ piece) fault u e =
 
 -- ---- one call
 
--- where the kept bytes are unfinished, a frame has all of them
+-- If the kept bytes are unfinished, a frame contains all of them.
 kept_within_frame : (M : ℕ) (kept piece frame rest : List ℕ) → beginning M kept ≡ Unfinished → beginning M (kept ++ piece) ≡ Whole frame rest → length kept ≤ length frame
 kept_within_frame M kept piece frame rest u e =
     let n = length frame in
@@ -68,7 +68,7 @@ kept_within_frame M kept piece frame rest u e =
       | inr fits ↦ fits
     ]
 
--- what stands in the kept bytes and the taken ones, and which bytes are kept then
+-- The content of the kept bytes and the bytes taken, by the finding, and the bytes kept afterwards.
 abbrev IsFoundAt : ℕ → List ℕ → List ℕ → ℕ → List ℕ → Finding → Type 0
 IsFoundAt max kept piece taken after Nothing = (taken ≡ length piece) × (after ≡ kept ++ take taken piece)
 IsFoundAt max kept piece taken after (AFrame frame) = (frame ≡ kept ++ take taken piece) × (beginning max frame ≡ Whole frame []) × (after ≡ [])
@@ -107,7 +107,7 @@ call_is : (max : ℕ) (kept piece : List ℕ) → beginning max kept ≡ Unfinis
 unfolding framing
 call_is max kept piece u = call_at max kept piece (beginning max (kept ++ piece)) u refl
 
--- where a call found this
+-- The same, for the finding of a call.
 found_is : (max : ℕ) (kept piece : List ℕ) (finding : Finding) → beginning max kept ≡ Unfinished → (framing max kept piece).finding ≡ finding → IsFoundAt max kept piece (framing max kept piece).taken (framing max kept piece).kept finding
 found_is max kept piece finding u e = subst (λ (f : Finding). IsFoundAt max kept piece (framing max kept piece).taken (framing max kept piece).kept f) e (call_is max kept piece u).found
 
@@ -128,7 +128,7 @@ first_point m n M S at =
 first_first : (m n M : ℕ) (S : Sizes) → sizes_first m M (sizes_first n M S) ≡ sizes_first (m + n) M S
 first_first m n M S = λ i at. first_point m n M S at i
 
--- bytes of one size behind others of that size
+-- Bytes with one maximum, after others with the same maximum.
 first_bytes : (M : ℕ) (kept taken more all : List ℕ) (S : Sizes) → all ≡ kept ++ taken
     → sized_frames (sizes_first (length kept) M (sizes_first (length taken) M S)) (kept ++ (taken ++ more)) ≡ sized_frames (sizes_first (length all) M S) (all ++ more)
 first_bytes M kept taken more all S is =
@@ -138,7 +138,7 @@ first_bytes M kept taken more all S is =
     ∙ ap (sized_frames (sizes_first (length kept + length taken) M S)) bytes
     ∙ ap (λ (n : ℕ). sized_frames (sizes_first n M S) (all ++ more)) count
 
--- the size in force at a whole frame that was taken with this size
+-- The maximum that applies to a whole frame that was taken with this maximum.
 size_at_frame : (M : ℕ) (frame more : List ℕ) (S : Sizes) → beginning M frame ≡ Whole frame [] → size_for (sizes_first (length frame) M S) (frame ++ more) ≡ M
 size_at_frame M frame more S whole =
     let c = whole_parts M frame frame [] whole in
@@ -189,7 +189,7 @@ given_step v after piece taken go (AFault fault) max found again =
       nothing_kept = λ other some. found.3;
     }
 
--- the kept bytes may as well have been taken with a greater size
+-- The result is the same if the kept bytes were taken with a larger maximum.
 raised_alike : (max new : ℕ) (kept : List ℕ) (S : Sizes) → beginning max kept ≡ Unfinished → max ≤ new → AreAlikeBehind (sizes_first (length kept) max S) (sizes_first (length kept) new S) kept
 raised_alike max new kept S u le =
     let at : ℕ = size_bytes kept - 1 in
@@ -218,7 +218,7 @@ given_asked : (v : FramerValue) (new : ℕ) (given : Given) (allowed : Bool) →
 given_asked v new given true e is again = given_raised v new given is (allowed_by v.max new e).0 again
 given_asked v new given false e is again = again
 
--- What framers give is what the stream has.
+-- The output of a framer agrees with the stream.
 pub given_is : (v : FramerValue) (handed : List Handed) → IsFramer v → IsGiven v (given_by v handed)
 unfolding given_by
 given_is v [] is =
@@ -236,7 +236,7 @@ given_is v (Size new ∷ more) is =
 given_is v (Piece p ∷ more) is =
     given_step v (framer_after v p) p (framing_of v p).taken (λ now. given_by now more) (framing_of v p).finding refl (call_is v.max v.kept p is.unfinished).found (given_is (framer_after v p) more (framing_is_framer v p is))
 
--- ---- where a piece is taken to
+-- ---- the number of bytes taken of a chunk
 
 module _ (max : ℕ) (kept piece : List ℕ) where
   pub taken_within : beginning max kept ≡ Unfinished → (framing max kept piece).taken ≤ length piece
@@ -251,7 +251,7 @@ module _ (max : ℕ) (kept piece : List ℕ) where
   pub fault_taken : (fault : FrameFault) → beginning max kept ≡ Unfinished → (framing max kept piece).finding ≡ AFault fault → (beginning max (kept ++ piece) ≡ Faulty fault) × (kept ++ take (framing max kept piece).taken piece ≡ fault_bytes (kept ++ piece))
   fault_taken fault u e = let found = found_is max kept piece (AFault fault) u e in (found.0, found.1)
 
--- ---- an unread frame
+-- ---- a frame that is taken back
 
 left_at : (kept piece frame : List ℕ) (b : Beginning) → (framing_at kept piece b).finding ≡ AFrame frame → ((framing_at kept piece b).kept ≡ []) × ((framing_at kept piece b).spent ≡ split_frame kept frame)
 left_at kept piece frame Unfinished e = absurd cc
@@ -260,7 +260,7 @@ left_at kept piece frame (Whole found rest) e =
     (refl, ap (split_frame kept) same)
 left_at kept piece frame (Faulty fault) e = absurd cc
 
--- what a frame leaves in the buffer
+-- The kept bytes and the split frame after a frame was found.
 frame_leaves : (max : ℕ) (kept piece frame : List ℕ) → (framing max kept piece).finding ≡ AFrame frame → ((framing max kept piece).kept ≡ []) × ((framing max kept piece).spent ≡ split_frame kept frame)
 unfolding framing
 frame_leaves max kept piece frame e = left_at kept piece frame (beginning max (kept ++ piece)) e
@@ -271,7 +271,7 @@ after_frame v piece frame e =
     ap (λ (k : List ℕ). record (framer_after v piece) { kept = k }) left.0
     ∙ ap (λ (s : List ℕ). record (framer_after v piece) { kept = []; spent = s }) left.1
 
--- a split frame and a frame that lies in its piece are taken back alike
+-- A split frame and a frame that is whole in its chunk are taken back alike.
 back_is : (kept bytes frame : List ℕ) → frame ≡ kept ++ bytes → frame_back (split_frame kept frame) bytes ≡ frame
 back_is [] bytes frame e = sym e
 back_is (b ∷ kept) bytes frame e = ap (λ (f : List ℕ). frame_back f bytes) e ∙ sym e
@@ -281,20 +281,20 @@ allowed_at v bytes frame [] whole e = inr (ap (beginning v.max) (sym e) ∙ whol
 allowed_at v bytes frame (b ∷ kept) whole e =
     inl (λ (none : frame ≡ []). let some = (frame_is_small v.max frame whole).0 in absurd (omega (arith, some, ap (λ (f : List ℕ). length f) none)))
 
--- all but the last of two lists, where the second has something
+-- All bytes but the last of two lists, if the second has a byte.
 pub last_of_second : (front bytes : List ℕ) → 1 ≤ length bytes → without_last (front ++ bytes) ≡ front ++ without_last bytes
 last_of_second front bytes some =
     let count : length (front ++ bytes) - 1 ≡ length front + (length bytes - 1) = omega (arith, length-append front bytes) in
     ap (λ (n : ℕ). take n (front ++ bytes)) count ∙ take-append-add front bytes (length bytes - 1)
 
--- where the kept bytes are unfinished, a frame takes a byte
+-- If the kept bytes are unfinished, at least one byte of the chunk is taken for a frame.
 pub takes_a_byte : (max : ℕ) (kept bytes frame : List ℕ) → beginning max kept ≡ Unfinished → beginning max frame ≡ Whole frame [] → frame ≡ kept ++ bytes → 1 ≤ length bytes
 takes_a_byte max kept [] frame u whole e =
     let bad : ◌≡◌ {A = Beginning} Unfinished (Whole frame []) = sym u ∙ ap (beginning max) (sym (append-nil kept) ∙ sym e) ∙ whole in
     absurd cc
 takes_a_byte max kept (b ∷ bytes) frame u whole e = omega arith
 
--- a piece that finishes nothing
+-- A chunk that completes nothing.
 framing_more : (max : ℕ) (kept piece : List ℕ) → beginning max (kept ++ piece) ≡ Unfinished → framing max kept piece ≡ framing_at kept piece Unfinished
 unfolding framing
 framing_more max kept piece e = ap (framing_at kept piece) e
@@ -303,7 +303,7 @@ framing_frame : (max : ℕ) (kept piece frame : List ℕ) → beginning max (kep
 unfolding framing
 framing_frame max kept piece frame e = ap (framing_at kept piece) e
 
--- a piece that had a frame
+-- A chunk in which a frame was found.
 module _ (v : FramerValue) (piece frame : List ℕ) (is : IsFramer v) (found : (framing_of v piece).finding ≡ AFrame frame) where
   frame_is_whole : beginning v.max frame ≡ Whole frame []
   frame_is_whole = (found_is v.max v.kept piece (AFrame frame) is.unfinished found).1
@@ -311,11 +311,11 @@ module _ (v : FramerValue) (piece frame : List ℕ) (is : IsFramer v) (found : (
   frame_is_kept_and_taken : frame ≡ v.kept ++ taken_of v piece
   frame_is_kept_and_taken = frame_taken v.max v.kept piece frame is.unfinished found
 
-  -- how many bytes were copied then
+  -- The count of copied bytes after `unread`.
   abbrev copied_before : ℕ
   copied_before = (unread_after v piece).copied
 
-  -- the framer that keeps the frame but its last byte
+  -- The framer that keeps the frame without its last byte.
   abbrev back : FramerValue
   back = record v { kept = without_last frame; spent = []; copied = copied_before }
 
@@ -324,19 +324,19 @@ module _ (v : FramerValue) (piece frame : List ℕ) (is : IsFramer v) (found : (
       let split = ap (λ (s : List ℕ). frame_back s (taken_of v piece)) (frame_leaves v.max v.kept piece frame found).1 in
       ap (λ (f : List ℕ). record v { kept = without_last f; spent = []; copied = copied_before }) (split ∙ back_is v.kept (taken_of v piece) frame frame_is_kept_and_taken)
 
-  -- the bytes taken but the last finish nothing
+  -- The bytes taken without the last one complete nothing.
   frame_but_last : without_last frame ≡ v.kept ++ without_last (taken_of v piece)
   frame_but_last = ap without_last frame_is_kept_and_taken ∙ last_of_second v.kept (taken_of v piece) (takes_a_byte v.max v.kept (taken_of v piece) frame is.unfinished frame_is_whole frame_is_kept_and_taken)
 
   but_last : framing_of v (without_last (taken_of v piece)) ≡ framing_at v.kept (without_last (taken_of v piece)) Unfinished
   but_last = framing_more v.max v.kept (without_last (taken_of v piece)) (ap (beginning v.max) (sym frame_but_last) ∙ front_unfinished v.max frame frame_is_whole)
 
-  -- a frame that was just given may be unread
+  -- `unread` is allowed after a frame.
   pub unread_allowed : MayUnread (framer_after v piece) (taken_of v piece)
   unread_allowed =
       subst (λ (after : FramerValue). MayUnread after (taken_of v piece)) (sym (after_frame v piece frame found)) (allowed_at v (taken_of v piece) frame v.kept frame_is_whole frame_is_kept_and_taken)
 
-  -- the framer is then as if the last byte taken had not come, but for what it has copied
+  -- Except for the count of copied bytes, the framer is as if the last byte had not arrived.
   pub unread_one_less : unread_after v piece ≡ record (framer_after v (without_last (taken_of v piece))) { copied = (unread_after v piece).copied }
   unread_one_less =
       unread_is
@@ -346,7 +346,7 @@ module _ (v : FramerValue) (piece frame : List ℕ) (is : IsFramer v) (found : (
   pub unread_nothing : (framing_of v (without_last (taken_of v piece))).finding ≡ Nothing
   unread_nothing = ap (λ (f : Framing). f.finding) but_last
 
-  -- with the last byte the frame comes again
+  -- With the last byte, the frame is found again.
   frame_comes_again : framing_of (unread_after v piece) (last_byte frame) ≡ framing_at (without_last frame) (last_byte frame) (Whole frame [])
   frame_comes_again =
       ap (λ (b : FramerValue). framing_of b (last_byte frame)) unread_is

@@ -1,4 +1,4 @@
--- A framer whose greatest frame is raised.
+-- A framer whose maximum size is raised.
 use Rattle.std.proofs.Common.{◌≡◌, ℕ, ◌-◌, ◌<◌, ◌≤◌, Bool, true, false, List, length, Option, Some, None, refl, sym, subst, ◌∙◌, arith, inl, inr, is_none, if◌then◌else◌}
 use Rattle.std.proofs.lemmas.Bool.{cases_lt, lt-ltb, le-ltb}
 use Rattle.coap_frame.specs.Prelude.{declared_of, Beginning, Unfinished, Faulty, beginning, size_bytes, Declared}
@@ -20,11 +20,12 @@ still_unfinished M N s BadToken u larger e =
     let bad : ◌≡◌ {A = Beginning} Unfinished (Faulty TokenLength) = sym u ∙ begin_bad_token M s e in
     absurd cc
 
--- What is unfinished is so with another size, which is no lower where the size is told.
+-- An unfinished frame stays unfinished under another maximum. If its size is known, the other maximum must not be
+-- lower.
 pub unfinished_with : (M N : ℕ) (s : List ℕ) → beginning M s ≡ Unfinished → (size_bytes s - 1 < length s → M ≤ N) → beginning N s ≡ Unfinished
 unfinished_with M N s u larger = still_unfinished M N s (declared_of s) u larger refl
 
--- a size that is not refused
+-- A size that is not rejected is at least the current maximum, and at most 1,048,576 bytes.
 pub raise_allowed : (max new : ℕ) → raise_refusal max new ≡ None → (max ≤ new) × (new ≤ 1048576)
 raise_allowed max new e =
     elim (cases_lt new max) [
@@ -48,7 +49,7 @@ none_by (Some fault) e = absurd cc
 pub allowed_by : (max new : ℕ) → is_none (raise_refusal max new) ≡ true → (max ≤ new) × (new ≤ 1048576)
 allowed_by max new e = raise_allowed max new (none_by (raise_refusal max new) e)
 
--- a framer stays one
+-- A raised maximum keeps the invariant of a framer.
 pub raised_is_framer : (v : FramerValue) (new : ℕ) → IsFramer v → v.max ≤ new → new ≤ 1048576 → IsFramer (with_size v new)
 raised_is_framer v new is larger small = record {
   low = omega (arith, is.low, larger);
@@ -58,7 +59,7 @@ raised_is_framer v new is larger small = record {
   whole = inl refl;
 }
 
--- the framer that keeps in its buffer what it kept
+-- The same for a framer given by its buffer, in which only the kept bytes stay.
 pub raised_holds : (max new copied : ℕ) (was now : Held) (bytes left : List ℕ) → IsFramer (framer_of max was bytes copied) → max ≤ new → new ≤ 1048576
     → now ≡ held.Beginning → left ≡ kept_in was bytes → IsFramer (framer_of new now left copied)
 raised_holds max new copied was now bytes left is larger small begins keeps =

@@ -1,4 +1,4 @@
--- Worked values of the definitions.
+-- Worked examples of the definitions.
 use Rattle.std.proofs.Common.{◌≡◌, ℕ, List, [], ◌∷◌, ◌++◌, Some, None, refl}
 use Rattle.coap_frame.specs.Prelude.{beginning, always, sizes_first, frames_within, sized_frames, OfFrame}
 use Rattle.coap_frame.specs.Prelude.{sized_split, declared_of, length_at, option_number_at, one_byte_at}
@@ -6,13 +6,13 @@ use Rattle.coap_frame.specs.Prelude.{two_bytes_at, TokenLength, TooLarge, raise_
 use Rattle.coap_frame.specs.Prelude.{AFrame, AFault, framing, framing_of, framer_after, with_frame_back}
 use Rattle.coap_frame.specs.declared.fault.RaiseFault.TheVariants as raise
 
--- a framer of which nothing was asked yet
+-- A new framer.
 abbrev fresh : FramerValue
 fresh = record { max = 1152; kept = []; spent = []; copied = 0 }
 
 -- ---- a frame that is split into 1, 3 and 13 bytes
 
--- FF and 12 times 78
+-- The bytes FF and 12 times 78.
 abbrev marked_payload : List ℕ
 marked_payload = 0xff ∷ 0x78 ∷ 0x78 ∷ 0x78 ∷ 0x78 ∷ 0x78 ∷ 0x78 ∷ 0x78 ∷ 0x78 ∷ 0x78 ∷ 0x78 ∷ 0x78 ∷ 0x78 ∷ []
 
@@ -42,7 +42,7 @@ third_after : framer_after second marked_payload ≡ third
 unfolding framing beginning declared_of length_at option_number_at one_byte_at
 third_after = refl
 
--- taken back it is not copied, and given again one byte is
+-- Taking back the last byte copies nothing. The same byte, passed again, is copied.
 abbrev fourth : FramerValue
 fourth = with_frame_back third marked_payload
 
@@ -53,7 +53,7 @@ again : framer_after fourth (0x78 ∷ []) ≡ record { max = 1152; kept = []; sp
 unfolding framing beginning declared_of length_at option_number_at one_byte_at
 again = refl
 
--- ---- a frame that lies whole in its piece
+-- ---- a frame that is whole in its chunk
 
 whole : framing_of fresh (0x00 ∷ 0xe1 ∷ 0x00 ∷ []) ≡ record { taken = 2; finding = AFrame (0x00 ∷ 0xe1 ∷ []); kept = []; spent = [] }
 unfolding framing beginning declared_of length_at option_number_at
@@ -66,14 +66,14 @@ whole_after = refl
 whole_back : with_frame_back fresh (0x00 ∷ 0xe1 ∷ []) ≡ record { max = 1152; kept = 0x00 ∷ []; spent = []; copied = 1 }
 whole_back = refl
 
--- the count stays at its last value
+-- The count saturates.
 last : framer_after (record fresh { copied = 18446744073709551615 }) (0xd1 ∷ []) ≡ record first { copied = 18446744073709551615 }
 unfolding framing beginning declared_of length_at option_number_at one_byte_at
 last = refl
 
--- ---- a greater size in the life of a stream
+-- ---- a maximum that is raised within a stream
 
--- which sizes are refused after 1,152
+-- The sizes that are rejected after 1,152 bytes, and two that are not.
 lower : raise_refusal 1152 1151 ≡ Some raise.Lower
 lower = refl
 
@@ -86,7 +86,8 @@ greater_allowed = refl
 equal : raise_refusal 1152 1152 ≡ None
 equal = refl
 
--- Of a frame of 1,153 bytes the first two are kept, then the maximum is raised to 2,000 bytes, then the last byte of the length comes.
+-- Two bytes of a frame of 1,153 bytes are kept. Then the maximum is raised to 2,000 bytes, and the last byte of the
+-- length arrives.
 abbrev begun : FramerValue
 begun = record { max = 1152; kept = 0xe1 ∷ 0x03 ∷ []; spent = []; copied = 2 }
 
@@ -101,7 +102,7 @@ judged_by_the_greater : framer_after (asked_for begun 2000) (0x6f ∷ []) ≡ re
 unfolding framing beginning declared_of length_at option_number_at two_bytes_at
 judged_by_the_greater = refl
 
--- the same of the stream, and if the last byte of the length came before
+-- The same for the stream, and for a maximum that is raised after the last byte of the length.
 told_after : sized_split (sizes_first 2 1152 (always 2000)) (0xe1 ∷ 0x03 ∷ 0x6f ∷ []) ≡ record { messages = []; rest = 0xe1 ∷ 0x03 ∷ 0x6f ∷ []; fault = None }
 unfolding sized_split sized_frames frames_within beginning declared_of length_at option_number_at two_bytes_at
 told_after = refl
@@ -110,19 +111,20 @@ told_before : sized_split (sizes_first 3 1152 (always 2000)) (0xe1 ∷ 0x03 ∷ 
 unfolding sized_split sized_frames frames_within beginning declared_of length_at option_number_at two_bytes_at
 told_before = refl
 
--- ---- a token's length that a byte extends
+-- ---- a token length that is extended by a byte
 
--- a frame of 1,165 bytes with a token of 13 bytes is known to be too large at the byte that extends the token's length
+-- A frame of 1,165 bytes with a token of 13 bytes is too large. The error is known at the byte that extends the token
+-- length.
 large_with_token : framing_of fresh (0xed ∷ 0x03 ∷ 0x6e ∷ 0x01 ∷ 0x00 ∷ []) ≡ record { taken = 5; finding = AFault TooLarge; kept = []; spent = [] }
 unfolding framing beginning declared_of length_at option_number_at one_byte_at two_bytes_at
 large_with_token = refl
 
--- and a token of 65 bytes is told before it
+-- A token of 65 bytes is reported rather than the size.
 framed_long_token : framing_of fresh (0xed ∷ 0x03 ∷ 0x6e ∷ 0x01 ∷ 0x34 ∷ []) ≡ record { taken = 5; finding = AFault TokenLength; kept = []; spent = [] }
 unfolding framing beginning declared_of length_at option_number_at one_byte_at two_bytes_at
 framed_long_token = refl
 
--- nibble 15 at once
+-- The reserved nibble 15 is reported at the first byte.
 framed_no_token_length : framing_of fresh (0x0f ∷ 0x00 ∷ []) ≡ record { taken = 1; finding = AFault TokenLength; kept = []; spent = [] }
 unfolding framing beginning declared_of
 framed_no_token_length = refl

@@ -1,4 +1,4 @@
--- How what a framer gives is seen in contracts.
+-- Defined by this project: the result of `Framer::next` as values of the model.
 use Rattle.std.specs.Prelude.{◌≡◌, ℕ, List, [], Option, Some, None, Result, Ok, Err}
 use Rattle.std.specs.Borrow.{Bor}
 use Rattle.coap_wire.specs.declared.fault.FrameFault.{FrameFault}
@@ -7,28 +7,28 @@ use Rattle.coap_frame.specs.declared.framer.Found.TheVariants as found
 use Rattle.coap_frame.specs.declared.framer.Framed.{Framed}
 use Rattle.coap_frame.specs.Framing.{Finding, Nothing, AFrame, AFault, Framing}
 
--- what was found, without where it lies in memory
+-- The finding, without its location in memory.
 abbrev pub finding_of : Found → Finding
 finding_of found.More = Nothing
 finding_of (found.Frame f) = AFrame f.now
 finding_of (found.Whole f) = AFrame f.now
 finding_of (found.Fault fault) = AFault fault
 
--- the same, where the frame or the fault is read from it
+-- The finding in a result of `Found::frame`.
 abbrev pub finding_read : Result (Option (Bor (List ℕ))) FrameFault → Finding
 finding_read (Ok None) = Nothing
 finding_read (Ok (Some f)) = AFrame f.now
 finding_read (Err fault) = AFault fault
 
--- the bytes that were given from the buffer
+-- The bytes borrowed from the buffer.
 abbrev pub lent_of : Found → List ℕ
 lent_of found.More = []
 lent_of (found.Frame f) = f.now
 lent_of (found.Whole f) = []
 lent_of (found.Fault fault) = []
 
--- What was given is what the definition says, and what the buffer lends is the split frame: so a frame is given from there
--- exactly where bytes of it were kept, and else as it lies in the piece.
+-- The result of `next` is that of the definition. A frame is borrowed from the buffer if and only if bytes of the frame
+-- were kept. Otherwise it is borrowed from the chunk.
 pub record IsFramed (given : Framed) (f : Framing) : Type 0 where
   pub taken : given.taken ≡ f.taken
   pub what : finding_of given.what ≡ f.finding

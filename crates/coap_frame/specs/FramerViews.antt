@@ -1,4 +1,4 @@
--- How the code's framer is seen in contracts.
+-- Defined by this project: the model value and the invariant of the type `Framer`.
 use Rattle.std.specs.Prelude.{◌≤◌}
 use Rattle.std.specs.Vec.{vec_capacity}
 use Rattle.coap_frame.specs.Framing.{FramerValue, IsFramer}

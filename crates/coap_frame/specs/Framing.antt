@@ -1,18 +1,19 @@
--- What a framer does with a piece of a stream.
+-- Defined by this project: the effect of one chunk of a stream on a framer. Frames are those of RFC 8323 section 3.2.
 use Rattle.std.specs.Prelude.{◌≡◌, ◌≢◌, ℕ, ◌+◌, ◌-◌, ◌≤◌, List, [], ◌∷◌, ◌++◌, length, take, min, ◌⊎◌}
 use Rattle.coap_wire.specs.Beginning.{Beginning, Unfinished, Whole, Faulty, beginning, fault_bytes}
 use Rattle.coap_wire.specs.declared.sizes.TheConstants.{BASE_MESSAGE_SIZE, LARGEST_MESSAGE}
 use Rattle.coap_wire.specs.declared.fault.FrameFault.{FrameFault}
 
--- A framer for frames of at most max bytes: the bytes kept of an unfinished frame, the split frame that it gave last and
--- that still lies in its buffer, and how many bytes it has copied into its buffer.
+-- The model value of a framer: the maximum size of a frame, and the bytes kept of an unfinished frame. `spent` is the
+-- split frame that was returned last and is still in the buffer. `copied` counts the bytes copied into the buffer.
 pub record FramerValue : Type 0 where
   pub max : ℕ
   pub kept : List ℕ
   pub spent : List ℕ
   pub copied : ℕ
 
--- what is kept is the beginning of no whole frame and of no fault; what is spent is one frame, and then nothing is kept
+-- The invariant of a framer. The kept bytes begin with no whole frame and no error. If there is a split frame, it is
+-- exactly one frame, and no byte is kept.
 pub record IsFramer (v : FramerValue) : Type 0 where
   pub low : BASE_MESSAGE_SIZE ≤ v.max
   pub high : v.max ≤ LARGEST_MESSAGE
@@ -20,25 +21,25 @@ pub record IsFramer (v : FramerValue) : Type 0 where
   pub unfinished : beginning v.max v.kept ≡ Unfinished
   pub whole : (v.spent ≡ []) ⊎ ((beginning v.max v.spent ≡ Whole v.spent []) × (v.kept ≡ []))
 
--- what was found in a piece, apart from where it lies
+-- The finding in a chunk, without its location in memory.
 pub data Finding : Type 0 where
   Nothing : Finding
   AFrame : List ℕ → Finding
   AFault : FrameFault → Finding
 
--- how many bytes of a piece are taken, what is found, and what is kept and what is spent then
+-- The effect of a chunk: the number of bytes taken, the finding, and the kept bytes and the split frame afterwards.
 pub record Framing : Type 0 where
   pub taken : ℕ
   pub finding : Finding
   pub kept : List ℕ
   pub spent : List ℕ
 
--- a frame is split where bytes of it were kept
+-- The split frame after this frame was found. A frame is split if bytes of it were kept.
 abbrev pub split_frame : List ℕ → List ℕ → List ℕ
 split_frame [] frame = []
 split_frame (b ∷ kept) frame = frame
 
--- the same, where this stands at the front of the kept bytes and the piece
+-- The effect of a chunk, by the beginning of the kept bytes followed by the chunk.
 abbrev pub framing_at : List ℕ → List ℕ → Beginning → Framing
 framing_at kept piece Unfinished = record { taken = length piece; finding = Nothing; kept = kept ++ piece; spent = [] }
 framing_at kept piece (Whole frame rest) =
@@ -46,61 +47,64 @@ framing_at kept piece (Whole frame rest) =
 framing_at kept piece (Faulty fault) =
     record { taken = length (fault_bytes (kept ++ piece)) - length kept; finding = AFault fault; kept = []; spent = [] }
 
--- what the kept bytes and the piece spell, as one stream of frames of at most max bytes
+-- The effect of a chunk after these kept bytes, as one stream of frames of at most `max` bytes.
 unfoldable pub framing : ℕ → List ℕ → List ℕ → Framing
 framing max kept piece = framing_at kept piece (beginning max (kept ++ piece))
 
--- what a framer does with a piece
+-- The effect of a chunk on this framer.
 abbrev pub framing_of : FramerValue → List ℕ → Framing
 framing_of v piece = framing v.max v.kept piece
 
--- ---- what is copied into the buffer
+-- ---- bytes copied into the buffer
 
--- the count of 64 bits when so many more bytes are copied: at its last value it stays
+-- The count after `more` bytes are copied. It saturates at the largest number of 64 bits.
 abbrev pub counted : ℕ → ℕ → ℕ
 counted count more = min (count + more) 18446744073709551615
 
--- where nothing was kept: what the piece has by itself is not copied, and the beginning of a frame is
+-- The number of bytes copied if no byte was kept. The beginning of a frame is copied. A whole frame or an error is not.
 abbrev pub copied_alone : ℕ → Finding → ℕ
 copied_alone taken Nothing = taken
 copied_alone taken (AFrame frame) = 0
 copied_alone taken (AFault fault) = 0
 
--- how many bytes of a piece are copied behind the kept ones: all that are taken, but none where the piece has all of what is found
+-- The number of bytes of a chunk that are copied after these kept bytes. If no byte was kept, `copied_alone` gives it;
+-- otherwise all bytes taken are copied.
 abbrev pub copied_of : List ℕ → Framing → ℕ
 copied_of [] f = copied_alone f.taken f.finding
 copied_of (b ∷ kept) f = f.taken
 
--- ---- afterwards
+-- ---- the framer afterwards
 
--- the framer afterwards
+-- The framer after a chunk with this effect.
 abbrev pub framed : FramerValue → Framing → FramerValue
 framed v f = record v { kept = f.kept; spent = f.spent; copied = counted v.copied (copied_of v.kept f) }
 
--- the framer that took what it takes of a piece
+-- The framer after it took its bytes of a chunk.
 abbrev pub framer_after : FramerValue → List ℕ → FramerValue
 framer_after v piece = framed v (framing_of v piece)
 
 -- ---- a frame that is taken back
 
--- all but the last
+-- All bytes but the last.
 abbrev pub without_last : List ℕ → List ℕ
 without_last bytes = take (length bytes - 1) bytes
 
--- the frame that is taken back: the split one, or the one that lay whole in the piece
+-- The frame that is taken back: the split frame if there is one, otherwise the chunk, which was a whole frame.
 abbrev pub frame_back : List ℕ → List ℕ → List ℕ
 frame_back [] piece = piece
 frame_back (b ∷ spent) piece = b ∷ spent
 
--- how many bytes are copied for it: a split frame lies in the buffer, of another all but the last byte come from the piece
+-- The number of bytes copied when a frame is taken back. A split frame is in the buffer already. Of a frame in the
+-- chunk, all bytes but the last are copied.
 abbrev pub copied_back : List ℕ → List ℕ → ℕ
 copied_back [] piece = length piece - 1
 copied_back (b ∷ spent) piece = 0
 
+-- The framer after the last byte of the frame was taken back.
 abbrev pub with_frame_back : FramerValue → List ℕ → FramerValue
 with_frame_back v piece =
     record v { kept = without_last (frame_back v.spent piece); spent = []; copied = counted v.copied (copied_back v.spent piece) }
 
--- a frame was just given: it is split, or it is the piece itself, and nothing is kept
+-- The precondition of `unread`: the buffer has a split frame, or the chunk is exactly one frame and no byte is kept.
 abbrev pub MayUnread : FramerValue → List ℕ → Type 0
 MayUnread v piece = (v.spent ≢ []) ⊎ ((beginning v.max piece ≡ Whole piece []) × (v.kept ≡ []))

@@ -1,6 +1,6 @@
--- What the contracts and the proofs of the crate name, passed on from one place. Declares nothing.
+-- Names for the contracts and proofs of the crate, re-exported from one place. This file defines nothing.
 
--- ---- std and the kit's crates
+-- ---- std and mathlib
 pub use Rattle.std.specs.Borrow.{sem, follows_so}
 pub use Rattle.std.specs.Vec.{vec_capacity}
 pub use mathlib.Core.Option.{none}

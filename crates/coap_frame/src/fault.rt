@@ -1,17 +1,17 @@
-//! Why a framer does not take greater frames.
+//! The error of `Framer::raise`.
 
 use thiserror::Error;
 
-/// Why a framer's greatest frame was not raised. The discriminants are the faults' numbers.
+/// Reason why `Framer::raise` fails. The discriminants are the numbers of the errors.
 #[derive(Clone, Copy, Debug, PartialEq, Eq, Error)]
 pub enum RaiseFault {
-    /// It is below the one in force.
-    #[error("below the size in force")]
+    /// Size below the current maximum.
+    #[error("size below the current maximum")]
     Lower = 1,
-    /// It is above 1,048,576 bytes.
-    #[error("above 1,048,576 bytes")]
+    /// Size above 1,048,576 bytes.
+    #[error("size above 1,048,576 bytes")]
     TooLarge = 2,
-    /// Its room was refused.
+    /// Allocation failure.
     #[error("no memory")]
     Memory = 3,
 }

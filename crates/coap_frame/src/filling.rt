@@ -1,4 +1,4 @@
-//! Finds a frame in a piece, and fills a buffer with the bytes of a split one.
+//! Finds a frame at the beginning of a chunk, and fills a buffer with the bytes of a split frame.
 //!
 //! A split frame is copied byte by byte up to the last byte that states its size, then in one copy.
 
@@ -8,21 +8,21 @@ ghost use Rattle.coap_frame.specs.Prelude.{extension_of, IsHead, IsFilled, BASE_
 
 use coap_wire::{Declared, FrameFault, declared};
 
-/// The nibble that means no token length (RFC 8974 section 2.1).
+/// Reserved nibble of the token length (RFC 8974 section 2.1).
 const NO_TOKEN_LENGTH: u8 = 15;
 
-/// How a piece or a buffer stands.
+/// Status of the bytes taken from a chunk or collected in a buffer.
 #[derive(Clone, Copy)]
 pub(crate) enum Standing {
-    /// More bytes are needed.
+    /// Beginning of a frame, or no byte: more bytes are needed.
     Unfinished,
-    /// It has a whole frame, and nothing else.
+    /// Exactly one whole frame.
     Whole,
-    /// It has a fault.
+    /// Malformed or oversized frame.
     Fault(FrameFault),
 }
 
-/// How a piece stands by itself, and how many of its bytes that takes.
+/// Returns the number of bytes to take from a chunk that begins a frame, and the status of these bytes.
 pub(crate) fn stand(piece: &[u8], max: usize) -> (usize, Standing)
     ensures { IsFilled max [] piece.now (take result.0 piece.now) result.0 result.1 }
 {
@@ -41,8 +41,9 @@ pub(crate) fn stand(piece: &[u8], max: usize) -> (usize, Standing)
     }
 }
 
-/// How many bytes a frame has up to the one at which its size is known: the last that extends its length or, where
-/// bytes extend the token's length, the last of these (RFC 8323 section 3.2, RFC 8974 section 2.1).
+/// Returns the number of bytes up to the last byte that states the size of a frame, or 0 without bytes. This is the
+/// last byte of the length or, if the token length is extended, the last byte of that extension. A reserved token
+/// length is known at the first byte (RFC 8323 section 3.2, RFC 8974 section 2.1).
 fn size_bytes(frame: &[u8]) -> usize
     ensures { result ≡ size_bytes_of frame.now }
 {
@@ -55,7 +56,7 @@ fn size_bytes(frame: &[u8]) -> usize
     1 + extension(*first / 16) + code_and_extension(*first % 16)
 }
 
-/// How many bytes extend the nibble of a length.
+/// Returns the number of bytes that extend a length with this nibble.
 fn extension(nibble: u8) -> usize
     ensures { result ≡ extension_of nibble }
 {
@@ -67,7 +68,7 @@ fn extension(nibble: u8) -> usize
     }
 }
 
-/// How many bytes the code and the extension of a token's length have, 0 where no byte extends that.
+/// Returns the number of bytes of the code and the token length's extension, or 0 if the token length has no extension.
 fn code_and_extension(nibble: u8) -> usize
     ensures { result ≡ token_bytes nibble }
 {
@@ -78,7 +79,7 @@ fn code_and_extension(nibble: u8) -> usize
     }
 }
 
-/// Appends bytes for which there is room.
+/// Appends bytes to a buffer that has room for them.
 pub(crate) fn append(buffer: &mut Vec<u8>, bytes: &[u8])
     requires { vec_len buffer.old + length bytes.now ≤ vec_capacity buffer.old }
     ensures items { buffer.new.items ≡ buffer.old.items ++ bytes.now }
@@ -89,8 +90,8 @@ pub(crate) fn append(buffer: &mut Vec<u8>, bytes: &[u8])
     };
 }
 
-/// Takes bytes until the buffer declares its size, or a token length that is not taken, or the piece is used up. At
-/// most 8 bytes are taken one by one.
+/// Appends bytes of the chunk until the buffer declares its size or an invalid token length, or the chunk ends. At most
+/// 8 bytes are appended. Returns their number.
 fn fill_head(buffer: &mut Vec<u8>, piece: &[u8]) -> (usize, Declared)
     requires { 8 ≤ vec_capacity buffer.old }
     ensures head { IsHead buffer.old.items piece.now buffer.new.items result.0 result.1 }
@@ -106,8 +107,8 @@ fn fill_head(buffer: &mut Vec<u8>, piece: &[u8]) -> (usize, Declared)
     (taken, size)
 }
 
-/// Takes bytes of the piece until the buffer has a whole frame of at most `max` bytes or a fault, or the piece is used
-/// up.
+/// Appends bytes of the chunk until the buffer has a whole frame of at most `max` bytes or an error, or the chunk ends.
+/// Returns the number of bytes taken.
 pub(crate) fn fill(buffer: &mut Vec<u8>, max: usize, piece: &[u8]) -> (usize, Standing)
     requires unfinished { beginning max buffer.old.items ≡ Unfinished }
     requires low { BASE_MESSAGE_SIZE ≤ max }

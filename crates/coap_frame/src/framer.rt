@@ -1,4 +1,4 @@
-//! A framer: gives the frames of a stream that comes in pieces cut anywhere.
+//! The framer, which splits a stream into frames. The chunks of the stream may end anywhere.
 
 ghost use Rattle.std.specs.Prelude.{◌≡◌, ◌≤◌, ◌<◌, [], OnOk, OnErr, length, take, vec_capacity, max as larger, IfOk, ⊤};
 ghost use Rattle.coap_frame.specs.Prelude.{Unfinished, beginning, framing, framing_of, framer_after, framer_of};
@@ -14,25 +14,28 @@ use coap_wire::{FrameFault, LARGEST_MESSAGE};
 use std::alloc::{AllocError, Global};
 use std::marker::Model;
 
-/// What a piece had.
+/// Finding of `Framer::next` in a chunk.
 #[derive(Clone, Copy)]
 pub enum Found<'a, 'p> {
-    /// No whole frame: all of the piece is taken.
+    /// No whole frame. All of the chunk is taken.
     More,
-    /// A split frame, of which bytes were kept, as it lies in the framer's buffer: the piece is taken to its last byte.
+    /// Split frame, of which earlier chunks had bytes, borrowed from the framer's buffer. The chunk is taken up to the
+    /// frame's last byte.
     Frame(&'a [u8]),
-    /// A frame of which nothing was kept, as it lies in the piece: that is taken to its last byte.
+    /// Frame that is whole in the chunk, borrowed from there. The chunk is taken up to the frame's last byte.
     Whole(&'p [u8]),
-    /// A fault: the piece is taken to the byte at which it is known, and nothing is kept.
+    /// Malformed or oversized frame. The chunk is taken up to the byte at which the error is known, and no byte is
+    /// kept.
     Fault(FrameFault),
 }
 
 impl<'a> Found<'a, 'a> {
-    /// The frame, wherever it lies; none where there is no whole one.
+    /// Returns the frame, from the chunk or from the buffer, or `None` if there is no whole frame.
     ///
     /// # Errors
     ///
-    /// The fault that was found.
+    /// - `TokenLength`: the token length is above 64 or reserved.
+    /// - `TooLarge`: the frame exceeds the framer's maximum.
     pub fn frame(self) -> Result<Option<&'a [u8]>, FrameFault>
         ensures { finding_read result ≡ finding_of self.entry }
     {
@@ -45,28 +48,29 @@ impl<'a> Found<'a, 'a> {
     }
 }
 
-/// How many bytes of a piece were taken, and what was found.
+/// Number of bytes that `Framer::next` took from a chunk, with the finding.
 #[derive(Clone, Copy)]
 pub struct Framed<'a, 'p> {
-    /// The bytes taken.
+    /// Number of bytes taken.
     pub taken: usize,
-    /// What was found.
+    /// Finding in these bytes.
     pub what: Found<'a, 'p>,
 }
 
-/// What lies in a framer's buffer.
+/// Content of a framer's buffer.
 #[derive(Clone, Copy)]
 enum Held {
-    /// The beginning of a frame.
+    /// Beginning of an unfinished frame, or no byte.
     Beginning,
-    /// A frame of which bytes were kept before its last piece, and that was given.
+    /// Split frame that `next` returned.
     Split,
 }
 
-/// Gives the frames of at most `max` bytes of a stream that comes in pieces. It reserves their room when it is made and
-/// when the greatest frame is raised, and copies there what it keeps of an unfinished frame and the rest of that frame
-/// alone. Contracts see a `FramerValue`: the greatest frame, the bytes kept of an unfinished frame, the split frame
-/// given last, and how many bytes were copied.
+/// Splitter of a stream into frames of at most `max` bytes. The chunks of the stream may end anywhere.
+///
+/// `new` allocates the buffer, and `raise` grows it. `next` copies only bytes of frames that are not whole in one
+/// chunk. Contracts see a `FramerValue`: the maximum, the bytes kept of an unfinished frame, the split frame returned
+/// last, and the number of bytes copied.
 #[derive(Drop)]
 pub struct Framer {
     max: usize,
@@ -88,11 +92,15 @@ impl Model for Framer {
 }
 
 impl Framer {
-    /// A framer for frames of at most `max` bytes, with nothing kept.
+    /// Creates a framer for frames of at most `max` bytes, with an empty buffer.
     ///
     /// # Errors
     ///
-    /// Where the room of `max` bytes is refused.
+    /// - `AllocError`: allocation of a buffer of `max` bytes failed.
+    ///
+    /// # Preconditions
+    ///
+    /// - `max` is between 1,152 and 1,048,576 bytes.
     pub fn new(alloc: Global, max: usize) -> Result<Framer, AllocError>
         requires low { BASE_MESSAGE_SIZE ≤ max }
         requires high { max ≤ LARGEST_MESSAGE }
@@ -106,8 +114,10 @@ impl Framer {
         })
     }
 
-    /// Takes bytes of the next piece up to the end of the first frame, to the byte of a fault, or all of them. A frame
-    /// that lies whole in the piece is given as it lies there, and nothing of it is copied.
+    /// Takes bytes of the next chunk up to the end of the first frame, to the byte at which an error is known, or all.
+    ///
+    /// The caller passes the other bytes again with the next call. A frame that is whole in the chunk is returned from
+    /// there, and no byte of it is copied.
     pub fn next<'a, 'p>(&'a mut self, piece: &'p [u8]) -> Framed<'a, 'p>
         ensures* writes_back { sem 𝓛 (follows_so the_row the_row self.entry.ghost_name none (λ _ _. ⊤)
             (λ f. f ≡ framer_after self.old piece.now)) }
@@ -132,7 +142,7 @@ impl Framer {
         Framed { taken, what }
     }
 
-    /// Begins a new stream: nothing is kept or spent.
+    /// Begins a new stream: discards the kept bytes and the split frame.
     pub fn clear(&mut self)
         ensures { self.new ≡ record self.old { kept = []; spent = [] } }
     {
@@ -140,14 +150,17 @@ impl Framer {
         self.held = Held::Beginning;
     }
 
-    /// Takes frames of at most `new` bytes from now on. A frame that has begun is judged by it, where the last byte
-    /// that states its size is yet to come. What is kept stays, with the count of the bytes copied, and nothing is
-    /// spent then.
+    /// Raises the maximum size of a frame to `new` bytes.
+    ///
+    /// The new maximum also applies to an unfinished frame whose size is not yet known. The kept bytes and the count of
+    /// copied bytes stay; a split frame is discarded.
     ///
     /// # Errors
     ///
-    /// In this order: `Lower` where it is below the greatest frame, `TooLarge` above 1,048,576 bytes, `Memory` where it
-    /// is greater and its room is refused. Nothing has changed then.
+    /// The framer is unchanged. The errors are checked in this order:
+    /// - `Lower`: `new` is below the current maximum.
+    /// - `TooLarge`: `new` is above 1,048,576 bytes.
+    /// - `Memory`: `new` is above the current maximum, and allocation failed.
     pub fn raise(&mut self, new: usize) -> Result<(), RaiseFault>
         ensures answer { IsRaiseAnswer self.old.max new result }
         ensures after { self.new ≡ raised self.old new result }
@@ -166,7 +179,7 @@ impl Framer {
         Ok(())
     }
 
-    /// The bytes kept of an unfinished frame, fewer than `max`.
+    /// Returns the number of bytes kept of an unfinished frame. It is below `max`.
     pub fn kept(&self) -> usize
         ensures kept { result ≡ length self.now.kept }
         ensures below { result < self.now.max }
@@ -178,7 +191,7 @@ impl Framer {
         }
     }
 
-    /// The length of the split frame that the last `next` gave and that still lies in the buffer, else 0.
+    /// Returns the length of the split frame in the buffer, which the last `next` returned, or 0 if there is none.
     pub fn spent(&self) -> usize
         ensures { result ≡ length self.now.spent }
     {
@@ -188,7 +201,7 @@ impl Framer {
         }
     }
 
-    /// The split frame that the last `next` gave and that still lies in the buffer, else no byte.
+    /// Returns the split frame in the buffer, which the last `next` returned, or an empty slice if there is none.
     pub fn split_frame(&self) -> &[u8]
         ensures { result.now ≡ self.now.spent }
     {
@@ -198,7 +211,7 @@ impl Framer {
         }
     }
 
-    /// The greatest frame that it takes.
+    /// Returns the maximum size of a frame in bytes, between 1,152 and 1,048,576.
     pub fn max(&self) -> usize
         ensures value { result ≡ self.now.max }
         ensures low { BASE_MESSAGE_SIZE ≤ result }
@@ -207,16 +220,25 @@ impl Framer {
         self.max
     }
 
-    /// Returns the number of bytes copied into the buffer. The count stays at the maximum of 64 bits. No contract rules
-    /// out an uncounted copy to other memory, or one that is gone from the buffer when the call ends.
+    /// Returns the number of bytes copied into the buffer so far. The count saturates at the maximum of `u64`.
+    ///
+    /// The contracts do not rule out an uncounted copy to other memory, or one that is gone from the buffer when the
+    /// call ends.
     pub fn copied(&self) -> u64
         ensures { result ≡ self.now.copied }
     {
         self.copied
     }
 
-    /// Takes back the last byte of the frame that `next` just gave, with that call's piece cut to the bytes taken: all
-    /// of the frame but that byte is kept. It is copied from the piece where it lay whole there.
+    /// Takes back the last byte of the frame that `next` has just returned, and keeps the other bytes of the frame.
+    ///
+    /// `piece` is the chunk of that call, truncated to the bytes taken. If the frame is whole there, its bytes except
+    /// the last are copied into the buffer.
+    ///
+    /// # Preconditions
+    ///
+    /// - The buffer has a split frame, or `piece` is exactly one frame and no byte is kept. This is the case after
+    ///   `next` returned a frame.
     pub fn unread(&mut self, piece: &[u8])
         requires { MayUnread self.old piece.now }
         ensures { self.new ≡ with_frame_back self.old piece.now }
@@ -234,7 +256,7 @@ impl Framer {
     }
 }
 
-/// Grows a buffer of a smaller capacity to exactly `room` bytes. The bytes in it stay.
+/// Grows the capacity of a buffer to exactly `room` bytes if it is smaller. The content stays.
 fn widen(buffer: &mut Vec<u8>, room: usize) -> Result<(), AllocError>
     ensures items { buffer.new.items ≡ buffer.old.items }
     ensures exact { OnOk result (vec_capacity buffer.new ≡ larger (vec_capacity buffer.old) room) }
@@ -245,7 +267,7 @@ fn widen(buffer: &mut Vec<u8>, room: usize) -> Result<(), AllocError>
     buffer.reserve_exact(room.saturating_sub(buffer.len()))
 }
 
-/// Leaves the bytes of an unfinished frame alone in the buffer.
+/// Discards a split frame, and keeps the bytes of an unfinished frame.
 fn keep_beginning(buffer: &mut Vec<u8>, held: &mut Held)
     ensures items { buffer.new.items ≡ kept_in held.old buffer.old.items }
     ensures held { held.new ≡ held_as.Beginning }
@@ -260,7 +282,7 @@ fn keep_beginning(buffer: &mut Vec<u8>, held: &mut Held)
     }
 }
 
-/// Takes bytes of a piece: those of an unfinished frame, and behind such bytes all, into the buffer.
+/// Takes bytes of a chunk. Those of a split frame are copied into the buffer.
 fn advance(
     buffer: &mut Vec<u8>,
     held: &mut Held,
@@ -288,7 +310,7 @@ fn advance(
     }
 }
 
-/// Takes bytes of a piece where nothing is kept: only those of an unfinished frame are copied.
+/// Takes bytes of a chunk if no byte is kept. Only the beginning of an unfinished frame is copied into the buffer.
 fn advance_alone(
     buffer: &mut Vec<u8>,
     copied: &mut u64,
@@ -318,7 +340,7 @@ fn advance_alone(
     (taken, standing)
 }
 
-/// Takes bytes of a piece into the buffer, behind those of an unfinished frame.
+/// Takes bytes of a chunk, and appends them to the kept bytes of an unfinished frame.
 fn advance_behind(
     buffer: &mut Vec<u8>,
     held: &mut Held,

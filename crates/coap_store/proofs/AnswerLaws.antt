@@ -1,4 +1,4 @@
--- What holds of every answer.
+-- Properties of all answers.
 use Rattle.std.proofs.Common.{◌≡◌, ℕ, ◌+◌, ◌<◌, ◌≤◌, ◌^◌, Bool, true, false, ◌&&◌, ◌||◌, List, [], ◌∷◌, length, Option, Some, None, refl, sym, ap, subst, ◌∙◌, arith}
 use Rattle.coap_store.specs.Prelude.{codes, is_some, is_none, nat_le, nat_lt, ◌==◌, not, if◌then◌else◌, decimal}
 use Rattle.coap_store.specs.Prelude.{Message, first_critical, Path, is_path, Representation, StoreValue, found_in}
@@ -17,7 +17,7 @@ use Rattle.coap_wire.specs.OptionNumbers as numbers
 
 -- ---- answers by cases
 
--- a check gives its answer, or those behind it do
+-- A property holds if it holds for the answer of a check and for those of the later checks.
 checked : (P : Answer → Type 0) (b : Bool) (a : Answer) (checks : List (Option Answer)) (last : Answer) → (b ≡ true → P a) → (b ≡ false → P (first_of checks last)) → P (first_of (when b a ∷ checks) last)
 checked P true a checks last here later = here refl
 checked P false a checks last here later = later refl
@@ -26,21 +26,21 @@ chosen : (P : Answer → Type 0) (b : Bool) (x y : Answer) → (b ≡ true → P
 chosen P true x y here there = here refl
 chosen P false x y here there = there refl
 
--- the codes of the classes 4 and 5
+-- The code is of class 4 or 5.
 abbrev pub is_error : ℕ → Bool
 is_error c = nat_le 128 c
 
--- what holds of each refusal
+-- The property holds for each error response.
 abbrev pub OfErrors : (Answer → Type 0) → Type 0
 OfErrors P = (c : ℕ) → is_error c ≡ true → P (says (only c))
 
--- what holds of each answer to a GET of a representation, where what was checked before is known
+-- The property holds for each answer to a GET of a representation, after the earlier checks.
 pub record OfKnownContents (P : Answer → Type 0) (place : Place) (r : Representation) (m : Message) : Type 0 where
   pub valid : is_among (etag_at place r) (values_of numbers.etag m) ≡ true → P (watched place m (valid place r))
   pub late : is_async place ≡ true → is_good_query (value_of numbers.uri_query m) ≡ true → P (late place r m)
   pub content : P (watched place m (content place r))
 
--- the query is good where a bad one is refused
+-- The query is good, since a bad one was rejected.
 good_query : (waits good : Bool) → (waits && not good) ≡ false → waits ≡ true → good ≡ true
 good_query true true e is = refl
 good_query true false e is = sym e
@@ -61,7 +61,7 @@ known_get_cases P place r m errors contents =
     checked P wants_late (says (only code.bad_request)) fourth last (λ _. errors code.bad_request refl) (λ good.
     checked P (is_async place) (late place r m) [] last (λ waits. contents.late waits (good_query _ _ good waits)) (λ _. contents.content))))
 
--- what holds of each answer to a GET of a representation
+-- The property holds for each answer to a GET of a representation.
 pub record OfContents (P : Answer → Type 0) (place : Place) (r : Representation) (m : Message) : Type 0 where
   pub valid : is_among (etag_at place r) (values_of numbers.etag m) ≡ true → P (watched place m (valid place r))
   pub late : P (late place r m)
@@ -70,7 +70,7 @@ pub record OfContents (P : Answer → Type 0) (place : Place) (r : Representatio
 pub get_cases : (P : Answer → Type 0) (place : Place) (r : Representation) (m : Message) → OfErrors P → OfContents P place r m → P (get_answer place r m)
 get_cases P place r m errors contents = known_get_cases P place r m errors (record { valid = contents.valid; late = λ waits good. contents.late; content = contents.content })
 
--- nothing speaks against storing
+-- No check rejects the representation.
 pub record CanStore (s : StoreValue) (t : Target) (m : Message) : Type 0 where
   pub small : nat_lt s.rep_max (length m.payload) ≡ false
   pub room : (is_none t.state && nat_le s.dynamic_max (length s.resources)) ≡ false
@@ -91,13 +91,13 @@ store_cases P s t m errors large can =
     checked P (s.versions == greatest_version) (says (only code.service_unavailable)) [] last (λ _. errors code.service_unavailable refl) (λ version_left.
     can (record { small = small; room = room; version_left = version_left })))))
 
--- what holds of each answer of a method, where it may be used
+-- The property holds for each answer of a method that is allowed.
 pub record OfMethods (P : Answer → Type 0) (s : StoreValue) (t : Target) (m : Message) : Type 0 where
   pub read : (r : Representation) → t.state ≡ Some r → P (get_answer t.place r m)
   pub deleted : is_dynamic t.place ≡ true → is_get m ≡ false → P (delete_answer t)
   pub stored : is_dynamic t.place ≡ true → is_get m ≡ false → P (store_answer s t m)
 
--- where a GET is known to be one
+-- The same, if the method is known to be GET or not.
 pub record OfKnownMethods (P : Answer → Type 0) (s : StoreValue) (t : Target) (m : Message) : Type 0 where
   pub read : is_get m ≡ true → (r : Representation) → t.state ≡ Some r → P (get_answer t.place r m)
   pub deleted : is_dynamic t.place ≡ true → is_get m ≡ false → P (delete_answer t)
@@ -107,7 +107,7 @@ read_cases : (P : Answer → Type 0) (place : Place) (state : Option Representat
 read_cases P place None m errors read = errors code.not_found refl
 read_cases P place (Some r) m errors read = read r refl
 
--- where no method but GET is refused, and it is none, the place is dynamic
+-- If methods other than GET are rejected for built-in resources, another method has a created resource.
 not_get : (d g : Bool) → (not d && not g) ≡ false → g ≡ false → d ≡ true
 not_get true g e f = refl
 not_get false true e f = sym f
@@ -150,7 +150,7 @@ known_answer_cases P s t m errors methods =
 pub answer_cases : (P : Answer → Type 0) (s : StoreValue) (t : Target) (m : Message) → OfErrors P → OfMethods P s t m → P (answer_at s t m)
 answer_cases P s t m errors methods = known_answer_cases P s t m errors (record { read = λ get. methods.read; deleted = methods.deleted; stored = methods.stored })
 
--- ---- what becomes of an answer afterwards
+-- ---- changes of an answer
 
 pub unheld_by_finally : (b : Bool) (hold : Option ℕ) (a : Answer) → unheld_by hold (finally b a) ≡ finally b (unheld_by hold a)
 unheld_by_finally b None a = refl
@@ -161,11 +161,11 @@ hold_finally : (b : Bool) (a : Answer) → (finally b a).hold ≡ a.hold
 hold_finally true a = refl
 hold_finally false a = refl
 
--- to be removed as an observer and to be answered at once do not meet
+-- Removing an observer and rejecting a delayed response do not affect each other.
 pub unheld_finally : (b : Bool) (a : Answer) → unheld (finally b a) ≡ finally b (unheld a)
 unheld_finally b a = ap (λ (h : Option ℕ). unheld_by h (finally b a)) (hold_finally b a) ∙ unheld_by_finally b a.hold a
 
--- the change stays
+-- The change stays the same.
 pub change_unheld : (hold : Option ℕ) (a : Answer) → (unheld_by hold a).change ≡ a.change
 change_unheld None a = refl
 change_unheld (Some seconds) a = refl
@@ -174,7 +174,7 @@ pub change_finally : (b : Bool) (a : Answer) → (finally b a).change ≡ a.chan
 change_finally true a = refl
 change_finally false a = refl
 
--- ---- the change of an answer is one that the store takes
+-- ---- the store accepts the change of an answer
 
 pub place_dynamic : (place : Place) → is_dynamic place ≡ true → place ≡ Dynamic
 place_dynamic Root e = absurd cc
@@ -183,7 +183,7 @@ place_dynamic Async e = absurd cc
 place_dynamic Listing e = absurd cc
 place_dynamic Dynamic e = refl
 
--- a key is the path that it is the key for
+-- The key of a path is that path.
 pub key_is : (path q : Path) → key_for path ≡ Some q → (is_path q ≡ true) × (path ≡ q)
 unfolding key_for
 key_is path q e =
@@ -192,23 +192,23 @@ key_is path q e =
       | false ↦ λ is none. absurd cc
     ] refl e
 
--- a version is left
+-- A version is left.
 pub version_fits : (n : ℕ) → (n == greatest_version) ≡ false → n < 2 ^ 64 → n + 1 < 2 ^ 64
 version_fits n other small =
     let apart : n ≡ greatest_version → ⊥ = eqb-false n greatest_version other in
     omega arith
 
--- what is there may be replaced, and what is not may be made while there is room
+-- A present resource may be replaced, and an absent one may be created below the limit.
 pub has_room : (state : Option Representation) (most n : ℕ) → (is_none state && nat_le most n) ≡ false → (is_some state || nat_lt n most) ≡ true
 has_room None most n e = lt-ltb n most (leb-false most n e)
 has_room (Some r) most n e = refl
 
--- at no built-in resource the state is what is stored
+-- The state of a created resource is its stored representation.
 pub state_dynamic : (s : StoreValue) (now : ℕ) (key : Option Path) (place : Place) → is_dynamic place ≡ true → state_at s now key place ≡ stored_at s key
 unfolding state_at
 state_dynamic s now key place dynamic = rw (place_dynamic place dynamic) refl
 
--- what is put is small, at a path of a resource, and finds room and a version
+-- The store accepts a representation that passed the checks.
 put_taken : (s : StoreValue) (now : ℕ) (path q : Path) (m : Message) → s.versions < 2 ^ 64 → is_dynamic (place_of path) ≡ true → CanStore s (target_of s now path) m → key_for path ≡ Some q → TakesPut s q m.payload
 put_taken s now path q m small dynamic can key =
     let is = key_is path q key in
@@ -229,7 +229,7 @@ stored_taken s None state m takes = tt
 stored_taken s (Some path) None m takes = takes path refl
 stored_taken s (Some path) (Some r) m takes = takes path refl
 
--- what is deleted is there
+-- A resource to be removed exists.
 deletion_taken : (s : StoreValue) (key : Option Path) (state : Option Representation) → state ≡ stored_at s key → TakesChange s (deletion key state)
 deletion_taken s None state is = tt
 deletion_taken s (Some path) None is = tt
@@ -251,9 +251,9 @@ taken_of s now m small =
     let a = answer_at s (target_of s now (path_of m)) m in
     subst (TakesChange s) (sym (change_finally (removes_watch m) a)) (taken_at s now (path_of m) m small)
 
--- ---- what says that the store changes has no payload
+-- ---- a response with a change has no payload
 
--- no payload beside a change
+-- An answer with a change has no payload.
 abbrev IsBare : Answer → Type 0
 IsBare a = changes a.change ≡ true → a.response.payload ≡ []
 
@@ -280,13 +280,13 @@ bare_of s now m =
     let a = answer_at s (target_of s now (path_of m)) m in
     bare_finally (removes_watch m) a (bare_at s (target_of s now (path_of m)) m)
 
--- ---- how long a payload is
+-- ---- the length of a payload
 
--- at most a mebibyte
+-- The payload has at most 1,048,576 bytes.
 abbrev IsSmall : Answer → Type 0
 IsSmall a = length a.response.payload ≤ 1048576
 
--- the listing and what is stored are short
+-- The listing and the stored representations are short.
 pub record AreShort (s : StoreValue) : Type 0 where
   pub listing : length (listing s.resources) ≤ 1048576
   pub stored : (path : Path) (r : Representation) → found_in s.resources path ≡ Some r → length r.bytes ≤ 1048576

@@ -1,9 +1,9 @@
--- The answer to a request, by the checks and then by what becomes of its observer.
+-- The answer to a request: the answer of the checks, with the effect on the observers.
 use Rattle.std.proofs.Common.{◌≡◌, ℕ, true, false, sym, ap, ◌∙◌, refl}
 use Rattle.coap_store.specs.Prelude.{Message, StoreValue, path_of, target_of, Answer, answer_at, answer_of, finally}
 use Rattle.coap_store.specs.Prelude.{removes_watch, Drop}
 
--- the answer before it is said what becomes of the observer
+-- The answer before Observe 1 is considered.
 abbrev pub answer_before_watch : StoreValue → ℕ → Message → Answer
 answer_before_watch s now m = answer_at s (target_of s now (path_of m)) m
 

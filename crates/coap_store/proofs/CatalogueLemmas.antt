@@ -1,4 +1,4 @@
--- The map of the resources against their list.
+-- The map of the resources agrees with their list.
 use Rattle.std.proofs.Common.{◌≡◌, ℕ, ◌+◌, ◌≤◌, Bool, true, false, List, [], ◌++◌, length, Option, Some, None, refl, sym, ap, subst, ◌∙◌, arith}
 use Rattle.coap_store.specs.Prelude.{option_map, not, nat_eq, option_eq, Bor, lookup, set_value, string_bytes}
 use Rattle.coap_store.specs.Prelude.{insert_entry, shift_remove_entry, Path, Representation, found_in, put_at}
@@ -11,7 +11,7 @@ use Rattle.coap_store.specs.contracts.path.PathKeyPartialEq.TheImpl as key_eq
 use Rattle.coap_store.proofs.PathLemmas.{key_equality, same_path_sound}
 use Rattle.coap_store.proofs.ListingLemmas.{resources_found, resources_put, resources_written, resources_removed, put_listed, written_listed, removed_listed, listing_created, listing_replaced, listing_grows, listing_shrinks}
 
--- how the map compares its keys
+-- The comparison of keys in the map.
 abbrev pub key_test : Path → Path → Bool
 key_test = (key_eq.ghosts).eq
 
@@ -23,7 +23,7 @@ none_of_some : (found : Option Representation) → is_some found ≡ false → f
 none_of_some None is = refl
 none_of_some (Some r) is = absurd cc
 
--- what the map finds is what the list of the resources has
+-- The map finds the resource that the list has.
 pub found_at : (entries : List (Path × Resource)) (path : Path) (found : Option (Bor Resource)) → option_copied found ≡ lookup (key_test path) entries → option_map (λ r. representation r.now) found ≡ found_in (resources_in entries) path
 found_at entries path None is = ap (option_map representation) is ∙ sym (resources_found key_test key_equality entries path)
 found_at entries path (Some r) is = ap (option_map representation) is ∙ sym (resources_found key_test key_equality entries path)
@@ -32,12 +32,12 @@ pub count_resources : (entries : List (Path × Resource)) → length (resources_
 unfolding resources_in
 count_resources entries = length-map entries _
 
--- what the map has is what the list has
+-- The map has a path if and only if the list has it.
 pub has_found : (entries : List (Path × Resource)) (path : Path) (found : Bool) → found ≡ is_some (lookup (key_test path) entries) → is_some (found_in (resources_in entries) path) ≡ found
 has_found entries path found is =
     ap is_some (resources_found key_test key_equality entries path) ∙ some_mapped (lookup (key_test path) entries) ∙ sym is
 
--- whether what the map finds has a format
+-- A resource found in the map has a Content-Format if and only if that in the list has it.
 pub format_found : (entries : List (Path × Resource)) (path : Path) (format : Option ℕ) (found : Option Resource) → found ≡ lookup (key_test path) entries → has_format format (option_map representation found) ≡ has_format format (found_in (resources_in entries) path)
 format_found entries path format found is =
     ap (λ f. has_format format (option_map representation f)) is ∙ ap (has_format format) (sym (resources_found key_test key_equality entries path))
@@ -50,7 +50,7 @@ pub affirmed : (b : Bool) → not b ≡ false → true ≡ b
 affirmed true is = refl
 affirmed false is = absurd cc
 
--- what the list has is in the map
+-- A path of the list is in the map.
 pub found_is_there : (entries : List (Path × Resource)) (path : Path) → is_some (found_in (resources_in entries) path) ≡ true → lookup (key_test path) entries ≡ None → ⊥
 found_is_there entries path some none =
     let is : is_some (found_in (resources_in entries) path) ≡ false = has_found entries path false (sym (ap is_some none)) in
@@ -80,7 +80,7 @@ module _ (entries after : List (Path × Resource)) (path : Path) (r : Resource) 
       subst (λ (es : List (Path × Resource)). AreListed es) (sym is)
       (put_listed IsListed key_test (λ p q same. same_path_sound p q (sym (key_equality p q) ∙ same)) entries path r all here)
 
-  -- the text of a new resource goes behind that of the others
+  -- The text of a new resource follows those of the others.
   pub bytes_of_created : (old text new : List ℕ) → is_some (found_in (resources_in entries) path) ≡ false → old ≡ listing (resources_in entries) → text ≡ entry_bytes path r.format → new ≡ old ++ text → new ≡ listing (resources_in after)
   bytes_of_created old text new absent ready listed more =
       more ∙ ap (λ front. front ++ text) ready ∙ ap (λ back. listing (resources_in entries) ++ back) listed
@@ -90,7 +90,7 @@ module _ (entries after : List (Path × Resource)) (path : Path) (r : Resource) 
   pub bytes_of_stored_fit : length (listing (resources_in after)) ≤ length (listing (resources_in entries)) + length (entry_bytes path r.format)
   bytes_of_stored_fit = omega (arith, ap (λ rs. length (listing rs)) stored_list, listing_grows (resources_in entries) path (representation r))
 
--- formats that compare equal are the same
+-- Content-Formats that compare equal are equal.
 pub same_format : (a b : Option ℕ) → not (option_eq nat_eq a b) ≡ false → a ≡ b
 same_format None None is = refl
 same_format None (Some n) is = absurd cc
@@ -101,7 +101,7 @@ same_format (Some m) (Some n) is = ap Some (eqb-true m n (not_false (nat_eq m n)
     not_false true is = refl
     not_false false is = sym is
 
--- ---- a representation is written in the place of another of its format
+-- ---- a representation is replaced by one with the same Content-Format
 
 module _ (entries after : List (Path × Resource)) (path : Path) (old new : Resource) (found : lookup (key_test path) entries ≡ Some old) (is : after ≡ set_value (key_test path) entries new) where
   pub written_list : resources_in after ≡ put_at (resources_in entries) path (representation new)
@@ -117,7 +117,7 @@ module _ (entries after : List (Path × Resource)) (path : Path) (old new : Reso
       ap listing written_list
       ∙ listing_replaced (resources_in entries) path (representation old) (representation new) (resources_found key_test key_equality entries path ∙ ap (option_map representation) found) (sym format)
 
--- ---- a resource is taken away
+-- ---- a resource is removed
 
 module _ (entries after : List (Path × Resource)) (path : Path) (is : after ≡ shift_remove_entry (key_test path) entries) where
   pub removed_list : resources_in after ≡ removed_at (resources_in entries) path

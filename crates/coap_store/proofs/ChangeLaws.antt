@@ -1,4 +1,4 @@
--- Which answers change a store, and what a change does.
+-- The answers that change a store, and the effect of a change.
 use Rattle.std.proofs.Common.{◌≡◌, ◌≢◌, ℕ, ◌+◌, ◌≤◌, Bool, true, false, List, [], ◌∷◌, length, Option, Some, None, refl, sym, ap, subst, ◌∙◌, arith}
 use Rattle.coap_store.specs.Prelude.{is_some, ◌==◌, if◌then◌else◌, Message, Path, same_path, Representation}
 use Rattle.coap_store.specs.Prelude.{StoreValue, found_in, put_at, removed_at, stored_at, state_of, target_of}
@@ -12,16 +12,16 @@ use Rattle.coap_store.specs.Store.{Resource}
 use Rattle.coap_store.proofs.AnswerLaws.{is_error, OfErrors, get_cases, store_cases, answer_cases, state_dynamic, change_finally, change_unheld, unheld_finally}
 use Rattle.coap_store.proofs.PathLemmas.{same_path_sound}
 
--- ---- the same path
+-- ---- equal paths
 
--- paths that compare equal are the same
+-- A path compares equal to itself.
 same_as_itself : (p : Path) → same_path p p ≡ true
 same_as_itself p = (pointwise_decides bytes_decides p p).1 refl
 
 other_path : (p q : Path) → p ≢ q → same_path p q ≡ false
 other_path p q apart = elim (same_path p q) as (λ b. same_path p q ≡ b → b ≡ false) [ true ↦ λ e. absurd (apart (same_path_sound p q e)) | false ↦ λ e. refl ] refl
 
--- ---- what is put and what is removed
+-- ---- storing and removing
 
 found_put : (rs : List Resource) (path : Path) (now : Representation) → found_in (put_at rs path now) path ≡ Some now
 unfolding found_in put_at
@@ -50,7 +50,7 @@ other_removed (r ∷ rs) path q apart =
       | false ↦ λ e. ap (λ (o : Option Representation). if same_path q r.path then Some r.now else o) (other_removed rs path q apart)
     ] refl
 
--- where no path stands twice, none is left
+-- If no path occurs twice, a removed path is absent.
 found_removed : (rs : List Resource) (path : Path) → AreDistinct rs → found_in (removed_at rs path) path ≡ None
 unfolding found_in removed_at
 found_removed [] path distinct = refl
@@ -60,9 +60,9 @@ found_removed (r ∷ rs) path distinct =
       | false ↦ λ e. rw e (found_removed rs path distinct.1)
     ] refl
 
--- ---- no path comes to stand twice
+-- ---- no path ever occurs twice
 
--- a path that does not compare equal is another
+-- Paths that do not compare equal are different.
 pub apart_from : (p q : Path) → same_path p q ≡ false → q ≢ p
 apart_from p q e same = let itself = same_as_itself p in let back : same_path p p ≡ false = ap (same_path p) (sym same) ∙ e in absurd cc
 
@@ -108,7 +108,7 @@ unchanged s Nothing e = refl
 unchanged s (Put path format bytes) e = absurd cc
 unchanged s (Delete path) e = absurd cc
 
--- one less is left where a path is found
+-- Removing a path that is found leaves one resource less.
 length_removed : (rs : List Resource) (path : Path) → is_some (found_in rs path) ≡ true → length (removed_at rs path) + 1 ≡ length rs
 unfolding found_in removed_at
 length_removed [] path e = absurd cc
@@ -118,21 +118,21 @@ length_removed (r ∷ rs) path e =
       | false ↦ λ h. omega (arith, length_removed rs path h)
     ] e
 
--- what is deleted is there
+-- A change removes only a resource that exists.
 abbrev DeletesStored : StoreValue → Change → Type 0
 DeletesStored s Nothing = Unit {0}
 DeletesStored s (Put path format bytes) = Unit {0}
 DeletesStored s (Delete path) = is_some (found_in s.resources path) ≡ true
 
--- a version more, or a resource less
+-- A change increases the last version or decreases the number of resources.
 other_store : (s : StoreValue) (c : Change) → DeletesStored s c → changes c ≡ true → changed s c ≢ s
 other_store s Nothing found e same = absurd cc
 other_store s (Put path format bytes) found e same = omega (arith, ap (λ (v : StoreValue). v.versions) same)
 other_store s (Delete path) found e same = omega (arith, length_removed s.resources path found, ap (λ (v : StoreValue). length v.resources) same)
 
--- ---- what an answer says of the store
+-- ---- the statement of an answer on the store
 
--- no refusal says that the store changes
+-- No error response states that the store changes.
 error_says_none : (c : ℕ) (state : Option Representation) → is_error c ≡ true → false ≡ says_change (only c) state
 error_says_none c state e =
     let large : 128 ≤ c = leb-true 128 c e in
@@ -141,11 +141,11 @@ error_says_none c state e =
     let no_deleted : (c == code.deleted) ≡ false = ne_eqb c code.deleted (λ same. omega arith) in
     rw (no_created, no_changed, no_deleted) refl
 
--- it changes where the response says so
+-- An answer has a change if and only if its response states one.
 abbrev Tells : Option Representation → Answer → Type 0
 Tells state a = changes a.change ≡ says_change a.response state
 
--- the same whether or not answers can be held
+-- The same for the answer and for the answer with a full pending list.
 abbrev TellsBoth : Option Representation → Answer → Type 0
 TellsBoth state a = Tells state a × Tells state (unheld a)
 
@@ -154,7 +154,7 @@ stored_tells None state now m = (refl, refl)
 stored_tells (Some path) None now m = (refl, refl)
 stored_tells (Some path) (Some r) now m = (refl, refl)
 
--- what is there is deleted
+-- DELETE removes a resource if and only if it exists.
 deletion_tells : (s : StoreValue) (key : Option Path) (state : Option Representation) → state ≡ stored_at s key → changes (deletion key state) ≡ is_some state
 deletion_tells s None None is = refl
 deletion_tells s None (Some r) is = absurd cc
@@ -172,7 +172,7 @@ tells_at s now path m =
       stored = λ dynamic other. store_cases P s t m errors (refl, refl) (λ can. stored_tells t.key t.state t.state m);
     })
 
--- what an answer deletes is there
+-- An answer removes only a resource that exists.
 stored_found : (s : StoreValue) (key : Option Path) (state : Option Representation) (m : Message) → DeletesStored s (stored_under key state m).change
 stored_found s None state m = tt
 stored_found s (Some path) None m = tt
@@ -221,7 +221,7 @@ found_promptly s now m =
     let a = answer_of s now m in
     subst (DeletesStored s) (sym (change_unheld a.hold a)) (deletes_stored s now m)
 
--- ---- a store changes where the response says so, and nowhere else
+-- ---- a store changes if and only if the response states it
 
 pub said : (s : StoreValue) (now : ℕ) (m : Message) → says_change (answer_of s now m).response (state_of s now (path_of m)) ≡ true → changed s (answer_of s now m).change ≢ s
 said s now m says = other_store s (answer_of s now m).change (deletes_stored s now m) (changes_where s now m ∙ says)

@@ -1,22 +1,22 @@
--- The options of a request, each with whether it is recognised.
+-- The options of a request, each with a flag that states if it is recognised.
 use Rattle.std.proofs.Common.{◌≡◌, Bool, true, false, not, ◌&&◌, ◌||◌, cond, List, [], ◌∷◌, map, filter, Option, Some, refl, ap}
 use Rattle.std.specs.Prelude.{find}
 use Rattle.coap_store.specs.Prelude.{is_some, option_map, list_any, CoapOption, Placed, placed, is_recognised, is_critical}
 use Rattle.coap_store.specs.Prelude.{known_options, known_behind, first_critical, first_critical_behind}
 use Rattle.coap_store.specs.Prelude.{checked_options, checked_behind, checked_at, CheckedOptionValue}
 
--- those that are recognised
+-- The recognised options.
 abbrev pub recognised_in : List CheckedOptionValue → List CoapOption
 recognised_in cs = map (λ c. c.option) (filter (λ c. c.recognised) cs)
 
--- one is critical and not recognised
+-- The option is critical and not recognised.
 abbrev pub is_bad : CheckedOptionValue → Bool
 is_bad c = is_critical c.option && not c.recognised
 
 abbrev pub has_bad : List CheckedOptionValue → Bool
 has_bad cs = list_any is_bad cs
 
--- ---- what the lists say
+-- ---- the lists of options
 
 recognised_front : (known : Bool) (p : Placed) (cs : List CheckedOptionValue) (ps : List Placed) → map (λ (c : CheckedOptionValue). c.option) cs ≡ map (λ (p : Placed). p.option) ps
     → map (λ (c : CheckedOptionValue). c.option) (cond known (checked_at p ∷ cs) cs) ≡ map (λ (p : Placed). p.option) (cond known (p ∷ ps) ps)
@@ -39,12 +39,12 @@ bad_placed (p ∷ ps) =
     bad_front (is_critical p.option && not (is_recognised p.before p.option)) p (has_bad (map checked_at ps))
     (find (λ (p : Placed). is_critical p.option && not (is_recognised p.before p.option)) ps) (bad_placed ps)
 
--- the recognised ones of all options are those of the message
+-- The recognised options among all are those of the message.
 pub recognised_of_all : (os : List CoapOption) → recognised_in (checked_options os) ≡ known_options os
 unfolding checked_behind known_behind
 recognised_of_all os = recognised_placed (placed [] os)
 
--- one of all options is critical and not recognised if there is a first one
+-- There is a critical option that is not recognised if and only if `first_critical` finds one.
 pub bad_of_all : (os : List CoapOption) → has_bad (checked_options os) ≡ is_some (first_critical os)
 unfolding checked_behind first_critical_behind
 bad_of_all os = bad_placed (placed [] os)

@@ -6,7 +6,7 @@ use Rattle.coap_store.specs.Prelude.{list_any, is_dots, is_one_empty, is_path, s
 use Rattle.coap_store.specs.Prelude.{segments_at, written_length}
 use Rattle.coap_store.proofs.PathLemmas.{length_written, key_of_path}
 
--- the segments before those that are left are written, and can begin a path
+-- The segments before the remaining ones are written, and a path can begin with them.
 pub record IsWrittenUpTo (all left : Path) (count : ℕ) (bytes : List ℕ) : Type 0 where
   pub before : Path
   pub parts : before ++ left ≡ all
@@ -30,7 +30,7 @@ written_one : (s : List ℕ) → written (s ∷ []) ≡ length s ∷ s
 unfolding written
 written_one s = ap (λ (rest : List ℕ). length s ∷ rest) (append-nil s)
 
--- one segment more
+-- The same after another segment.
 pub one_more : (all left rest : Path) (s : List ℕ) (count : ℕ) (bytes : List ℕ) → IsWrittenUpTo all left count bytes → left ≡ s ∷ rest → (count ≡ 16 → ⊥) → length bytes + length s < 255 → is_dots s ≡ false
     → IsWrittenUpTo all rest (count + 1) ((bytes ++ length s ∷ []) ++ s)
 one_more all left rest s count bytes w is room fits named =
@@ -53,7 +53,7 @@ one_more all left rest s count bytes w is room fits named =
       no_dots = list_any-append is_dots w.before (s ∷ []) ∙ rw (w.no_dots, named) refl;
     }
 
--- ---- what is no path
+-- ---- lists of segments that are no paths
 
 written_length-append : (p q : Path) → written_length (p ++ q) ≡ written_length p + written_length q
 written_length-append [] q = omega arith
@@ -123,7 +123,7 @@ path_at_end all count bytes w =
     ∙ path_unless_empty w.before (omega arith) (omega arith) w.no_dots
     ∙ ap is_path (all_before all count bytes w)
 
--- no byte is the key of the root
+-- The key of the root has no byte.
 pub key_of_root : (bytes : List ℕ) → bytes ≡ [] → (written (segments_at bytes) ≡ bytes) × (is_path (segments_at bytes) ≡ true)
 unfolding written is_path
 key_of_root bytes none = key_of_path [] bytes none refl

@@ -1,4 +1,4 @@
--- The answer to GET where it is a representation.
+-- The answer to a GET of a resource that exists.
 use Rattle.std.proofs.Common.{◌≡◌, ℕ, true, false, Option, Some, None, refl}
 use Rattle.coap_store.specs.Prelude.{Bor, ArrayVec, Message, Representation, number_of, values_of, value_of}
 use Rattle.coap_store.specs.Prelude.{is_good_query, is_async, get_answer, is_accepted, etag_at, is_among, watched}
@@ -18,7 +18,7 @@ pub get_content : (place : Place) (r : Representation) (m : Message) → is_acce
 unfolding get_answer
 get_content place r m accepted among prompt = rw (accepted, among, prompt) refl
 
--- an ETag that is lent is the one that is kept
+-- A borrowed ETag has the same bytes as the stored one.
 pub etag_lent : (etag : Option (Bor (ArrayVec ℕ 8 (Unit {0})))) → option_map (λ e. e.now.items) etag ≡ option_map (λ e. e.items) (option_copied etag)
 etag_lent None = refl
 etag_lent (Some e) = refl

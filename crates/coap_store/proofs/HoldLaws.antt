@@ -1,4 +1,4 @@
--- What holds of an answer that is held, and of one that cannot be.
+-- Properties of a delayed response, and of an answer with a full pending list.
 use Rattle.std.proofs.Common.{◌≡◌, ◌≢◌, ℕ, ◌≤◌, Bool, true, false, List, Option, Some, None, refl, ap, subst, arith}
 use Rattle.std.proofs.lemmas.Bool.{and_parts, leb-true}
 use Rattle.coap_store.specs.Prelude.{Message, Path, Representation, StoreValue, is_async, place_of, state_at}
@@ -11,9 +11,9 @@ use Rattle.coap_wire.specs.OptionNumbers as numbers
 use Rattle.coap_store.proofs.AnswerLaws.{known_get_cases, known_answer_cases, store_cases, change_unheld}
 use Rattle.coap_store.proofs.WatchLaws.{watched_at_once}
 
--- ---- which answers are held, and what they say
+-- ---- the answers with a delay, and their response
 
--- no more than an hour
+-- The delay is at most an hour.
 hour : (bytes : List ℕ) → is_seconds bytes ≡ true → digits_mean bytes ≤ 3600
 unfolding is_seconds
 hour bytes good = leb-true (digits_mean bytes) 3600 (and_parts _ _ good).1
@@ -22,7 +22,7 @@ seconds_fit : (query : Option (List ℕ)) → is_good_query query ≡ true → s
 seconds_fit None good = omega arith
 seconds_fit (Some bytes) good = hour bytes good
 
--- the state of the place that answers late is always the same
+-- The state of `/async` is always the same.
 late_content : (s : StoreValue) (now : ℕ) (key : Option Path) (place : Place) (r : Representation) → is_async place ≡ true → state_at s now key place ≡ Some r → content place r ≡ held_response
 unfolding state_at
 late_content s now key Root r waits is = absurd cc
@@ -72,7 +72,7 @@ held_at s now m =
       stored = λ dynamic other. store_cases P s t m (λ c e. at_once m _ refl) (at_once m _ refl) (λ can. at_once m _ (stored_at_once t.key t.state m));
     })
 
--- what becomes of an observer is no matter
+-- The effect on the observers does not matter.
 held_finally : (m : Message) (b : Bool) (a : Answer) → HoldsWell m a → HoldsWell m (finally b a)
 held_finally m true a holds seconds e = let is = holds seconds e in record { asked = is.asked; response = is.response; change = is.change; short = is.short }
 held_finally m false a holds seconds e = holds seconds e
@@ -81,11 +81,11 @@ pub held_of : (s : StoreValue) (now : ℕ) (m : Message) (seconds : ℕ) → (an
 unfolding answer_of
 held_of s now m = held_finally m (removes_watch m) (answer_at s (target_of s now (path_of m)) m) (held_at s now m)
 
--- it asks for no observer
+-- Such a request registers no observer.
 pub held_unwatched : (s : StoreValue) (now : ℕ) (m : Message) (seconds : ℕ) → (answer_of s now m).hold ≡ Some seconds → (answer_of s now m).watch ≢ Add
 held_unwatched s now m seconds e = λ adds. (let none = watched_at_once s now m adds in absurd cc)
 
--- ---- where it cannot be held
+-- ---- a full pending list
 
 pub unheld_held : (a : Answer) (seconds : ℕ) → a.hold ≡ Some seconds → (unheld a).response ≡ only code.service_unavailable
 unheld_held a seconds e = ap (λ hold. (unheld_by hold a).response) e
@@ -107,5 +107,3 @@ same_change s now m = unheld_change (answer_of s now m)
 pub same_at_once : (s : StoreValue) (now : ℕ) (m : Message) → (answer_of s now m).hold ≡ None → prompt_answer s now m ≡ answer_of s now m
 unfolding prompt_answer
 same_at_once s now m e = unheld_prompt (answer_of s now m) e
-
--- it is no longer than the answer was, and a change has no payload beside it where it had none

@@ -1,4 +1,4 @@
--- The listing, and the resources that are kept, after a change.
+-- The listing, and the texts of the resources, after a change.
 use Rattle.std.proofs.Common.{◌≡◌, ℕ, ◌+◌, ◌*◌, ◌<◌, ◌≤◌, Bool, true, false, List, [], ◌∷◌, ◌++◌, length, Option, Some, None, refl, sym, ap, subst, ◌∙◌, append_assoc, arith}
 use Rattle.coap_store.specs.Prelude.{IfSome, option_map, if◌then◌else◌, codes, ◌/◌, ◌%◌, AllByRecursion, flat_map}
 use Rattle.coap_store.specs.Prelude.{decimal, lookup, set_value, string_bytes, insert_entry, shift_remove_entry}
@@ -12,7 +12,7 @@ use Rattle.std.proofs.lemmas.List.{append-nil, length-append}
 use Rattle.coap_store.specs.Store as store
 use Rattle.coap_store.proofs.PathLemmas.{path_fits, same_path_sound}
 
--- paths that compare equal are the same
+-- The text of a resource in the listing.
 abbrev line : store.Resource → List ℕ
 line r = entry_bytes r.path r.now.format
 
@@ -57,13 +57,13 @@ lines_shrink (r ∷ rs) path =
       | false ↦ omega (arith, lines_shrink rs path, length-append (line r) (lines (removed_at rs path)), length-append (line r) (lines rs))
     ]
 
--- a new resource goes last
+-- A new resource is last in the listing.
 pub listing_created : (rs : List store.Resource) (path : Path) (now : Representation) → found_in rs path ≡ None → listing (put_at rs path now) ≡ listing rs ++ entry_bytes path now.format
 unfolding listing
 listing_created rs path now none =
     ap (λ (t : List ℕ). built_in_bytes ++ t) (lines_created rs path now none) ∙ sym (append_assoc built_in_bytes (lines rs) (entry_bytes path now.format))
 
--- a resource that keeps its format keeps its text
+-- A resource that keeps its Content-Format keeps its text.
 pub listing_replaced : (rs : List store.Resource) (path : Path) (old now : Representation) → found_in rs path ≡ Some old → old.format ≡ now.format → listing (put_at rs path now) ≡ listing rs
 unfolding listing
 listing_replaced rs path old now some same = ap (λ (t : List ℕ). built_in_bytes ++ t) (lines_replaced rs path old now some same)
@@ -78,9 +78,9 @@ unfolding listing
 listing_shrinks rs path =
     omega (arith, lines_shrink rs path, length-append built_in_bytes (lines (removed_at rs path)), length-append built_in_bytes (lines rs))
 
--- ---- how long the text is
+-- ---- the length of the text
 
--- a byte is written as itself or as three
+-- A byte is written as one byte or as three.
 byte_short : (b : ℕ) → length (encoded_byte b) ≤ 3
 unfolding encoded_byte
 byte_short b =
@@ -101,7 +101,7 @@ format_short None h = omega arith
 format_short (Some format) h =
     omega (arith, length-decimal-le 5 format (omega arith) (omega (arith, h)) (omega (arith, h)), length-append (codes ";ct=") (decimal format))
 
--- a resource at a path, with a format of two bytes where it has one
+-- A resource can have the path, and the Content-Format, if any, is a 16-bit number.
 abbrev pub CanBeListed : store.Resource → Type 0
 CanBeListed r = (is_path r.path ≡ true) × IfSome r.now.format (λ n. n < 65536)
 
@@ -123,15 +123,15 @@ lines_bound : (rs : List store.Resource) → AllByRecursion CanBeListed rs → l
 lines_bound [] h = omega arith
 lines_bound (r ∷ rs) h = omega (arith, lines_bound rs h.1, entry_short r.path r.now.format h.0.0 h.0.1, length-append (line r) (lines rs))
 
--- the listing of a thousand resources fits a mebibyte
+-- The listing of 1,000 resources fits in 1,048,576 bytes.
 pub listing_bound : (rs : List store.Resource) → AllByRecursion CanBeListed rs → length rs ≤ 1000 → length (listing rs) ≤ 1048576
 unfolding listing
 listing_bound rs each few = omega (arith, lines_bound rs each, length-append built_in_bytes (lines rs))
 
--- ---- what the entries of the map show
+-- ---- a property of all entries of the map
 
 module _ {K V : Type 0} (P : K × V → Type 0) where
-  -- what holds of each entry, and of the one that is put, holds of each afterwards
+  -- A property of each entry, and of the new one, holds for each entry afterwards.
   pub put_listed : (eq : K → K → Bool) → ((p q : K) → eq p q ≡ true → p ≡ q) → (entries : List (K × V)) (k : K) (v : V)
       → AllByRecursion P entries → P (k, v) → AllByRecursion P (insert_entry eq entries k v)
   put_listed eq same [] k v all here = (here, tt)
@@ -146,7 +146,7 @@ module _ {K V : Type 0} (P : K × V → Type 0) where
   removed_listed test (e ∷ es) all =
       elim (test e.0) as (λ b. AllByRecursion P (if b then es else (e ∷ shift_remove_entry test es))) [ true ↦ all.1 | false ↦ (all.0, removed_listed test es all.1) ]
 
-  -- a value that is written in the place of another, for which it stands at each key
+  -- The same for a new value in place of another, if the property holds for it with every key.
   pub written_listed : (test : K → Bool) (entries : List (K × V)) (old new : V) → lookup test entries ≡ Some old → ((k : K) → P (k, old) → P (k, new)) → AllByRecursion P entries → AllByRecursion P (set_value test entries new)
   written_listed test [] old new found stands all = tt
   written_listed test (e ∷ es) old new found stands all =
@@ -202,7 +202,7 @@ unfolding resources_in
 lines_listed [] all = refl
 lines_listed (e ∷ es) all = ap (λ (t : List ℕ). t ++ lines (resources_in es)) (sym all.0) ∙ ap (λ (t : List ℕ). string_bytes e.1.listed ++ t) (lines_listed es all.1)
 
--- the texts of the entries, behind that of the built-in resources
+-- The listing is the text of the built-in resources, followed by the texts of the entries.
 pub listing_listed : (entries : List (Path × Resource)) → AreListed entries → listing (resources_in entries) ≡ built_in_bytes ++ listed_bytes (values_of entries)
 unfolding listing
 listing_listed entries all = ap (λ (t : List ℕ). built_in_bytes ++ t) (lines_listed entries all)

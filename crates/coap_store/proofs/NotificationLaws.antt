@@ -1,4 +1,4 @@
--- What observers are told.
+-- Properties of notifications.
 use Rattle.std.proofs.Common.{◌≡◌, ℕ, ◌<◌, ◌≤◌, ◌^◌, Bool, true, false, List, length, Option, Some, None, refl, sym, ap, ◌∙◌, arith}
 use Rattle.coap_store.specs.Prelude.{nat_eq, not, if◌then◌else◌, option_eq, Path, is_path, Representation}
 use Rattle.coap_store.specs.Prelude.{StoreValue, place_of, key_for, state_of, Response, only, content, answer_of}
@@ -36,9 +36,9 @@ told_content place format r state is same =
     is_true true e = refl
     is_true false e = absurd cc
 
--- ---- what holds of all of them
+-- ---- all notifications
 
--- a 2.05 has the representation, and the format that was told before
+-- A 2.05 has the representation, with the Content-Format of earlier notifications.
 record TellsAsBefore (place : Place) (now : Option Representation) (before : Option ℕ) (r : Response) : Type 0 where
   state : TellsState place now r
   format : r.format ≡ before
@@ -69,7 +69,7 @@ notification_short s now path format is small =
     let are : AreShort s = record { listing = listing_short s is; stored = stored_small s is } in
     short_notification_at (place_of path) (state_of s now path) format (λ r there. state_short s now (key_for path) (place_of path) r are small there)
 
--- ---- a GET is answered the same
+-- ---- a GET has the same response
 
 content_at : (state : Option Representation) (format : Option ℕ) → (notification_at Dynamic state format).code ≡ code.content → (r : Representation) × (state ≡ Some r) × (content_of r ≡ notification_at Dynamic state format)
 unfolding notification_at

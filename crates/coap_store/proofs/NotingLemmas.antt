@@ -1,4 +1,4 @@
--- What is noted of all recognised options is what a request says.
+-- The options collected from all recognised options are those of the request.
 use Rattle.std.proofs.Common.{◌≡◌, ℕ, Bool, true, false, ◌||◌, ◌==◌, cond, List, [], ◌∷◌, map, filter, Option, Some, None, refl, ap, ◌∙◌}
 use Rattle.coap_store.specs.Prelude.{CoapOption, Message, known_options, values_of, value_of, has_option, path_of}
 use Rattle.coap_store.specs.Prelude.{is_given, first_or_none, trail_behind, place_at, Notes, nothing, first_given}
@@ -15,7 +15,7 @@ or_moved : (a b c : Bool) → ((a || b) || c) ≡ (a || (b || c))
 or_moved true b c = refl
 or_moved false b c = refl
 
--- whether an option is there
+-- The presence of an option.
 module _ (field : Notes → Bool) (number : ℕ) (step : (n : Notes) (o : CoapOption) → field (noted n o) ≡ (field n || o.number == number)) where
   pub flag_noted : (n : Notes) (os : List CoapOption) → field (all_noted n os) ≡ (field n || is_given (values_in number os))
   flag_noted n [] = or_false (field n)
@@ -33,17 +33,17 @@ pub or_one : (b : Bool) → (b || true) ≡ true
 or_one true = refl
 or_one false = refl
 
--- a value of another option is not kept
+-- A value of another option is not kept.
 pub not_given : (first : Option (List ℕ)) (value : List ℕ) → first_given first false value ≡ first
 not_given None value = refl
 not_given (Some v) value = refl
 
--- an option of which nothing is noted
+-- An option that changes nothing.
 pub nothing_noted : (n : Notes) (o : CoapOption) → (o.number == numbers.uri_path) ≡ false → (o.number == numbers.if_match) ≡ false → (o.number == numbers.etag) ≡ false → (o.number == numbers.if_none_match) ≡ false → (o.number == numbers.proxy_uri) ≡ false → (o.number == numbers.proxy_scheme) ≡ false → (o.number == numbers.observe) ≡ false → (o.number == numbers.content_format) ≡ false → (o.number == numbers.uri_query) ≡ false → (o.number == numbers.accept) ≡ false → n ≡ noted n o
 unfolding noted
 nothing_noted n o a b c d e f g h i j = rw (a, b, c, d, e, f, g, h, i, j) (simp (or_none_more, not_given))
 
--- the first of two values
+-- The first of two values.
 abbrev or_first : Option (List ℕ) → Option (List ℕ) → Option (List ℕ)
 or_first None second = second
 or_first (Some first) second = Some first
@@ -65,7 +65,7 @@ module _ (field : Notes → Option (List ℕ)) (number : ℕ) (step : (n : Notes
       ∙ ap (λ (v : Option (List ℕ)). or_first v (first_or_none (values_in number os))) (step n o)
       ∙ first_moved (field n) (has_number number o) o (filter (has_number number) os)
 
--- where the path leads
+-- The state of matching the path.
 trail_moved : (trail : Trail) (here : Bool) (o : CoapOption) (os : List CoapOption) → trail_behind (led trail here o.value) (map (λ (o : CoapOption). o.value) os) ≡ trail_behind trail (map (λ (o : CoapOption). o.value) (cond here (o ∷ os) os))
 trail_moved trail true o os = refl
 trail_moved trail false o os = refl
@@ -76,7 +76,7 @@ trail_noted n [] = refl
 trail_noted n (o ∷ os) =
     trail_noted (noted n o) os ∙ trail_moved n.trail (has_number numbers.uri_path o) o (filter (has_number numbers.uri_path) os)
 
--- all recognised options of a request
+-- All recognised options of a request.
 pub notes_of : (m : Message) → AreNotesOf m (all_noted nothing (known_options m.options))
 unfolding noted has_option value_of values_of
 notes_of m =

@@ -1,4 +1,4 @@
--- Paths: when two are the same, and how they are kept.
+-- The equality of paths, and their bytes in a key.
 use Rattle.std.proofs.Common.{◌≡◌, ℕ, zero, suc, ◌+◌, ◌<◌, ◌≤◌, Bool, true, false, ◌||◌, cond, Some, None, List, [], ◌∷◌, ◌++◌, length, get_or, take, drop, refl, sym, ap, subst, ◌∙◌, arith, append_assoc, length-append}
 use Rattle.std.proofs.Math.Seq.{take-append_seam, drop-append_seam}
 use Rattle.std.proofs.lemmas.Bool.{and_parts, leb-true}
@@ -8,7 +8,7 @@ use Rattle.coap_store.specs.Prelude.{segments_by, segments_at, segment_list}
 use lib.Pointwise.{bytes_decides, pointwise_decides}
 use Rattle.coap_store.specs.contracts.path.PathKeyPartialEq.TheImpl as key_eq
 
--- ---- the same path
+-- ---- equal paths
 
 same_path_decides : (p q : Path) → (same_path p q ≡ true → p ≡ q) × (p ≡ q → same_path p q ≡ true)
 same_path_decides = pointwise_decides bytes_decides
@@ -16,7 +16,7 @@ same_path_decides = pointwise_decides bytes_decides
 pub same_path_sound : (p q : Path) → same_path p q ≡ true → p ≡ q
 same_path_sound p q same = (same_path_decides p q).0 same
 
--- ---- what is kept
+-- ---- the bytes of a path
 
 pub written_whole : (p : Path) (turns : ℕ) → length (written p) ≤ turns → segments_by turns (written p) ≡ p
 unfolding written segments_by
@@ -34,9 +34,9 @@ segments_written p = written_whole p (length (written p)) (omega arith)
 pub written_once : (p q : Path) → written p ≡ written q → p ≡ q
 written_once p q same = sym (segments_written p) ∙ ap segments_at same ∙ segments_written q
 
--- ---- equality of keys
+-- ---- the equality of keys
 
--- two tests that hold at the same time are equal
+-- Two tests that hold together are equal.
 same_test : (a b : Bool) → (a ≡ true → b ≡ true) → (b ≡ true → a ≡ true) → a ≡ b
 same_test true true there back = refl
 same_test true false there back = sym (there refl)
@@ -49,11 +49,11 @@ key_equality p q =
     (λ same. (same_path_decides p q).1 (written_once p q ((bytes_decides (written p) (written q)).0 same)))
     (λ same. (bytes_decides (written p) (written q)).1 (ap written (same_path_sound p q same)))
 
--- keys are equal where the paths are
+-- Keys are equal if and only if their paths are.
 pub keys_equal : (p q : Path) → ((key_eq.ghosts).eq p q ≡ true → p ≡ q) × (p ≡ q → (key_eq.ghosts).eq p q ≡ true)
 keys_equal p q = ((λ same. same_path_sound p q (sym (key_equality p q) ∙ same)), (λ same. key_equality p q ∙ (same_path_decides p q).1 same))
 
--- ---- how large a path is
+-- ---- the size of a path
 
 pub path_fits : (p : Path) → is_path p ≡ true → written_length p ≤ 255
 unfolding is_path
@@ -63,7 +63,7 @@ pub few_segments : (p : Path) → is_path p ≡ true → length p ≤ 16
 unfolding is_path
 few_segments p is = leb-true (length p) 16 (and_parts _ _ (and_parts _ _ (and_parts _ _ is).0).0).0
 
--- ---- going from segment to segment
+-- ---- from segment to segment
 
 pub any_segment : (test : List ℕ → Bool) (segments : List (Bor (List ℕ))) → list_any test (segment_list segments) ≡ list_any (λ s. test s.now) segments
 any_segment test [] = refl
@@ -81,7 +81,7 @@ length_written (s ∷ ss) =
     let others = length_written ss in
     omega arith
 
--- where all bytes fit, so does one segment more
+-- If all bytes fit, the next segment fits too.
 pub segment_has_room : (segments : List (Bor (List ℕ))) (i : ℕ) (d : Bor (List ℕ)) (bytes : List ℕ) → i < length segments → bytes ++ written (segment_list (drop i segments)) ≡ written (segment_list segments) → written_length (segment_list segments) ≤ 255 → length bytes + 1 + length (get_or segments i d).now ≤ 255
 segment_has_room segments i d bytes within so_far fit =
     let s = (get_or segments i d).now in
@@ -126,13 +126,13 @@ pub no_segment_left : (bytes : List ℕ) → length bytes ≡ 0 → segments_at 
 unfolding segments_at segments_by
 no_segment_left bytes none = ap segments_at (nil_from_length bytes none)
 
--- written bytes begin with a segment of n bytes, and rest stands behind its length
+-- The bytes begin with a segment of `n` bytes, and `rest` follows its length.
 pub record FirstSegment (bytes : List ℕ) (n : ℕ) (rest : List ℕ) : Type 0 where
   pub within : n ≤ length rest
   pub left : IsWritten (drop n rest)
   pub segments : segments_at bytes ≡ take n rest ∷ segments_at (drop n rest)
 
--- where the segments behind the first one are known by name
+-- The same for named segments after the first one.
 split_first : (n : ℕ) (rest : List ℕ) (others : Path) → length (take n rest) ∷ (take n rest ++ written others) ≡ n ∷ rest → (n ≤ length rest) × (written others ≡ drop n rest)
 split_first n rest others same =
     let counted : length (take n rest) ≡ n = cc in

@@ -1,4 +1,4 @@
--- Which resource a path names, by how the path is kept.
+-- The kind of resource that a path names, by the bytes of its key.
 use Rattle.std.proofs.Common.{rules, ◌≡◌, ℕ, nat_eq, Bool, true, false, List, [], ◌∷◌, length, sym, ap, ◌∙◌}
 use Rattle.std.proofs.lemmas.Bool.{cond-true, cond-false}
 use Rattle.coap_store.specs.Prelude.{Path, same_path, written, place_of, root_path, time_path, async_path}
@@ -6,7 +6,7 @@ use Rattle.coap_store.specs.Prelude.{listing_path, Root, Time, Async, Listing, D
 use Rattle.coap_store.proofs.PathLemmas.{key_equality}
 use lib.Pointwise.{pointwise}
 
--- paths are kept alike where they are the same
+-- The bytes of two keys are equal if and only if the paths are.
 written_equality : (p q : Path) → pointwise nat_eq (written p) (written q) ≡ same_path p q
 written_equality p q = key_equality p q
 
@@ -15,7 +15,7 @@ unfolding written
 root_test [] = search rules
 root_test (s ∷ ss) = search rules
 
--- the path whose kept bytes w are tested against those of q
+-- The test of the bytes `w` of `p` against those of `q`.
 same_kept : (p q : Path) (w : List ℕ) (b : Bool) → w ≡ written p → pointwise nat_eq w (written q) ≡ b → same_path p q ≡ b
 same_kept p q w b kept test = sym (written_equality p q) ∙ sym (ap (λ x. pointwise nat_eq x (written q)) kept) ∙ test
 

@@ -1,4 +1,4 @@
--- What is refused from inside, and what is not.
+-- The changes by the embedding program that are rejected, and those that are not.
 use Rattle.std.proofs.Common.{◌≡◌, ℕ, ◌<◌, ◌^◌, Bool, true, false, ◌&&◌, List, [], ◌∷◌, length, Option, Some, None, refl, sym, ap, subst, ◌∙◌}
 use Rattle.coap_store.specs.Prelude.{is_some, is_none, nat_le, nat_lt, ◌==◌, not, option_map, IfSome, if◌then◌else◌}
 use Rattle.coap_store.specs.Prelude.{Bor, AllByRecursion, Path, is_path, Representation, StoreValue, found_in}
@@ -12,12 +12,12 @@ use Rattle.coap_store.proofs.StoreLemmas.{store_put, found_kept}
 
 -- ---- checks
 
--- where nothing is refused, a check does not hold, and nothing behind it is refused
+-- Without an error, the condition of a check does not hold, and the later checks give no error.
 pub passed : {F : Type 0} (holds : Bool) (fault : F) (rest : Option F) → (if holds then Some fault else rest) ≡ None → (holds ≡ false) × (rest ≡ None)
 passed true fault rest none = absurd cc
 passed false fault rest none = (refl, none)
 
--- no check is of memory, so nothing is refused for it
+-- No check gives the error `Memory`.
 first_fault_refuses : (checks : List (Bool × StoreFault)) (fault : StoreFault) → AllByRecursion (λ check. refusal_in check.1 ≡ Some check.1) checks → first_fault checks ≡ Some fault → refusal_in fault ≡ Some fault
 first_fault_refuses [] fault all is = absurd cc
 first_fault_refuses (check ∷ checks) fault all is =
@@ -37,7 +37,7 @@ is_dynamic_place : (dynamic : Bool) → not dynamic ≡ false → dynamic ≡ tr
 is_dynamic_place true is = refl
 is_dynamic_place false is = absurd cc
 
--- what is not refused is taken
+-- The store accepts a representation that is not rejected.
 pub takes_put : (s : StoreValue) (path : Path) (bytes : List ℕ) → is_path path ≡ true → s.versions < 2 ^ 64 → put_refusal s path bytes ≡ None → TakesPut s path bytes
 unfolding put_refusal
 takes_put s path bytes is fits none =
@@ -58,7 +58,7 @@ put_keeps s path format bytes is path_ok none short = store_put s path format by
 
 -- ---- remove
 
--- what is lent is there where something is found
+-- A resource is borrowed if and only if a representation is found.
 lent_alike : (lent : Option (Bor lent.Resource)) (found : Option Representation) → option_map (λ r. representation r.now) lent ≡ found → is_none lent ≡ is_none found
 lent_alike None found same = ap is_none same
 lent_alike (Some r) found same = ap is_none same
@@ -79,7 +79,7 @@ remove_present s path lent is same some =
     let there : is_none (found_in s.resources path) ≡ false = sym (lent_alike lent (found_in s.resources path) same) ∙ some in
     rw (found_dynamic s path (found_in s.resources path) is refl there, there) refl
 
--- a resource is removed exactly where one is found
+-- A resource is removed if and only if one is found.
 pub removal_told : (s : StoreValue) (path : Path) (lent : Option (Bor lent.Resource)) → IsStore s → option_map (λ r. representation r.now) lent ≡ found_in s.resources path → is_some lent ≡ is_none (remove_refusal s path)
 removal_told s path None is same = ap is_none (sym (remove_absent s path None same refl))
 removal_told s path (Some r) is same = ap is_none (sym (remove_present s path (Some r) is same refl))

@@ -1,4 +1,4 @@
--- A version tells a representation, though that may be stored no more.
+-- A version identifies a representation, even if that is no longer stored.
 use Rattle.std.proofs.Common.{◌≡◌, ◌+◌, Some, sym, ap, ◌∙◌, arith}
 use Rattle.coap_store.specs.Prelude.{Path, Representation, StoreValue, found_in, Change, Nothing, Put, Delete}
 use Rattle.coap_store.specs.Prelude.{changed, IsStore, WasStored}

@@ -41,7 +41,7 @@ none_given_passes : (passes : List ℕ → Bool) (values : List (List ℕ)) → 
 none_given_passes passes [] none = refl
 none_given_passes passes (v ∷ vs) none = absurd cc
 
--- no value passes where there is none
+-- Without an option, no value passes the test.
 pub none_passes : (passes : List ℕ → Bool) (number : ℕ) (m : Message) → false ≡ has_option number m → false ≡ list_any passes (values_of number m)
 unfolding has_option
 none_passes passes number m none = none_given_passes passes (values_of number m) none
@@ -54,7 +54,7 @@ recognised_fits before o kind is test =
     let known : has_kind before o (Some kind) ≡ true = ap (has_kind before o) (sym is) ∙ test in
     leb-true (length o.value) kind.max (and_parts _ _ (and_parts _ _ known).0).1
 
--- a front option with the number gives the first value
+-- A first option with the number has the first value.
 front_fits : (same : Bool) (number : ℕ) (kind : OptionKind) (p : Placed) (rest : List CoapOption) (value : List ℕ) → has_number number p.option ≡ same → is_recognised p.before p.option ≡ true → kind_of number ≡ Some kind
     → (first_or_none (map (λ (o : CoapOption). o.value) rest) ≡ Some value → length value ≤ kind.max) → first_or_none (map (λ (o : CoapOption). o.value) (cond same (p.option ∷ rest) rest)) ≡ Some value → length value ≤ kind.max
 front_fits true number kind p rest value same known is later found =
@@ -63,7 +63,7 @@ front_fits true number kind p rest value same known is later found =
     subst (λ (v : List ℕ). length v ≤ kind.max) its (recognised_fits p.before p.option kind of_it known)
 front_fits false number kind p rest value same known is later found = later found
 
--- where the front option is not recognised, it is passed over
+-- A first option that is not recognised is skipped.
 placed_front : (known : Bool) (number : ℕ) (kind : OptionKind) (p : Placed) (ps : List Placed) (value : List ℕ) → is_recognised p.before p.option ≡ known → kind_of number ≡ Some kind
     → (first_or_none (values_in number (map (λ (p : Placed). p.option) ps)) ≡ Some value → length value ≤ kind.max) → first_or_none (values_in number (map (λ (p : Placed). p.option) (cond known (p ∷ ps) ps))) ≡ Some value
     → length value ≤ kind.max
@@ -71,7 +71,7 @@ placed_front true number kind p ps value known is later found =
     front_fits (has_number number p.option) number kind p (filter (has_number number) (map (λ (p : Placed). p.option) ps)) value refl known is later found
 placed_front false number kind p ps value known is later found = later found
 
--- the first value with the number, of the recognised options among these
+-- The first value with the number, among the recognised options.
 abbrev first_placed : ℕ → List Placed → Option (List ℕ)
 first_placed number ps = first_or_none (values_in number (map (λ p. p.option) (filter (λ p. is_recognised p.before p.option) ps)))
 
@@ -80,7 +80,7 @@ placed_fits number kind [] value is found = let bad : ◌≡◌ {A = Option (Lis
 placed_fits number kind (p ∷ ps) value is found =
     placed_front (is_recognised p.before p.option) number kind p (filter (λ (p : Placed). is_recognised p.before p.option) ps) value refl is (placed_fits number kind ps value is) found
 
--- a value of a recognised option has at most the greatest length of its kind
+-- A value of a recognised option has at most the maximum length of its kind.
 pub value_fits : (number : ℕ) (kind : OptionKind) (m : Message) (value : List ℕ) → kind_of number ≡ Some kind → Some value ≡ value_of number m → length value ≤ kind.max
 unfolding value_of values_of known_behind
 value_fits number kind m value is found = placed_fits number kind (placed [] m.options) value is (sym found)
@@ -95,7 +95,7 @@ pub number_found : (number : ℕ) (m : Message) (value : List ℕ) → Some valu
 unfolding number_of
 number_found number m value found = ap (option_map uint_of) found
 
--- an Observe has at most 3 bytes
+-- A value of Observe has at most 3 bytes.
 pub observe_fits : (m : Message) (value : List ℕ) → Some value ≡ value_of numbers.observe m → length value ≤ 4
 unfolding kind_of
 observe_fits m value found =
@@ -113,7 +113,7 @@ unfolding match_holds
 match_of_none None m asked is = rw (sym asked) refl
 match_of_none (Some r) m asked is = let bad : ◌≡◌ {A = Option ℕ} None (Some r.version) = is in absurd cc
 
--- whether a value of If-Match holds for a version with this ETag
+-- A value of If-Match holds for a version with this ETag.
 abbrev pub is_match : List ℕ → List ℕ → Bool
 is_match etag value = length value == 0 || same_bytes value etag
 

@@ -1,4 +1,4 @@
--- What requests and responses say of the state of a path.
+-- The relation of requests and responses to the state of a path.
 use Rattle.std.proofs.Common.{◌≡◌, ◌≢◌, inl, inr, ℕ, ◌+◌, ◌≤◌, Bool, true, false, List, [], ◌∷◌, ◌++◌, length, map, filter, Option, Some, None, refl, sym, ap, subst, ◌∙◌, arith}
 use Rattle.coap_store.specs.Prelude.{◌==◌, AllByRecursion, kind_of, is_recognised, known_behind}
 use Rattle.coap_store.specs.Prelude.{first_critical_behind, Message, CoapOption, Path, is_path, written_length}
@@ -16,7 +16,7 @@ use Rattle.coap_store.proofs.PathLemmas.{path_fits}
 use Rattle.coap_store.proofs.AnswerLaws.{is_error, OfErrors, get_cases, store_cases, answer_cases, state_dynamic, key_is, place_dynamic, change_finally}
 use Rattle.coap_store.proofs.ChangeLaws.{other_is_kept_on_put, other_is_kept_on_delete, put_is_stored}
 
--- ---- GET changes nothing
+-- ---- a GET changes nothing
 
 get_keeps_at : (s : StoreValue) (t : Target) (m : Message) → is_get m ≡ true → (answer_at s t m).change ≡ Nothing
 get_keeps_at s t m get =
@@ -30,13 +30,13 @@ pub get_keeps : (s : StoreValue) (now : ℕ) (m : Message) → is_get m ≡ true
 unfolding answer_of
 get_keeps s now m get = change_finally (removes_watch m) (answer_at s (target_of s now (path_of m)) m) ∙ get_keeps_at s (target_of s now (path_of m)) m get
 
--- ---- a response tells the state
+-- ---- a response has the state
 
 response_finally : (b : Bool) (a : Answer) → (finally b a).response ≡ a.response
 response_finally true a = refl
 response_finally false a = refl
 
--- no refusal has a code of the class 2
+-- No error response has a code of class 2.
 no_error : (c d : ℕ) → is_error c ≡ true → d ≤ 127 → c ≢ d
 no_error c d e small = λ same. (let large : 128 ≤ c = leb-true 128 c e in omega arith)
 
@@ -46,7 +46,7 @@ TellsTruly t a = (a.response.code ≡ code.content → TellsState t.place t.stat
 told_error : (t : Target) → OfErrors (TellsTruly t)
 told_error t c e = ((λ same. absurd (no_error c code.content e (omega arith) same)), (λ same. absurd (no_error c code.valid e (omega arith) same)))
 
--- where one of the ETags is that of a representation, it is stored
+-- A representation whose ETag is in the request is that of a created resource.
 stored_by_etag : (place : Place) (r : Representation) (values : List (List ℕ)) → is_among (etag_at place r) values ≡ true → etag_at place r ≡ Some (etag_of r)
 stored_by_etag Root r values among = absurd cc
 stored_by_etag Time r values among = absurd cc
@@ -106,7 +106,7 @@ place_elsewhere s c now path Dynamic other apart = key_elsewhere s c path (key_f
 pub state_elsewhere : (s : StoreValue) (c : Change) (now : ℕ) (path : Path) → place_of path ≢ Listing → IsElsewhere path c → state_of (changed s c) now path ≡ state_of s now path
 state_elsewhere s c now path other apart = place_elsewhere s c now path (place_of path) other apart
 
--- a request changes its own path alone
+-- A request changes only its own path.
 stored_own : (key : Option Path) (state : Option Representation) (path other : Path) (m : Message) → key_for path ≡ key → other ≢ path → IsElsewhere other (stored_under key state m).change
 stored_own None state path other m is apart = tt
 stored_own (Some q) None path other m is apart = λ same. apart (same ∙ sym (key_is path q is).1)
@@ -137,7 +137,7 @@ others_stay s now later m other place apart = state_elsewhere s (answer_of s now
 
 -- ---- a GET with no option but Uri-Path
 
--- segments that an option can have
+-- The segments fit in options.
 abbrev HaveShortSegments : Path → Type 0
 HaveShortSegments p = AllByRecursion (λ s. length s ≤ 255) p
 
@@ -155,7 +155,7 @@ unfolding first_critical_behind is_recognised kind_of
 critical_plain earlier [] short = refl
 critical_plain earlier (s ∷ ss) short = rw (le-leb 0 (length s) (omega arith), le-leb (length s) 255 short.0) (critical_plain (earlier ++ record { number = numbers.uri_path; value = s } ∷ []) ss short.1)
 
--- the values with a number, of options with the number of Uri-Path
+-- The Uri-Path options of a path have its segments as values.
 values_each : (p : Path) → map (λ (o : CoapOption). o.value) (filter (λ (o : CoapOption). o.number == numbers.uri_path) (each_at numbers.uri_path p)) ≡ p
 values_each [] = refl
 values_each (s ∷ ss) = ap (λ (others : Path). s ∷ others) (values_each ss)
@@ -180,7 +180,7 @@ no_number_plain : (token : List ℕ) (p : Path) (number : ℕ) → HaveShortSegm
 unfolding number_of value_of
 no_number_plain token p number short other = rw (values_plain token p number short other) refl
 
--- ---- what is stored is served
+-- ---- a stored representation is returned
 
 abbrev target_of_stored : Path → Representation → Target
 target_of_stored path r = record { key = Some path; place = Dynamic; state = Some r }
@@ -218,9 +218,9 @@ stored_is_served s now token path r is place found =
     ∙ ap (λ (a : Answer). a.response) (answer_plain s (target_of_stored path r) token path short ∙ resource_plain s token path r short)
     ∙ get_plain token path r short
 
--- ---- what a request stores is served
+-- ---- the representation that a request stores is returned
 
--- the answer stores the payload at the path of a resource that is not built in
+-- The answer stores the payload at the path of a created resource.
 record Stores (path : Path) (m : Message) (a : Answer) : Type 0 where
   change : a.change ≡ put_of path m
   is : is_path path ≡ true

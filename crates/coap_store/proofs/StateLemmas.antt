@@ -13,7 +13,7 @@ own_key path is = cond-true (is_path path) (Some path) None is
 pub state_by_key : (s : StoreValue) (now : ℕ) (path : Path) (place : Place) → is_path path ≡ true → place ≡ place_of path → state_at s now (Some path) place ≡ state_of s now path
 state_by_key s now path place is at = ap (state_at s now (Some path)) at ∙ ap (λ key. state_at s now key (place_of path)) (sym (own_key path is))
 
--- at no built-in resource the state is what is stored
+-- The state of a created resource is its stored representation.
 pub state_stored : (s : StoreValue) (now : ℕ) (path : Path) → is_path path ≡ true → place_of path ≡ Dynamic → state_of s now path ≡ found_in s.resources path
 state_stored s now path is place = state_dynamic s now (key_for path) (place_of path) (ap is_dynamic place) ∙ ap (stored_at s) (own_key path is)
 

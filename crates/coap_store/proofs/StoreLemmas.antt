@@ -1,4 +1,4 @@
--- A store stays one over each change, and what is found in it is kept as it is to be.
+-- Each change keeps the invariant of a store, and stored resources satisfy it.
 use Rattle.std.proofs.Common.{◌≡◌, ◌≢◌, ℕ, ◌+◌, ◌<◌, ◌≤◌, ◌^◌, true, false, ◌||◌, List, [], ◌∷◌, length, Option, Some, None, refl, sym, ap, subst, ◌∙◌, arith, nat_lt}
 use Rattle.coap_store.specs.Prelude.{IfSome, option_map, if◌then◌else◌, Bor, AllByRecursion, Path, same_path}
 use Rattle.coap_store.specs.Prelude.{Representation, StoreValue, found_in, put_at, removed_at, put_in, removed_in}
@@ -19,7 +19,7 @@ all_resources_to P Q to [] all = tt
 all_resources_to P Q to (r ∷ rs) all = (to r all.0, all_resources_to P Q to rs all.1)
 
 module _ (P : Resource → Type 0) where
-  -- what holds of each resource holds of the one that is found
+  -- A property of each resource holds for a resource that is found.
   pub holds_of_found : (rs : List Resource) (path : Path) (now : Representation) → AllByRecursion P rs → found_in rs path ≡ Some now → P (record { path = path; now = now })
   unfolding found_in
   holds_of_found [] path now all is = absurd cc
@@ -47,9 +47,9 @@ module _ (P : Resource → Type 0) where
         | false ↦ (all.0, removed_all rs path all.1)
       ]
 
--- ---- no version stands twice
+-- ---- no version occurs twice
 
--- another version than that of r
+-- The version differs from that of `r`.
 abbrev HasOther : ℕ → Resource → Type 0
 HasOther version r = version ≢ r.now.version
 
@@ -71,7 +71,7 @@ removed_own (r ∷ rs) path own =
       | false ↦ (removed_all (HasOther r.now.version) rs path own.0, removed_own rs path own.1)
     ]
 
--- two that are found with one version are one
+-- Two representations with the same version are the same.
 pub one_version : (rs : List Resource) (p q : Path) (a b : Representation) → HaveOwnVersions rs → found_in rs p ≡ Some a → found_in rs q ≡ Some b → a.version ≡ b.version → (p ≡ q) × (a ≡ b)
 unfolding found_in
 one_version [] p q a b own at_p at_q same = absurd cc
@@ -87,7 +87,7 @@ one_version (r ∷ rs) p q a b own at_p at_q same =
       ] refl at_q
     ] refl at_p
 
--- ---- how many there are
+-- ---- the number of resources
 
 put_present : (rs : List Resource) (path : Path) (now : Representation) → is_some (found_in rs path) ≡ true → length (put_at rs path now) ≡ length rs
 unfolding found_in put_at
@@ -107,7 +107,7 @@ put_more (r ∷ rs) path now =
       | false ↦ omega (arith, put_more rs path now)
     ]
 
--- a resource is there, or one more may be made
+-- The resource exists, or the limit allows another one.
 pub put_few : (rs : List Resource) (path : Path) (now : Representation) (slots : ℕ) → (is_some (found_in rs path) || nat_lt (length rs) slots) ≡ true → length rs ≤ slots → length (put_at rs path now) ≤ slots
 put_few rs path now slots room few =
     elim (is_some (found_in rs path)) as (λ b. is_some (found_in rs path) ≡ b → (b || nat_lt (length rs) slots) ≡ true → length (put_at rs path now) ≤ slots) [
@@ -126,7 +126,7 @@ removed_few (r ∷ rs) path =
 
 -- ---- the store
 
--- more versions may be given
+-- A larger last version keeps the property.
 more_given : (versions more rep_max : ℕ) (r : Resource) → versions ≤ more → IsKept versions rep_max r → IsKept more rep_max r
 more_given versions more rep_max r le kept = record {
   path = kept.path;
@@ -137,11 +137,11 @@ more_given versions more rep_max r le kept = record {
   small = kept.small;
 }
 
--- a version that was not given is no resource's
+-- No resource has a version that was not given.
 next_version_is_other : (versions rep_max : ℕ) (r : Resource) → IsKept versions rep_max r → HasOther (versions + 1) r
 next_version_is_other versions rep_max r kept = λ e. omega (arith, kept.given)
 
--- it is a store after a representation is put that it takes
+-- Storing a representation that the store accepts keeps the invariant.
 pub store_put : (s : StoreValue) (path : Path) (format : Option ℕ) (bytes : List ℕ) → IsStore s → TakesPut s path bytes → IfSome format (λ f. f < 65536) → IsStore (put_in s path format bytes)
 store_put s path format bytes is takes short =
     let now : Representation = record { version = s.versions + 1; format = format; bytes = bytes } in
@@ -176,14 +176,14 @@ store_changed s (Delete path) is takes short = store_removed s path is
 pub store_empty : (dynamic_max rep_max versions : ℕ) → dynamic_max ≤ 1000 → rep_max ≤ 1048576 → versions < 2 ^ 64 → IsStore (record { dynamic_max = dynamic_max; rep_max = rep_max; resources = []; versions = versions })
 store_empty dynamic_max rep_max versions most largest fits = record { paths = tt; own_versions = tt; kept = tt; few = omega arith; most = most; largest = largest; versions = fits }
 
--- what is found is kept as it is to be
+-- A resource that is found has the property of stored resources.
 pub found_kept : (s : StoreValue) (path : Path) (now : Representation) → IsStore s → found_in s.resources path ≡ Some now → IsKept s.versions s.rep_max (record { path = path; now = now })
 found_kept s path now is found = holds_of_found (IsKept s.versions s.rep_max) s.resources path now is.kept found
 
 pub stored_small : (s : StoreValue) → IsStore s → (path : Path) (r : Representation) → found_in s.resources path ≡ Some r → length r.bytes ≤ 1048576
 stored_small s is path r found = let kept = found_kept s path r is found in omega (arith, kept.small, is.largest)
 
--- what the catalogue lends is small
+-- A resource that the catalogue returns is small.
 pub lent_small : (s : StoreValue) (path : Path) (found : Option (Bor lent.Resource)) → IsStore s → option_map (λ r. representation r.now) found ≡ found_in s.resources path → IfSome found (λ r. length r.now.bytes.items ≤ 1048576)
 lent_small s path None is same = tt
 lent_small s path (Some r) is same = stored_small s is path (representation r.now) (sym same)

@@ -1,4 +1,4 @@
--- Lemmas on what a request is about.
+-- The target of a request.
 use Rattle.std.proofs.Common.{◌≡◌, ◌≢◌, ℕ, true, false, [], Option, Some, None, refl, sym, ap, ◌∙◌}
 use Rattle.std.proofs.lemmas.Bool.{cond-false, cond_both, false_from_ne_true, true_from_ne_false, both_ways}
 use Rattle.std.proofs.lemmas.Option.{none-some}
@@ -17,7 +17,7 @@ no_key : (path : Path) → None ≡ key_for path → is_path path ≡ false
 unfolding key_for
 no_key path e = cond_both (is_path path) (Some path) None (λ k. None ≡ k → is_path path ≡ false) (λ yes same. absurd (none-some path same)) (λ none same. none) e
 
--- a path that is none of a resource is not that of a built-in one
+-- A list of segments that is no path is not the path of a built-in resource.
 not_same : (path q : Path) → is_path path ≡ false → is_path q ≡ true → same_path path q ≡ false
 not_same path q none one =
     false_from_ne_true (same_path path q) (λ same. both_ways (is_path path) none (ap is_path (same_path_sound path q same) ∙ one))
@@ -44,7 +44,7 @@ no_key_elsewhere path e =
     let none = no_key path e in
     sym (cond-false _ _ _ (not_same path root_path none is_root) ∙ cond-false _ _ _ (not_same path time_path none is_time) ∙ cond-false _ _ _ (not_same path async_path none is_async) ∙ cond-false _ _ _ (not_same path listing_path none is_listing))
 
--- ---- whether there is a key
+-- ---- the presence of a key
 
 pub is_path_by_key : (path p : Path) → Some p ≡ key_for path → is_path path ≡ true
 unfolding key_for
@@ -58,17 +58,17 @@ pub is_path_by_place : (path : Path) → is_dynamic (place_of path) ≡ false �
 is_path_by_place path built =
     true_from_ne_false (is_path path) (λ none. both_ways (is_dynamic (place_of path)) built (sym (ap is_dynamic (no_key_elsewhere path (sym (without_key path none))))))
 
--- the root is a built-in resource
+-- The root is a built-in resource.
 pub dynamic_is_named : (path : Path) → place_of path ≡ Dynamic → path ≢ []
 unfolding place_of
 dynamic_is_named path is root = both_ways (is_dynamic (place_of path)) (ap (λ p. is_dynamic (place_of p)) root) (ap is_dynamic is)
 
--- ---- what a request is about
+-- ---- the target
 
 abbrev pub target_with : Option Path → Place → Option Representation → Target
 target_with key place state = record { key = key; place = place; state = state }
 
--- a resource that is built in has its state whatever the key
+-- The state of a built-in resource does not depend on the key.
 built_state : (s : StoreValue) (now : ℕ) (place : Place) (key : Option Path) → is_dynamic place ≡ false → state_at s now None place ≡ state_at s now key place
 unfolding state_at
 built_state s now Root key built = refl

@@ -1,4 +1,4 @@
--- Where all segments of a path lead is the place that it names.
+-- The state after all segments of a path gives the kind of resource that the path names.
 use Rattle.std.proofs.Common.{◌≡◌, ℕ, Bool, true, false, ◌&&◌, List, [], ◌∷◌, refl, ap, ◌∙◌}
 use Rattle.coap_store.specs.Prelude.{codes, if◌then◌else◌, Path, same_bytes, place_of, trail_with, trail_behind}
 use Rattle.coap_store.specs.Prelude.{place_at, Place, Trail, WellKnown, Elsewhere}
@@ -6,16 +6,16 @@ use lib.Pointwise.{bytes_decides}
 use Rattle.coap_store.specs.declared.place.Place.TheVariants as place
 use Rattle.coap_store.specs.declared.trail.Trail.TheVariants.{Root, Time, Async, Listing}
 
--- nothing built in lies behind this
+-- No path that continues from this state is that of a built-in resource.
 elsewhere_stays : (path : Path) → trail_behind Elsewhere path ≡ Elsewhere
 elsewhere_stays [] = refl
 elsewhere_stays (s ∷ ss) = elsewhere_stays ss
 
--- the answers of the tests of a path's first segments, as the place is chosen by them
+-- The kind of resource, by the results of the tests of a path's first segments.
 abbrev place_by_tests : Bool → Bool → Bool → Place
 place_by_tests time async listing = if time then place.Time else (if async then place.Async else (if listing then place.Listing else place.Dynamic))
 
--- a first segment is one of three at most
+-- A first segment passes at most one of the tests.
 record IsOne (time async well_known : Bool) : Type 0 where
   time_alone : time ≡ true → well_known ≡ false
   async_alone : async ≡ true → well_known ≡ false
@@ -30,7 +30,7 @@ and_false : (b : Bool) → (b && false) ≡ false
 and_false true = refl
 and_false false = refl
 
--- the trail of a first segment, by the answers of its tests
+-- The state after a first segment, by the results of its tests.
 abbrev trail_begun : Bool → Bool → Bool → Trail
 trail_begun time async well_known = if time then Time else (if async then Async else (if well_known then WellKnown else Elsewhere))
 
@@ -47,7 +47,7 @@ two_segments false false true true t is one = rw is refl
 two_segments false false true false t is one = rw is refl
 two_segments false false false core t is one = refl
 
--- behind the second segment nothing is built in
+-- No built-in resource has more segments.
 abbrev IsLast : Trail → Type 0
 IsLast trail = (s : List ℕ) → trail_with trail s ≡ Elsewhere
 

@@ -4,7 +4,7 @@ use Rattle.coap_store.specs.Prelude.{CoapOption, segments_told}
 use Rattle.coap_wire.specs.OptionNumbers as numbers
 use Rattle.coap_store.proofs.RequestLemmas.{has_number}
 
--- the front option is a segment, or is passed over
+-- The first option is a segment or is skipped.
 told_from : (here : Bool) (o : CoapOption) (os all : List CoapOption) → all ≡ o ∷ os → has_number numbers.uri_path o ≡ here
     → segments_told all ≡ map (λ (o : CoapOption). o.value) (cond here (o ∷ filter (has_number numbers.uri_path) os) (filter (has_number numbers.uri_path) os))
 told_from here o os all is test =

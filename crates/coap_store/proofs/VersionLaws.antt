@@ -1,4 +1,4 @@
--- A version comes once, whatever is changed.
+-- No version is given twice, over all changes.
 use Rattle.std.proofs.Common.{◌≡◌, ◌≢◌, ◌⊎◌, inl, inr, ℕ, ◌+◌, ◌<◌, ◌≤◌, ◌^◌, true, false, List, [], ◌∷◌, Option, Some, refl, sym, ap, ◌∙◌, arith}
 use Rattle.coap_wire.proofs.UintLaws.{bytes_are_one}
 use Rattle.coap_store.specs.Prelude.{Path, same_path, Representation, StoreValue, found_in, etag_of, Change, Nothing}
@@ -8,7 +8,7 @@ use Rattle.coap_store.proofs.PathLemmas.{same_path_sound}
 use Rattle.coap_store.proofs.StoreLemmas.{one_version, found_kept}
 use Rattle.coap_store.proofs.ChangeLaws.{put_is_stored, other_is_kept_on_put, other_is_kept_on_delete, deleted_is_gone, distinct_stays, apart_from}
 
--- ---- an ETag tells the version
+-- ---- an ETag identifies the version
 
 pub etag_tells : (a b : Representation) → a.version < 2 ^ 64 → b.version < 2 ^ 64 → etag_of a ≡ etag_of b → a.version ≡ b.version
 etag_tells a b fits_a fits_b same = bytes_are_one a.version b.version fits_a fits_b same
@@ -25,7 +25,7 @@ together s p q a b is at_p at_q same =
 
 -- ---- over changes
 
--- what t has, s had with the same version, or it came later
+-- Each representation of `t` is one of `s` with the same version, or has a later version than all of `s`.
 pub record ComesLater (s t : StoreValue) : Type 0 where
   pub distinct : AreDistinct t.resources
   pub fits : t.versions < 2 ^ 64
@@ -42,7 +42,7 @@ later_than_itself s is = record {
   stays = λ q b found. inr found;
 }
 
--- the path is that of the change, or another
+-- The path is that of the change, or another one.
 pub by_path : {A : Type 0} (q path : Path) → (q ≡ path → A) → (q ≢ path → A) → A
 by_path {A = A} q path same other =
     elim (same_path q path) as (λ b. same_path q path ≡ b → A) [ true ↦ λ is. same (same_path_sound q path is) | false ↦ λ no. other (λ is. apart_from q path no (sym is)) ] refl
@@ -81,7 +81,7 @@ changes_later : (s t : StoreValue) (cs : List Change) → ComesLater s t → Tak
 changes_later s t [] so takes = so
 changes_later s t (c ∷ cs) so takes = changes_later s (changed t c) cs (change_later s t c so takes.0) takes.1
 
--- what is stored before and after changes with one ETag is one representation of one path
+-- Representations stored before and after changes are the same, at the same path, if they have the same ETag.
 pub later : (s : StoreValue) (cs : List Change) (p q : Path) (a b : Representation) → IsStore s → TakesChanges s cs → found_in s.resources p ≡ Some a → found_in (changed_by s cs).resources q ≡ Some b → etag_of a ≡ etag_of b → (p ≡ q) × (a ≡ b)
 later s cs p q a b is takes at_p at_q same =
     let so = changes_later s s cs (later_than_itself s is) takes in
@@ -91,7 +91,7 @@ later s cs p q a b is takes at_p at_q same =
       | inr before ↦ one_version s.resources p q a b is.own_versions at_p before versions
     ]
 
--- a representation that is put has a greater version than each that was stored
+-- A new representation has a larger version than each stored one.
 pub newer : (s : StoreValue) (path other : Path) (format : Option ℕ) (bytes : List ℕ) (old new : Representation) → IsStore s → found_in s.resources other ≡ Some old → found_in (changed s (Put path format bytes)).resources path ≡ Some new → old.version < new.version
 newer s path other format bytes old new is before after =
     let put = put_is_stored s path format bytes in

@@ -1,4 +1,4 @@
--- What holds where a request asks that an observer is entered.
+-- Properties of requests that register an observer.
 use Rattle.std.proofs.Common.{◌≡◌, ℕ, Bool, true, false, ◌&&◌, Option, Some, None, refl, sym, ap, ◌∙◌, inl, inr}
 use Rattle.coap_store.specs.Prelude.{◌⊎◌, if◌then◌else◌, Message, Path, same_path, is_path, Representation}
 use Rattle.coap_store.specs.Prelude.{StoreValue, time_path, is_observable, place_of, key_for, stored_at, state_at}
@@ -13,7 +13,7 @@ use Rattle.coap_store.proofs.PathLemmas.{same_path_sound}
 use Rattle.coap_store.proofs.AnswerLaws.{answer_cases, get_cases, store_cases, key_is}
 use Rattle.coap_store.proofs.TargetLemmas.{is_time}
 
--- ---- which places are watched
+-- ---- the observable resources
 
 adds_if_so : (b : Bool) → (if b then watch.Add else watch.Nothing) ≡ watch.Add → b ≡ true
 adds_if_so true e = refl
@@ -26,7 +26,7 @@ left_true false b e = absurd cc
 watched_place : (place : Place) (m : Message) → watch_of place m ≡ watch.Add → is_observable place ≡ true
 watched_place place m e = left_true (is_observable place) (is_number (number_of numbers.observe m) 0) (adds_if_so _ e)
 
--- ---- their paths are paths of resources
+-- ---- resources can have their paths
 
 time_test : (a b c d : Bool) → (if a then Root else (if b then Time else (if c then Async else (if d then Listing else Dynamic)))) ≡ Time → b ≡ true
 time_test true b c d e = absurd cc
@@ -47,7 +47,7 @@ stored_key : (s : StoreValue) (path : Path) (key : Option Path) (r : Representat
 stored_key s path None r is e = absurd cc
 stored_key s path (Some q) r is e = is ∙ ap (λ (p : Path). Some p) (sym (key_is path q is).1)
 
--- a resource that can be observed has a key where it is there
+-- An observable resource that exists has a key.
 observed_key : (s : StoreValue) (now : ℕ) (path : Path) (place : Place) (r : Representation) → place_of path ≡ place → is_observable place ≡ true → state_at s now (key_for path) place ≡ Some r → key_for path ≡ Some path
 unfolding state_at
 observed_key s now path Root r is e there = absurd cc
@@ -58,7 +58,7 @@ observed_key s now path Dynamic r is e there = stored_key s path (key_for path) 
 
 -- ---- every answer
 
--- it is not held either
+-- The answer also has no delay.
 record IsWatched (s : StoreValue) (now : ℕ) (path : Path) (a : Answer) : Type 0 where
   at_once : a.hold ≡ None
   may : MayWatch s now path a
@@ -66,7 +66,7 @@ record IsWatched (s : StoreValue) (now : ℕ) (path : Path) (a : Answer) : Type 
 abbrev WatchesWell : StoreValue → ℕ → Path → Answer → Type 0
 WatchesWell s now path a = a.watch ≡ watch.Add → IsWatched s now path a
 
--- the answers that tell the state of the path
+-- The answers with the state of the path.
 watches : (s : StoreValue) (now : ℕ) (path : Path) (m : Message) (representation : Representation) (r : Response) → state_of s now path ≡ Some representation → (r.code ≡ code.content) ⊎ (r.code ≡ code.valid) → WatchesWell s now path (watched (place_of path) m r)
 watches s now path m representation r there is e =
     let seen = watched_place (place_of path) m e in
@@ -117,7 +117,7 @@ watched_of : (s : StoreValue) (now : ℕ) (m : Message) → WatchesWell s now (p
 unfolding answer_of
 watched_of s now m = watched_finally s now (path_of m) (removes_watch m) (answer_at s (target_of s now (path_of m)) m) (watched_at s now (path_of m) m)
 
--- it is not held
+-- The answer has no delay.
 pub watched_at_once : (s : StoreValue) (now : ℕ) (m : Message) → (answer_of s now m).watch ≡ watch.Add → (answer_of s now m).hold ≡ None
 watched_at_once s now m e = (watched_of s now m e).at_once
 

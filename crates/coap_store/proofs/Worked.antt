@@ -1,4 +1,4 @@
--- Worked values of the definitions: requests, their answers, and the stores after them.
+-- Worked examples of the definitions: requests, their answers, and the stores after them.
 use Rattle.std.proofs.Common.{◌≡◌, ℕ, List, [], ◌∷◌, refl}
 use Rattle.coap_store.specs.Prelude.{codes, CoapOption, Message, spelling, bytes_of_uint, kind_of, is_recognised}
 use Rattle.coap_store.specs.Prelude.{known_behind, first_critical_behind, is_path, StoreValue, found_in, put_at}
@@ -18,11 +18,11 @@ asks method token options payload = record { code = method; token = token ∷ []
 abbrev option : ℕ → List ℕ → CoapOption
 option number value = record { number = number; value = value }
 
--- the bytes of the answer
+-- The bytes of the response.
 abbrev text_at : StoreValue → Message → List ℕ
 text_at s m = spelling (response_message m.token (answer_of s 0 m).response)
 
--- the store afterwards
+-- The store after the request.
 abbrev after : StoreValue → Message → StoreValue
 after s m = changed s (answer_of s 0 m).change
 
@@ -30,7 +30,7 @@ root_answered : text_at (empty_store 0) (asks code.get 1 [] []) ≡ 0xa1 ∷ 0x4
 unfolding spelling answer_of answer_at resource_answer method_answer get_answer store_answer state_at key_for place_of is_path found_in put_at removed_at values_of has_option value_of number_of match_holds is_seconds listing entry_bytes path_bytes encoded_byte bytes_of_uint kind_of is_recognised known_behind first_critical_behind
 root_answered = refl
 
--- PUT a, PUT b, DELETE a, DELETE a again, PUT b, the listing, where one resource may be there
+-- PUT a, PUT b, DELETE a, DELETE a again, PUT b and GET of the listing, with a limit of one created resource.
 abbrev first_put : Message
 first_put = asks code.put 1 (option numbers.uri_path (codes "a") ∷ []) (codes "x")
 

@@ -1,4 +1,4 @@
--- How a request whose options were noted is kept, and seen: as its message.
+-- Defined by this project: the model value and the invariant of the type `Asked`, which contracts see as its message.
 use Rattle.std.specs.Prelude.{◌≡◌, is_some}
 use Rattle.coap_wire.specs.Message.{Message}
 use Rattle.coap_wire.specs.Recognition.{first_critical}

@@ -1,4 +1,4 @@
--- How the dynamic resources are kept, and seen.
+-- Defined by this project: the model value and the invariant of the type `Catalogue`.
 use Rattle.std.specs.Prelude.{◌≡◌, List}
 use Rattle.coap_store.specs.Store.{Resource}
 use Rattle.coap_store.specs.Listing.{listing}
@@ -8,7 +8,7 @@ use Rattle.coap_store.specs.declared.catalogue.Catalogue.TheInside.{Inside}
 abbrev pub resources_of : Inside → List Resource
 resources_of c = resources_in c.resources.entries
 
--- the listing is ready, and so is each resource's part of it
+-- The invariant of a catalogue: the stored listing, and the stored text of each resource, are those of the resources.
 pub record IsCatalogue (c : Inside) : Type 0 where
   pub ready : c.listing.items ≡ listing (resources_in c.resources.entries)
   pub texts : AreListed c.resources.entries

@@ -1,4 +1,4 @@
--- Which changes a store takes.
+-- Defined by this project: the changes that a store accepts.
 use Rattle.std.specs.Prelude.{◌≡◌, ℕ, ◌+◌, ◌<◌, ◌≤◌, ◌^◌, Bool, true, false, ◌&&◌, ◌||◌, List, [], ◌∷◌, length, Option, is_some, nat_lt, IfSome, ◌==◌}
 use Rattle.coap_wire.specs.Codes as code
 use Rattle.coap_store.specs.Paths.{Path, is_path}
@@ -7,7 +7,8 @@ use Rattle.coap_store.specs.State.{place_of}
 use Rattle.coap_store.specs.Answer.{Response, Change, Nothing, Put, Delete, changed}
 use Rattle.coap_store.specs.declared.place.Place.TheVariants.{Dynamic}
 
--- a representation that is not too large, at a path where one is or may be made, while a version is left
+-- The store accepts a representation. It is not too large, its path is that of a created resource that exists or may be
+-- created, and a version is left.
 pub record TakesPut (s : StoreValue) (path : Path) (bytes : List ℕ) : Type 0 where
   pub path_ok : is_path path ≡ true
   pub place : place_of path ≡ Dynamic
@@ -15,40 +16,40 @@ pub record TakesPut (s : StoreValue) (path : Path) (bytes : List ℕ) : Type 0 w
   pub room : (is_some (found_in s.resources path) || nat_lt (length s.resources) s.dynamic_max) ≡ true
   pub version_left : s.versions + 1 < 2 ^ 64
 
--- every change that is an answer's is so
+-- The store accepts a change. Every change of an answer is accepted.
 abbrev pub TakesChange : StoreValue → Change → Type 0
 TakesChange s Nothing = Unit {0}
 TakesChange s (Put path format bytes) = TakesPut s path bytes
 TakesChange s (Delete path) = is_some (found_in s.resources path) ≡ true
 
--- whether something is put or deleted
+-- The change stores a representation or removes a resource.
 abbrev pub changes : Change → Bool
 changes Nothing = false
 changes (Put path format bytes) = true
 changes (Delete path) = true
 
--- 2.01 and 2.04 say that the store changes, and 2.02 where something was there
+-- The response states that the store changes: 2.01, 2.04, or 2.02 for a resource that existed (RFC 7252 section 5.9.1).
 abbrev pub says_change : Response → Option Representation → Bool
 says_change r state = r.code == code.created || r.code == code.changed || (r.code == code.deleted && is_some state)
 
--- a representation is put
+-- The change stores a representation.
 abbrev pub IsPut : Change → Type 0
 IsPut Nothing = ⊥
 IsPut (Put path format bytes) = Unit {0}
 IsPut (Delete path) = ⊥
 
--- its format, where it has one, is one of two bytes
+-- The Content-Format of the change, if any, is a 16-bit number.
 abbrev pub HasSmallFormat : Change → Type 0
 HasSmallFormat Nothing = Unit {0}
 HasSmallFormat (Put path format bytes) = IfSome format (λ number. number < 65536)
 HasSmallFormat (Delete path) = Unit {0}
 
--- one change after the other
+-- The store after these changes, one after the other.
 abbrev pub changed_by : StoreValue → List Change → StoreValue
 changed_by s [] = s
 changed_by s (c ∷ cs) = changed_by (changed s c) cs
 
--- the store takes each, as it is by then
+-- The store accepts these changes, one after the other.
 abbrev pub TakesChanges : StoreValue → List Change → Type 0
 TakesChanges s [] = Unit {0}
 TakesChanges s (c ∷ cs) = TakesChange s c × TakesChanges (changed s c) cs

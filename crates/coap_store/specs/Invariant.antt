@@ -1,4 +1,4 @@
--- What holds of every store.
+-- Defined by this project: the invariant of a store.
 use Rattle.std.specs.Prelude.{◌≡◌, ◌≢◌, ℕ, ◌<◌, ◌≤◌, ◌^◌, true, List, [], ◌∷◌, length, None, IfSome}
 use Rattle.std.specs.List.{AllByRecursion}
 use Rattle.coap_store.specs.Paths.{is_path}
@@ -7,18 +7,18 @@ use Rattle.coap_store.specs.State.{place_of}
 use Rattle.coap_store.specs.declared.place.Place.TheVariants.{Dynamic}
 use Rattle.coap_wire.specs.declared.sizes.TheConstants.{LARGEST_MESSAGE}
 
--- no path stands twice
+-- No path occurs twice.
 abbrev pub AreDistinct : List Resource → Type 0
 AreDistinct [] = Unit {0}
 AreDistinct (r ∷ rs) = (found_in rs r.path ≡ None) × AreDistinct rs
 
--- no version stands twice
+-- No version occurs twice.
 abbrev pub HaveOwnVersions : List Resource → Type 0
 HaveOwnVersions [] = Unit {0}
 HaveOwnVersions (r ∷ rs) = AllByRecursion (λ other. r.now.version ≢ other.now.version) rs × HaveOwnVersions rs
 
--- It is at the path of a resource that is not built in, with one of the versions that were given, a format of two bytes
--- where it has one, and at most so many bytes.
+-- The resource has the path of a created resource, and a version between 1 and `versions`. Its Content-Format, if any,
+-- is a 16-bit number, and it has at most `rep_max` bytes.
 pub record IsKept (versions rep_max : ℕ) (r : Resource) : Type 0 where
   pub path : is_path r.path ≡ true
   pub place : place_of r.path ≡ Dynamic
@@ -27,7 +27,7 @@ pub record IsKept (versions rep_max : ℕ) (r : Resource) : Type 0 where
   pub format : IfSome r.now.format (λ format. format < 65536)
   pub small : length r.now.bytes ≤ rep_max
 
--- the resources are a map from paths, no two have one version, and no limit is passed
+-- The invariant of a store. No two resources have the same path or the same version, and no limit is exceeded.
 pub record IsStore (s : StoreValue) : Type 0 where
   pub paths : AreDistinct s.resources
   pub own_versions : HaveOwnVersions s.resources

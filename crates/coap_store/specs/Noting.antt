@@ -1,4 +1,4 @@
--- What a request asks for, noted option by option.
+-- Defined by this project: the recognised options of a request, collected one after the other.
 use Rattle.std.specs.Prelude.{◌≡◌, ℕ, Bool, true, false, ◌||◌, List, [], ◌∷◌, Option, Some, None, ◌==◌, if◌then◌else◌, option_copied}
 use Rattle.coap_wire.specs.Message.{CoapOption, Message}
 use Rattle.coap_wire.specs.OptionNumbers as numbers
@@ -9,7 +9,8 @@ use Rattle.coap_store.specs.declared.trail.Trail.{Trail}
 use Rattle.coap_store.specs.declared.trail.Trail.TheVariants.{Root}
 use Rattle.coap_store.specs.declared.notes.Notes as kept
 
--- which options are there, the first value of those that have one of interest, and where the path leads
+-- The options of a request: which are present, the first value of those whose value matters, and the state of matching
+-- the path.
 pub record Notes : Type 0 where
   pub trail : Trail
   pub if_match : Bool
@@ -22,20 +23,21 @@ pub record Notes : Type 0 where
   pub query : Option (List ℕ)
   pub accept : Option (List ℕ)
 
+-- The state before the first option.
 abbrev pub nothing : Notes
 nothing = record { trail = Root; if_match = false; etag = false; if_none_match = false; proxy_uri = false; proxy_scheme = false; observe = None; content_format = None; query = None; accept = None }
 
--- the value that was there stays
+-- The first value of an option. Later values do not replace it.
 abbrev pub first_given : Option (List ℕ) → Bool → List ℕ → Option (List ℕ)
 first_given (Some first) here value = Some first
 first_given None true value = Some value
 first_given None false value = None
 
--- where a segment leads, where it is one
+-- The path match after an option: advanced by its segment if there is one, otherwise unchanged.
 abbrev pub led : Trail → Bool → List ℕ → Trail
 led trail here segment = if here then trail_with trail segment else trail
 
--- one option more
+-- The state after another option.
 unfoldable pub noted : Notes → CoapOption → Notes
 noted n o = record {
   trail = led n.trail (o.number == numbers.uri_path) o.value;
@@ -50,11 +52,12 @@ noted n o = record {
   accept = first_given n.accept (o.number == numbers.accept) o.value;
 }
 
+-- The state after these options, one after the other.
 abbrev pub all_noted : Notes → List CoapOption → Notes
 all_noted n [] = n
 all_noted n (o ∷ os) = all_noted (noted n o) os
 
--- what is noted is what the request's recognised options say
+-- The collected options are those of the request.
 pub record AreNotesOf (m : Message) (n : Notes) : Type 0 where
   pub place : place_at n.trail ≡ place_of (path_of m)
   pub if_match : n.if_match ≡ has_option numbers.if_match m
@@ -67,7 +70,7 @@ pub record AreNotesOf (m : Message) (n : Notes) : Type 0 where
   pub query : n.query ≡ value_of numbers.uri_query m
   pub accept : n.accept ≡ value_of numbers.accept m
 
--- how the code's notes are seen
+-- The model value of the type `Notes`.
 abbrev pub notes_value : kept.Notes → Notes
 notes_value n = record {
   trail = n.trail;

@@ -1,4 +1,4 @@
--- How a plan is seen: as the answer that it holds.
+-- Defined by this project: the model value and the invariant of the type `Plan`, which contracts see as an answer.
 use Rattle.std.specs.Prelude.{option_map}
 use Rattle.coap_store.specs.Answer.{Answer}
 use Rattle.coap_store.specs.PlanViews.{bytes_in, effect_value, IsAtPath, IsToldNamed, location_in}
@@ -20,6 +20,6 @@ plan_answer p = record {
   hold = p.hold;
 }
 
--- what a plan changes is at a path of a resource, and a path that it tells has a segment
+-- The invariant of a plan. A resource can have the path of its change, and a path in its response has a segment.
 abbrev pub is_plan : Inside → Type 0
 is_plan p = IsAtPath p.effect × IsToldNamed p.tells_location p.effect

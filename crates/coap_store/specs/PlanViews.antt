@@ -1,4 +1,4 @@
--- How the code's values are seen in contracts.
+-- Defined by this project: the types of plans as values of the model.
 use Rattle.std.specs.Prelude.{◌≡◌, ◌≢◌, ℕ, Bool, true, false, List, [], Option, Some, None}
 use Rattle.coap_store.specs.Paths.{Path, is_path}
 use Rattle.coap_store.specs.UriPaths.{path_told}
@@ -10,41 +10,42 @@ use Rattle.coap_store.specs.declared.plan.Change.TheVariants as changes
 use Rattle.coap_store.specs.declared.plan.Effect.{Effect}
 use Rattle.coap_store.specs.declared.plan.Effect.TheVariants as effects
 
--- the bytes, wherever they lie
+-- The bytes, which are borrowed or computed.
 abbrev pub bytes_in : Bytes → List ℕ
 bytes_in (Stored bytes) = bytes.now
 bytes_in (Decimal text) = text.items
 
+-- The model value of a change.
 abbrev pub change_value : Change → answer.Change
 change_value changes.Nothing = answer.Nothing
 change_value (changes.Put path format bytes) = answer.Put path format bytes.now
 change_value (changes.Delete path) = answer.Delete path
 
--- what a request changes at its path
+-- The change that a request makes at its path.
 abbrev pub effect_value : Effect → answer.Change
 effect_value effects.Nothing = answer.Nothing
 effect_value (effects.Put body format) = answer.Put (path_told body) format body.payload
 effect_value (effects.Delete body) = answer.Delete (path_told body)
 
--- that path is one of a resource
+-- A resource can have that path.
 abbrev pub IsAtPath : Effect → Type 0
 IsAtPath effects.Nothing = Unit {0}
 IsAtPath (effects.Put body format) = is_path (path_told body) ≡ true
 IsAtPath (effects.Delete body) = is_path (path_told body) ≡ true
 
--- what is told is no path of the root
+-- With the flag, the path of a stored representation is not the root.
 abbrev pub IsToldNamed : Bool → Effect → Type 0
 IsToldNamed false effect = Unit {0}
 IsToldNamed true effects.Nothing = Unit {0}
 IsToldNamed true (effects.Put body format) = path_told body ≢ []
 IsToldNamed true (effects.Delete body) = Unit {0}
 
--- no path stands for the root
+-- The path, or the root if there is none.
 abbrev pub path_or_root : Option Path → Path
 path_or_root None = []
 path_or_root (Some path) = path
 
--- the path of what is put, where it is told
+-- The path of a stored representation, if the flag is true.
 abbrev pub location_in : Bool → answer.Change → Path
 location_in false change = []
 location_in true answer.Nothing = []

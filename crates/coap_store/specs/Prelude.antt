@@ -1,6 +1,6 @@
--- What the contracts and the proofs of the crate name, passed on from one place. Declares nothing.
+-- Names for the contracts and proofs of the crate, re-exported from one place. This file defines nothing.
 
--- ---- std and the kit's crates
+-- ---- std and other crates
 pub use Rattle.arrayvec.specs.declared.array_vec.ArrayVec.{ArrayVec}
 pub use Rattle.indexmap.specs.IndexMap.{insert_entry, shift_remove_entry}
 unfoldable pub use Rattle.percent_encoding.specs.AsciiSet.{should_percent_encode}

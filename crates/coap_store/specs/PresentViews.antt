@@ -1,4 +1,4 @@
--- How the representation at a path is kept, and seen.
+-- Defined by this project: the model value of the type `Present`.
 use Rattle.coap_store.specs.Store.{Representation}
 use Rattle.coap_store.specs.TargetViews.{found_value}
 use Rattle.coap_store.specs.declared.states.Present.TheInside.{Inside}

@@ -1,9 +1,10 @@
--- What versions tell of representations that are not kept any more.
+-- Defined by this project: representations that were stored, identified by their versions.
 use Rattle.std.specs.Prelude.{◌≡◌, ◌≤◌, Some}
 use Rattle.coap_store.specs.Paths.{Path}
 use Rattle.coap_store.specs.Store.{Representation, StoreValue, found_in}
 
--- A representation that a path had once, and may have still: its version was given, and what has it now is no other.
+-- A representation was stored at a path, and may still be stored. Its version was given to it, and a stored
+-- representation with this version is the same, at the same path.
 pub record WasStored (s : StoreValue) (path : Path) (told : Representation) : Type 0 where
   pub given : told.version ≤ s.versions
   pub same : (other : Path) (r : Representation) → found_in s.resources other ≡ Some r → r.version ≡ told.version → (other ≡ path) × (r ≡ told)

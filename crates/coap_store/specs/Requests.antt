@@ -1,4 +1,4 @@
--- What a request asks for, by its recognised options (RFC 7252 sections 5.8, 5.10, RFC 7641 section 2).
+-- RFC 7252 sections 5.8 and 5.10, RFC 7641 section 2: the meaning of the recognised options of a request.
 use Rattle.std.specs.Prelude.{ℕ, ◌+◌, ◌*◌, ◌-◌, Bool, true, false, not, ◌&&◌, ◌||◌, List, [], ◌∷◌, length, map, filter, fold, Option, Some, None, option_map, nat_le, ◌==◌}
 use Rattle.std.specs.List.{list_any, list_all}
 use Rattle.coap_wire.specs.Message.{Message}
@@ -9,30 +9,33 @@ use Rattle.coap_wire.specs.Recognition.{known_options}
 use Rattle.coap_store.specs.Paths.{Path, same_bytes}
 use Rattle.coap_store.specs.Store.{Representation}
 
--- the values of the recognised options with a number, in order
+-- The values of the recognised options with this number, in order.
 unfoldable pub values_of : ℕ → Message → List (List ℕ)
 values_of number m = map (λ o. o.value) (filter (λ o. o.number == number) (known_options m.options))
 
+-- There is a value.
 abbrev pub is_given : List (List ℕ) → Bool
 is_given [] = false
 is_given (v ∷ vs) = true
 
+-- The request has a recognised option with this number.
 unfoldable pub has_option : ℕ → Message → Bool
 has_option number m = is_given (values_of number m)
 
--- the first one
+-- The first value, if any.
 abbrev pub first_or_none : List (List ℕ) → Option (List ℕ)
 first_or_none [] = None
 first_or_none (v ∷ vs) = Some v
 
+-- The value of the first recognised option with this number, if any.
 unfoldable pub value_of : ℕ → Message → Option (List ℕ)
 value_of number m = first_or_none (values_of number m)
 
--- Observe, Content-Format and Accept are numbers
+-- The same as a number, for Observe, Content-Format and Accept.
 unfoldable pub number_of : ℕ → Message → Option ℕ
 number_of number m = option_map uint_of (value_of number m)
 
--- Uri-Path, a segment each
+-- The path of a request. Each Uri-Path option is a segment.
 abbrev pub path_of : Message → Path
 path_of m = values_of numbers.uri_path m
 
@@ -53,50 +56,55 @@ is_method m = is_get m || is_post m || is_put m || is_delete m
 
 -- ---- preconditions
 
--- the ETag of a stored representation: its version
+-- The ETag of a stored representation: its version.
 abbrev pub etag_of : Representation → List ℕ
 etag_of r = bytes_of_uint r.version
 
--- an empty If-Match asks that the resource exists, another one its ETag
+-- A value of If-Match holds for a representation: the value is empty, or the ETag of the representation.
 abbrev pub matches : Representation → List ℕ → Bool
 matches r value = length value == 0 || same_bytes value (etag_of r)
 
+-- The resource exists, and one of the values of If-Match holds for it.
 abbrev pub any_matches : Option Representation → List (List ℕ) → Bool
 any_matches None values = false
 any_matches (Some r) values = list_any (matches r) values
 
--- one of the values of If-Match holds, where there are any
+-- The request has no If-Match, or one of its values holds (RFC 7252 section 5.10.8.1).
 unfoldable pub match_holds : Option Representation → Message → Bool
 match_holds state m = not (has_option numbers.if_match m) || any_matches state (values_of numbers.if_match m)
 
--- If-None-Match asks that the resource does not exist
+-- The resource exists.
 abbrev pub is_present : Option Representation → Bool
 is_present None = false
 is_present (Some r) = true
 
+-- The request has no If-None-Match, or the resource does not exist (RFC 7252 section 5.10.8.2).
 abbrev pub none_match_holds : Option Representation → Message → Bool
 none_match_holds state m = not (has_option numbers.if_none_match m && is_present state)
 
 abbrev pub preconditions_hold : Option Representation → Message → Bool
 preconditions_hold state m = match_holds state m && none_match_holds state m
 
--- ---- the query of the resource that answers late
+-- ---- the query of `/async`
 
--- 1 to 4 decimal digits of a value up to 3,600
+-- The byte is a decimal digit.
 abbrev pub is_digit : ℕ → Bool
 is_digit b = nat_le 48 b && nat_le b 57
 
+-- The number with these decimal digits.
 abbrev pub digits_mean : List ℕ → ℕ
 digits_mean bytes = fold (λ n b. 10 * n + (b - 48)) 0 bytes
 
+-- The bytes are 1 to 4 decimal digits of a number up to 3,600.
 unfoldable pub is_seconds : List ℕ → Bool
 is_seconds bytes = nat_le 1 (length bytes) && nat_le (length bytes) 4 && list_all is_digit bytes && nat_le (digits_mean bytes) 3600
 
+-- There is no query, or it is a number of seconds.
 abbrev pub is_good_query : Option (List ℕ) → Bool
 is_good_query None = true
 is_good_query (Some bytes) = is_seconds bytes
 
--- for how many seconds the answer is held: 5 where the request does not say
+-- The delay of the response in seconds, which is 5 without a query.
 abbrev pub seconds_of : Option (List ℕ) → ℕ
 seconds_of None = 5
 seconds_of (Some bytes) = digits_mean bytes

@@ -1,4 +1,4 @@
--- The state of a path at a moment: the built-in resources and the dynamic ones.
+-- Defined by this project: the state of a path at a certain time, for built-in and created resources.
 use Rattle.std.specs.Prelude.{ℕ, Bool, true, false, List, [], ◌∷◌, Option, Some, None, codes, if◌then◌else◌}
 use Rattle.std.specs.Fmt.{decimal}
 use Rattle.coap_store.specs.Paths.{Path, same_path, is_path}
@@ -7,6 +7,7 @@ use Rattle.coap_store.specs.Listing.{listing}
 use Rattle.coap_store.specs.declared.place.Place.{Place}
 use Rattle.coap_store.specs.declared.place.Place.TheVariants.{Root, Time, Async, Listing, Dynamic}
 
+-- The paths of the built-in resources.
 abbrev pub root_path : Path
 root_path = []
 
@@ -19,7 +20,7 @@ async_path = codes "async" ∷ []
 abbrev pub listing_path : Path
 listing_path = codes ".well-known" ∷ codes "core" ∷ []
 
--- which resource a path names
+-- The kind of resource that a path names.
 unfoldable pub place_of : Path → Place
 place_of path =
     if same_path path root_path then Root
@@ -28,6 +29,7 @@ place_of path =
     else (if same_path path listing_path then Listing
     else Dynamic)))
 
+-- The resource is not built in.
 abbrev pub is_dynamic : Place → Bool
 is_dynamic Root = false
 is_dynamic Time = false
@@ -35,6 +37,7 @@ is_dynamic Async = false
 is_dynamic Listing = false
 is_dynamic Dynamic = true
 
+-- The resource is `/time`.
 abbrev pub is_time : Place → Bool
 is_time Root = false
 is_time Time = true
@@ -42,6 +45,7 @@ is_time Async = false
 is_time Listing = false
 is_time Dynamic = false
 
+-- The resource is `/async`.
 abbrev pub is_async : Place → Bool
 is_async Root = false
 is_async Time = false
@@ -49,27 +53,28 @@ is_async Async = true
 is_async Listing = false
 is_async Dynamic = false
 
--- a path, where it is one of a resource
+-- The path, if a resource can have it.
 unfoldable pub key_for : Path → Option Path
 key_for path = if is_path path then Some path else None
 
--- what is stored there
+-- The representation that is stored at a path, if any.
 abbrev pub stored_at : StoreValue → Option Path → Option Representation
 stored_at s None = None
 stored_at s (Some path) = found_in s.resources path
 
--- the Content-Formats text/plain and application/link-format (RFC 7252 section 12.3)
+-- The Content-Formats text/plain and application/link-format (RFC 7252 section 12.3).
 abbrev pub text_plain : ℕ
 text_plain = 0
 
 abbrev pub link_format : ℕ
 link_format = 40
 
--- a representation of a built-in resource: it has version 0, which is no version of a stored one
+-- The representation of a built-in resource. Its version is 0, which no stored representation has.
 abbrev pub built : ℕ → List ℕ → Option Representation
 built format bytes = Some (record { version = 0; format = Some format; bytes = bytes })
 
--- a greeting, the moment in seconds, what is answered late, the listing, or what is stored
+-- The representation of a resource at a time: a greeting, the time in seconds, the text `done`, the listing, or the
+-- stored representation, if any.
 unfoldable pub state_at : StoreValue → ℕ → Option Path → Place → Option Representation
 state_at s now key Root = built text_plain (codes "coap+tcp")
 state_at s now key Time = built text_plain (decimal now)
@@ -77,20 +82,21 @@ state_at s now key Async = built text_plain (codes "done")
 state_at s now key Listing = built link_format (listing s.resources)
 state_at s now key Dynamic = stored_at s key
 
--- the state of a path at a moment; nothing where it is absent
+-- The representation of a path at the time `now` in seconds, or `None` if the path is absent.
 abbrev pub state_of : StoreValue → ℕ → Path → Option Representation
 state_of s now path = state_at s now (key_for path) (place_of path)
 
--- what a request is about: the path, where it is one of a resource, which resource it names, and its state
+-- The target of a request: its path, if a resource can have it, the kind of resource, and the representation, if any.
 pub record Target : Type 0 where
   pub key : Option Path
   pub place : Place
   pub state : Option Representation
 
+-- The target of a request for a path at the time `now`.
 abbrev pub target_of : StoreValue → ℕ → Path → Target
 target_of s now path = record { key = key_for path; place = place_of path; state = state_of s now path }
 
--- changes of the moment and of the dynamic resources can be observed
+-- The resource can be observed: it is `/time` or a created resource.
 abbrev pub is_observable : Place → Bool
 is_observable Root = false
 is_observable Time = true

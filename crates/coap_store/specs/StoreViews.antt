@@ -1,4 +1,4 @@
--- How a store is kept, and seen.
+-- Defined by this project: the model value and the invariant of the type `Store`.
 use Rattle.coap_store.specs.Store.{StoreValue}
 use Rattle.coap_store.specs.Invariant.{IsStore}
 use Rattle.coap_store.specs.declared.store.Store.TheInside.{Inside}

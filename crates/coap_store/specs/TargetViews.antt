@@ -1,4 +1,4 @@
--- How the code sees what a request is about.
+-- Defined by this project: the types `Found` and `Target` as values of the model.
 use Rattle.std.specs.Prelude.{Some, None, option_map, if◌then◌else◌}
 use Rattle.coap_wire.specs.Message.{Message}
 use Rattle.coap_store.specs.Requests.{path_of}
@@ -11,6 +11,6 @@ use Rattle.coap_store.specs.declared.target.Target.{Target}
 abbrev pub found_value : Found → Representation
 found_value f = record { version = f.version; format = f.format; bytes = bytes_in f.bytes }
 
--- of a request, whose path it is
+-- The target of a request, which has the path.
 abbrev pub target_value : Message → Target → state.Target
 target_value m t = record { key = if t.is_path then Some (path_of m) else None; place = t.place; state = option_map found_value t.state }

@@ -1,4 +1,4 @@
--- Where the segments of a path lead, one after the other (RFC 7252 section 5.10.1).
+-- Defined by this project: the segments of a path (RFC 7252 section 5.10.1), matched one after the other.
 use Rattle.std.specs.Prelude.{ℕ, List, [], ◌∷◌, codes, if◌then◌else◌}
 use Rattle.coap_store.specs.Paths.{Path, same_bytes}
 use Rattle.coap_store.specs.declared.place.Place.{Place}
@@ -6,7 +6,7 @@ use Rattle.coap_store.specs.declared.place.Place.TheVariants as place
 use Rattle.coap_store.specs.declared.trail.Trail.{Trail}
 use Rattle.coap_store.specs.declared.trail.Trail.TheVariants.{Root, Time, Async, WellKnown, Listing, Elsewhere}
 
--- the first segment
+-- The state after a first segment.
 abbrev pub first_trail : List ℕ → Trail
 first_trail segment =
     if same_bytes segment (codes "time") then Time
@@ -14,7 +14,7 @@ first_trail segment =
     else (if same_bytes segment (codes ".well-known") then WellKnown
     else Elsewhere))
 
--- one segment more
+-- The state after another segment.
 abbrev pub trail_with : Trail → List ℕ → Trail
 trail_with Root segment = first_trail segment
 trail_with WellKnown segment = if same_bytes segment (codes "core") then Listing else Elsewhere
@@ -23,12 +23,12 @@ trail_with Async segment = Elsewhere
 trail_with Listing segment = Elsewhere
 trail_with Elsewhere segment = Elsewhere
 
--- all segments, one after the other
+-- The state after these segments, one after the other.
 abbrev pub trail_behind : Trail → Path → Trail
 trail_behind trail [] = trail
 trail_behind trail (s ∷ ss) = trail_behind (trail_with trail s) ss
 
--- which resource a path names that leads there
+-- The kind of resource at a path with this state.
 abbrev pub place_at : Trail → Place
 place_at Root = place.Root
 place_at Time = place.Time

@@ -1,4 +1,4 @@
--- Which answers may enter an observer (RFC 7641 section 4.1).
+-- RFC 7641 section 4.1: the answers that register an observer.
 use Rattle.std.specs.Prelude.{◌≡◌, ◌⊎◌, ℕ, true, Some}
 use Rattle.coap_wire.specs.Codes as code
 use Rattle.coap_store.specs.Paths.{Path}
@@ -6,7 +6,8 @@ use Rattle.coap_store.specs.Store.{Representation, StoreValue}
 use Rattle.coap_store.specs.State.{key_for, place_of, state_of, is_observable}
 use Rattle.coap_store.specs.Answer.{Answer, Nothing}
 
--- a path of a resource that is there and can be observed, and an answer that changes nothing and is 2.05 or 2.03
+-- An answer may register an observer: the resource exists and is observable. The answer changes nothing and is 2.05 or
+-- 2.03.
 pub record MayWatch (s : StoreValue) (now : ℕ) (path : Path) (a : Answer) : Type 0 where
   pub representation : Representation
   pub there : state_of s now path ≡ Some representation

@@ -1,4 +1,4 @@
-//! The answers to requests. One function makes each group of checks.
+//! The plans for requests. Each function makes one group of checks.
 
 ghost use Rattle.std.specs.Prelude.{◌≡◌, ◌≢◌, true, [], Option, option_map, is_none, ◌≤◌, ℕ, length};
 ghost use Rattle.coap_store.specs.Prelude.{LARGEST_MESSAGE, Message, is_path, Representation, path_of as path_asked};
@@ -24,8 +24,10 @@ use coap_wire::{Code, MessageRef, uint_bytes};
 impl Store {
     ghost use Rattle.coap_store.specs.Prelude.{path_of};
 
-    /// The answer to a request at a moment in seconds. It allocates nothing, and changes nothing: `apply` makes the
-    /// change. A GET of the resource that answers late is held for as many seconds as it asks: the plan tells how many.
+    /// Returns the plan for a request at the time `now`, in seconds.
+    ///
+    /// The call allocates nothing and changes nothing: `apply` makes the change. The response to a GET of `/async` is
+    /// delayed by as many seconds as the request asks for (`Plan::hold`).
     pub fn answer<'s, 'r>(&'s self, request: &MessageRef<'r>, now: u64) -> Plan<'s, 'r>
         ensures answer { result ≡ answer_of self.now now request.now }
         ensures taken { TakesChange self.now result.change }
@@ -42,7 +44,7 @@ impl Store {
         plan
     }
 
-    /// The answer by the checks of the request alone, and then those of the resource.
+    /// Checks the request itself and then its resource, and returns the plan.
     #[tactic(auto, unfolding(crate::specs::Answer::answer_at))]
     fn checked<'s, 'r>(&'s self, asked: &Asked<'_, 'r>, now: u64) -> Plan<'s, 'r>
         ensures { result ≡ answer_at self.now (target_of self.now now (path_of asked.now)) asked.now }
@@ -59,7 +61,7 @@ impl Store {
         self.at_target(asked, self.target(asked, now))
     }
 
-    /// What the request is about.
+    /// Returns the target of a request, with the state of its path at the time `now`.
     fn target(&self, asked: &Asked, now: u64) -> Target<'_>
         ensures value { target_value asked.now result ≡ target_of self.now now (path_of asked.now) }
         ensures path { result.is_path ≡ is_path (path_of asked.now) }
@@ -76,7 +78,7 @@ impl Store {
         }
     }
 
-    /// What a request of a place where no resource is built in is about.
+    /// Returns the target of a request whose path is not that of a built-in resource.
     fn dynamic_target(&self, asked: &Asked) -> Target<'_>
         requires { place_of (path_of asked.now) ≡ Dynamic }
         ensures value { (now : ℕ) → target_value asked.now result ≡ target_of self.now now (path_of asked.now) }
@@ -98,7 +100,7 @@ impl Store {
         }
     }
 
-    /// The representation that a path has at a moment.
+    /// Returns the representation of a resource at the time `now`, if it exists. A built-in resource needs no key.
     #[tactic(auto, unfolding(crate::specs::State::state_at))]
     pub(crate) fn found_at(
         &self,
@@ -117,7 +119,7 @@ impl Store {
         }
     }
 
-    /// The representation that is stored at a path.
+    /// Returns the representation that is stored at a path.
     fn stored_at(&self, path: &PathKey) -> Option<Found<'_>>
         ensures { option_map found_value result ≡ found_in self.now.resources path.now }
     {
@@ -129,7 +131,7 @@ impl Store {
         })
     }
 
-    /// The answer by the checks of the resource, and then those of the method.
+    /// Checks the resource and then the method, and returns the plan.
     #[tactic(auto, unfolding(crate::specs::Answer::resource_answer, crate::specs::Answer::method_answer))]
     fn at_target<'s, 'r>(&'s self, asked: &Asked<'_, 'r>, target: Target<'s>) -> Plan<'s, 'r>
         requires path { target.is_path ≡ is_path (path_of asked.now) }
@@ -155,14 +157,14 @@ impl Store {
         self.put_or_post(asked, target)
     }
 
-    /// Whether a request with this code needs a resource that is there.
+    /// Returns `true` if a request with this code needs a resource that exists.
     fn needs_resource(&self, code: Code) -> bool
         ensures { (m : Message) → m.code ≡ code → result ≡ needs self.now m }
     {
         code == Code::GET || (code == Code::PUT || code == Code::POST) && !self.takes_resources()
     }
 
-    /// The answer to PUT and POST (RFC 7252 sections 5.8.2, 5.8.3).
+    /// Returns the plan for PUT or POST (RFC 7252 sections 5.8.2, 5.8.3).
     #[tactic(auto, using(crate::proofs::TargetLemmas::dynamic_is_named), unfolding(crate::specs::Answer::store_answer))]
     fn put_or_post<'s, 'r>(&'s self, asked: &Asked<'_, 'r>, target: Target<'s>) -> Plan<'s, 'r>
         requires path { target.is_path ≡ is_path (path_of asked.now) }
@@ -190,14 +192,14 @@ impl Store {
     }
 }
 
-/// Whether the code is that of a known method.
+/// Returns `true` if the code is that of a known method.
 fn is_method(code: Code) -> bool
     ensures { (m : Message) → m.code ≡ code → result ≡ is_known_method m }
 {
     code == Code::GET || code == Code::POST || code == Code::PUT || code == Code::DELETE
 }
 
-/// Whether If-Match and If-None-Match hold (RFC 7252 section 5.10.8).
+/// Returns `true` if If-Match and If-None-Match hold (RFC 7252 section 5.10.8).
 fn preconditions_hold(asked: &Asked, state: Option<&Found>) -> bool
     ensures { result ≡ hold (option_map (λ f. found_value f.now) state.entry) asked.now }
 {
@@ -205,7 +207,7 @@ fn preconditions_hold(asked: &Asked, state: Option<&Found>) -> bool
     asked.match_holds(version) && asked.none_match_holds(version.is_some())
 }
 
-/// The answer to GET (RFC 7252 section 5.8.1).
+/// Returns the plan for GET (RFC 7252 section 5.8.1).
 fn read<'s, 'r>(asked: &Asked<'_, 'r>, target: Target<'s>) -> Plan<'s, 'r>
     ensures { result ≡ read_answer target.entry.place (option_map found_value target.entry.state) asked.now }
 {
@@ -216,8 +218,8 @@ fn read<'s, 'r>(asked: &Asked<'_, 'r>, target: Target<'s>) -> Plan<'s, 'r>
     }
 }
 
-/// The answer to GET at a resource. At the one that answers late it is held for as many seconds as the first Uri-Query
-/// says, 5 where there is none.
+/// Returns the plan for GET of a resource that exists. For `/async`, the first Uri-Query has the delay of the response
+/// in seconds, and the default is 5.
 #[tactic(auto, unfolding(crate::specs::Answer::get_answer))]
 fn get<'s, 'r>(asked: &Asked<'_, 'r>, place: Place, found: Found<'s>) -> Plan<'s, 'r>
     ensures { result ≡ get_answer place (found_value found.entry) asked.now }
@@ -238,14 +240,14 @@ fn get<'s, 'r>(asked: &Asked<'_, 'r>, place: Place, found: Found<'s>) -> Plan<'s
     Plan::content(etag, found, max_age_of(place), watch_for(asked, place))
 }
 
-/// Whether a representation has the format that Accept names, if it names one (RFC 7252 section 5.10.4).
+/// Returns `true` if the representation has the format in Accept, or there is no Accept (RFC 7252 section 5.10.4).
 fn is_accepted(wanted: Option<u16>, format: Option<u16>) -> bool
     ensures { result ≡ accepts wanted format }
 {
     wanted.is_none() || format == wanted
 }
 
-/// The ETag of a representation with this version, where it is stored.
+/// Returns the ETag of a representation with this version, or `None` if the resource is built in.
 pub(crate) fn etag_for(place: Place, version: u64) -> Option<ArrayVec<u8, 8>>
     ensures { (r : Representation) → r.version ≡ version → option_map (λ etag. etag.items) result ≡ etag_at place r }
 {
@@ -256,7 +258,7 @@ pub(crate) fn etag_for(place: Place, version: u64) -> Option<ArrayVec<u8, 8>>
     }
 }
 
-/// Whether one of the request's ETags is this one (RFC 7252 section 5.10.6.2).
+/// Returns `true` if there is an ETag and the request has it (RFC 7252 section 5.10.6.2).
 fn is_valid(asked: &Asked, etag: Option<&ArrayVec<u8, 8>>) -> bool
     ensures { result ≡ is_one_of (option_map (λ etag. etag.now.items) etag.entry) (values_of numbers.etag asked.now) }
 {
@@ -266,7 +268,7 @@ fn is_valid(asked: &Asked, etag: Option<&ArrayVec<u8, 8>>) -> bool
     }
 }
 
-/// What Observe asks for (RFC 7641 section 2).
+/// Returns `Watch::Add` if the request asks to observe an observable resource (RFC 7641 section 2).
 fn watch_for(asked: &Asked, place: Place) -> Watch
     ensures { result ≡ watch_of place asked.now }
 {
@@ -277,21 +279,21 @@ fn watch_for(asked: &Asked, place: Place) -> Watch
     }
 }
 
-/// Whether the request asks to be removed from the observers (RFC 7641 section 3.6).
+/// Returns `true` if the request asks to be removed from the observers (RFC 7641 section 3.6).
 fn removes_watch(asked: &Asked) -> bool
     ensures { result ≡ asks_removal asked.now }
 {
     asked.code() == Code::GET && asked.observe() == Some(1)
 }
 
-/// For how many seconds a representation holds, where that is said.
+/// Returns the Max-Age of a resource in seconds, if its responses have one.
 pub(crate) fn max_age_of(place: Place) -> Option<u32>
     ensures { result ≡ max_age_at place }
 {
     if place == Place::Time { Some(1) } else { None }
 }
 
-/// The answer to a request that stores its payload at its path.
+/// Returns the plan that stores the payload of a request at its path.
 fn stored<'s, 'r>(asked: &Asked<'_, 'r>, is_new: bool) -> Plan<'s, 'r>
     requires path { is_path (path_asked asked.now) ≡ true }
     requires named { path_asked asked.now ≢ [] }
@@ -307,7 +309,7 @@ fn stored<'s, 'r>(asked: &Asked<'_, 'r>, is_new: bool) -> Plan<'s, 'r>
     Plan::changing(code, tells_location, effect)
 }
 
-/// The answer to DELETE (RFC 7252 section 5.8.4).
+/// Returns the plan for DELETE (RFC 7252 section 5.8.4).
 fn delete<'s, 'r>(asked: &Asked<'_, 'r>, target: Target) -> Plan<'s, 'r>
     requires { target.is_path ≡ is_path (path_asked asked.now) }
     ensures { result ≡ delete_answer (target_value asked.now target.entry) }

@@ -1,4 +1,4 @@
-//! The dynamic resources of a store, with the listing of them.
+//! The created resources of a store, with the listing.
 
 ghost use Rattle.std.specs.Prelude.{◌≡◌, OnOk, OnErr, IfNone, IfSome, true, false, is_some, is_none, [], IfOk, length};
 ghost use Rattle.std.specs.Prelude.{option_map};
@@ -11,8 +11,8 @@ use indexmap::IndexMap;
 use std::alloc::{AllocError, Global};
 use std::marker::Model;
 
-/// The dynamic resources in order of creation, and the bytes of `/.well-known/core`, which are kept ready. The hasher's
-/// seed is fixed: at most 1,000 paths bound the cost of a look-up. Contracts see the list of the resources.
+/// Created resources in order of creation, with the current bytes of `/.well-known/core`. The hasher's seed is fixed:
+/// at most 1,000 paths bound the cost of a look-up. Contracts see the list of the resources.
 #[derive(Drop)]
 pub(crate) struct Catalogue {
     alloc: Global,
@@ -34,7 +34,7 @@ impl Model for Catalogue {
 }
 
 impl Catalogue {
-    /// No resource but those that are built in.
+    /// Creates a catalogue without created resources.
     pub(crate) fn new(alloc: Global) -> Result<Catalogue, AllocError>
         ensures { IfOk result (λ c. c ≡ []) }
     {
@@ -45,32 +45,28 @@ impl Catalogue {
         })
     }
 
-    /// How many there are.
     pub(crate) fn len(&self) -> usize
         ensures { result ≡ length self.now }
     {
         self.resources.len()
     }
 
-    /// What is stored at a path.
+    /// Returns the resource at a path.
     pub(crate) fn get(&self, path: &PathKey) -> Option<&Resource>
         ensures { option_map (λ r. representation r.now) result ≡ found_in self.now path.now }
     {
         self.resources.get(path)
     }
 
-    /// The bytes of `/.well-known/core` (RFC 6690).
+    /// Returns the bytes of `/.well-known/core` (RFC 6690).
     pub(crate) fn listing(&self) -> &[u8]
         ensures { result.now ≡ listing_of self.now }
     {
         &self.listing
     }
 
-    /// Stores a representation. A new resource goes last, one that is there keeps its place.
-    ///
-    /// # Errors
-    ///
-    /// `AllocError` where memory was refused. The resources are then as before.
+    /// Stores a representation. A new resource goes last, and a present one keeps its place. If allocation fails, the
+    /// resources are unchanged.
     pub(crate) fn put(
         &mut self,
         path: PathKey,
@@ -108,7 +104,7 @@ impl Catalogue {
     }
 }
 
-/// Adds a resource that is absent, with its text. Room is reserved first, so the insertion cannot fail.
+/// Adds a resource that is absent, with its text. Memory is reserved first, so the insertion cannot fail.
 fn create(
     resources: &mut Resources,
     listing: &mut Vec<u8>,
@@ -133,8 +129,8 @@ fn create(
     Ok(())
 }
 
-/// Replaces the version and the bytes of a resource that has this format, and so keeps its text. Gives the bytes back
-/// if there is none.
+/// Replaces the version and the bytes of a resource with this format, and so keeps its text. Returns the bytes if there
+/// is no such resource.
 fn replace_alike(
     resources: &mut Resources,
     path: &PathKey,

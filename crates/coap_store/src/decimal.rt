@@ -6,7 +6,7 @@ use arrayvec::ArrayVec;
 use itoa::Buffer;
 use std::marker::Model;
 
-/// A number whose decimal text is formatted once. Contracts see the number.
+/// Number whose decimal text is formatted once. Contracts see the number.
 #[derive(Drop)]
 pub(crate) struct Decimal {
     number: u64,
@@ -34,7 +34,7 @@ impl Decimal {
         }
     }
 
-    /// Returns the text if this is the number, or `None`.
+    /// Returns the text if this is the number, otherwise `None`.
     pub(crate) fn text_of(&self, number: u64) -> Option<&[u8]>
         ensures some { is_some result ≡ (self.now == number) }
         ensures text { IfSome result (λ text. text.now ≡ decimal number) }
@@ -46,7 +46,7 @@ impl Decimal {
     }
 }
 
-/// Returns a number in decimal.
+/// Returns the decimal text of a number.
 pub(crate) fn decimal_digits(number: u64) -> ArrayVec<u8, 20>
     ensures { result.items ≡ decimal number }
 {

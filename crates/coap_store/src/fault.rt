@@ -1,27 +1,27 @@
-//! Why a change from inside is refused.
+//! The errors of changes by the embedding program.
 
 use thiserror::Error;
 
-/// Why a store refuses what the program itself changes. The discriminants are the faults' numbers.
+/// Reason why a store rejects a change by the embedding program. The discriminants are the numbers of the errors.
 #[derive(Clone, Copy, Debug, PartialEq, Eq, Error)]
 pub enum StoreFault {
-    /// Nothing that can be removed is at the path: it is absent, or that of a built-in resource.
+    /// Path without a resource that can be removed: it is absent, or that of a built-in resource.
     #[error("no such resource")]
     NoSuch = 1,
-    /// More bytes than a representation may have.
+    /// Representation above the maximum size.
     #[error("representation too large")]
     TooLarge = 2,
-    /// The path is absent, and as many dynamic resources are there as may be.
-    #[error("as many resources as may be are there")]
+    /// Absent path, when the limit of created resources is reached.
+    #[error("resource limit reached")]
     Limit = 3,
-    /// The path is that of a built-in resource.
+    /// Path of a built-in resource.
     #[error("path of a built-in resource")]
     BadPath = 4,
-    /// No version is left: as many representations were stored as 64 bits can count.
-    #[error("no version is left")]
+    /// End of the version numbers: the last representation stored has the version 2^64 - 1.
+    #[error("no version left")]
     VersionsSpent = 5,
-    /// Memory was refused.
-    #[error("memory was refused")]
+    /// Allocation failure.
+    #[error("out of memory")]
     Memory = 6,
 }
 

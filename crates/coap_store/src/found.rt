@@ -1,21 +1,20 @@
-//! Representations as they are found: in the store or made at once.
+//! Representations, which are stored or computed.
 
 ghost use Rattle.std.specs.Prelude.{◌≡◌, Some};
 ghost use Rattle.coap_store.specs.Prelude.{bytes_in, built as built_in, found_value};
 
 use arrayvec::ArrayVec;
 
-/// The bytes of a representation: they lie elsewhere, or are a decimal number.
+/// Bytes of a representation.
 #[derive(Drop)]
 pub enum Bytes<'s> {
-    /// They lie in the store.
+    /// Bytes of the store or of a constant.
     Stored(&'s [u8]),
-    /// A decimal number.
+    /// Text of a decimal number.
     Decimal(ArrayVec<u8, 20>),
 }
 
 impl<'s> Bytes<'s> {
-    /// The bytes.
     pub(crate) fn as_slice(&self) -> &[u8]
         ensures { result.now ≡ bytes_in self.now }
     {
@@ -26,19 +25,18 @@ impl<'s> Bytes<'s> {
     }
 }
 
-/// The representation that a path has at a moment.
+/// Representation of a resource at a certain time.
 #[derive(Drop)]
 pub(crate) struct Found<'s> {
-    /// Its version, 0 where it is built in.
+    /// Version, which is 0 for a built-in resource.
     pub version: u64,
-    /// Its Content-Format, where it has one.
+    /// Content-Format, if there is one.
     pub format: Option<u16>,
-    /// Its bytes.
     pub bytes: Bytes<'s>,
 }
 
 impl<'s> Found<'s> {
-    /// The representation of a built-in resource.
+    /// Creates the representation of a built-in resource.
     pub(crate) fn built(format: u16, bytes: Bytes<'s>) -> Found<'s>
         ensures { Some (found_value result) ≡ built_in format (bytes_in bytes.entry) }
     {

@@ -1,4 +1,4 @@
-//! What an answer that was held says in the end.
+//! The response that is sent after a delay.
 
 ghost use Rattle.std.specs.Prelude.{◌≡◌};
 ghost use Rattle.coap_store.specs.Prelude.{says, held_response as response_held};
@@ -7,8 +7,8 @@ use crate::found::{Bytes, Found};
 use crate::plan::{Plan, Watch};
 use crate::target::TEXT_PLAIN;
 
-/// The response of every answer that was held, once its time has come: 2.05 with `done` (RFC 7252 sections 5.2.2,
-/// 5.9.1.5).
+/// Returns the plan with the response that is sent after every delay: 2.05 with the payload `done` (RFC 7252 sections
+/// 5.2.2, 5.9.1.5).
 pub fn held_response() -> Plan<'static, 'static>
     ensures { result ≡ says response_held }
 {

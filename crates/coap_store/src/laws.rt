@@ -1,4 +1,4 @@
-//! What holds of every store and every answer, each as the contract of a function that does nothing.
+//! Theorems on all stores and all plans. Each is the contract of a function with an empty body.
 
 ghost use Rattle.std.specs.Prelude.{◌≡◌, ◌≢◌, ◌↔◌, ℕ, ◌+◌, ◌<◌, ◌≤◌, ◌^◌, List, [], Option, Some, None, IsTrue};
 ghost use Rattle.std.specs.Prelude.{IsFalse, IfSome};
@@ -15,7 +15,8 @@ ghost use Rattle.coap_store.specs.declared.plan.Watch.TheVariants.{Add};
 
 use crate::path::PathKey;
 
-/// A store changes for a 2.01, a 2.04, and a 2.02 of what was there, and for no other answer (RFC 7252 section 5.9.1).
+/// States that a store changes if and only if the response is 2.01, 2.04, or 2.02 for a resource that existed (RFC 7252
+/// section 5.9.1).
 pub fn store_changes_where_said()
     ensures said { (s : StoreValue) (now : ℕ) (m : Message) →
         IsTrue (says_change (answer_of s now m).response (state_of s now (path_of m))) →
@@ -25,7 +26,7 @@ pub fn store_changes_where_said()
         changed s (answer_of s now m).change ≡ s }
 {}
 
-/// The same where no more answers can be held.
+/// States the same as `store_changes_where_said` for a full pending list, which allows no delayed response.
 pub fn store_changes_where_said_promptly()
     ensures said { (s : StoreValue) (now : ℕ) (m : Message) →
         IsTrue (says_change (prompt_answer s now m).response (state_of s now (path_of m))) →
@@ -35,20 +36,20 @@ pub fn store_changes_where_said_promptly()
         changed s (prompt_answer s now m).change ≡ s }
 {}
 
-/// What is put at a path is found there, with the next version.
+/// States that a representation put at a path is found there, with the next version.
 pub fn what_is_put_is_found()
     ensures { (s : StoreValue) (path : Path) (format : Option ℕ) (bytes : List ℕ) →
         found_in (changed s (Put path format bytes)).resources path
         ≡ Some (record { version = s.versions + 1; format = format; bytes = bytes }) }
 {}
 
-/// Where no path stands twice, nothing is found at a path that was deleted.
+/// States that nothing is found at a path after its deletion, if no path occurs twice.
 pub fn what_is_deleted_is_gone()
     ensures { (s : StoreValue) (path : Path) → AreDistinct s.resources →
         found_in (changed s (Delete path)).resources path ≡ None }
 {}
 
-/// Other paths keep what is stored there.
+/// States that a change keeps the representations at other paths.
 pub fn other_paths_stay()
     ensures put { (s : StoreValue) (path other : Path) (format : Option ℕ) (bytes : List ℕ) → other ≢ path →
         found_in (changed s (Put path format bytes)).resources other ≡ found_in s.resources other }
@@ -56,15 +57,15 @@ pub fn other_paths_stay()
         found_in (changed s (Delete path)).resources other ≡ found_in s.resources other }
 {}
 
-/// No path comes to stand twice.
+/// States that no path ever occurs twice.
 pub fn paths_stay_distinct()
     ensures begun { AreDistinct [] }
     ensures changed { (s : StoreValue) (change : Change) → AreDistinct s.resources →
         AreDistinct (changed s change).resources }
 {}
 
-/// An empty store is a store, and a store stays one over each change that it takes, whose format is one of two bytes
-/// where it has one.
+/// States that an empty store has the invariant of a store. Each change that the store accepts keeps the invariant, if
+/// a Content-Format in it is a 16-bit number.
 pub fn stores_stay_stores()
     ensures empty { (dynamic_max rep_max versions : ℕ) → dynamic_max ≤ 1000 → rep_max ≤ LARGEST_MESSAGE → versions < 2 ^ 64 →
         IsStore (record { dynamic_max = dynamic_max; rep_max = rep_max; resources = []; versions = versions }) }
@@ -72,8 +73,8 @@ pub fn stores_stay_stores()
         IsStore (changed s change) }
 {}
 
-/// A representation that is put has a greater version than each that is stored. So, of all that a store has and comes
-/// to have, those with one ETag are one representation of one path (RFC 7252 section 5.10.6).
+/// States that a new representation has a larger version than each stored one. So all present and later representations
+/// with one ETag are the same representation of the same path (RFC 7252 section 5.10.6).
 pub fn versions_come_once()
     ensures newer { (s : StoreValue) (path other : Path) (format : Option ℕ) (bytes : List ℕ) (old new : Representation)
         →
@@ -88,13 +89,13 @@ pub fn versions_come_once()
         (path ≡ other) × (old ≡ new) }
 {}
 
-/// A GET changes nothing (RFC 7252 section 5.8.1).
+/// States that a GET changes nothing (RFC 7252 section 5.8.1).
 pub fn get_changes_nothing()
     ensures { (s : StoreValue) (now : ℕ) (m : Message) → IsTrue (is_get m) → (answer_of s now m).change ≡ Nothing }
 {}
 
-/// A 2.05 has the bytes and the format of the state of the path that is asked for, and its ETag where it is stored
-/// (RFC 7252 sections 5.9.1.5, 5.10.6), and a 2.03 its ETag (section 5.9.1.3).
+/// States that a 2.05 has the bytes, the format and the ETag, if any, of the path's state (RFC 7252 sections 5.9.1.5,
+/// 5.10.6). A 2.03 has the ETag (section 5.9.1.3).
 pub fn responses_tell_the_state()
     ensures content { (s : StoreValue) (now : ℕ) (m : Message) → (answer_of s now m).response.code ≡ code.content →
         TellsState (place_of (path_of m)) (state_of s now (path_of m)) (answer_of s now m).response }
@@ -102,8 +103,8 @@ pub fn responses_tell_the_state()
         TellsEtag (state_of s now (path_of m)) (answer_of s now m).response }
 {}
 
-/// A GET with no option but Uri-Path is answered 2.05 with what is stored (RFC 7252 section 5.8.1): after a request
-/// that is answered 2.01 or 2.04 that is its payload, with its Content-Format, and with the ETag of a new version.
+/// States that a GET with no option but Uri-Path returns a stored representation with 2.05 (RFC 7252 section 5.8.1).
+/// After a 2.01 or 2.04, this is the payload of that request, with its Content-Format and the ETag of a new version.
 pub fn what_is_stored_is_served()
     ensures stored { (s : StoreValue) (now : ℕ) (token : List ℕ) (path : Path) (r : Representation) →
         IsTrue (is_path path) → place_of path ≡ Dynamic → found_in s.resources path ≡ Some r →
@@ -114,8 +115,7 @@ pub fn what_is_stored_is_served()
         ≡ content_of (put_by m (s.versions + 1)) }
 {}
 
-/// A change leaves the state of every path that is not its own, the listing's excepted, and a request makes a change of
-/// no path but its own.
+/// States that a change keeps the state of every other path except the listing. A request changes only its own path.
 pub fn other_states_stay()
     ensures change { (s : StoreValue) (change : Change) (now : ℕ) (other : Path) → place_of other ≢ Listing →
         IsElsewhere other change → state_of (changed s change) now other ≡ state_of s now other }
@@ -123,12 +123,12 @@ pub fn other_states_stay()
         other ≢ path_of m → state_of (changed s (answer_of s now m).change) later other ≡ state_of s later other }
 {}
 
-/// Two keys are equal exactly where their lists of segments are.
+/// States that two keys are equal if and only if their lists of segments are.
 pub fn keys_are_equal_where_their_segments_are()
     ensures { (p q : Path) → (IsTrue (⟦<PathKey as PartialEq>⟧.eq p q) ↔ (p ≡ q)) }
 {}
 
-/// A store stays one over what is put from inside and not refused, and over what is removed.
+/// States that a `put` without an error, and every `remove`, keep the invariant of a store.
 pub fn puts_and_removals_keep_stores()
     ensures put { (s : StoreValue) (path : Path) (format : Option ℕ) (bytes : List ℕ) → IsStore s →
         IsTrue (is_path path) → put_refusal s path bytes ≡ None → IfSome format (λ number. number < 65536) →
@@ -136,8 +136,8 @@ pub fn puts_and_removals_keep_stores()
     ensures removed { (s : StoreValue) (path : Path) → IsStore s → IsStore (removed_in s path) }
 {}
 
-/// What is put from inside is the state of its path at every moment, with the next version, and what is removed is
-/// absent. All other paths keep their state, the listing's excepted.
+/// States that a representation put by the embedding program is the state of its path at all times, with the next
+/// version. A removed path is absent. All other paths keep their state, except for the listing.
 pub fn what_is_put_is_the_state()
     ensures put { (s : StoreValue) (now : ℕ) (path : Path) (format : Option ℕ) (bytes : List ℕ) →
         IsTrue (is_path path) → place_of path ≡ Dynamic →
@@ -152,8 +152,8 @@ pub fn what_is_put_is_the_state()
         other ≢ path → state_of (removed_in s path) now other ≡ state_of s now other }
 {}
 
-/// A version tells a representation, so that who remembers versions need not keep what was told: what is stored was
-/// stored, over each change it stays what was stored, and what is stored with its version, at whatever path, is it.
+/// States that a version identifies a representation, so a caller can record the version alone. Stored representations
+/// satisfy `WasStored`, changes keep this, and a stored one with the same version is the same, at the same path.
 pub fn versions_tell_what_was_stored()
     ensures stored { (s : StoreValue) (path : Path) (told : Representation) → IsStore s →
         found_in s.resources path ≡ Some told → WasStored s path told }
@@ -163,8 +163,8 @@ pub fn versions_tell_what_was_stored()
         found_in s.resources other ≡ Some now → now.version ≡ told.version → (other ≡ path) × (now ≡ told) }
 {}
 
-/// A notification with 2.05 tells the state of its path, in the format that was told before (RFC 7641 section 4.2). It
-/// is what a GET of a stored resource with no option but Uri-Path is answered.
+/// States that a 2.05 notification has the state of its path, in the format of earlier ones (RFC 7641 section 4.2). For
+/// a created resource it equals the response to a GET with no option but Uri-Path.
 pub fn notifications_tell_the_state()
     ensures content { (s : StoreValue) (now : ℕ) (path : Path) (format : Option ℕ) →
         (notification_of s now path format).code ≡ code.content →
@@ -176,8 +176,8 @@ pub fn notifications_tell_the_state()
         (answer_of s now (plain_get token path)).response ≡ notification_of s now path format }
 {}
 
-/// Where a request asks that an observer is entered (RFC 7641 section 4.1), its path is one of a resource that is there
-/// and can be observed, and the answer changes nothing and is 2.05 or 2.03.
+/// States that a request that registers an observer (RFC 7641 section 4.1) names an existing, observable resource. It
+/// changes nothing, and its response is 2.05 or 2.03.
 pub fn what_is_watched_is_there()
     ensures watched { (s : StoreValue) (now : ℕ) (m : Message) → (answer_of s now m).watch ≡ Add →
         MayWatch s now (path_of m) (answer_of s now m) }
@@ -185,8 +185,8 @@ pub fn what_is_watched_is_there()
         MayWatch s now (path_of m) (prompt_answer s now m) }
 {}
 
-/// Only a GET of the resource that answers late is held, for at most 3,600 seconds; it changes nothing, asks for no
-/// observer, and its response is always the same one. Where it cannot be held, it is 5.03.
+/// States that only a response to a GET of `/async` is delayed, by at most 3,600 seconds, and is always the same. Such
+/// a GET changes nothing and registers no observer. If the pending list is full, the response is 5.03.
 pub fn what_is_held_is_one_response()
     ensures held { (s : StoreValue) (now : ℕ) (m : Message) (seconds : ℕ) → (answer_of s now m).hold ≡ Some seconds →
         IsTrue (asks_late m) × ((answer_of s now m).response ≡ held_response) × ((answer_of s now m).change ≡ Nothing)

@@ -1,11 +1,11 @@
 //! The resources of a server, and the responses to requests (RFC 7252 section 5.8, RFC 7641, RFC 6690).
 //!
-//! - `Store` has the built-in and the stored resources. `Store::answer` returns the `Plan` for a request: the response,
-//!   the `Change` that the request makes, and what it asks of the observers (`Watch`). `Store::apply` makes the change.
-//! - `Store::put` and `Store::remove` change resources from inside the program (`StoreFault`).
-//! - `PathKey` is the path of a resource. `laws` has the theorems on answers and changes.
+//! - `Store` has the built-in and the created resources. `Store::answer` returns the `Plan` for a request: the
+//!   response, the `Change`, and the effect on the observers (`Watch`). `Store::apply` makes the change.
+//! - `Store::put` and `Store::remove` change resources on behalf of the embedding program (`StoreFault`).
+//! - `PathKey` is the path of a resource. `laws` has the theorems on plans and changes.
 //!
-//! This crate knows no connection and keeps no observer: `coap_server_session` does. Continue with `store.rt`, then
+//! This crate has no connections and no list of observers: `coap_server_session` does. Continue with `store.rt`, then
 //! `answer.rt`, whose contracts name the definitions of `specs/Answer.antt`.
 #![tactic(auto)]
 

@@ -1,4 +1,4 @@
-//! What the recognised options of a request say, noted in one pass.
+//! The recognised options of a request, collected in one pass.
 
 ghost use Rattle.std.specs.Prelude.{◌≡◌, true, option_copied};
 ghost use Rattle.coap_store.specs.Prelude.{first_given, coap_option, nothing, noted, notes_value};
@@ -10,10 +10,10 @@ use coap_wire::option_numbers::{
     URI_PATH, URI_QUERY,
 };
 
-/// Which options are there, and the first value of those that have one of interest.
+/// Recognised options of a request: which are present, and the first value of those whose value matters.
 #[derive(Drop)]
 pub(crate) struct Notes<'r> {
-    /// Where the path leads.
+    /// State of matching the path.
     pub trail: Trail,
     pub has_if_match: bool,
     pub has_etag: bool,
@@ -26,7 +26,7 @@ pub(crate) struct Notes<'r> {
     pub accept: Option<&'r [u8]>,
 }
 
-/// Keeps a value where it is the first.
+/// Keeps a value if it is the first.
 fn keep_first<'r>(first: &mut Option<&'r [u8]>, value: &'r [u8])
     ensures { option_copied first.new ≡ first_given (option_copied first.old) true value.now }
 {
@@ -36,7 +36,7 @@ fn keep_first<'r>(first: &mut Option<&'r [u8]>, value: &'r [u8])
 }
 
 impl<'r> Notes<'r> {
-    /// Nothing is noted yet.
+    /// Returns the state before the first option.
     pub(crate) fn nothing() -> Notes<'r>
         ensures { notes_value result ≡ nothing }
     {
@@ -54,7 +54,7 @@ impl<'r> Notes<'r> {
         }
     }
 
-    /// Notes the next recognised option.
+    /// Adds the next recognised option.
     #[tactic(auto, unfolding(crate::specs::Noting::noted))]
     pub(crate) fn note(&mut self, option: &OptionRef<'r>)
         ensures { notes_value self.new ≡ noted (notes_value self.old) (coap_option option.now) }

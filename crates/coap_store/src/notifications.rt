@@ -1,4 +1,4 @@
-//! What observers are told (RFC 7641).
+//! The notifications of observers (RFC 7641).
 
 use crate::answer::{etag_for, max_age_of};
 use crate::path::PathKey;
@@ -11,10 +11,11 @@ impl Store {
     ghost use Rattle.coap_store.specs.Prelude.{LARGEST_MESSAGE};
     ghost use Rattle.coap_store.specs.Prelude.{says, IsStore, notification_of};
 
-    /// What an observer of a path that was told representations of this Content-Format, or of none, is told of it at a
-    /// moment in seconds (RFC 7641 section 4.2): 4.04 where the path is absent, 4.06 where the representation has
-    /// another format, else 2.05 with the representation, as a GET that finds it is answered. It changes nothing, and
-    /// allocates nothing.
+    /// Returns the notification for an observer of a path at the time `now`, in seconds (RFC 7641 section 4.2).
+    ///
+    /// `format` is the Content-Format of the representations that were sent before, if they had one. The notification
+    /// is 4.04 if the path is absent, and 4.06 if the representation has another format. Otherwise it is 2.05 with the
+    /// representation, as in a response to GET. The call allocates nothing.
     pub fn notification<'s, 'r>(
         &'s self,
         path: &PathKey,

@@ -8,34 +8,34 @@ use crate::uri_path::UriPath;
 use arrayvec::ArrayVec;
 use std::marker::Model;
 
-/// The most segments of a path.
+/// Maximum number of segments of a path.
 const MAX_SEGMENTS: usize = 16;
 
-/// The most bytes of a path, where each segment takes one more than it has.
+/// Maximum number of bytes of a path. Each segment counts one byte more than it has.
 const MAX_BYTES: usize = 255;
 
-/// Whether a segment is `.` or `..`.
+/// Returns `true` if a segment is `.` or `..`.
 fn names_dots(segment: &[u8]) -> bool
     ensures { result ≡ is_dots segment.now }
 {
     segment == b".".as_slice() || segment == b"..".as_slice()
 }
 
-/// Whether one of the segments is `.` or `..`.
+/// Returns `true` if a segment of the list is `.` or `..`.
 fn any_dots(segments: &[&[u8]]) -> bool
     ensures { result ≡ list_any is_dots (segment_list segments.now) }
 {
     segments.iter().any(|segment| names_dots(segment))
 }
 
-/// Whether there is one segment and that is empty.
+/// Returns `true` if the list has one segment, which is empty.
 fn only_empty(segments: &[&[u8]]) -> bool
     ensures { result ≡ is_one_empty (segment_list segments.now) }
 {
     segments.len() == 1 && segments[0].is_empty()
 }
 
-/// Whether the segments fit in the bytes of a path.
+/// Returns `true` if the segments fit in the bytes of a path.
 fn fits(segments: &[&[u8]]) -> bool
     ensures { result ≡ nat_le (written_length (segment_list segments.now)) 255 }
 {
@@ -49,7 +49,7 @@ fn fits(segments: &[&[u8]]) -> bool
     true
 }
 
-/// Whether these are the segments of a path.
+/// Returns `true` if these are the segments of a path.
 #[tactic(auto, using(crate::proofs::PathLemmas::count_segments), unfolding(crate::specs::Paths::is_path))]
 fn are_path(segments: &[&[u8]]) -> bool
     ensures { result ≡ is_path (segment_list segments.now) }
@@ -57,7 +57,7 @@ fn are_path(segments: &[&[u8]]) -> bool
     segments.len() <= MAX_SEGMENTS && fits(segments) && !any_dots(segments) && !only_empty(segments)
 }
 
-/// Each segment behind its length.
+/// Returns the segments, each after a byte with its length.
 fn bytes_of(segments: &[&[u8]]) -> ArrayVec<u8, MAX_BYTES>
     requires { written_length (segment_list segments.now) ≤ 255 }
     ensures { result.items ≡ written (segment_list segments.now) }
@@ -72,8 +72,8 @@ fn bytes_of(segments: &[&[u8]]) -> ArrayVec<u8, MAX_BYTES>
     bytes
 }
 
-/// Returns `true` if these are the segments of a path, and then the bytes have each segment after a byte with its length.
-/// One pass checks and writes them.
+/// Returns `true` if these are the segments of a path. In this case `bytes` has each segment after a byte with its
+/// length. One pass checks and writes them.
 fn write_path(bytes: &mut ArrayVec<u8, MAX_BYTES>, segments: UriPath) -> bool
     requires { bytes.old.items ≡ [] }
     ensures path { result ≡ is_path segments.entry }
@@ -96,12 +96,13 @@ fn write_path(bytes: &mut ArrayVec<u8, MAX_BYTES>, segments: UriPath) -> bool
     !(count == 1 && bytes.len() == 1)
 }
 
-/// The path of a resource: at most 16 segments, at most 255 bytes with one more for each segment, no segment `.` or
-/// `..`, and not one empty segment alone (RFC 7252 sections 5.10.1, 6.4). No segment is the root. Contracts see the
-/// list of the segments, and equality is that of these lists.
+/// Path of a resource: at most 16 segments, and at most 255 bytes, where each segment counts one byte more than it has.
+///
+/// No segment is `.` or `..`, and a single segment is not empty (RFC 7252 sections 5.10.1, 6.4). The root has no
+/// segment. Contracts see the list of the segments, and two paths are equal if and only if their lists are.
 #[derive(Drop, PartialEq, Eq, Hash)]
 pub struct PathKey {
-    /// Each segment behind its length.
+    /// Segments, each after a byte with its length.
     bytes: ArrayVec<u8, MAX_BYTES>,
 }
 
@@ -132,8 +133,8 @@ impl PathKey {
         }
     }
 
-    /// Returns `true` if these are the segments of a path, and then becomes that path. A key is large and costly to move,
-    /// so this fills it in place.
+    /// Returns `true` if these are the segments of a path, and sets the key to that path. A key is large and costly to
+    /// move, so this fills it in place.
     pub(crate) fn fill(&mut self, segments: UriPath) -> bool
         ensures path { result ≡ is_path segments.entry }
         ensures filled { result ≡ true → self.new ≡ segments.entry }
@@ -146,10 +147,10 @@ impl PathKey {
         is_path
     }
 
-    /// The path with these segments. A slash in a segment is a byte like any other, so the one segment `a/b` and the
-    /// two segments `a` and `b` are different paths (RFC 7252 section 5.10.1). `None` where these are not the segments
-    /// of a path: more than 16, more than 255 bytes with one more for each segment, a segment `.` or `..`, or one empty
-    /// segment alone.
+    /// Returns the path with these segments, or `None` if a path cannot have them: see the limits of `PathKey`.
+    ///
+    /// A slash in a segment is a byte like any other. The segment `a/b` and the two segments `a` and `b` are different
+    /// paths (RFC 7252 section 5.10.1).
     pub fn from_segments(segments: &[&[u8]]) -> Option<PathKey>
         ensures { result ≡ (if is_path (segment_list segments.now) then Some (segment_list segments.now) else None) }
     {
@@ -161,7 +162,7 @@ impl PathKey {
         })
     }
 
-    /// A copy, for which nothing is allocated.
+    /// Returns a copy, without allocation.
     pub fn duplicate(&self) -> PathKey
         ensures { result ≡ self.now }
     {
@@ -171,22 +172,21 @@ impl PathKey {
         PathKey { bytes }
     }
 
-    /// Tells the proof of a caller that this is the path of a resource. It reads the key, which is what the proof needs
-    /// to know that its invariant holds, and does nothing.
+    /// Reads the key, which gives its invariant to the proof of a caller. Does nothing else.
     pub(crate) fn is_kept(&self)
         ensures { is_path self.now ≡ true }
     {
         let _read = self.bytes.as_slice();
     }
 
-    /// Each segment behind a byte that has its length.
+    /// Returns the segments as bytes, each after a byte with its length.
     pub(crate) fn written(&self) -> &[u8]
         ensures { result.now ≡ written self.now }
     {
         self.bytes.as_slice()
     }
 
-    /// The segments, in order.
+    /// Returns an iterator over the segments, in order.
     pub fn segments(&self) -> Segments<'_>
         ensures value { result ≡ self.now }
         ensures path { is_path self.now ≡ true }
@@ -197,10 +197,10 @@ impl PathKey {
     }
 }
 
-/// The segments of a path, in order. Contracts see the list of those that are left.
+/// Iterator over the segments of a path, in order. Contracts see the list of the remaining segments.
 #[derive(Drop)]
 pub struct Segments<'a> {
-    /// Each segment behind its length.
+    /// Remaining segments, each after a byte with its length.
     rest: &'a [u8],
 }
 

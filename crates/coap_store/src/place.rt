@@ -1,4 +1,4 @@
-//! Which resource a path names.
+//! The kinds of resources.
 
 ghost use Rattle.std.specs.Prelude.{◌≡◌};
 ghost use Rattle.coap_store.specs.Prelude.{place_of as place_named, is_dynamic as is_dynamic_place};
@@ -6,37 +6,37 @@ ghost use Rattle.coap_store.specs.Prelude.{is_async as is_async_place, is_observ
 
 use crate::path::PathKey;
 
-/// Which resource a path names: one that is built in, or one that is stored or may be.
+/// Kind of resource that a path names: one of the built-in resources, or a created resource, which may be absent.
 #[derive(Clone, Copy, PartialEq, Eq)]
 pub enum Place {
-    /// The root: a greeting.
+    /// Root, with a fixed greeting.
     Root,
-    /// The moment in seconds.
+    /// Resource `/time`: the time of the server in seconds.
     Time,
-    /// The one that answers late.
+    /// Resource `/async`, whose responses are delayed.
     Async,
-    /// The listing of all resources (RFC 6690 section 4).
+    /// Listing of all resources at `/.well-known/core` (RFC 6690 section 4).
     Listing,
-    /// Any other path.
+    /// Resource at any other path.
     Dynamic,
 }
 
 impl Place {
-    /// Whether no resource is built in there.
+    /// Returns `true` if the resource is not built in.
     pub fn is_dynamic(self) -> bool
         ensures { result ≡ is_dynamic_place self }
     {
         self == Place::Dynamic
     }
 
-    /// Whether it is the resource that answers late.
+    /// Returns `true` if responses of the resource are delayed.
     pub(crate) fn is_async(self) -> bool
         ensures { result ≡ is_async_place self }
     {
         self == Place::Async
     }
 
-    /// Whether its changes can be observed (RFC 7641 section 1.2).
+    /// Returns `true` if the resource can be observed (RFC 7641 section 1.2).
     pub(crate) fn is_observable(self) -> bool
         ensures { result ≡ is_observable_place self }
     {
@@ -45,7 +45,7 @@ impl Place {
 }
 
 impl PathKey {
-    /// Returns the resource that the path names.
+    /// Returns the kind of resource that the path names.
     #[tactic(auto, using(crate::proofs::PlaceLemmas::at_root, crate::proofs::PlaceLemmas::at_time, crate::proofs::PlaceLemmas::at_async, crate::proofs::PlaceLemmas::at_listing, crate::proofs::PlaceLemmas::elsewhere), unfolding(crate::specs::PathViews::written))]
     pub fn place(&self) -> Place
         ensures { result ≡ place_named self.now }

@@ -1,4 +1,4 @@
-//! What is answered to a request.
+//! The plan for a request.
 
 ghost use Rattle.std.specs.Prelude.{◌≡◌, ◌≢◌, ◌≤◌, true, [], Some, IfSome, length, option_map};
 ghost use Rattle.coap_store.specs.Prelude.{bytes_in, change_value, says, only, unheld, changes as is_change, is_path};
@@ -13,26 +13,26 @@ use arrayvec::ArrayVec;
 use coap_wire::{Body, Code};
 use std::marker::Model;
 
-/// What a request changes.
+/// Change that a request makes.
 #[derive(Drop)]
 pub enum Change<'r> {
-    /// Nothing.
+    /// No change.
     Nothing,
-    /// A representation is stored at a path, in the place of the one that is there.
+    /// Representation to be stored at a path, in place of the present one.
     Put {
-        /// Where.
+        /// Path.
         path: PathKey,
-        /// Its Content-Format, where it has one.
+        /// Content-Format, if there is one.
         format: Option<u16>,
-        /// Its bytes, which lie in the request.
+        /// Bytes, which are borrowed from the request.
         bytes: &'r [u8],
     },
-    /// The resource at a path goes.
+    /// Path of a resource to be removed.
     Delete(PathKey),
 }
 
 impl<'r> Change<'r> {
-    /// The same change. It allocates nothing.
+    /// Returns a copy, without allocation.
     pub fn duplicate(&self) -> Change<'r>
         ensures { change_value result ≡ change_value self.now }
     {
@@ -52,41 +52,43 @@ impl<'r> Change<'r> {
     }
 }
 
-/// The change that a request makes, with the request's options, which have its path.
+/// Change that a request makes, with the request's options, which have its path.
 #[derive(Drop)]
 pub(crate) enum Effect<'r> {
-    /// Nothing.
     Nothing,
-    /// The payload is stored at the path.
+    /// Payload to be stored at the path.
     Put {
-        /// The request's options and payload.
+        /// Options and payload of the request.
         body: Body<'r>,
-        /// Its Content-Format, where it has one.
+        /// Content-Format, if there is one.
         format: Option<u16>,
     },
-    /// The resource at the path goes.
+    /// Removal of the resource at the path.
     Delete {
-        /// The request's options.
+        /// Options of the request.
         body: Body<'r>,
     },
 }
 
-/// What a request asks of the observers of its path (RFC 7641 sections 2, 3.6, 4.1). Whoever keeps observers removes an
-/// entry with the request's token before that, whatever this says: a token names one request of its client.
+/// Effect of a request on the observers of its path (RFC 7641 sections 2, 3.6, 4.1).
+///
+/// A token names one request of its client. So the caller first removes an observer with the request's token, whatever
+/// the effect is.
 #[derive(Clone, Copy, PartialEq, Eq)]
 pub enum Watch {
-    /// Nothing.
+    /// No effect.
     Nothing,
-    /// It asks that an observer with its token is entered: a GET with Observe 0 of a resource that can be observed,
-    /// which is answered 2.05 or 2.03.
+    /// Registration of an observer with the request's token: a GET with Observe 0 of an observable resource, whose
+    /// response is 2.05 or 2.03.
     Add,
-    /// It asks that the observer with its token is removed: a GET with Observe 1, whatever its answer.
+    /// Removal of the observer with the request's token: a GET with Observe 1, whatever its response is.
     Drop,
 }
 
-/// The answer to a request: the response, apart from the request's token, what the request changes, what it asks of the
-/// observers, and for how long the response is held. It borrows the bytes of the store and of the request. Contracts
-/// see an `Answer`. A plan is moved often, so its fields are in the order of their sizes.
+/// Plan for a request: the response without its token, the change, the effect on the observers, and the delay.
+///
+/// A plan borrows bytes of the store and of the request. Contracts see an `Answer`. A plan is moved often, so its
+/// fields are in the order of their sizes.
 #[derive(Drop)]
 pub struct Plan<'s, 'r> {
     etag: Option<ArrayVec<u8, 8>>,
@@ -94,11 +96,11 @@ pub struct Plan<'s, 'r> {
     effect: Effect<'r>,
     max_age: Option<u32>,
     size1: Option<u32>,
-    /// For how many seconds the response is held, where it is.
+    /// Delay of the response in seconds, if there is one.
     hold: Option<u32>,
     format: Option<u16>,
     code: Code,
-    /// Whether the path of the change is told.
+    /// `true` if the response has Location-Path options with the path of the change.
     tells_location: bool,
     watch: Watch,
 }
@@ -116,7 +118,7 @@ impl<'s, 'r> Model for Plan<'s, 'r> {
 }
 
 impl<'s, 'r> Plan<'s, 'r> {
-    /// A response with this code and nothing else, which changes nothing.
+    /// Creates a plan with this code and nothing else.
     pub(crate) fn only(code: Code) -> Plan<'s, 'r>
         ensures { result ≡ says (only code) }
     {
@@ -134,7 +136,7 @@ impl<'s, 'r> Plan<'s, 'r> {
         }
     }
 
-    /// 2.03 with an ETag, which changes nothing (RFC 7252 section 5.9.1.3).
+    /// Creates a plan with 2.03 and an ETag, and without a change (RFC 7252 section 5.9.1.3).
     pub(crate) fn valid(etag: Option<ArrayVec<u8, 8>>, watch: Watch) -> Plan<'s, 'r>
         ensures { result
             ≡ record (says (record (only code.valid) { etag = option_map (λ e. e.items) etag })) { watch = watch } }
@@ -146,7 +148,7 @@ impl<'s, 'r> Plan<'s, 'r> {
         }
     }
 
-    /// 2.05 with a representation, which changes nothing (RFC 7252 section 5.9.1.5).
+    /// Creates a plan with 2.05 and a representation, and without a change (RFC 7252 section 5.9.1.5).
     pub(crate) fn content(
         etag: Option<ArrayVec<u8, 8>>,
         found: Found<'s>,
@@ -172,7 +174,7 @@ impl<'s, 'r> Plan<'s, 'r> {
         }
     }
 
-    /// 4.13 with Size1, the greatest representation in bytes (RFC 7252 section 5.9.2.9).
+    /// Creates a plan with 4.13 and Size1, the maximum size of a representation in bytes (RFC 7252 section 5.9.2.9).
     pub(crate) fn too_large(greatest: u32) -> Plan<'s, 'r>
         ensures { result ≡ says (record (only code.request_entity_too_large) { size1 = Some greatest }) }
     {
@@ -182,7 +184,8 @@ impl<'s, 'r> Plan<'s, 'r> {
         }
     }
 
-    /// The response to a change, which tells the path of what is put or not.
+    /// Creates a plan with a change. If `tells_location` is `true`, the response has the path of a stored
+    /// representation.
     pub(crate) fn changing(code: Code, tells_location: bool, effect: Effect<'r>) -> Plan<'s, 'r>
         requires path { IsAtPath effect }
         requires named { IsToldNamed tells_location effect }
@@ -197,14 +200,14 @@ impl<'s, 'r> Plan<'s, 'r> {
         }
     }
 
-    /// Sets what the answer asks of the observers.
+    /// Sets the effect on the observers.
     pub(crate) fn set_watch(&mut self, watch: Watch)
         ensures { self.new ≡ record self.old { watch = watch } }
     {
         self.watch = watch;
     }
 
-    /// The same answer, which is held for so many seconds.
+    /// Returns the plan with a response that is delayed by this number of seconds.
     pub(crate) fn held(self, seconds: u32) -> Plan<'s, 'r>
         ensures { result ≡ record self.entry { hold = Some seconds } }
     {
@@ -214,14 +217,14 @@ impl<'s, 'r> Plan<'s, 'r> {
         }
     }
 
-    /// The response's code.
+    /// Returns the code of the response.
     pub fn code(&self) -> Code
         ensures { result ≡ self.now.response.code }
     {
         self.code
     }
 
-    /// The value of its ETag, where it has one: at most 8 bytes (RFC 7252 section 5.10.6).
+    /// Returns the value of the ETag, at most 8 bytes, if there is one (RFC 7252 section 5.10.6).
     pub fn etag(&self) -> Option<&[u8]>
         ensures value { option_map (λ etag. etag.now) result ≡ self.now.response.etag }
         ensures short { IfSome result (λ etag. length etag.now ≤ 8) }
@@ -230,21 +233,21 @@ impl<'s, 'r> Plan<'s, 'r> {
         Some(etag.as_slice())
     }
 
-    /// Its Content-Format, where it has one (RFC 7252 section 5.10.3).
+    /// Returns the Content-Format, if there is one (RFC 7252 section 5.10.3).
     pub fn format(&self) -> Option<u16>
         ensures { result ≡ self.now.response.format }
     {
         self.format
     }
 
-    /// Its Max-Age in seconds, where it has one (RFC 7252 section 5.10.5).
+    /// Returns the Max-Age in seconds, if there is one (RFC 7252 section 5.10.5).
     pub fn max_age(&self) -> Option<u32>
         ensures { result ≡ self.now.response.max_age }
     {
         self.max_age
     }
 
-    /// The path that its Location-Path options tell, one for each segment, where it has any (RFC 7252 section 5.10.7).
+    /// Returns the path for Location-Path options, one for each segment, if there is one (RFC 7252 section 5.10.7).
     pub fn location(&self) -> Option<UriPath<'r>>
         ensures value { path_or_root result ≡ self.now.response.location }
         ensures path { IfSome result (λ path. is_path path ≡ true) }
@@ -259,21 +262,21 @@ impl<'s, 'r> Plan<'s, 'r> {
         }
     }
 
-    /// Its Size1, the greatest representation in bytes, where it has one (RFC 7252 section 5.10.9).
+    /// Returns Size1, the maximum size of a representation in bytes, if there is one (RFC 7252 section 5.10.9).
     pub fn size1(&self) -> Option<u32>
         ensures { result ≡ self.now.response.size1 }
     {
         self.size1
     }
 
-    /// Its payload.
+    /// Returns the payload, which is empty if there is none.
     pub fn payload(&self) -> &[u8]
         ensures { result.now ≡ self.now.response.payload }
     {
         self.payload.as_slice()
     }
 
-    /// Returns the change that the request makes. Its key is made only if the change is asked for, not with the plan.
+    /// Returns the change that the request makes. Its key is made by this call, not with the plan.
     pub fn change(&self) -> Change<'r>
         ensures { change_value result ≡ self.now.change }
     {
@@ -288,7 +291,7 @@ impl<'s, 'r> Plan<'s, 'r> {
         }
     }
 
-    /// Whether the request changes anything.
+    /// Returns `true` if the request makes a change.
     pub fn changes(&self) -> bool
         ensures { result ≡ is_change self.now.change }
     {
@@ -298,21 +301,21 @@ impl<'s, 'r> Plan<'s, 'r> {
         }
     }
 
-    /// What the request asks of the observers.
+    /// Returns the effect of the request on the observers.
     pub fn watch(&self) -> Watch
         ensures { result ≡ self.now.watch }
     {
         self.watch
     }
 
-    /// Returns the seconds for which a separate response is held, at most 3,600. (Own: no RFC says when it comes.)
+    /// Returns the delay of a separate response in seconds, at most 3,600, if there is one. No RFC defines the delay.
     pub fn hold(&self) -> Option<u32>
         ensures seconds { result ≡ self.now.hold }
     {
         self.hold
     }
 
-    /// The same answer where no more can be held: 5.03 in place of one that would be held.
+    /// Returns the plan for a full pending list: 5.03 in place of a delayed response.
     pub fn unheld(self) -> Plan<'s, 'r>
         ensures { result ≡ unheld self.entry }
     {
@@ -327,7 +330,7 @@ impl<'s, 'r> Plan<'s, 'r> {
         }
     }
 
-    /// The same answer without a payload, which borrows the request alone.
+    /// Returns the plan without its payload. The plan then borrows from the request alone.
     pub fn without_payload<'d>(self) -> Plan<'d, 'r>
         ensures { result ≡ record self.entry { response = record self.entry.response { payload = [] } } }
     {

@@ -1,4 +1,4 @@
-//! Changes of resources from inside, by the program that embeds the server.
+//! Changes of resources by the program that embeds the server.
 
 use crate::fault::StoreFault;
 use crate::path::PathKey;
@@ -9,15 +9,18 @@ impl Store {
     ghost use Rattle.coap_store.specs.Prelude.{RefusedBy, put_in, removed_in, IsStore, RefusedOrMemory, put_refusal};
     ghost use Rattle.coap_store.specs.Prelude.{remove_refusal};
 
-    /// Stores a representation with this Content-Format, if any, and these bytes at a path, in the place of the one
-    /// that is there, and answers its version: one more than that of the representation stored last, at this path or
-    /// another.
+    /// Stores these bytes, with this Content-Format if any, at a path, in place of the present representation.
+    ///
+    /// Returns the new version: one more than that of the representation stored last, at this path or another.
     ///
     /// # Errors
     ///
-    /// In this order: `TooLarge` where there are more bytes than a representation may have, `BadPath` where the path is
-    /// that of a built-in resource, `Limit` where the path is absent and as many dynamic resources are there as may be,
-    /// `VersionsSpent` where no version is left, `Memory` where memory was refused. The store is then as before.
+    /// The store is unchanged. The errors are checked in this order:
+    /// - `TooLarge`: the bytes exceed the maximum size of a representation.
+    /// - `BadPath`: the path is that of a built-in resource.
+    /// - `Limit`: the path is absent, and the limit of created resources is reached.
+    /// - `VersionsSpent`: no version is left.
+    /// - `Memory`: allocation failed.
     pub fn put(
         &mut self,
         path: &PathKey,
@@ -39,11 +42,11 @@ impl Store {
         Ok(self.versions())
     }
 
-    /// Takes the resource at a path away. It takes no memory.
+    /// Removes the resource at a path, without allocation.
     ///
     /// # Errors
     ///
-    /// `NoSuch` where the path is absent or that of a built-in resource. The store is then as before.
+    /// - `NoSuch`: the path is absent or that of a built-in resource. The store is unchanged.
     pub fn remove(&mut self, path: &PathKey) -> Result<(), StoreFault>
         ensures answer { RefusedBy result (remove_refusal self.old path.now) }
         ensures ok { OnOk result (self.new ≡ removed_in self.old path.now) }
@@ -58,7 +61,7 @@ impl Store {
         Ok(())
     }
 
-    /// Whether `remove` would take a resource away at a path. It changes nothing, and takes no memory.
+    /// Returns `true` if `remove` would succeed at a path. The call allocates nothing.
     pub fn can_remove(&self, path: &PathKey) -> bool
         ensures { result ≡ is_none (remove_refusal self.now path.now) }
     {
@@ -66,11 +69,7 @@ impl Store {
         self.find(path).is_some()
     }
 
-    /// Whether these bytes can be stored at a path, memory apart.
-    ///
-    /// # Errors
-    ///
-    /// What `put` refuses, in its order.
+    /// Returns the error that `put` returns, allocation apart.
     #[tactic(auto, unfolding(crate::specs::Refusals::put_refusal))]
     fn check_put(&self, path: &PathKey, bytes: &[u8]) -> Result<(), StoreFault>
         ensures { RefusedBy result (put_refusal self.now path.now bytes.now) }

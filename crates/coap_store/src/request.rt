@@ -1,5 +1,5 @@
-//! The recognised options of a request (RFC 7252 sections 5.4, 5.10). One pass reads them. Only If-Match, ETag or a
-//! path key needs a second pass over them.
+//! The recognised options of a request (RFC 7252 sections 5.4, 5.10), read in one pass. Only If-Match, ETag and a path
+//! key need a second pass.
 
 ghost use Rattle.std.specs.Prelude.{◌≡◌, ◌≤◌, true, Option, length, is_some, IfSome, ◌||◌, option_map};
 ghost use Rattle.coap_store.specs.Prelude.{uint_of, known_options, is_path, digits_mean, path_of as path_asked};
@@ -16,7 +16,7 @@ use coap_wire::option_numbers::{ETAG, IF_MATCH};
 use coap_wire::{Body, Code, MessageRef, uint_bytes, uint_value};
 use std::marker::Model;
 
-/// A request whose recognised options were read once. Contracts see its message.
+/// Request whose recognised options were read once. Contracts see its message.
 #[derive(Drop)]
 pub(crate) struct Asked<'q, 'r> {
     request: &'q MessageRef<'r>,
@@ -37,7 +37,7 @@ impl<'q, 'r> Model for Asked<'q, 'r> {
     ghost invariant = { IsAsked };
 }
 
-/// Notes what the recognised options of a request say, and whether another option is critical, in one pass over all.
+/// Returns the recognised options of a request, and `true` if an option is critical and not recognised, after one pass.
 fn notes_of<'r>(request: &MessageRef<'r>) -> (Notes<'r>, bool)
     ensures notes { notes_value result.0 ≡ all_noted nothing (known_options request.now.options) }
     ensures bad { result.1 ≡ is_some (first_critical request.now.options) }
@@ -54,7 +54,7 @@ fn notes_of<'r>(request: &MessageRef<'r>) -> (Notes<'r>, bool)
     (notes, has_bad_option)
 }
 
-/// Returns the path in a request's options, which is the path of a resource.
+/// Returns the path in a request's options. It must be the path of a resource.
 pub(crate) fn path_in(body: &Body) -> PathKey
     requires { is_path (path_told body.now) ≡ true }
     ensures { result ≡ path_told body.now }
@@ -64,7 +64,7 @@ pub(crate) fn path_in(body: &Body) -> PathKey
     path
 }
 
-/// The number that at most 2 bytes mean in network order (RFC 7252 section 3.2).
+/// Returns the number that at most 2 bytes encode in network order (RFC 7252 section 3.2).
 fn small_value(bytes: &[u8]) -> u16
     requires { length bytes.now ≤ 2 }
     ensures { result ≡ uint_of bytes.now }
@@ -99,28 +99,27 @@ impl<'q, 'r> Asked<'q, 'r> {
         self.request.body()
     }
 
-    /// The code.
     pub(crate) fn code(&self) -> Code
         ensures { result ≡ self.now.code }
     {
         self.request.code()
     }
 
-    /// The payload, empty where there is none.
+    /// Returns the payload, which is empty if there is none.
     pub(crate) fn payload(&self) -> &'r [u8]
         ensures { result.now ≡ self.now.payload }
     {
         self.request.payload()
     }
 
-    /// Whether an option is critical and not recognised.
+    /// Returns `true` if an option is critical and not recognised.
     pub(crate) fn has_bad_option(&self) -> bool
         ensures { result ≡ is_some (first_critical self.now.options) }
     {
         self.has_bad_option
     }
 
-    /// Whether the request asks a proxy (RFC 7252 section 5.10.2).
+    /// Returns `true` if the request has Proxy-Uri or Proxy-Scheme (RFC 7252 section 5.10.2).
     pub(crate) fn asks_proxy(&self) -> bool
         ensures { result
             ≡ (spec.has_option numbers.proxy_uri self.now || spec.has_option numbers.proxy_scheme self.now) }
@@ -128,8 +127,7 @@ impl<'q, 'r> Asked<'q, 'r> {
         self.notes.has_proxy_uri || self.notes.has_proxy_scheme
     }
 
-    /// Returns `true` if the path that is asked for is that of a resource, and then sets the key to it (RFC 7252 section
-    /// 5.10.1).
+    /// Returns `true` if the request's path is that of a resource, and sets the key to it (RFC 7252 section 5.10.1).
     pub(crate) fn fill_key(&self, key: &mut PathKey) -> bool
         ensures path { result ≡ is_path (spec.path_of self.now) }
         ensures filled { result ≡ true → key.new ≡ spec.path_of self.now }
@@ -137,14 +135,14 @@ impl<'q, 'r> Asked<'q, 'r> {
         key.fill(UriPath::of(&self.body()))
     }
 
-    /// Which resource the path names.
+    /// Returns the kind of resource that the path names.
     pub(crate) fn place(&self) -> Place
         ensures { result ≡ place_of (spec.path_of self.now) }
     {
         self.notes.trail.place()
     }
 
-    /// The Content-Format of the payload (RFC 7252 section 5.10.3).
+    /// Returns the Content-Format of the payload (RFC 7252 section 5.10.3).
     pub(crate) fn content_format(&self) -> Option<u16>
         ensures { result ≡ spec.number_of numbers.content_format self.now }
     {
@@ -152,7 +150,7 @@ impl<'q, 'r> Asked<'q, 'r> {
         Some(small_value(value))
     }
 
-    /// The Content-Format that is accepted (RFC 7252 section 5.10.4).
+    /// Returns the Content-Format in Accept (RFC 7252 section 5.10.4).
     pub(crate) fn accept(&self) -> Option<u16>
         ensures { result ≡ spec.number_of numbers.accept self.now }
     {
@@ -160,7 +158,7 @@ impl<'q, 'r> Asked<'q, 'r> {
         Some(small_value(value))
     }
 
-    /// The number that Observe has (RFC 7641 section 2).
+    /// Returns the number in Observe (RFC 7641 section 2).
     pub(crate) fn observe(&self) -> Option<u32>
         ensures { result ≡ spec.number_of numbers.observe self.now }
     {
@@ -168,7 +166,7 @@ impl<'q, 'r> Asked<'q, 'r> {
         uint_value(value)
     }
 
-    /// Whether the first Uri-Query, where there is one, is a number of seconds.
+    /// Returns `true` if there is no Uri-Query, or the first one is a number of seconds.
     pub(crate) fn has_good_query(&self) -> bool
         ensures { result ≡ spec.is_good_query (spec.value_of numbers.uri_query self.now) }
     {
@@ -178,7 +176,7 @@ impl<'q, 'r> Asked<'q, 'r> {
         }
     }
 
-    /// For how many seconds the request asks that its answer is held: 5 where it does not say.
+    /// Returns the delay in seconds that the request asks for, or 5 if it has no Uri-Query.
     pub(crate) fn seconds(&self) -> u32
         requires { spec.is_good_query (spec.value_of numbers.uri_query self.now) ≡ true }
         ensures { result ≡ spec.seconds_of (spec.value_of numbers.uri_query self.now) }
@@ -192,8 +190,8 @@ impl<'q, 'r> Asked<'q, 'r> {
         u32::from(seconds)
     }
 
-    /// Whether If-Match holds for a resource with this version, or for one that does not exist: it is absent, or one of
-    /// its values is empty, or the version's ETag (RFC 7252 section 5.10.8.1).
+    /// Returns `true` if the request has no If-Match. Otherwise the resource must exist, and a value of If-Match must
+    /// be empty or the ETag of its version (RFC 7252 section 5.10.8.1).
     pub(crate) fn match_holds(&self, version: Option<u64>) -> bool
         ensures { (state : Option Representation) → version ≡ option_map (λ r. r.version) state →
             result ≡ spec.match_holds state self.now }
@@ -209,8 +207,7 @@ impl<'q, 'r> Asked<'q, 'r> {
             && (option.value.is_empty() || option.value == etag.as_slice()))
     }
 
-    /// Whether If-None-Match holds for a resource: it is absent, or the resource does not exist (RFC 7252 section
-    /// 5.10.8.2).
+    /// Returns `true` if the request has no If-None-Match, or the resource does not exist (RFC 7252 section 5.10.8.2).
     pub(crate) fn none_match_holds(&self, is_present: bool) -> bool
         ensures { (state : Option Representation) → is_present ≡ spec.is_present state →
             result ≡ spec.none_match_holds state self.now }
@@ -218,7 +215,7 @@ impl<'q, 'r> Asked<'q, 'r> {
         !(is_present && self.notes.has_if_none_match)
     }
 
-    /// Whether one of the request's ETags is this one (RFC 7252 section 5.10.6.2).
+    /// Returns `true` if the request has this ETag (RFC 7252 section 5.10.6.2).
     pub(crate) fn has_etag(&self, etag: &[u8]) -> bool
         ensures { result ≡ list_any (λ value. same_bytes value etag.now) (spec.values_of numbers.etag self.now) }
     {
@@ -231,16 +228,16 @@ impl<'q, 'r> Asked<'q, 'r> {
     }
 }
 
-/// The most digits of a number of seconds.
+/// Maximum number of digits of a delay.
 const MAX_DIGITS: usize = 4;
 
-/// The most seconds for which an answer is held.
+/// Maximum delay of a response, in seconds.
 const MAX_SECONDS: u16 = 3600;
 
-/// For how many seconds an answer is held where the request does not say.
+/// Delay of a response in seconds if the request does not state one.
 const USUAL_SECONDS: u32 = 5;
 
-/// The number of seconds that 1 to 4 decimal digits mean, `None` above 3,600 and for other bytes.
+/// Returns the number of seconds in 1 to 4 decimal digits, or `None` for a number above 3,600 or for other bytes.
 fn seconds_in(bytes: &[u8]) -> Option<u16>
     ensures good { is_some result ≡ spec.is_seconds bytes.now }
     ensures value { IfSome result (λ seconds. seconds ≡ digits_mean bytes.now) }

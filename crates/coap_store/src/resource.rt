@@ -1,4 +1,4 @@
-//! A dynamic resource, and the listing of all of them.
+//! A created resource, and the listing of all resources.
 
 ghost use Rattle.std.specs.Prelude.{◌≡◌, ◌≤◌, ◌∷◌, ◌++◌, length, IfOk, OnOk, flat_map, vec_capacity, string_bytes};
 ghost use Rattle.coap_store.specs.Prelude.{listing as listing_of, entry_bytes, slash, encoded_byte, path_bytes};
@@ -10,26 +10,25 @@ use itoa::Buffer;
 use percent_encoding::{AsciiSet, NON_ALPHANUMERIC, ascii_set, percent_encode};
 use std::alloc::{AllocError, Global};
 
-/// The resources in order of creation.
+/// Created resources, in order of creation.
 pub(crate) type Resources = IndexMap<PathKey, Resource>;
 
-/// A resource at a path. A replacement at the same format changes only `version` and `bytes`.
+/// Resource at a path. A replacement with the same format changes only `version` and `bytes`.
 #[derive(Drop)]
 pub(crate) struct Resource {
-    /// The number of the representation among all that were stored.
+    /// Version of the representation.
     pub version: u64,
-    /// The Content-Format, where it has one.
+    /// Content-Format, if there is one.
     pub format: Option<u16>,
-    /// The representation.
     pub bytes: Vec<u8>,
-    /// Its text in the listing, stored so that the listing is rewritten without formatting.
+    /// Text of the resource in the listing, stored so that the listing is rewritten without formatting.
     pub listed: String,
 }
 
-/// What the listing says of the built-in resources (RFC 6690 section 2).
+/// Text of the built-in resources in the listing (RFC 6690 section 2).
 pub(crate) const BUILT_IN_TEXT: &[u8] = b"</>;ct=0,</time>;ct=0;obs,</async>;ct=0";
 
-/// The bytes that are escaped in a segment: all but letters, digits, `-`, `.`, `_` and `~` (RFC 3986 section 2.3).
+/// Bytes that are escaped in a segment: all but letters, digits, `-`, `.`, `_` and `~` (RFC 3986 section 2.3).
 const ESCAPED: AsciiSet = ascii_set!(
     NON_ALPHANUMERIC
         .remove(b'-')
@@ -38,7 +37,7 @@ const ESCAPED: AsciiSet = ascii_set!(
         .remove(b'~')
 );
 
-/// A slash and the segment, escaped (RFC 3986 section 2.1).
+/// Appends a slash and the escaped segment (RFC 3986 section 2.1).
 fn push_segment(text: &mut String, segment: &[u8]) -> Result<(), AllocError>
     ensures { OnOk result (string_bytes text.new ≡ string_bytes text.old ++
         (slash ∷ flat_map encoded_byte segment.now)) }
@@ -47,7 +46,7 @@ fn push_segment(text: &mut String, segment: &[u8]) -> Result<(), AllocError>
     percent_encode(segment, ESCAPED).append_to(text)
 }
 
-/// Each segment of the path.
+/// Appends each segment of the path.
 #[tactic(auto, unfolding(crate::specs::Listing::path_bytes))]
 fn push_path(text: &mut String, path: &PathKey) -> Result<(), AllocError>
     ensures { OnOk result (string_bytes text.new ≡ string_bytes text.old ++ path_bytes path.now) }
@@ -58,7 +57,7 @@ fn push_path(text: &mut String, path: &PathKey) -> Result<(), AllocError>
     Ok(())
 }
 
-/// The Content-Format, where there is one (RFC 7252 section 7.2.1).
+/// Appends the Content-Format, if there is one (RFC 7252 section 7.2.1).
 fn push_format(text: &mut String, format: Option<u16>) -> Result<(), AllocError>
     ensures { OnOk result (string_bytes text.new ≡ string_bytes text.old ++ format_bytes format) }
 {
@@ -70,7 +69,7 @@ fn push_format(text: &mut String, format: Option<u16>) -> Result<(), AllocError>
     text.push_str(digits.format(format))
 }
 
-/// The text of a resource in the listing.
+/// Returns the text of a resource in the listing.
 #[tactic(auto, using(std::proofs::Common::append_assoc), unfolding(crate::specs::Listing::entry_bytes))]
 pub(crate) fn entry_text(
     alloc: Global,
@@ -88,7 +87,7 @@ pub(crate) fn entry_text(
     Ok(text)
 }
 
-/// Writes the listing anew. There must be room for it.
+/// Rewrites the listing, which must have room for it.
 pub(crate) fn write_listing(listing: &mut Vec<u8>, resources: &Resources)
     requires listed { AreListed resources.now.entries }
     requires room { length (listing_of (resources_in resources.now.entries)) ≤ vec_capacity listing.old }

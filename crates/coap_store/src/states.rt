@@ -1,4 +1,4 @@
-//! What is at a path.
+//! The state of a path.
 
 ghost use Rattle.std.specs.Prelude.{◌≡◌};
 ghost use Rattle.coap_store.specs.Prelude.{state_of, state_value};
@@ -8,16 +8,16 @@ use crate::path::PathKey;
 use crate::store::Store;
 use std::marker::Model;
 
-/// The state of a path at a moment. It borrows the bytes of the store.
+/// State of a path at a certain time. It borrows bytes of the store.
 #[derive(Drop)]
 pub enum State<'s> {
-    /// No resource is there.
+    /// No resource.
     Absent,
-    /// A resource with this representation.
+    /// Resource with this representation.
     Present(Present<'s>),
 }
 
-/// The representation that a path has at a moment. Contracts see a `Representation`.
+/// Representation of a path at a certain time. Contracts see a `Representation`.
 #[derive(Drop)]
 pub struct Present<'s> {
     found: Found<'s>,
@@ -34,21 +34,21 @@ impl<'s> Model for Present<'s> {
 }
 
 impl<'s> Present<'s> {
-    /// Its version: the number of the representation among all that were stored, 0 where the resource is built in.
+    /// Returns the version, or 0 for a built-in resource. Each representation that is stored gets the next version.
     pub fn version(&self) -> u64
         ensures { result ≡ self.now.version }
     {
         self.found.version
     }
 
-    /// Its Content-Format, where it has one (RFC 7252 section 5.10.3).
+    /// Returns the Content-Format, if there is one (RFC 7252 section 5.10.3).
     pub fn format(&self) -> Option<u16>
         ensures { result ≡ self.now.format }
     {
         self.found.format
     }
 
-    /// Its bytes.
+    /// Returns the bytes.
     pub fn bytes(&self) -> &[u8]
         ensures { result.now ≡ self.now.bytes }
     {
@@ -57,7 +57,7 @@ impl<'s> Present<'s> {
 }
 
 impl Store {
-    /// The state of a path at a moment in seconds, which is that of a built-in resource too. It allocates nothing.
+    /// Returns the state of a path, built-in or not, at the time `now` in seconds. The call allocates nothing.
     pub fn state(&self, path: &PathKey, now: u64) -> State<'_>
         ensures { state_value result ≡ state_of self.now now path.now }
     {

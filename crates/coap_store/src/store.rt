@@ -1,4 +1,4 @@
-//! The store of a server's resources.
+//! The store, which has the resources of a server.
 
 ghost use Rattle.std.specs.Prelude.{◌≡◌, ◌<◌, IfSome, ◌≤◌, [], IfOk, OnOk, OnErr, length, not, nat_le, ◌==◌};
 ghost use Rattle.std.specs.Prelude.{option_map, decimal};
@@ -15,16 +15,16 @@ use crate::resource::Resource;
 use std::alloc::{AllocError, Global};
 use std::marker::Model;
 
-/// The resources of a server: those that are built in, and at most so many dynamic ones, in order of creation, each
-/// with at most so many bytes. Contracts see a `StoreValue`.
+/// Store of a server's resources: the built-in ones, and at most `dynamic_max` created ones of at most `rep_max` bytes
+/// each, in order of creation. Contracts see a `StoreValue`.
 #[derive(Drop)]
 pub struct Store {
     dynamic_max: usize,
     rep_max: usize,
     resources: Catalogue,
-    /// How many representations were stored so far.
+    /// Version of the representation stored last.
     versions: u64,
-    /// The moment whose text is kept.
+    /// Time in seconds whose text is cached.
     moment: Decimal,
 }
 
@@ -41,12 +41,16 @@ impl Model for Store {
 }
 
 impl Store {
-    /// An empty store for at most `dynamic_max` resources (0 to 1,000) of at most `rep_max` bytes each (0 to
-    /// 1,048,576), whose first representation has the version `versions_from + 1`.
+    /// Creates a store without created resources. The first representation stored gets the version `versions_from + 1`.
     ///
     /// # Errors
     ///
-    /// `AllocError` where memory was refused.
+    /// - `AllocError`: allocation failed.
+    ///
+    /// # Preconditions
+    ///
+    /// - The limit `dynamic_max` of created resources is at most 1,000.
+    /// - The limit `rep_max` of a representation is at most 1,048,576 bytes.
     pub fn new(
         alloc: Global,
         dynamic_max: usize,
@@ -72,8 +76,9 @@ impl Store {
         })
     }
 
-    /// Formats a moment, in seconds, unless its text is kept already: a request or a notification of `/time` at this
-    /// moment then costs no formatting. The value of the store stays the same.
+    /// Caches the text of the time `now`, in seconds.
+    ///
+    /// Requests and notifications of `/time` at this time then need no formatting. The store's value does not change.
     pub fn keep_moment(&mut self, now: u64)
         ensures value { self.new ≡ self.old }
         ensures store { IsStore self.new }
@@ -83,7 +88,7 @@ impl Store {
         }
     }
 
-    /// Returns the text of a moment.
+    /// Returns the text of the time `now`.
     pub(crate) fn moment_text(&self, now: u64) -> Bytes<'_>
         ensures { bytes_in result ≡ decimal now }
     {
@@ -93,11 +98,15 @@ impl Store {
         }
     }
 
-    /// Makes a change that `answer` gave on this store as it is now.
+    /// Makes a change that `answer` returned.
     ///
     /// # Errors
     ///
-    /// `AllocError` where memory was refused, for a representation that is stored alone. The store is then as before.
+    /// - `AllocError`: allocation for a representation failed. The store is unchanged.
+    ///
+    /// # Preconditions
+    ///
+    /// - The store accepts the change. This is the case if `answer` returned it and the store has not changed since.
     pub fn apply(&mut self, change: Change) -> Result<(), AllocError>
         requires { TakesChange self.old (change_value change) }
         ensures ok { OnOk result (self.new ≡ changed self.old (change_value change.entry)) }
@@ -118,7 +127,7 @@ impl Store {
         Ok(())
     }
 
-    /// What is stored at a path.
+    /// Returns the created resource at a path.
     pub(crate) fn find(&self, path: &PathKey) -> Option<&Resource>
         ensures value { option_map (λ r. representation r.now) result ≡ found_in self.now.resources path.now }
         ensures small { IfSome result (λ r. length r.now.bytes.items ≤ LARGEST_MESSAGE) }
@@ -126,7 +135,7 @@ impl Store {
         self.resources.get(path)
     }
 
-    /// The bytes of `/.well-known/core` (RFC 6690).
+    /// Returns the representation of `/.well-known/core` (RFC 6690).
     pub(crate) fn listing(&self) -> &[u8]
         ensures value { result.now ≡ listing_of self.now.resources }
         ensures short { length result.now ≤ LARGEST_MESSAGE }
@@ -134,21 +143,21 @@ impl Store {
         self.resources.listing()
     }
 
-    /// Whether no other resource may be made.
+    /// Returns `true` if the limit of created resources is reached.
     pub(crate) fn is_full(&self) -> bool
         ensures { result ≡ nat_le self.now.dynamic_max (length self.now.resources) }
     {
         self.dynamic_max <= self.resources.len()
     }
 
-    /// Whether resources may be made at all.
+    /// Returns `true` if the store accepts created resources at all.
     pub(crate) fn takes_resources(&self) -> bool
         ensures { result ≡ not (self.now.dynamic_max == 0) }
     {
         self.dynamic_max != 0
     }
 
-    /// The most bytes of a representation.
+    /// Returns the maximum size of a representation in bytes.
     pub(crate) fn rep_max(&self) -> usize
         ensures value { result ≡ self.now.rep_max }
         ensures small { result ≤ LARGEST_MESSAGE }
@@ -156,22 +165,21 @@ impl Store {
         self.rep_max
     }
 
-    /// Whether another representation may be stored: one version is left at least.
+    /// Returns `true` if another representation can be stored: at least one version is left.
     pub(crate) fn has_version(&self) -> bool
         ensures { result ≡ not (self.now.versions == greatest_version) }
     {
         self.versions != u64::MAX
     }
 
-    /// Tells the proof of a caller what holds of every store. It reads the store, which is what the proof needs to know
-    /// that its invariant holds, and does nothing.
+    /// Reads the store, which gives its invariant to the proof of a caller. Does nothing else.
     pub(crate) fn is_kept(&self)
         ensures store { IsStore self.now }
     {
         let _read = self.versions;
     }
 
-    /// How many resources are stored.
+    /// Returns the number of created resources.
     pub fn count(&self) -> usize
         ensures count { result ≡ length self.now.resources }
         ensures store { IsStore self.now }
@@ -179,18 +187,14 @@ impl Store {
         self.resources.len()
     }
 
-    /// How many representations were stored so far, which is the version of the last one.
+    /// Returns the version of the representation stored last, or `versions_from` if none was stored.
     pub fn versions(&self) -> u64
         ensures { result ≡ self.now.versions }
     {
         self.versions
     }
 
-    /// Stores a representation.
-    ///
-    /// # Errors
-    ///
-    /// `AllocError` where memory was refused. The store is then as before.
+    /// Stores a representation with the next version. If allocation fails, the store is unchanged.
     pub(crate) fn store(
         &mut self,
         path: PathKey,
@@ -208,7 +212,7 @@ impl Store {
         Ok(())
     }
 
-    /// Takes the resource at a path away, where there is one.
+    /// Removes the resource at a path, if there is one.
     pub(crate) fn delete(&mut self, path: &PathKey)
         ensures removed { self.new ≡ removed_in self.old path.now }
         ensures store { IsStore self.new }
@@ -217,7 +221,7 @@ impl Store {
     }
 }
 
-/// The same format. The two arms tell the proof of a caller that it is a number of 16 bits.
+/// Returns the same format. The two arms show the proof of a caller that it is a 16-bit number.
 fn in_range(format: Option<u16>) -> Option<u16>
     ensures value { result ≡ format }
     ensures small { IfSome result (λ number. number < 65536) }

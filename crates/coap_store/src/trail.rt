@@ -1,28 +1,28 @@
-//! The state of matching a path: by it a built-in resource is found without a key.
+//! The state of matching a path, with which a built-in resource is found without a key.
 
 ghost use Rattle.std.specs.Prelude.{◌≡◌};
 ghost use Rattle.coap_store.specs.Prelude.{first_trail, trail_with, place_at};
 
 use crate::place::Place;
 
-/// Where the segments of a path so far lead: to a place, or on the way to one.
+/// State of matching a path after some of its segments.
 #[derive(Clone, Copy, PartialEq, Eq)]
 pub(crate) enum Trail {
     /// No segment yet: the root.
     Root,
-    /// The moment.
+    /// Path of `/time`.
     Time,
-    /// The resource that answers late.
+    /// Path of `/async`.
     Async,
-    /// The first segment of the path of the listing.
+    /// First segment of `/.well-known/core`.
     WellKnown,
-    /// The listing.
+    /// Path of `/.well-known/core`.
     Listing,
-    /// To no built-in resource, whatever follows.
+    /// No path of a built-in resource, whatever segments follow.
     Elsewhere,
 }
 
-/// Where a path with this first segment leads so far.
+/// Returns the state after a first segment.
 fn first(segment: &[u8]) -> Trail
     ensures { result ≡ first_trail segment.now }
 {
@@ -39,7 +39,7 @@ fn first(segment: &[u8]) -> Trail
 }
 
 impl Trail {
-    /// Where one segment more leads.
+    /// Returns the state after another segment.
     pub(crate) fn with(self, segment: &[u8]) -> Trail
         ensures { result ≡ trail_with self segment.now }
     {
@@ -56,7 +56,7 @@ impl Trail {
         }
     }
 
-    /// Which resource a path names that leads here.
+    /// Returns the kind of resource at a path with this state.
     pub(crate) fn place(self) -> Place
         ensures { result ≡ place_at self }
     {

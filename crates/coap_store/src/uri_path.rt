@@ -1,4 +1,4 @@
-//! The path that a request asks for, segment by segment.
+//! The path of a request, segment by segment.
 
 ghost use Rattle.std.specs.Prelude.{◌≡◌};
 ghost use Rattle.coap_store.specs.Prelude.{path_told, YieldsFirstBy, item_count};
@@ -7,11 +7,11 @@ use coap_wire::option_numbers::URI_PATH;
 use coap_wire::{Body, Known};
 use std::marker::Model;
 
-/// The segments of the path that a request asks for, in order: the values of its Uri-Path options (RFC 7252 section
-/// 5.10.1). The query does not distinguish resources. Contracts see the list of those that are left.
+/// Iterator over the path of a request: the values of its Uri-Path options, in order (RFC 7252 section 5.10.1). The
+/// query does not distinguish resources. Contracts see the list of the remaining segments.
 #[derive(Drop)]
 pub struct UriPath<'r> {
-    /// The recognised options that are left.
+    /// Remaining recognised options.
     options: Known<'r>,
 }
 
@@ -25,7 +25,7 @@ impl<'r> Model for UriPath<'r> {
 }
 
 impl<'r> UriPath<'r> {
-    /// Returns all segments of the path in a request's options.
+    /// Returns an iterator over the path in a request's options.
     pub(crate) fn of(body: &Body<'r>) -> UriPath<'r>
         ensures { result ≡ path_told body.now }
     {

@@ -14,7 +14,7 @@ returns-then-is_valid c =
     let among = sym (ap (λ e. is_among e (values_of numbers.etag c.args.asked.now)) lent) ∙ sym c.is_valid.ensures ∙ c.if-is_valid.true in
     c.valid.ensures ∙ rw (etag, c.watch_for.ensures) refl ∙ sym (get_valid c.args.place (found_value c.args.found) c.args.asked.now accepted among)
 
--- where the answer is late the query is good
+-- If the response is delayed, the query is good.
 good : (c : goal.After-held) → is_good_query (value_of numbers.uri_query c.args.asked.now) ≡ true
 good c =
     elim c.else-is_async.branch [

@@ -3,7 +3,7 @@ use Rattle.coap_store.specs.Prelude.{insert_entry}
 use Rattle.coap_store.proofs.CatalogueLemmas.{key_test, stored_list, stored_listed, bytes_of_created}
 use Rattle.coap_store.proofs.catalogue.create.Goals as goal
 
--- the entries are those at the start with the new one
+-- The entries are the earlier ones and the new one.
 inserted : (c : goal.Joined-this) → c.insert.new.self.entries ≡ insert_entry key_test c.args.resources.now.entries c.args.path c.args.resource
 inserted c =
     c.in-Ok.ensures.entries ∙ ap (λ es. insert_entry key_test es c.args.path c.args.resource) c.reserve.ensures.entries

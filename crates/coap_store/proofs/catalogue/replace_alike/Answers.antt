@@ -4,7 +4,7 @@ use Rattle.coap_store.specs.Prelude.{put_at, AreListed, resources_in}
 use Rattle.coap_store.proofs.CatalogueLemmas.{key_test, format_found, false_by_not, affirmed, same_format, written_list, written_are_listed, bytes_of_written}
 use Rattle.coap_store.proofs.catalogue.replace_alike.Goals as goal
 
--- what was found, written back
+-- The resource that was found, written back unchanged.
 left : (c : goal.After-resources-then-ne-1) → (c.get_mut.follows.lender c.in-Some.resource.now).entries ≡ c.args.resources.now.entries
 left c =
     (c.get_mut.follows.holds c.in-Some.resource.now).0

@@ -3,7 +3,7 @@ use Rattle.coap_store.specs.Prelude.{Bor}
 use Rattle.coap_store.proofs.PathLemmas.{segment_has_room, path_goes_on, all_kept}
 use Rattle.coap_store.proofs.path.bytes_of.Goals as goal
 
--- what stands past the end of a list of slices
+-- The default element past the end of a list of slices.
 abbrev none : Bor (List ℕ)
 none = record { ref_ptr = (0, 0); now = [] }
 

@@ -2,7 +2,7 @@ use Rattle.std.proofs.Common.{◌≡◌, ◌≤◌, ◌+◌, drop}
 use Rattle.coap_store.specs.Prelude.{written_length, segment_list}
 use Rattle.coap_store.proofs.path.fits.Given as goal
 
--- the room that is left is as much less as the segments that are left
+-- The room is that of all bytes, less the segments before the remaining ones.
 abbrev pub invariant-loop-segment : goal.invariant-loop-segment
 invariant-loop-segment l =
     (l.room ≤ 255)

@@ -1,7 +1,7 @@
 use Rattle.coap_store.proofs.FillLemmas.{IsWrittenUpTo}
 use Rattle.coap_store.proofs.path.write_path.Given as goal
 
--- the segments so far are written, and can begin a path
+-- The segments before the remaining ones are written, and a path can begin with them.
 abbrev pub invariant-loop-segment : goal.invariant-loop-segment
 invariant-loop-segment l = record {
   goes : (goal.iterator-loop-segment).can_next l.segment-iterator;

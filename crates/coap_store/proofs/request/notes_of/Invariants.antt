@@ -3,7 +3,7 @@ use Rattle.coap_store.specs.Prelude.{is_some, known_options, first_critical, not
 use Rattle.coap_store.proofs.CheckedLemmas.{recognised_in, has_bad}
 use Rattle.coap_store.proofs.request.notes_of.Given as goal
 
--- what is noted so far, with what is left, is all, and so is what was seen
+-- The options collected so far, with the remaining ones, are all options. The same holds for the flag.
 abbrev pub invariant-loop-checked : goal.invariant-loop-checked
 invariant-loop-checked l = record {
   goes : (goal.iterator-loop-checked).can_next l.checked-iterator;

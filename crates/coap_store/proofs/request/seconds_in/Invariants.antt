@@ -2,7 +2,7 @@ use Rattle.std.proofs.Common.{◌≡◌, ◌≤◌, true, take}
 use Rattle.coap_store.specs.Prelude.{list_all, is_digit, digits_mean}
 use Rattle.coap_store.proofs.request.seconds_in.Given as goal
 
--- the bytes so far are digits of this number
+-- The bytes so far are the digits of this number.
 abbrev pub invariant-loop-byte : goal.invariant-loop-byte
 invariant-loop-byte l = record {
   digits : list_all is_digit (take l.byte-index l.bytes) ≡ true;

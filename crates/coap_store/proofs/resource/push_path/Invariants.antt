@@ -1,4 +1,4 @@
--- What is written, and what the segments that are left still write, is the whole text.
+-- The text so far, followed by that of the remaining segments, is the whole text.
 use Rattle.std.proofs.Common.{◌≡◌, ◌++◌}
 use Rattle.coap_store.specs.Prelude.{string_bytes, path_bytes}
 use Rattle.coap_store.proofs.resource.push_path.Given as goal

@@ -1,4 +1,4 @@
--- The slash, and then the bytes as they are escaped.
+-- A slash, followed by the escaped bytes.
 use Rattle.std.proofs.Common.{ℕ, List, [], ◌∷◌, ◌++◌, ap, ◌∙◌, append_assoc, arith}
 use Rattle.coap_store.specs.Prelude.{flat_map, string_bytes, encoded_byte}
 use Rattle.std.proofs.lemmas.Result.{IfOk-equal}

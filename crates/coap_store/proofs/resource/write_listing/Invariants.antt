@@ -1,4 +1,4 @@
--- What is written, and what the values that are left still write, is the listing, for which there is room.
+-- The text so far, followed by that of the remaining values, is the listing, for which there is room.
 use Rattle.std.proofs.Common.{◌≡◌, ◌≤◌, ◌++◌, length}
 use Rattle.coap_store.specs.Prelude.{vec_capacity, listing, resources_in}
 use Rattle.coap_store.proofs.ListingLemmas.{listed_bytes}

@@ -2,7 +2,7 @@ use Rattle.std.proofs.Common.{◌≡◌, length}
 use Rattle.coap_store.specs.Prelude.{segments_told}
 use Rattle.coap_store.proofs.uri_path.UriPathIterator.next.Given as goal
 
--- only options that are no segments were passed over
+-- Only options that are no segments were skipped.
 abbrev pub invariant-loop-option : goal.invariant-loop-option
 invariant-loop-option l = segments_told l.self-inside.options ≡ l.fn.self
 
