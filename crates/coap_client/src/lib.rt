@@ -17,7 +17,7 @@ pub use coap_request::{ClientPlan, Extras, Method, Mode, ServerPlan, Target, Tar
 /// Theorems over all clients.
 pub mod laws {
     pub use coap_client_engine::laws::{
-        cuts_do_not_matter, limits_are_kept, messages_are_those_spelled, tokens_are_given_once,
+        segmentation_is_irrelevant, limits_are_kept, messages_are_those_spelled, tokens_are_given_once,
         what_is_queued_fits,
     };
 }

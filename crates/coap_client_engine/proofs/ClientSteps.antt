@@ -1,7 +1,7 @@
 -- Lists of calls: their bytes, their steps, the connection after them, and which calls are accepted.
 use Rattle.std.proofs.Common.{◌≡◌, ℕ, List, [], ◌∷◌, ◌++◌, length, map, Option, Some, None, refl, sym, ap, subst, ◌∙◌, append_assoc}
-use Rattle.coap_client_engine.specs.Prelude.{flat_map, Message, Unfinished, beginning, StreamFault, Stream, split, behind}
-use Rattle.coap_client_engine.specs.Prelude.{gone_on, split_on, framing, LimitValues, History, new_history, Client}
+use Rattle.coap_client_engine.specs.Prelude.{flat_map, Message, Unfinished, prefix_kind, StreamFault, Stream, split, behind}
+use Rattle.coap_client_engine.specs.Prelude.{continued, split_on, framing, LimitValues, History, new_history, Client}
 use Rattle.coap_client_engine.specs.Prelude.{ClientCall, Took, ClientStep, Handles, taken_by, stream_in, new_fault, beyond}
 use Rattle.coap_client_engine.specs.Prelude.{steps_by, steps_behind, steps_of, after_steps, client_after, IsAccepted}
 use Rattle.coap_client_engine.specs.Prelude.{AreAcceptedBehind, AreAccepted}
@@ -31,7 +31,7 @@ pub stream_first : (M : ℕ) → stream_in M [] ≡ record { messages = []; rest
 stream_first M = split_unfinished M [] (unfinished_empty M)
 
 -- The rest of a stream without a fault is unfinished.
-pub stream_rest_unfinished : (M : ℕ) (calls : List ClientCall) → (stream_in M calls).fault ≡ None → beginning M (stream_in M calls).rest ≡ Unfinished
+pub stream_rest_unfinished : (M : ℕ) (calls : List ClientCall) → (stream_in M calls).fault ≡ None → prefix_kind M (stream_in M calls).rest ≡ Unfinished
 stream_rest_unfinished M calls none = split_rest M (flat_map taken_by calls) none
 
 -- ---- steps
@@ -126,7 +126,7 @@ unfolding steps_by
 take_adds M calls bytes added none is =
     let after : stream_in M (calls ++ Took bytes ∷ []) ≡ behind (stream_in M calls).messages added =
     stream_goes_on M calls bytes
-    ∙ ap (λ (f : Option StreamFault). gone_on (stream_in M calls) f (split M ((stream_in M calls).rest ++ bytes))) none
+    ∙ ap (λ (f : Option StreamFault). continued (stream_in M calls) f (split M ((stream_in M calls).rest ++ bytes))) none
     ∙ ap (behind (stream_in M calls).messages) is
     in
     record { steps = steps_beyond_added (stream_in M calls) (stream_in M (calls ++ Took bytes ∷ [])) added none after; stream = after }

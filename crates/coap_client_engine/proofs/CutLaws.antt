@@ -1,6 +1,6 @@
 -- Segmentation is irrelevant: an input slice and its two parts in turn make the same steps and leave the same client.
 use Rattle.std.proofs.Common.{◌≡◌, ℕ, List, [], ◌∷◌, ◌++◌, map, Option, Some, None, refl, sym, ap, subst, ◌∙◌, append_assoc}
-use Rattle.coap_client_engine.specs.Prelude.{flat_map, Message, StreamFault, Stream, split, behind, gone_on, split_on}
+use Rattle.coap_client_engine.specs.Prelude.{flat_map, Message, StreamFault, Stream, split, behind, continued, split_on}
 use Rattle.coap_client_engine.specs.Prelude.{Client, LimitValues, History, new_history, link_of, ClientValue, is_cut}
 use Rattle.coap_client_engine.specs.Prelude.{ClientCall, Took, Sent, Cancelled, Pinged, Wrote, Ended, ClientStep, Handles}
 use Rattle.coap_client_engine.specs.Prelude.{Ends, taken_by, stream_in, new_fault, beyond, steps_by, steps_behind, steps_of}
@@ -52,7 +52,7 @@ beyond_more before others none =
 
 -- The steps of a stream without a fault that `s` and then `t` continue.
 beyond_gone_on : (before s t : Stream) (fault : Option StreamFault) → before.fault ≡ None → s.fault ≡ fault
-    → beyond before (gone_on (behind before.messages s) fault t) ≡ beyond before (behind before.messages s) ++ beyond (behind before.messages s) (gone_on (behind before.messages s) fault t)
+    → beyond before (continued (behind before.messages s) fault t) ≡ beyond before (behind before.messages s) ++ beyond (behind before.messages s) (continued (behind before.messages s) fault t)
 beyond_gone_on before s t None none is =
     let after : Stream = behind before.messages s in
     ap (λ (ms : List Message). beyond before (record t { messages = ms })) (append_assoc before.messages s.messages t.messages)
@@ -71,11 +71,11 @@ beyond_two_pieces : (M : ℕ) (before : Stream) (fault : Option StreamFault) (on
     → beyond before (split_on M (split_on M before one) other) ≡ beyond before (split_on M before one) ++ beyond (split_on M before one) (split_on M (split_on M before one) other)
 beyond_two_pieces M before None one other none =
     let s : Stream = split M (before.rest ++ one) in
-    let on : split_on M before one ≡ behind before.messages s = ap (λ (f : Option StreamFault). gone_on before f s) none in
+    let on : split_on M before one ≡ behind before.messages s = ap (λ (f : Option StreamFault). continued before f s) none in
     subst (λ (a : Stream). beyond before (split_on M a other) ≡ beyond before a ++ beyond a (split_on M a other)) (sym on)
     (beyond_gone_on before s (split M (s.rest ++ other)) s.fault none refl)
 beyond_two_pieces M before (Some fault) one other is =
-    let on : (more : List ℕ) → split_on M before more ≡ before = λ more. ap (λ (f : Option StreamFault). gone_on before f (split M (before.rest ++ more))) is in
+    let on : (more : List ℕ) → split_on M before more ≡ before = λ more. ap (λ (f : Option StreamFault). continued before f (split M (before.rest ++ more))) is in
     subst (λ (a : Stream). beyond before (split_on M a other) ≡ beyond before a ++ beyond a (split_on M a other)) (sym (on one))
     (sym (ap (λ (ss : List ClientStep). ss ++ beyond before (split_on M before other))
     (nothing_beyond_itself before before.fault refl)))

@@ -1,8 +1,8 @@
 -- The event of a `take`: the token of a response is that of its message, and the frame is found again for its second
 -- parse.
 use Rattle.std.proofs.Common.{◌≡◌, ℕ, Bool, true, false, cond, List, [], ◌∷◌, ◌++◌, length, take, Option, Some, None, refl, sym, ap, subst, ◌∙◌}
-use Rattle.coap_client_engine.specs.Prelude.{◌&&◌, find, nat_lt, ◌==◌, if◌then◌else◌, list_any, Message, Beginning}
-use Rattle.coap_client_engine.specs.Prelude.{Unfinished, Whole, Faulty, beginning, FramerValue, IsFramer, AFrame}
+use Rattle.coap_client_engine.specs.Prelude.{◌&&◌, find, nat_lt, ◌==◌, if◌then◌else◌, list_any, Message, StreamPrefix}
+use Rattle.coap_client_engine.specs.Prelude.{Unfinished, Whole, Faulty, prefix_kind, FramerValue, IsFramer, AFrame}
 use Rattle.coap_client_engine.specs.Prelude.{split_frame, framing_at, framing, framing_of, framer_after, frame_back, Reply}
 use Rattle.coap_client_engine.specs.Prelude.{Bare, Role, Server, Client, Reason, is_waiting, stop_of, ReservedCode}
 use Rattle.coap_client_engine.specs.Prelude.{CsmExpected, BadSignalOption, PeerAbort, bad_csm_option, has_critical_option}
@@ -155,7 +155,7 @@ back_split [] frame piece is = sym is
 back_split (b ∷ kept) [] piece is = absurd cc
 back_split (b ∷ kept) (f ∷ frame) piece is = refl
 
-back_at : (kept piece frame : List ℕ) (b : Beginning) (n : ℕ) → (framing_at kept piece b).finding ≡ AFrame frame → frame ≡ kept ++ take n piece → frame_back (framing_at kept piece b).spent (take n piece) ≡ frame
+back_at : (kept piece frame : List ℕ) (b : StreamPrefix) (n : ℕ) → (framing_at kept piece b).finding ≡ AFrame frame → frame ≡ kept ++ take n piece → frame_back (framing_at kept piece b).spent (take n piece) ≡ frame
 back_at kept piece frame Unfinished n e is = absurd cc
 back_at kept piece frame (Whole found rest) n e is =
     let same : found ≡ frame = cc in
@@ -165,4 +165,4 @@ back_at kept piece frame (Faulty fault) n e is = absurd cc
 -- The frame is the split one, or the accepted bytes.
 pub frame_is_back : (v : FramerValue) (piece frame : List ℕ) → IsFramer v → (framing_of v piece).finding ≡ AFrame frame → frame_back (framer_after v piece).spent (take (framing_of v piece).taken piece) ≡ frame
 unfolding framing
-frame_is_back v piece frame is e = back_at v.kept piece frame (beginning v.max (v.kept ++ piece)) (framing_of v piece).taken e (frame_taken v.max v.kept piece frame is.unfinished e)
+frame_is_back v piece frame is e = back_at v.kept piece frame (prefix_kind v.max (v.kept ++ piece)) (framing_of v piece).taken e (frame_taken v.max v.kept piece frame is.unfinished e)

@@ -1,6 +1,6 @@
 -- The framer and the link of a client treat an input slice as the definition `taking` says.
 use Rattle.std.proofs.Common.{◌≡◌, ℕ, Bool, true, false, cond, List, [], ◌++◌, take, Option, None, Result, Ok, Err, refl, sym, ap, subst, ◌∙◌}
-use Rattle.coap_client_engine.specs.Prelude.{Message, message_of, Beginning, Unfinished, Whole, Faulty, beginning}
+use Rattle.coap_client_engine.specs.Prelude.{Message, message_of, StreamPrefix, Unfinished, Whole, Faulty, prefix_kind}
 use Rattle.coap_client_engine.specs.Prelude.{FormatFault, FrameFault, FramerValue, IsFramer, Framing, Finding, Nothing}
 use Rattle.coap_client_engine.specs.Prelude.{AFrame, AFault, framing_at, framing, framing_of, framer_after, frame_back}
 use Rattle.coap_client_engine.specs.Prelude.{LimitValues, AreInRange, takes_messages, reject_of_frame, reject_reason, react}
@@ -59,7 +59,7 @@ module _ (v : FramerValue) (l : LinkValue) (piece : List ℕ) where
   pub framed_count : (framing_of v piece).taken ≡ (taking_framed v l piece).count
   framed_count = count_by (framing_of v piece).finding
 
-  kept_by_beginning : (b : Beginning) → (framing_at v.kept piece b).kept ≡ (taking_found (record { frame = v.kept; link = l }) (framing_at v.kept piece b) (framing_at v.kept piece b).finding).client.frame
+  kept_by_beginning : (b : StreamPrefix) → (framing_at v.kept piece b).kept ≡ (taking_found (record { frame = v.kept; link = l }) (framing_at v.kept piece b) (framing_at v.kept piece b).finding).client.frame
   kept_by_beginning Unfinished = refl
   kept_by_beginning (Whole frame rest) = kept_frame (message_of frame)
     where
@@ -70,7 +70,7 @@ module _ (v : FramerValue) (l : LinkValue) (piece : List ℕ) where
 
   kept_framed : (framer_after v piece).kept ≡ (taking_framed v l piece).client.frame
   unfolding framing
-  kept_framed = kept_by_beginning (beginning v.max (v.kept ++ piece))
+  kept_framed = kept_by_beginning (prefix_kind v.max (v.kept ++ piece))
 
 limits_read : (w : ClientValue) (n : ℕ) (read : Result Message FormatFault) → (taking_read w n read).client.link.limits ≡ w.link.limits
 limits_read w n (Ok m) = stays_so (λ (l : LinkValue). l.limits) (takes_messages w.link.phase) w.link _ refl

@@ -7,14 +7,14 @@ pub use Rattle.std.specs.Prelude.{IfOk, OnOk, [], codes, find, if◌then◌else�
 pub use Rattle.std.specs.Prelude.{◌+◌, ◌==◌, ◌||◌, ◌≢◌, ◌≤◌}
 pub use mathlib.Core.Option.{none}
 -- ---- coap_wire
-pub use Rattle.coap_wire.specs.Beginning.{Beginning, Faulty, Unfinished, Whole, beginning, fault_bytes}
+pub use Rattle.coap_wire.specs.StreamPrefix.{StreamPrefix, Faulty, Unfinished, Whole, prefix_kind, fault_bytes}
 pub use Rattle.coap_wire.specs.Message.{Message}
 pub use Rattle.coap_wire.specs.Reading.{message_of}
 pub use Rattle.coap_wire.specs.Recognition.{first_critical}
 unfoldable pub use Rattle.coap_wire.specs.Recognition.{first_critical_behind, is_recognised, known_behind}
 pub use Rattle.coap_wire.specs.Refusal.{RefusedBy}
 unfoldable pub use Rattle.coap_wire.specs.Spelling.{spelling}
-pub use Rattle.coap_wire.specs.Stream.{StreamFault, Format, OfFrame, Stream, behind, frame_then, gone_on, split}
+pub use Rattle.coap_wire.specs.Stream.{StreamFault, Format, OfFrame, Stream, behind, frame_then, continued, split}
 pub use Rattle.coap_wire.specs.Stream.{split_on}
 pub use Rattle.coap_wire.specs.declared.fault.FormatFault.{FormatFault}
 pub use Rattle.coap_wire.specs.declared.fault.FrameFault.{FrameFault}

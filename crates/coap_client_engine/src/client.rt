@@ -425,7 +425,7 @@ fn answer<'a>(message: MessageRef<'a>, last: bool) -> Event<'a>
 {
     if let Some(number) = message.first_critical() {
         return Event::Rejected {
-            token: message.token().again(),
+            token: message.token().copy(),
             number,
         };
     }
@@ -442,7 +442,7 @@ fn pong_in<'a>(frame: &'a [u8], custody: bool) -> Option<Event<'a>>
 {
     match parse(frame) {
         Ok(message) => Some(Event::Pong {
-            token: message.token().again(),
+            token: message.token().copy(),
             custody,
         }),
         Err(_) => None,

@@ -49,7 +49,7 @@ pub fn what_is_queued_fits()
 /// States that segmentation is irrelevant: an input slice and its two parts in turn make the same steps.
 ///
 /// They also leave the same client, for any calls before and after them.
-pub fn cuts_do_not_matter()
+pub fn segmentation_is_irrelevant()
     ensures steps { (M : ℕ) (earlier later : List ClientCall) (one other : List ℕ) →
         steps_of M (earlier ++ Took (one ++ other) ∷ later) ≡ steps_of M (earlier ++ Took one ∷ Took other ∷ later) }
     ensures client { (limits : LimitValues) (tokens : ℕ) (earlier later : List ClientCall) (one other : List ℕ) →

@@ -33,8 +33,8 @@ impl Outstanding {
         ensures { result ≡ asks token.now (outstanding_value self.now) }
     {
         match self {
-            Outstanding::Request(asked) => token.is(asked),
-            Outstanding::Observation { token: asked, .. } => token.is(asked),
+            Outstanding::Request(asked) => token.equals(asked),
+            Outstanding::Observation { token: asked, .. } => token.equals(asked),
             Outstanding::Ping(_) => false,
         }
     }
@@ -46,7 +46,7 @@ impl Outstanding {
         match self {
             Outstanding::Request(_) => false,
             Outstanding::Observation { .. } => false,
-            Outstanding::Ping(pinged) => token.is(pinged),
+            Outstanding::Ping(pinged) => token.equals(pinged),
         }
     }
 
@@ -59,7 +59,7 @@ impl Outstanding {
             Outstanding::Observation {
                 token: asked,
                 cancelled,
-            } => token.is(asked) && !*cancelled,
+            } => token.equals(asked) && !*cancelled,
             Outstanding::Ping(_) => false,
         }
     }
@@ -85,7 +85,7 @@ impl Outstanding {
                 token: asked,
                 cancelled,
             } => {
-                if token.is(asked) {
+                if token.equals(asked) {
                     *cancelled = true;
                 }
             }

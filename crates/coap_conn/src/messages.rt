@@ -83,7 +83,7 @@ pub(crate) fn queue_release(queue: &mut OutQueue)
 pub(crate) fn pong_to<'a>(token: &TokenRef<'a>, custody: bool) -> ShortBuilder<'a>
     ensures { result ≡ pong_with custody token.now }
 {
-    let mut pong = ShortBuilder::new(Code::PONG, token.again());
+    let mut pong = ShortBuilder::new(Code::PONG, token.copy());
     if custody {
         pong.option(CUSTODY, &[]);
     }
@@ -114,7 +114,7 @@ pub(crate) fn bare_of<'a>(code: Code, token: &TokenRef<'a>) -> ShortBuilder<'a>
     } else {
         Code::INTERNAL_SERVER_ERROR
     };
-    ShortBuilder::new(bare, token.again())
+    ShortBuilder::new(bare, token.copy())
 }
 
 /// Returns the number that Bad-CSM-Option reports, if the reason is `BadCsm`.

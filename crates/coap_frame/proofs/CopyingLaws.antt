@@ -1,7 +1,7 @@
 -- The changes of the count of copied bytes by the calls of a framer.
 use Rattle.std.proofs.Common.{◌≡◌, ◌≢◌, ℕ, ◌+◌, ◌-◌, ◌≤◌, List, [], ◌∷◌, ◌++◌, length, refl, ap, arith}
 use Rattle.std.proofs.lemmas.List.{length-append, length-take}
-use Rattle.coap_frame.specs.Prelude.{Beginning, Unfinished, Whole, Faulty, beginning, FramerValue, IsFramer, Finding}
+use Rattle.coap_frame.specs.Prelude.{StreamPrefix, Unfinished, Whole, Faulty, prefix_kind, FramerValue, IsFramer, Finding}
 use Rattle.coap_frame.specs.Prelude.{Nothing, AFrame, AFault, Framing, framing_at, framing, framing_of, counted}
 use Rattle.coap_frame.specs.Prelude.{copied_alone, copied_of, framer_after, without_last, frame_back, copied_back}
 use Rattle.coap_frame.specs.Prelude.{with_frame_back, FramerCall, Next, Unread, Clear, Raise, MayCall, after_call}
@@ -28,7 +28,7 @@ none_copied [] frame f none found = ap (copied_alone f.taken) found
 none_copied (b ∷ kept) frame f none found = absurd cc
 
 -- The bytes in the buffer were kept or are copied.
-lies_at : (max : ℕ) (kept piece : List ℕ) (b : Beginning) → beginning max (kept ++ piece) ≡ b → length (framing_at kept piece b).kept + length (framing_at kept piece b).spent ≤ length kept + copied_of kept (framing_at kept piece b)
+lies_at : (max : ℕ) (kept piece : List ℕ) (b : StreamPrefix) → prefix_kind max (kept ++ piece) ≡ b → length (framing_at kept piece b).kept + length (framing_at kept piece b).spent ≤ length kept + copied_of kept (framing_at kept piece b)
 lies_at max [] piece Unfinished e = omega arith
 lies_at max (b ∷ kept) piece Unfinished e = omega (arith, length-append (b ∷ kept) piece)
 lies_at max [] piece (Whole frame rest) e = omega arith
@@ -39,7 +39,7 @@ lies_at max kept piece (Faulty fault) e = omega arith
 
 lies_within : (max : ℕ) (kept piece : List ℕ) → length (framing max kept piece).kept + length (framing max kept piece).spent ≤ length kept + copied_of kept (framing max kept piece)
 unfolding framing
-lies_within max kept piece = lies_at max kept piece (beginning max (kept ++ piece)) refl
+lies_within max kept piece = lies_at max kept piece (prefix_kind max (kept ++ piece)) refl
 
 next_counted : (v : FramerValue) (piece : List ℕ) → IsFramer v → IsCountedNext v piece (framer_after v piece)
 next_counted v piece is =

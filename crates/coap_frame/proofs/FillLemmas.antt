@@ -3,25 +3,25 @@ use Rattle.std.proofs.Common.{◌≡◌, ℕ, ◌+◌, ◌-◌, ◌<◌, ◌≤�
 use Rattle.std.proofs.lemmas.Bool.{cases_lt}
 use Rattle.std.proofs.lemmas.List.{append-nil, take-append-drop, take_more, take_all, length-append, length-take, length-drop}
 use Rattle.coap_frame.specs.Prelude.{declared_of, Declared, Unknown, Size, BadToken, FrameFault, TokenLength}
-use Rattle.coap_frame.specs.Prelude.{TooLarge, Beginning, Unfinished, Whole, Faulty, beginning, fault_bytes}
+use Rattle.coap_frame.specs.Prelude.{TooLarge, StreamPrefix, Unfinished, Whole, Faulty, prefix_kind, fault_bytes}
 use Rattle.coap_frame.specs.Prelude.{size_bytes, IsTakenTo, IsFilled}
 use Rattle.coap_wire.proofs.StreamSteps.{begin_unknown, begin_bad_token, begin_too_large, begin_short, begin_whole, size_has_bytes, size_at_last, declared_more, faulty_more, fault_bytes_more, fault_at_last, fault_has_bytes}
 use Rattle.coap_frame.specs.declared.filling.Standing.TheVariants as standing
 use Rattle.std.proofs.Math.Seq.{take-append-add}
 
 -- An unfinished frame with a known size has fewer bytes than that, and the size is not too large.
-pub told_unfinished : (M : ℕ) (s : List ℕ) (n : ℕ) → beginning M s ≡ Unfinished → declared_of s ≡ Size n → (n ≤ M) × (length s < n)
+pub told_unfinished : (M : ℕ) (s : List ℕ) (n : ℕ) → prefix_kind M s ≡ Unfinished → declared_of s ≡ Size n → (n ≤ M) × (length s < n)
 told_unfinished M s n unfinished told =
     elim (cases_lt M n) [
-      | inl large ↦ let bad : ◌≡◌ {A = Beginning} Unfinished (Faulty TooLarge) = sym unfinished ∙ begin_too_large M s n told large in absurd cc
+      | inl large ↦ let bad : ◌≡◌ {A = StreamPrefix} Unfinished (Faulty TooLarge) = sym unfinished ∙ begin_too_large M s n told large in absurd cc
       | inr fits ↦ elim (cases_lt (length s) n) [
         | inl short ↦ (fits, short)
-        | inr long ↦ let bad : ◌≡◌ {A = Beginning} Unfinished (Whole (take n s) (drop n s)) = sym unfinished ∙ begin_whole M s n told fits long in absurd cc
+        | inr long ↦ let bad : ◌≡◌ {A = StreamPrefix} Unfinished (Whole (take n s) (drop n s)) = sym unfinished ∙ begin_whole M s n told fits long in absurd cc
       ]
     ]
 
 -- The first `taken` bytes of a chunk are appended to an unfinished frame.
-module _ (M : ℕ) (old piece new : List ℕ) (taken : ℕ) (size : Declared) (unfinished : beginning M old ≡ Unfinished) (h : IsTakenTo old piece new taken size) where
+module _ (M : ℕ) (old piece new : List ℕ) (taken : ℕ) (size : Declared) (unfinished : prefix_kind M old ≡ Unfinished) (h : IsTakenTo old piece new taken size) where
   -- The bytes of the chunk that are not taken.
   abbrev behind : List ℕ
   behind = drop taken piece
@@ -53,21 +53,21 @@ module _ (M : ℕ) (old piece new : List ℕ) (taken : ℕ) (size : Declared) (u
             omega (arith, ap (λ (s : List ℕ). length s) e, ap size_bytes e, last, few))
       ]
 
-  fault_is_new : (fault : FrameFault) → beginning M new ≡ Faulty fault → fault_bytes new ≡ new
+  fault_is_new : (fault : FrameFault) → prefix_kind M new ≡ Faulty fault → fault_bytes new ≡ new
   fault_is_new fault faulty =
       elim h.first [
-        | inl none ↦ (let bad : ◌≡◌ {A = Beginning} Unfinished (Faulty fault) = sym unfinished ∙ ap (beginning M) (sym (none_taken none)) ∙ faulty in absurd cc)
+        | inl none ↦ (let bad : ◌≡◌ {A = StreamPrefix} Unfinished (Faulty fault) = sym unfinished ∙ ap (prefix_kind M) (sym (none_taken none)) ∙ faulty in absurd cc)
         | inr more ↦ (let e = last_byte_taken more.0 more.1 in
-            let last = fault_at_last M (old ++ take more.0 piece) (get_or piece more.0 0) fault (begin_unknown M (old ++ take more.0 piece) more.2) (ap (beginning M) (sym e) ∙ faulty) in
+            let last = fault_at_last M (old ++ take more.0 piece) (get_or piece more.0 0) fault (begin_unknown M (old ++ take more.0 piece) more.2) (ap (prefix_kind M) (sym e) ∙ faulty) in
             ap fault_bytes e ∙ last ∙ sym e)
       ]
 
-  fault_stands : (fault : FrameFault) → beginning M new ≡ Faulty fault → IsFilled M old piece new taken (standing.Fault fault)
+  fault_stands : (fault : FrameFault) → prefix_kind M new ≡ Faulty fault → IsFilled M old piece new taken (standing.Fault fault)
   fault_stands fault faulty =
       let bytes : fault_bytes (old ++ piece) ≡ new = ap fault_bytes all_bytes ∙ fault_bytes_more M new behind fault faulty ∙ fault_is_new fault faulty in
       record {
         within = h.within;
-        stands = (ap (beginning M) all_bytes ∙ faulty_more M new behind fault faulty, sym length_new ∙ sym (ap (λ (s : List ℕ). length s) bytes));
+        stands = (ap (prefix_kind M) all_bytes ∙ faulty_more M new behind fault faulty, sym length_new ∙ sym (ap (λ (s : List ℕ). length s) bytes));
       }
 
   pub filled_bad_token : size ≡ BadToken → IsFilled M old piece new taken (standing.Fault TokenLength)
@@ -81,7 +81,7 @@ module _ (M : ℕ) (old piece new : List ℕ) (taken : ℕ) (size : Declared) (u
       let bytes : new ≡ old ++ piece = h.bytes ∙ ap (λ (p : List ℕ). old ++ p) (take_all taken piece (omega (arith, all))) in
       record {
         within = h.within;
-        stands = (ap (beginning M) (sym bytes) ∙ begin_unknown M new (sym h.size_is ∙ is), all, bytes);
+        stands = (ap (prefix_kind M) (sym bytes) ∙ begin_unknown M new (sym h.size_is ∙ is), all, bytes);
       }
 
   -- The size stays the same with the bytes that follow.
@@ -116,14 +116,14 @@ module _ (M : ℕ) (old piece new : List ℕ) (taken : ℕ) (size : Declared) (u
 
 module _ (M : ℕ) (piece : List ℕ) where
   -- All of an unfinished chunk is taken.
-  pub stands_more : beginning M piece ≡ Unfinished → IsFilled M [] piece (take (length piece) piece) (length piece) standing.Unfinished
+  pub stands_more : prefix_kind M piece ≡ Unfinished → IsFilled M [] piece (take (length piece) piece) (length piece) standing.Unfinished
   stands_more unfinished = record {
     within = omega arith;
     stands = (unfinished, refl, take_all (length piece) piece (omega arith));
   }
 
   -- An error is known at the last byte that states the size.
-  stands_fault : (fault : FrameFault) → beginning M piece ≡ Faulty fault → IsFilled M [] piece (take (size_bytes piece) piece) (size_bytes piece) (standing.Fault fault)
+  stands_fault : (fault : FrameFault) → prefix_kind M piece ≡ Faulty fault → IsFilled M [] piece (take (size_bytes piece) piece) (size_bytes piece) (standing.Fault fault)
   stands_fault fault faulty =
       let there = fault_has_bytes M piece fault faulty in
       record {

@@ -26,7 +26,7 @@ module _ (max : ℕ) (kept piece buffer : List ℕ) (taken : ℕ) (now : Held) (
         lent = ap lent_of given ∙ sym (none_spent max kept piece (AFault fault) (sym faulty) tt);
       }
 
-  pub given_whole : stands ≡ standing.Whole → now ≡ held.Beginning → finding_of what ≡ AFrame (take taken piece) → lent_of what ≡ [] → IsFramed (record { taken = taken; what = what }) (framing max kept piece)
+  pub given_whole : stands ≡ standing.Whole → now ≡ held.Prefix → finding_of what ≡ AFrame (take taken piece) → lent_of what ≡ [] → IsFramed (record { taken = taken; what = what }) (framing max kept piece)
   given_whole is stays gives lends =
       let frame = sym (ap (finding_in (frame_in now buffer (take taken piece))) is ∙ ap (λ (h : Held). AFrame (frame_in h buffer (take taken piece))) stays) ∙ finds in
       record {

@@ -3,8 +3,8 @@ use Rattle.std.proofs.Common.{◌≡◌, ℕ, ◌+◌, ◌-◌, ◌≤◌, Bool,
 use Rattle.std.proofs.lemmas.Bool.{cases_lt}
 use Rattle.std.proofs.lemmas.List.{append-nil, take-append-drop, take-append-le, take_all, take_at, length-append, length-drop}
 use Rattle.std.proofs.Math.Seq.{take-append-add}
-use Rattle.coap_frame.specs.Prelude.{FrameFault, Beginning, Unfinished, Whole, Faulty, beginning, size_bytes}
-use Rattle.coap_frame.specs.Prelude.{fault_bytes, Frames, Sizes, always, sizes_first, size_for, sizes_behind}
+use Rattle.coap_frame.specs.Prelude.{FrameFault, StreamPrefix, Unfinished, Whole, Faulty, prefix_kind, size_bytes}
+use Rattle.coap_frame.specs.Prelude.{fault_bytes, Frames, Sizes, constant_size, sizes_first, size_for, sizes_behind}
 use Rattle.coap_frame.specs.Prelude.{with_frame, sized_frames, FramerValue, IsFramer, Finding, Nothing, AFrame}
 use Rattle.coap_frame.specs.Prelude.{AFault, Framing, split_frame, framing_at, framing, framing_of, framer_after}
 use Rattle.coap_frame.specs.Prelude.{without_last, frame_back, MayUnread, raise_refusal, with_size, asked_for}
@@ -23,10 +23,10 @@ record IsKnownAtFront (M : ℕ) (kept piece : List ℕ) (fault : FrameFault) : T
   front : List ℕ
   more : List ℕ
   bytes : piece ≡ front ++ more
-  faulty : beginning M (kept ++ front) ≡ Faulty fault
+  faulty : prefix_kind M (kept ++ front) ≡ Faulty fault
   is : fault_bytes (kept ++ front) ≡ kept ++ front
 
-known_step : (M : ℕ) (kept : List ℕ) (b : ℕ) (piece : List ℕ) (fault : FrameFault) (at : Beginning) → beginning M kept ≡ Unfinished → beginning M ((kept ++ b ∷ []) ++ piece) ≡ Faulty fault → (beginning M (kept ++ b ∷ []) ≡ Unfinished → IsKnownAtFront M (kept ++ b ∷ []) piece fault) → beginning M (kept ++ b ∷ []) ≡ at → IsKnownAtFront M kept (b ∷ piece) fault
+known_step : (M : ℕ) (kept : List ℕ) (b : ℕ) (piece : List ℕ) (fault : FrameFault) (at : StreamPrefix) → prefix_kind M kept ≡ Unfinished → prefix_kind M ((kept ++ b ∷ []) ++ piece) ≡ Faulty fault → (prefix_kind M (kept ++ b ∷ []) ≡ Unfinished → IsKnownAtFront M (kept ++ b ∷ []) piece fault) → prefix_kind M (kept ++ b ∷ []) ≡ at → IsKnownAtFront M kept (b ∷ piece) fault
 known_step M kept b piece fault Unfinished u e again is =
     let next = again is in
     let same : (kept ++ b ∷ []) ++ next.front ≡ kept ++ b ∷ next.front = append_assoc kept (b ∷ []) next.front in
@@ -34,36 +34,36 @@ known_step M kept b piece fault Unfinished u e again is =
       front = b ∷ next.front;
       more = next.more;
       bytes = ap (λ (s : List ℕ). b ∷ s) next.bytes;
-      faulty = ap (beginning M) (sym same) ∙ next.faulty;
+      faulty = ap (prefix_kind M) (sym same) ∙ next.faulty;
       is = ap fault_bytes (sym same) ∙ next.is ∙ same;
     }
 known_step M kept b piece fault (Whole frame rest) u e again is =
-    let bad : ◌≡◌ {A = Beginning} (Whole frame (rest ++ piece)) (Faulty fault) = sym (whole_more M (kept ++ b ∷ []) piece frame rest is) ∙ e in
+    let bad : ◌≡◌ {A = StreamPrefix} (Whole frame (rest ++ piece)) (Faulty fault) = sym (whole_more M (kept ++ b ∷ []) piece frame rest is) ∙ e in
     absurd cc
 known_step M kept b piece fault (Faulty first) u e again is =
-    let now : beginning M (kept ++ b ∷ []) ≡ Faulty fault = is ∙ sym (faulty_more M (kept ++ b ∷ []) piece first is) ∙ e in
+    let now : prefix_kind M (kept ++ b ∷ []) ≡ Faulty fault = is ∙ sym (faulty_more M (kept ++ b ∷ []) piece first is) ∙ e in
     record { front = b ∷ []; more = piece; bytes = refl; faulty = now; is = fault_at_last M kept b fault u now }
 
 -- If the kept bytes are unfinished, the error is known within the chunk.
-known : (M : ℕ) (kept piece : List ℕ) (fault : FrameFault) → beginning M kept ≡ Unfinished → beginning M (kept ++ piece) ≡ Faulty fault → IsKnownAtFront M kept piece fault
+known : (M : ℕ) (kept piece : List ℕ) (fault : FrameFault) → prefix_kind M kept ≡ Unfinished → prefix_kind M (kept ++ piece) ≡ Faulty fault → IsKnownAtFront M kept piece fault
 known M kept [] fault u e =
-    let bad : ◌≡◌ {A = Beginning} Unfinished (Faulty fault) = sym u ∙ ap (beginning M) (sym (append-nil kept)) ∙ e in
+    let bad : ◌≡◌ {A = StreamPrefix} Unfinished (Faulty fault) = sym u ∙ ap (prefix_kind M) (sym (append-nil kept)) ∙ e in
     absurd cc
 known M kept (b ∷ piece) fault u e =
-    let cut : beginning M ((kept ++ b ∷ []) ++ piece) ≡ Faulty fault = ap (beginning M) (append_assoc kept (b ∷ []) piece) ∙ e in
-    known_step M kept b piece fault (beginning M (kept ++ b ∷ [])) u cut (λ is. known M (kept ++ b ∷ []) piece fault is cut) refl
+    let cut : prefix_kind M ((kept ++ b ∷ []) ++ piece) ≡ Faulty fault = ap (prefix_kind M) (append_assoc kept (b ∷ []) piece) ∙ e in
+    known_step M kept b piece fault (prefix_kind M (kept ++ b ∷ [])) u cut (λ is. known M (kept ++ b ∷ []) piece fault is cut) refl
 
 -- ---- one call
 
 -- If the kept bytes are unfinished, a frame contains all of them.
-kept_within_frame : (M : ℕ) (kept piece frame rest : List ℕ) → beginning M kept ≡ Unfinished → beginning M (kept ++ piece) ≡ Whole frame rest → length kept ≤ length frame
+kept_within_frame : (M : ℕ) (kept piece frame rest : List ℕ) → prefix_kind M kept ≡ Unfinished → prefix_kind M (kept ++ piece) ≡ Whole frame rest → length kept ≤ length frame
 kept_within_frame M kept piece frame rest u e =
     let n = length frame in
     elim (cases_lt n (length kept)) [
       | inl small ↦ (
           let front : take n kept ≡ frame = sym (take-append-le n kept piece (omega arith)) ∙ ap (take n) (whole_parts M (kept ++ piece) frame rest e).bytes ∙ take_at frame rest n refl in
           let cut : kept ≡ frame ++ drop n kept = sym (take-append-drop n kept) ∙ ap (λ (s : List ℕ). s ++ drop n kept) front in
-          let bad : ◌≡◌ {A = Beginning} Unfinished (Whole frame (drop n kept)) = sym u ∙ ap (beginning M) cut ∙ whole_more M frame (drop n kept) frame [] (whole_itself M (kept ++ piece) frame rest e) in
+          let bad : ◌≡◌ {A = StreamPrefix} Unfinished (Whole frame (drop n kept)) = sym u ∙ ap (prefix_kind M) cut ∙ whole_more M frame (drop n kept) frame [] (whole_itself M (kept ++ piece) frame rest e) in
           absurd cc)
       | inr fits ↦ fits
     ]
@@ -71,15 +71,15 @@ kept_within_frame M kept piece frame rest u e =
 -- The content of the kept bytes and the bytes taken, by the finding, and the bytes kept afterwards.
 abbrev IsFoundAt : ℕ → List ℕ → List ℕ → ℕ → List ℕ → Finding → Type 0
 IsFoundAt max kept piece taken after Nothing = (taken ≡ length piece) × (after ≡ kept ++ take taken piece)
-IsFoundAt max kept piece taken after (AFrame frame) = (frame ≡ kept ++ take taken piece) × (beginning max frame ≡ Whole frame []) × (after ≡ [])
+IsFoundAt max kept piece taken after (AFrame frame) = (frame ≡ kept ++ take taken piece) × (prefix_kind max frame ≡ Whole frame []) × (after ≡ [])
 IsFoundAt max kept piece taken after (AFault fault) =
-    (beginning max (kept ++ piece) ≡ Faulty fault) × (kept ++ take taken piece ≡ fault_bytes (kept ++ piece)) × (beginning max (kept ++ take taken piece) ≡ Faulty fault) × (after ≡ [])
+    (prefix_kind max (kept ++ piece) ≡ Faulty fault) × (kept ++ take taken piece ≡ fault_bytes (kept ++ piece)) × (prefix_kind max (kept ++ take taken piece) ≡ Faulty fault) × (after ≡ [])
 
 record IsCall (max : ℕ) (kept piece : List ℕ) (f : Framing) : Type 0 where
   within : f.taken ≤ length piece
   found : IsFoundAt max kept piece f.taken f.kept f.finding
 
-call_at : (max : ℕ) (kept piece : List ℕ) (b : Beginning) → beginning max kept ≡ Unfinished → beginning max (kept ++ piece) ≡ b → IsCall max kept piece (framing_at kept piece b)
+call_at : (max : ℕ) (kept piece : List ℕ) (b : StreamPrefix) → prefix_kind max kept ≡ Unfinished → prefix_kind max (kept ++ piece) ≡ b → IsCall max kept piece (framing_at kept piece b)
 call_at max kept piece Unfinished u e = record {
   within = omega arith;
   found = (refl, sym (ap (λ (p : List ℕ). kept ++ p) (take_all (length piece) piece (omega arith))));
@@ -100,15 +100,15 @@ call_at max kept piece (Faulty fault) u e =
     let taken : take (length (fault_bytes (kept ++ piece)) - length kept) piece ≡ k.front = ap (λ (n : ℕ). take n piece) count ∙ ap (take (length k.front)) k.bytes ∙ take_at k.front k.more (length k.front) refl in
     record {
       within = omega (arith, count, ap (λ (s : List ℕ). length s) k.bytes, length-append k.front k.more);
-      found = (e, ap (λ (p : List ℕ). kept ++ p) taken ∙ sym bytes, ap (λ (p : List ℕ). beginning max (kept ++ p)) taken ∙ k.faulty, refl);
+      found = (e, ap (λ (p : List ℕ). kept ++ p) taken ∙ sym bytes, ap (λ (p : List ℕ). prefix_kind max (kept ++ p)) taken ∙ k.faulty, refl);
     }
 
-call_is : (max : ℕ) (kept piece : List ℕ) → beginning max kept ≡ Unfinished → IsCall max kept piece (framing max kept piece)
+call_is : (max : ℕ) (kept piece : List ℕ) → prefix_kind max kept ≡ Unfinished → IsCall max kept piece (framing max kept piece)
 unfolding framing
-call_is max kept piece u = call_at max kept piece (beginning max (kept ++ piece)) u refl
+call_is max kept piece u = call_at max kept piece (prefix_kind max (kept ++ piece)) u refl
 
 -- The same, for the finding of a call.
-found_is : (max : ℕ) (kept piece : List ℕ) (finding : Finding) → beginning max kept ≡ Unfinished → (framing max kept piece).finding ≡ finding → IsFoundAt max kept piece (framing max kept piece).taken (framing max kept piece).kept finding
+found_is : (max : ℕ) (kept piece : List ℕ) (finding : Finding) → prefix_kind max kept ≡ Unfinished → (framing max kept piece).finding ≡ finding → IsFoundAt max kept piece (framing max kept piece).taken (framing max kept piece).kept finding
 found_is max kept piece finding u e = subst (λ (f : Finding). IsFoundAt max kept piece (framing max kept piece).taken (framing max kept piece).kept f) e (call_is max kept piece u).found
 
 -- ---- the sizes of the bytes taken
@@ -139,7 +139,7 @@ first_bytes M kept taken more all S is =
     ∙ ap (λ (n : ℕ). sized_frames (sizes_first n M S) (all ++ more)) count
 
 -- The maximum that applies to a whole frame that was taken with this maximum.
-size_at_frame : (M : ℕ) (frame more : List ℕ) (S : Sizes) → beginning M frame ≡ Whole frame [] → size_for (sizes_first (length frame) M S) (frame ++ more) ≡ M
+size_at_frame : (M : ℕ) (frame more : List ℕ) (S : Sizes) → prefix_kind M frame ≡ Whole frame [] → size_for (sizes_first (length frame) M S) (frame ++ more) ≡ M
 size_at_frame M frame more S whole =
     let c = whole_parts M frame frame [] whole in
     let few = size_has_bytes frame (length frame) c.declared in
@@ -164,8 +164,8 @@ given_step v after piece taken go Nothing max found again =
 given_step v after piece taken go (AFrame frame) max found again =
     let more = (go after).taken in
     let S = (go after).sizes in
-    let whole : beginning (size_for (sizes_first (length frame) v.max S) (frame ++ more)) (frame ++ more) ≡ Whole frame more =
-    ap (λ (m : ℕ). beginning m (frame ++ more)) (size_at_frame v.max frame more S found.1) ∙ whole_more v.max frame more frame [] found.1 in
+    let whole : prefix_kind (size_for (sizes_first (length frame) v.max S) (frame ++ more)) (frame ++ more) ≡ Whole frame more =
+    ap (λ (m : ℕ). prefix_kind m (frame ++ more)) (size_at_frame v.max frame more S found.1) ∙ whole_more v.max frame more frame [] found.1 in
     let behind : sized_frames (sizes_behind (length frame) (sizes_first (length frame) v.max S)) more ≡ stream_given after (go after) =
     ap (λ (f : Sizes). sized_frames f more) (behind_first (length frame) v.max S ∙ sym (first_none after.max S))
     ∙ ap (λ (k : List ℕ). sized_frames (sizes_first (length k) after.max S) (k ++ more)) (sym found.2) in
@@ -181,7 +181,7 @@ given_step v after piece taken go (AFrame frame) max found again =
 given_step v after piece taken go (AFault fault) max found again =
     let same =
     ap (λ (f : Sizes). sized_frames f (v.kept ++ take taken piece)) (first_always (length v.kept) v.max)
-    ∙ frames_faulty (always v.max) (v.kept ++ take taken piece) fault found.2 in
+    ∙ frames_faulty (constant_size v.max) (v.kept ++ take taken piece) fault found.2 in
     record {
       frames = ap (λ (f : Frames). f.frames) same;
       rest = λ none. absurd cc;
@@ -190,7 +190,7 @@ given_step v after piece taken go (AFault fault) max found again =
     }
 
 -- The result is the same if the kept bytes were taken with a larger maximum.
-raised_alike : (max new : ℕ) (kept : List ℕ) (S : Sizes) → beginning max kept ≡ Unfinished → max ≤ new → AreAlikeBehind (sizes_first (length kept) max S) (sizes_first (length kept) new S) kept
+raised_alike : (max new : ℕ) (kept : List ℕ) (S : Sizes) → prefix_kind max kept ≡ Unfinished → max ≤ new → AreAlikeBehind (sizes_first (length kept) max S) (sizes_first (length kept) new S) kept
 raised_alike max new kept S u le =
     let at : ℕ = size_bytes kept - 1 in
     let n : ℕ = length kept in
@@ -224,7 +224,7 @@ unfolding given_by
 given_is v [] is =
     let same =
     ap (λ (f : Sizes). sized_frames f (v.kept ++ [])) (first_always (length v.kept) v.max)
-    ∙ ap (sized_frames (always v.max)) (append-nil v.kept) ∙ frames_unfinished (always v.max) v.kept is.unfinished in
+    ∙ ap (sized_frames (constant_size v.max)) (append-nil v.kept) ∙ frames_unfinished (constant_size v.max) v.kept is.unfinished in
     record {
       frames = ap (λ (f : Frames). f.frames) same;
       rest = λ none. ap (λ (f : Frames). f.rest) same;
@@ -239,21 +239,21 @@ given_is v (Piece p ∷ more) is =
 -- ---- the number of bytes taken of a chunk
 
 module _ (max : ℕ) (kept piece : List ℕ) where
-  pub taken_within : beginning max kept ≡ Unfinished → (framing max kept piece).taken ≤ length piece
+  pub taken_within : prefix_kind max kept ≡ Unfinished → (framing max kept piece).taken ≤ length piece
   taken_within u = (call_is max kept piece u).within
 
-  pub nothing_taken : beginning max kept ≡ Unfinished → (framing max kept piece).finding ≡ Nothing → (framing max kept piece).taken ≡ length piece
+  pub nothing_taken : prefix_kind max kept ≡ Unfinished → (framing max kept piece).finding ≡ Nothing → (framing max kept piece).taken ≡ length piece
   nothing_taken u e = (found_is max kept piece Nothing u e).0
 
-  pub frame_taken : (frame : List ℕ) → beginning max kept ≡ Unfinished → (framing max kept piece).finding ≡ AFrame frame → frame ≡ kept ++ take (framing max kept piece).taken piece
+  pub frame_taken : (frame : List ℕ) → prefix_kind max kept ≡ Unfinished → (framing max kept piece).finding ≡ AFrame frame → frame ≡ kept ++ take (framing max kept piece).taken piece
   frame_taken frame u e = (found_is max kept piece (AFrame frame) u e).0
 
-  pub fault_taken : (fault : FrameFault) → beginning max kept ≡ Unfinished → (framing max kept piece).finding ≡ AFault fault → (beginning max (kept ++ piece) ≡ Faulty fault) × (kept ++ take (framing max kept piece).taken piece ≡ fault_bytes (kept ++ piece))
+  pub fault_taken : (fault : FrameFault) → prefix_kind max kept ≡ Unfinished → (framing max kept piece).finding ≡ AFault fault → (prefix_kind max (kept ++ piece) ≡ Faulty fault) × (kept ++ take (framing max kept piece).taken piece ≡ fault_bytes (kept ++ piece))
   fault_taken fault u e = let found = found_is max kept piece (AFault fault) u e in (found.0, found.1)
 
 -- ---- a frame that is taken back
 
-left_at : (kept piece frame : List ℕ) (b : Beginning) → (framing_at kept piece b).finding ≡ AFrame frame → ((framing_at kept piece b).kept ≡ []) × ((framing_at kept piece b).spent ≡ split_frame kept frame)
+left_at : (kept piece frame : List ℕ) (b : StreamPrefix) → (framing_at kept piece b).finding ≡ AFrame frame → ((framing_at kept piece b).kept ≡ []) × ((framing_at kept piece b).spent ≡ split_frame kept frame)
 left_at kept piece frame Unfinished e = absurd cc
 left_at kept piece frame (Whole found rest) e =
     let same : found ≡ frame = cc in
@@ -263,7 +263,7 @@ left_at kept piece frame (Faulty fault) e = absurd cc
 -- The kept bytes and the split frame after a frame was found.
 frame_leaves : (max : ℕ) (kept piece frame : List ℕ) → (framing max kept piece).finding ≡ AFrame frame → ((framing max kept piece).kept ≡ []) × ((framing max kept piece).spent ≡ split_frame kept frame)
 unfolding framing
-frame_leaves max kept piece frame e = left_at kept piece frame (beginning max (kept ++ piece)) e
+frame_leaves max kept piece frame e = left_at kept piece frame (prefix_kind max (kept ++ piece)) e
 
 after_frame : (v : FramerValue) (piece frame : List ℕ) → (framing_of v piece).finding ≡ AFrame frame → framer_after v piece ≡ record (framer_after v piece) { kept = []; spent = split_frame v.kept frame }
 after_frame v piece frame e =
@@ -276,8 +276,8 @@ back_is : (kept bytes frame : List ℕ) → frame ≡ kept ++ bytes → frame_ba
 back_is [] bytes frame e = sym e
 back_is (b ∷ kept) bytes frame e = ap (λ (f : List ℕ). frame_back f bytes) e ∙ sym e
 
-allowed_at : (v : FramerValue) (bytes frame : List ℕ) (kept : List ℕ) → beginning v.max frame ≡ Whole frame [] → frame ≡ kept ++ bytes → MayUnread (record v { kept = []; spent = split_frame kept frame }) bytes
-allowed_at v bytes frame [] whole e = inr (ap (beginning v.max) (sym e) ∙ whole ∙ ap (λ (f : List ℕ). Whole f []) e, refl)
+allowed_at : (v : FramerValue) (bytes frame : List ℕ) (kept : List ℕ) → prefix_kind v.max frame ≡ Whole frame [] → frame ≡ kept ++ bytes → MayUnread (record v { kept = []; spent = split_frame kept frame }) bytes
+allowed_at v bytes frame [] whole e = inr (ap (prefix_kind v.max) (sym e) ∙ whole ∙ ap (λ (f : List ℕ). Whole f []) e, refl)
 allowed_at v bytes frame (b ∷ kept) whole e =
     inl (λ (none : frame ≡ []). let some = (frame_is_small v.max frame whole).0 in absurd (omega (arith, some, ap (λ (f : List ℕ). length f) none)))
 
@@ -288,24 +288,24 @@ last_of_second front bytes some =
     ap (λ (n : ℕ). take n (front ++ bytes)) count ∙ take-append-add front bytes (length bytes - 1)
 
 -- If the kept bytes are unfinished, at least one byte of the chunk is taken for a frame.
-pub takes_a_byte : (max : ℕ) (kept bytes frame : List ℕ) → beginning max kept ≡ Unfinished → beginning max frame ≡ Whole frame [] → frame ≡ kept ++ bytes → 1 ≤ length bytes
+pub takes_a_byte : (max : ℕ) (kept bytes frame : List ℕ) → prefix_kind max kept ≡ Unfinished → prefix_kind max frame ≡ Whole frame [] → frame ≡ kept ++ bytes → 1 ≤ length bytes
 takes_a_byte max kept [] frame u whole e =
-    let bad : ◌≡◌ {A = Beginning} Unfinished (Whole frame []) = sym u ∙ ap (beginning max) (sym (append-nil kept) ∙ sym e) ∙ whole in
+    let bad : ◌≡◌ {A = StreamPrefix} Unfinished (Whole frame []) = sym u ∙ ap (prefix_kind max) (sym (append-nil kept) ∙ sym e) ∙ whole in
     absurd cc
 takes_a_byte max kept (b ∷ bytes) frame u whole e = omega arith
 
 -- A chunk that completes nothing.
-framing_more : (max : ℕ) (kept piece : List ℕ) → beginning max (kept ++ piece) ≡ Unfinished → framing max kept piece ≡ framing_at kept piece Unfinished
+framing_more : (max : ℕ) (kept piece : List ℕ) → prefix_kind max (kept ++ piece) ≡ Unfinished → framing max kept piece ≡ framing_at kept piece Unfinished
 unfolding framing
 framing_more max kept piece e = ap (framing_at kept piece) e
 
-framing_frame : (max : ℕ) (kept piece frame : List ℕ) → beginning max (kept ++ piece) ≡ Whole frame [] → framing max kept piece ≡ framing_at kept piece (Whole frame [])
+framing_frame : (max : ℕ) (kept piece frame : List ℕ) → prefix_kind max (kept ++ piece) ≡ Whole frame [] → framing max kept piece ≡ framing_at kept piece (Whole frame [])
 unfolding framing
 framing_frame max kept piece frame e = ap (framing_at kept piece) e
 
 -- A chunk in which a frame was found.
 module _ (v : FramerValue) (piece frame : List ℕ) (is : IsFramer v) (found : (framing_of v piece).finding ≡ AFrame frame) where
-  frame_is_whole : beginning v.max frame ≡ Whole frame []
+  frame_is_whole : prefix_kind v.max frame ≡ Whole frame []
   frame_is_whole = (found_is v.max v.kept piece (AFrame frame) is.unfinished found).1
 
   frame_is_kept_and_taken : frame ≡ v.kept ++ taken_of v piece
@@ -329,7 +329,7 @@ module _ (v : FramerValue) (piece frame : List ℕ) (is : IsFramer v) (found : (
   frame_but_last = ap without_last frame_is_kept_and_taken ∙ last_of_second v.kept (taken_of v piece) (takes_a_byte v.max v.kept (taken_of v piece) frame is.unfinished frame_is_whole frame_is_kept_and_taken)
 
   but_last : framing_of v (without_last (taken_of v piece)) ≡ framing_at v.kept (without_last (taken_of v piece)) Unfinished
-  but_last = framing_more v.max v.kept (without_last (taken_of v piece)) (ap (beginning v.max) (sym frame_but_last) ∙ front_unfinished v.max frame frame_is_whole)
+  but_last = framing_more v.max v.kept (without_last (taken_of v piece)) (ap (prefix_kind v.max) (sym frame_but_last) ∙ front_unfinished v.max frame frame_is_whole)
 
   -- `unread` is allowed after a frame.
   pub unread_allowed : MayUnread (framer_after v piece) (taken_of v piece)
@@ -350,7 +350,7 @@ module _ (v : FramerValue) (piece frame : List ℕ) (is : IsFramer v) (found : (
   frame_comes_again : framing_of (unread_after v piece) (last_byte frame) ≡ framing_at (without_last frame) (last_byte frame) (Whole frame [])
   frame_comes_again =
       ap (λ (b : FramerValue). framing_of b (last_byte frame)) unread_is
-      ∙ framing_frame v.max (without_last frame) (last_byte frame) frame (ap (beginning v.max) (take-append-drop (length frame - 1) frame) ∙ frame_is_whole)
+      ∙ framing_frame v.max (without_last frame) (last_byte frame) frame (ap (prefix_kind v.max) (take-append-drop (length frame - 1) frame) ∙ frame_is_whole)
 
   pub unread_again : (framing_of (unread_after v piece) (last_byte frame)).finding ≡ AFrame frame
   unread_again = ap (λ (f : Framing). f.finding) frame_comes_again

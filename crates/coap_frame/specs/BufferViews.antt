@@ -2,18 +2,18 @@
 use Rattle.std.specs.Prelude.{ℕ, List, []}
 use Rattle.coap_frame.specs.Framing.{FramerValue, Finding, Nothing, AFrame, AFault}
 use Rattle.coap_frame.specs.declared.framer.Held.{Held}
-use Rattle.coap_frame.specs.declared.framer.Held.TheVariants.{Beginning, Split}
+use Rattle.coap_frame.specs.declared.framer.Held.TheVariants.{StreamPrefix, Split}
 use Rattle.coap_frame.specs.declared.filling.Standing.{Standing}
 use Rattle.coap_frame.specs.declared.filling.Standing.TheVariants as standing
 
 -- The bytes of an unfinished frame in a buffer with these bytes.
 abbrev pub kept_in : Held → List ℕ → List ℕ
-kept_in Beginning bytes = bytes
+kept_in StreamPrefix bytes = bytes
 kept_in Split bytes = []
 
 -- The split frame in a buffer with these bytes, or no byte.
 abbrev pub spent_in : Held → List ℕ → List ℕ
-spent_in Beginning bytes = []
+spent_in StreamPrefix bytes = []
 spent_in Split bytes = bytes
 
 -- The model value of a framer with this maximum, these bytes in its buffer, and this count of copied bytes.
@@ -22,7 +22,7 @@ framer_of max held bytes copied = record { max = max; kept = kept_in held bytes;
 
 -- The frame that was found: the split frame in the buffer, or otherwise the bytes taken of the chunk.
 abbrev pub frame_in : Held → List ℕ → List ℕ → List ℕ
-frame_in Beginning bytes taken = taken
+frame_in StreamPrefix bytes taken = taken
 frame_in Split bytes taken = bytes
 
 -- The finding for a status, if these are the bytes of the frame.

@@ -1,9 +1,9 @@
 -- Defined by this project: the effect of filling a buffer with bytes of a chunk.
 use Rattle.std.specs.Prelude.{◌≡◌, ℕ, ◌+◌, ◌≤◌, List, ◌++◌, length, take, ◌⊎◌}
 use Rattle.coap_wire.specs.Reading.{declared_of}
-use Rattle.coap_wire.specs.Beginning.{Unfinished, Whole, Faulty, beginning, fault_bytes}
-use Rattle.coap_wire.specs.declared.frame.Declared.{Declared}
-use Rattle.coap_wire.specs.declared.frame.Declared.TheVariants.{Unknown}
+use Rattle.coap_wire.specs.StreamPrefix.{Unfinished, Whole, Faulty, prefix_kind, fault_bytes}
+use Rattle.coap_wire.specs.declared.declaration.Declared.{Declared}
+use Rattle.coap_wire.specs.declared.declaration.Declared.TheVariants.{Unknown}
 use Rattle.coap_frame.specs.declared.filling.Standing.{Standing}
 use Rattle.coap_frame.specs.declared.filling.Standing.TheVariants as standing
 
@@ -21,10 +21,10 @@ pub record IsHead (old piece new : List ℕ) (taken : ℕ) (size : Declared) : T
 
 -- The status describes the old bytes followed by the chunk, as one stream of frames of at most `M` bytes.
 abbrev pub StandsAs : ℕ → List ℕ → List ℕ → List ℕ → ℕ → Standing → Type 0
-StandsAs M old piece new taken standing.Unfinished = (beginning M (old ++ piece) ≡ Unfinished) × (taken ≡ length piece) × (new ≡ old ++ piece)
-StandsAs M old piece new taken standing.Whole = (rest : List ℕ) × (beginning M (old ++ piece) ≡ Whole new rest) × (taken + length rest ≡ length piece)
+StandsAs M old piece new taken standing.Unfinished = (prefix_kind M (old ++ piece) ≡ Unfinished) × (taken ≡ length piece) × (new ≡ old ++ piece)
+StandsAs M old piece new taken standing.Whole = (rest : List ℕ) × (prefix_kind M (old ++ piece) ≡ Whole new rest) × (taken + length rest ≡ length piece)
 StandsAs M old piece new taken (standing.Fault fault) =
-    (beginning M (old ++ piece) ≡ Faulty fault) × (length old + taken ≡ length (fault_bytes (old ++ piece)))
+    (prefix_kind M (old ++ piece) ≡ Faulty fault) × (length old + taken ≡ length (fault_bytes (old ++ piece)))
 -- The buffer is filled: these bytes of the chunk are taken, and the status describes the buffer.
 
 pub record IsFilled (M : ℕ) (old piece new : List ℕ) (taken : ℕ) (s : Standing) : Type 0 where

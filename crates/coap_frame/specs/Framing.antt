@@ -1,6 +1,6 @@
 -- Defined by this project: the effect of one chunk of a stream on a framer. Frames are those of RFC 8323 section 3.2.
 use Rattle.std.specs.Prelude.{◌≡◌, ◌≢◌, ℕ, ◌+◌, ◌-◌, ◌≤◌, List, [], ◌∷◌, ◌++◌, length, take, min, ◌⊎◌}
-use Rattle.coap_wire.specs.Beginning.{Beginning, Unfinished, Whole, Faulty, beginning, fault_bytes}
+use Rattle.coap_wire.specs.StreamPrefix.{StreamPrefix, Unfinished, Whole, Faulty, prefix_kind, fault_bytes}
 use Rattle.coap_wire.specs.declared.sizes.TheConstants.{BASE_MESSAGE_SIZE, LARGEST_MESSAGE}
 use Rattle.coap_wire.specs.declared.fault.FrameFault.{FrameFault}
 
@@ -18,8 +18,8 @@ pub record IsFramer (v : FramerValue) : Type 0 where
   pub low : BASE_MESSAGE_SIZE ≤ v.max
   pub high : v.max ≤ LARGEST_MESSAGE
   pub countable : v.copied ≤ 18446744073709551615
-  pub unfinished : beginning v.max v.kept ≡ Unfinished
-  pub whole : (v.spent ≡ []) ⊎ ((beginning v.max v.spent ≡ Whole v.spent []) × (v.kept ≡ []))
+  pub unfinished : prefix_kind v.max v.kept ≡ Unfinished
+  pub whole : (v.spent ≡ []) ⊎ ((prefix_kind v.max v.spent ≡ Whole v.spent []) × (v.kept ≡ []))
 
 -- The finding in a chunk, without its location in memory.
 pub data Finding : Type 0 where
@@ -40,7 +40,7 @@ split_frame [] frame = []
 split_frame (b ∷ kept) frame = frame
 
 -- The effect of a chunk, by the beginning of the kept bytes followed by the chunk.
-abbrev pub framing_at : List ℕ → List ℕ → Beginning → Framing
+abbrev pub framing_at : List ℕ → List ℕ → StreamPrefix → Framing
 framing_at kept piece Unfinished = record { taken = length piece; finding = Nothing; kept = kept ++ piece; spent = [] }
 framing_at kept piece (Whole frame rest) =
     record { taken = length piece - length rest; finding = AFrame frame; kept = []; spent = split_frame kept frame }
@@ -49,7 +49,7 @@ framing_at kept piece (Faulty fault) =
 
 -- The effect of a chunk after these kept bytes, as one stream of frames of at most `max` bytes.
 unfoldable pub framing : ℕ → List ℕ → List ℕ → Framing
-framing max kept piece = framing_at kept piece (beginning max (kept ++ piece))
+framing max kept piece = framing_at kept piece (prefix_kind max (kept ++ piece))
 
 -- The effect of a chunk on this framer.
 abbrev pub framing_of : FramerValue → List ℕ → Framing
@@ -107,4 +107,4 @@ with_frame_back v piece =
 
 -- The precondition of `unread`: the buffer has a split frame, or the chunk is exactly one frame and no byte is kept.
 abbrev pub MayUnread : FramerValue → List ℕ → Type 0
-MayUnread v piece = (v.spent ≢ []) ⊎ ((beginning v.max piece ≡ Whole piece []) × (v.kept ≡ []))
+MayUnread v piece = (v.spent ≢ []) ⊎ ((prefix_kind v.max piece ≡ Whole piece []) × (v.kept ≡ []))

@@ -1,6 +1,6 @@
 -- Defined by this project: the output of a framer over a list of calls, and its relation to the frames of the stream.
 use Rattle.std.specs.Prelude.{◌≡◌, ℕ, ◌-◌, List, [], ◌∷◌, ◌++◌, Option, Some, None, length, take, drop}
-use Rattle.coap_wire.specs.Frames.{Frames, Sizes, always, sizes_first, sized_frames}
+use Rattle.coap_wire.specs.Frames.{Frames, Sizes, constant_size, sizes_first, sized_frames}
 use Rattle.coap_frame.specs.Raising.{asked_for}
 use Rattle.coap_frame.specs.Framing.{FramerValue, Finding, Nothing, AFrame, AFault, framing_of, framer_after, with_frame_back}
 use Rattle.coap_wire.specs.declared.fault.FrameFault.{FrameFault}
@@ -31,13 +31,13 @@ frame_first bytes max frame given = record (taken_first bytes max given) { frame
 abbrev pub given_then : (FramerValue → Given) → List ℕ → ℕ → FramerValue → Finding → Given
 given_then go bytes max after Nothing = taken_first bytes max (go after)
 given_then go bytes max after (AFrame frame) = frame_first bytes max frame (go after)
-given_then go bytes max after (AFault fault) = record { taken = bytes; sizes = always max; frames = []; fault = Some fault; after = after }
+given_then go bytes max after (AFault fault) = record { taken = bytes; sizes = constant_size max; frames = []; fault = Some fault; after = after }
 
 -- The output of a framer for these inputs. Each chunk is passed to one call, up to the first error. Each size is passed
 -- to one call of `raise`, whose allocation does not fail. The bytes of a chunk that are not taken may be the next
 -- chunk.
 unfoldable pub given_by : FramerValue → List Handed → Given
-given_by v [] = record { taken = []; sizes = always v.max; frames = []; fault = None; after = v }
+given_by v [] = record { taken = []; sizes = constant_size v.max; frames = []; fault = None; after = v }
 given_by v (Size new ∷ more) = given_by (asked_for v new) more
 given_by v (Piece p ∷ more) =
     given_then (λ now. given_by now more) (take (framing_of v p).taken p) v.max (framer_after v p) (framing_of v p).finding

@@ -5,10 +5,10 @@ pub use Rattle.std.specs.Borrow.{sem, follows_so}
 pub use Rattle.std.specs.Vec.{vec_capacity}
 pub use mathlib.Core.Option.{none}
 -- ---- coap_wire
-pub use Rattle.coap_wire.specs.Beginning.{Unfinished, token_bytes, size_bytes, Faulty, fault_bytes, Beginning, Whole}
-unfoldable pub use Rattle.coap_wire.specs.Beginning.{beginning}
+pub use Rattle.coap_wire.specs.StreamPrefix.{Unfinished, token_bytes, size_bytes, Faulty, fault_bytes, StreamPrefix, Whole}
+unfoldable pub use Rattle.coap_wire.specs.StreamPrefix.{prefix_kind}
 pub use Rattle.coap_wire.specs.Forms.{extension_of}
-pub use Rattle.coap_wire.specs.Frames.{Frames, Sizes, always, size_for, sizes_behind, sizes_first, with_frame}
+pub use Rattle.coap_wire.specs.Frames.{Frames, Sizes, constant_size, size_for, sizes_behind, sizes_first, with_frame}
 unfoldable pub use Rattle.coap_wire.specs.Frames.{frames_within, sized_frames}
 pub use Rattle.coap_wire.specs.Reading.{message_of}
 unfoldable pub use Rattle.coap_wire.specs.Reading.{declared_of, length_at, one_byte_at, option_number_at}
@@ -17,8 +17,8 @@ pub use Rattle.coap_wire.specs.Stream.{OfFrame, Stream, frame_then, split}
 unfoldable pub use Rattle.coap_wire.specs.Stream.{sized_split}
 pub use Rattle.coap_wire.specs.declared.fault.FrameFault.{FrameFault}
 pub use Rattle.coap_wire.specs.declared.fault.FrameFault.TheVariants.{TokenLength, TooLarge}
-pub use Rattle.coap_wire.specs.declared.frame.Declared.{Declared}
-pub use Rattle.coap_wire.specs.declared.frame.Declared.TheVariants.{BadToken, Size, Unknown}
+pub use Rattle.coap_wire.specs.declared.declaration.Declared.{Declared}
+pub use Rattle.coap_wire.specs.declared.declaration.Declared.TheVariants.{BadToken, Size, Unknown}
 pub use Rattle.coap_wire.specs.declared.sizes.TheConstants.{BASE_MESSAGE_SIZE, LARGEST_MESSAGE}
 -- ---- coap_frame
 pub use Rattle.coap_frame.specs.BufferViews.{framer_of, kept_in, frame_in, finding_in, spent_in}

@@ -3,7 +3,7 @@
 //! A split frame is copied byte by byte up to the last byte that states its size, then in one copy.
 
 ghost use Rattle.std.specs.Prelude.{◌≡◌, ◌+◌, ◌≤◌, ◌<◌, ◌++◌, [], length, take, vec_len, vec_capacity};
-ghost use Rattle.coap_frame.specs.Prelude.{Unfinished, beginning, token_bytes, size_bytes as size_bytes_of};
+ghost use Rattle.coap_frame.specs.Prelude.{Unfinished, prefix_kind, token_bytes, size_bytes as size_bytes_of};
 ghost use Rattle.coap_frame.specs.Prelude.{extension_of, IsHead, IsFilled, BASE_MESSAGE_SIZE};
 
 use coap_wire::{Declared, FrameFault, declared};
@@ -110,7 +110,7 @@ fn fill_head(buffer: &mut Vec<u8>, piece: &[u8]) -> (usize, Declared)
 /// Appends bytes of the chunk until the buffer has a whole frame of at most `max` bytes or an error, or the chunk ends.
 /// Returns the number of bytes taken.
 pub(crate) fn fill(buffer: &mut Vec<u8>, max: usize, piece: &[u8]) -> (usize, Standing)
-    requires unfinished { beginning max buffer.old.items ≡ Unfinished }
+    requires unfinished { prefix_kind max buffer.old.items ≡ Unfinished }
     requires low { BASE_MESSAGE_SIZE ≤ max }
     requires room { max ≤ vec_capacity buffer.old }
     ensures filled { IsFilled max buffer.old.items piece.now buffer.new.items result.0 result.1 }

@@ -1,7 +1,7 @@
 //! The framer, which splits a stream into frames. The chunks of the stream may end anywhere.
 
 ghost use Rattle.std.specs.Prelude.{◌≡◌, ◌≤◌, ◌<◌, [], OnOk, OnErr, length, take, vec_capacity, max as larger, IfOk, ⊤};
-ghost use Rattle.coap_frame.specs.Prelude.{Unfinished, beginning, framing, framing_of, framer_after, framer_of};
+ghost use Rattle.coap_frame.specs.Prelude.{Unfinished, prefix_kind, framing, framing_of, framer_after, framer_of};
 ghost use Rattle.coap_frame.specs.Prelude.{kept_in, frame_in, finding_in, finding_of, finding_read, sem, follows_so};
 ghost use Rattle.coap_frame.specs.Prelude.{none, IsFramer, MayUnread, with_frame_back, IsFramed, raised, IsRaiseAnswer};
 ghost use Rattle.coap_frame.specs.Prelude.{BASE_MESSAGE_SIZE, LARGEST_MESSAGE};
@@ -61,7 +61,7 @@ pub struct Framed<'a, 'p> {
 #[derive(Clone, Copy)]
 enum Held {
     /// Beginning of an unfinished frame, or no byte.
-    Beginning,
+    Prefix,
     /// Split frame that `next` returned.
     Split,
 }
@@ -109,7 +109,7 @@ impl Framer {
         Ok(Framer {
             max,
             buffer: Vec::with_capacity(alloc, max)?,
-            held: Held::Beginning,
+            held: Held::Prefix,
             copied: 0,
         })
     }
@@ -135,7 +135,7 @@ impl Framer {
             Standing::Unfinished => Found::More,
             Standing::Fault(fault) => Found::Fault(fault),
             Standing::Whole => match self.held {
-                Held::Beginning => Found::Whole(&piece[..taken]),
+                Held::Prefix => Found::Whole(&piece[..taken]),
                 Held::Split => Found::Frame(&self.buffer),
             },
         };
@@ -147,7 +147,7 @@ impl Framer {
         ensures { self.new ≡ record self.old { kept = []; spent = [] } }
     {
         self.buffer.clear();
-        self.held = Held::Beginning;
+        self.held = Held::Prefix;
     }
 
     /// Raises the maximum size of a frame to `new` bytes.
@@ -186,7 +186,7 @@ impl Framer {
         ensures invariant { IsFramer self.now }
     {
         match self.held {
-            Held::Beginning => self.buffer.len(),
+            Held::Prefix => self.buffer.len(),
             Held::Split => 0,
         }
     }
@@ -197,7 +197,7 @@ impl Framer {
     {
         match self.held {
             Held::Split => self.buffer.len(),
-            Held::Beginning => 0,
+            Held::Prefix => 0,
         }
     }
 
@@ -207,7 +207,7 @@ impl Framer {
     {
         match self.held {
             Held::Split => &self.buffer,
-            Held::Beginning => &[],
+            Held::Prefix => &[],
         }
     }
 
@@ -252,7 +252,7 @@ impl Framer {
             append(&mut self.buffer, front);
             self.copied = self.copied.saturating_add(front.len() as u64);
         }
-        self.held = Held::Beginning;
+        self.held = Held::Prefix;
     }
 }
 
@@ -270,14 +270,14 @@ fn widen(buffer: &mut Vec<u8>, room: usize) -> Result<(), AllocError>
 /// Discards a split frame, and keeps the bytes of an unfinished frame.
 fn keep_beginning(buffer: &mut Vec<u8>, held: &mut Held)
     ensures items { buffer.new.items ≡ kept_in held.old buffer.old.items }
-    ensures held { held.new ≡ held_as.Beginning }
+    ensures held { held.new ≡ held_as.Prefix }
     ensures capacity { vec_capacity buffer.old ≤ vec_capacity buffer.new }
 {
     match *held {
-        Held::Beginning => {}
+        Held::Prefix => {}
         Held::Split => {
             buffer.clear();
-            *held = Held::Beginning;
+            *held = Held::Prefix;
         }
     }
 }
@@ -290,7 +290,7 @@ fn advance(
     max: usize,
     piece: &[u8],
 ) -> (usize, Standing)
-    requires unfinished { beginning max (kept_in held.old buffer.old.items) ≡ Unfinished }
+    requires unfinished { prefix_kind max (kept_in held.old buffer.old.items) ≡ Unfinished }
     requires countable { copied.old ≤ 18446744073709551615 }
     requires low { BASE_MESSAGE_SIZE ≤ max }
     requires room { max ≤ vec_capacity buffer.old }
@@ -321,8 +321,8 @@ fn advance_alone(
     requires countable { copied.old ≤ 18446744073709551615 }
     requires low { BASE_MESSAGE_SIZE ≤ max }
     requires room { max ≤ vec_capacity buffer.old }
-    ensures after { framer_of max held_as.Beginning buffer.new.items copied.new
-        ≡ framer_after (framer_of max held_as.Beginning [] copied.old) piece.now }
+    ensures after { framer_of max held_as.Prefix buffer.new.items copied.new
+        ≡ framer_after (framer_of max held_as.Prefix [] copied.old) piece.now }
     ensures taken { result.0 ≡ (framing max [] piece.now).taken }
     ensures within { result.0 ≤ length piece.now }
     ensures found { finding_in (take result.0 piece.now) result.1 ≡ (framing max [] piece.now).finding }
@@ -348,12 +348,12 @@ fn advance_behind(
     max: usize,
     piece: &[u8],
 ) -> (usize, Standing)
-    requires unfinished { beginning max buffer.old.items ≡ Unfinished }
+    requires unfinished { prefix_kind max buffer.old.items ≡ Unfinished }
     requires some { 0 < length buffer.old.items }
     requires low { BASE_MESSAGE_SIZE ≤ max }
     requires room { max ≤ vec_capacity buffer.old }
     ensures after { framer_of max held.new buffer.new.items copied.new
-        ≡ framer_after (framer_of max held_as.Beginning buffer.old.items copied.old) piece.now }
+        ≡ framer_after (framer_of max held_as.Prefix buffer.old.items copied.old) piece.now }
     ensures taken { result.0 ≡ (framing max buffer.old.items piece.now).taken }
     ensures within { result.0 ≤ length piece.now }
     ensures found { finding_in (frame_in held.new buffer.new.items (take result.0 piece.now)) result.1
@@ -363,11 +363,11 @@ fn advance_behind(
     let (taken, standing) = fill(buffer, max, piece);
     *copied = copied.saturating_add(taken as u64);
     *held = match standing {
-        Standing::Unfinished => Held::Beginning,
+        Standing::Unfinished => Held::Prefix,
         Standing::Whole => Held::Split,
         Standing::Fault(_) => {
             buffer.clear();
-            Held::Beginning
+            Held::Prefix
         }
     };
     (taken, standing)

@@ -1,7 +1,7 @@
 //! Theorems on framers. Each is the contract of a function with an empty body.
 
 ghost use Rattle.std.specs.Prelude.{◌≡◌, ℕ, ◌≤◌, List, ◌++◌, length, take};
-ghost use Rattle.coap_frame.specs.Prelude.{Unfinished, Faulty, beginning, fault_bytes, FrameFault, FramerValue};
+ghost use Rattle.coap_frame.specs.Prelude.{Unfinished, Faulty, prefix_kind, fault_bytes, FrameFault, FramerValue};
 ghost use Rattle.coap_frame.specs.Prelude.{IsFramer, Nothing, AFrame, AFault, MayUnread, framing, framing_of};
 ghost use Rattle.coap_frame.specs.Prelude.{framer_after, without_last, FramerCall, AreCounted, Handed, IsGiven};
 ghost use Rattle.coap_frame.specs.Prelude.{given_by, taken_of, unread_after, last_byte};
@@ -20,14 +20,14 @@ pub fn framer_gives_the_frames()
 /// States how many bytes of a chunk are taken. If nothing is found, all are taken. Otherwise they end with the last
 /// byte of the frame, or with the byte at which the error is known.
 pub fn framer_takes_each_piece_to_its_end()
-    ensures within { (max : ℕ) (kept piece : List ℕ) → beginning max kept ≡ Unfinished →
+    ensures within { (max : ℕ) (kept piece : List ℕ) → prefix_kind max kept ≡ Unfinished →
         (framing max kept piece).taken ≤ length piece }
-    ensures nothing { (max : ℕ) (kept piece : List ℕ) → beginning max kept ≡ Unfinished →
+    ensures nothing { (max : ℕ) (kept piece : List ℕ) → prefix_kind max kept ≡ Unfinished →
         (framing max kept piece).finding ≡ Nothing → (framing max kept piece).taken ≡ length piece }
-    ensures frame { (max : ℕ) (kept piece frame : List ℕ) → beginning max kept ≡ Unfinished →
+    ensures frame { (max : ℕ) (kept piece frame : List ℕ) → prefix_kind max kept ≡ Unfinished →
         (framing max kept piece).finding ≡ AFrame frame → frame ≡ kept ++ take (framing max kept piece).taken piece }
-    ensures fault { (max : ℕ) (kept piece : List ℕ) (fault : FrameFault) → beginning max kept ≡ Unfinished →
-        (framing max kept piece).finding ≡ AFault fault → (beginning max (kept ++ piece) ≡ Faulty fault)
+    ensures fault { (max : ℕ) (kept piece : List ℕ) (fault : FrameFault) → prefix_kind max kept ≡ Unfinished →
+        (framing max kept piece).finding ≡ AFault fault → (prefix_kind max (kept ++ piece) ≡ Faulty fault)
         × (kept ++ take (framing max kept piece).taken piece ≡ fault_bytes (kept ++ piece)) }
 {}
 

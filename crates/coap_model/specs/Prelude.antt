@@ -8,16 +8,16 @@ pub use Rattle.std.specs.Option.{option_eq}
 pub use Rattle.std.specs.Prelude.{List, None, Option, Some, [], drop, length, map, not, suc, take, unwrap_or, zero, ℕ}
 pub use Rattle.std.specs.Prelude.{◌++◌, ◌∷◌, ◌≡◌}
 -- ---- coap_wire
-pub use Rattle.coap_wire.specs.Beginning.{Unfinished, fault_bytes}
-unfoldable pub use Rattle.coap_wire.specs.Beginning.{beginning}
+pub use Rattle.coap_wire.specs.StreamPrefix.{Unfinished, fault_bytes}
+unfoldable pub use Rattle.coap_wire.specs.StreamPrefix.{prefix_kind}
 pub use Rattle.coap_wire.specs.Codes.{class_of}
-pub use Rattle.coap_wire.specs.Frames.{always, sizes_first}
+pub use Rattle.coap_wire.specs.Frames.{constant_size, sizes_first}
 pub use Rattle.coap_wire.specs.Message.{Message, CoapOption}
 unfoldable pub use Rattle.coap_wire.specs.Reading.{message_of}
 unfoldable pub use Rattle.coap_wire.specs.Recognition.{first_critical_behind, is_recognised, kind_of, known_behind}
 pub use Rattle.coap_wire.specs.Refusal.{RefusedBy}
 unfoldable pub use Rattle.coap_wire.specs.Spelling.{spelling}
-pub use Rattle.coap_wire.specs.Stream.{StreamFault, Format, OfFrame, Stream, behind, frame_then, gone_on, split_on}
+pub use Rattle.coap_wire.specs.Stream.{StreamFault, Format, OfFrame, Stream, behind, frame_then, continued, split_on}
 unfoldable pub use Rattle.coap_wire.specs.Stream.{sized_split, split}
 pub use Rattle.coap_wire.specs.declared.fault.FormatFault.{FormatFault}
 pub use Rattle.coap_wire.specs.declared.fault.FrameFault.{FrameFault}

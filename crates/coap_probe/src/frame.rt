@@ -77,7 +77,7 @@ fn hold(framer: &mut Framer, piece: &[u8], told: &mut Told) {
 
 /// Takes back the frame that was just given, with its last piece: a split one, or an empty Capabilities and Settings
 /// message that lay whole in its piece.
-#[tactic(auto, unfolding(coap_wire::specs::Beginning::beginning, coap_wire::specs::Reading::declared_of, coap_wire::specs::Reading::length_at, coap_wire::specs::Reading::option_number_at))]
+#[tactic(auto, unfolding(coap_wire::specs::StreamPrefix::prefix_kind, coap_wire::specs::Reading::declared_of, coap_wire::specs::Reading::length_at, coap_wire::specs::Reading::option_number_at))]
 fn unread(framer: &mut Framer, piece: &[u8], told: &mut Told) {
     if framer.spent() > 0 {
         framer.unread(piece);

@@ -39,7 +39,7 @@ fn hear(link: &mut Link, bytes: &[u8], told: &mut Told) {
 
 /// The message that another one spells.
 fn built<'a>(message: &MessageRef<'a>) -> Result<Builder<'a>, BuildFault> {
-    let mut built = Builder::to(message.code(), message.token().again());
+    let mut built = Builder::with_token_ref(message.code(), message.token().copy());
     for option in message.options() {
         built.option(option.number, option.value)?;
     }

@@ -330,7 +330,7 @@ fn built<'a>(code: Code, options: &[OptionRef<'a>]) -> Builder<'a>
     requires few { length options.now ≤ 37 }
     ensures { result ≡ record { code = code; token = []; options = coap_options options.now; payload = [] } }
 {
-    let mut message = Builder::to(code, TokenRef::empty());
+    let mut message = Builder::with_token_ref(code, TokenRef::empty());
     for option in options {
         add(&mut message, option.number, option.value);
     }

@@ -8,7 +8,7 @@ pub use coap_model::laws::{
     the_size_announced_last_is_in_force, what_is_held_is_sent, what_is_queued_fits,
 };
 pub use coap_server_engine::laws::{
-    cuts_do_not_matter, each_message_taken_is_handled_once, no_change_is_lost,
+    segmentation_is_irrelevant, each_message_taken_is_handled_once, no_change_is_lost,
     only_what_is_stored_wants_memory, what_is_not_due_stays, where_a_script_cuts_does_not_matter,
 };
 pub use runs::{

@@ -13,8 +13,8 @@ pub use Rattle.std.specs.Result.{IsErr}
 pub use Rattle.std.specs.declared.alloc.AllocError.{AllocError}
 pub use mathlib.Core.Option.{none}
 -- ---- coap_wire
-pub use Rattle.coap_wire.specs.Beginning.{Beginning, Faulty, Unfinished, fault_bytes}
-unfoldable pub use Rattle.coap_wire.specs.Beginning.{beginning}
+pub use Rattle.coap_wire.specs.StreamPrefix.{StreamPrefix, Faulty, Unfinished, fault_bytes}
+unfoldable pub use Rattle.coap_wire.specs.StreamPrefix.{prefix_kind}
 pub use Rattle.coap_wire.specs.Message.{Message}
 unfoldable pub use Rattle.coap_wire.specs.Reading.{message_of}
 pub use Rattle.coap_wire.specs.Refusal.{RefusedBy}

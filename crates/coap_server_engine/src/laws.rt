@@ -33,7 +33,7 @@ pub fn no_change_is_lost()
 ///   They lead to the same world (`heard`), and equal steps have equal normalised steps (`alike`).
 /// - Equal normalised steps leave equal worlds (`same_steps`). If the bytes kept of unfinished messages are equal too,
 ///   they leave equal servers (`servers`). So bytes that no connection processes make no difference.
-pub fn cuts_do_not_matter()
+pub fn segmentation_is_irrelevant()
     ensures steps { (max : ℕ) (before behind : List Event) (id : ℕ) (xs ys : List ℕ) →
         steps_of max (before ++ Took id (xs ++ ys) ∷ behind)
         ≡ steps_of max (before ++ Took id xs ∷ Took id ys ∷ behind) }

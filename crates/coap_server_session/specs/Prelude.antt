@@ -11,8 +11,8 @@ pub use Rattle.std.specs.Prelude.{map, not}
 pub use Rattle.std.specs.Str.Parse.{digits_value}
 pub use mathlib.Core.Option.{none}
 -- ---- coap_wire
-pub use Rattle.coap_wire.specs.Beginning.{Beginning, Faulty, Unfinished}
-unfoldable pub use Rattle.coap_wire.specs.Beginning.{beginning}
+pub use Rattle.coap_wire.specs.StreamPrefix.{StreamPrefix, Faulty, Unfinished}
+unfoldable pub use Rattle.coap_wire.specs.StreamPrefix.{prefix_kind}
 pub use Rattle.coap_wire.specs.Message.{Message, last_number, CoapOption}
 unfoldable pub use Rattle.coap_wire.specs.Reading.{message_of}
 pub use Rattle.coap_wire.specs.Refusal.{RefusedBy}

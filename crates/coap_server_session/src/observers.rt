@@ -291,6 +291,6 @@ fn keep_others(observers: &mut Vec<Observer>, token: &TokenRef) -> bool
     ensures same { result ≡ false → observers.new.items ≡ observers.old.items }
 {
     let before = observers.len();
-    observers.retain(|observer| !token.is(&observer.token));
+    observers.retain(|observer| !token.equals(&observer.token));
     observers.len() < before
 }

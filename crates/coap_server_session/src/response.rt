@@ -62,7 +62,7 @@ fn respond_from<'a, const N: usize>(
     ensures after { link.new
         ≡ link_after link.old (call.Reply (response_with_observe token.now observes plan.now.response)) }
 {
-    let mut response: CompactBuilder<N> = CompactBuilder::new(plan.code(), token.again());
+    let mut response: CompactBuilder<N> = CompactBuilder::new(plan.code(), token.copy());
     add_etag(&mut response, plan.etag());
     add_observe(&mut response, observes);
     add_location(&mut response, path);

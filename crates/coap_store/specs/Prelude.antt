@@ -28,7 +28,7 @@ unfoldable pub use Rattle.coap_wire.specs.Spelling.{spelling}
 pub use Rattle.coap_wire.specs.Uint.{uint_of}
 unfoldable pub use Rattle.coap_wire.specs.Uint.{bytes_of_uint}
 pub use Rattle.coap_wire.specs.Views.{coap_option}
-pub use Rattle.coap_wire.specs.declared.kinds.OptionKind.{OptionKind}
+pub use Rattle.coap_wire.specs.declared.option_table.OptionKind.{OptionKind}
 pub use Rattle.coap_wire.specs.declared.sizes.TheConstants.{LARGEST_MESSAGE}
 -- ---- coap_store
 pub use Rattle.coap_store.specs.Answer.{read_answer, etag_at, max_age_at, is_accepted, is_among, watch_of}

@@ -4,7 +4,7 @@ ghost use Rattle.std.specs.Prelude.{◌≡◌};
 ghost use Rattle.coap_store.specs.Prelude.{path_told, YieldsFirstBy, item_count};
 
 use coap_wire::option_numbers::URI_PATH;
-use coap_wire::{Body, Known};
+use coap_wire::{Body, RecognisedOptions};
 use std::marker::Model;
 
 /// Iterator over the path of a request: the values of its Uri-Path options, in order (RFC 7252 section 5.10.1). The
@@ -12,7 +12,7 @@ use std::marker::Model;
 #[derive(Drop)]
 pub struct UriPath<'r> {
     /// Remaining recognised options.
-    options: Known<'r>,
+    options: RecognisedOptions<'r>,
 }
 
 impl<'r> Model for UriPath<'r> {

@@ -9,7 +9,7 @@ fn calls_laws(_rt: HostRuntime) {
     laws::what_is_queued_fits();
     laws::own_announcement_comes_first();
     laws::peer_announces_before_requests();
-    server_laws::cuts_do_not_matter();
+    server_laws::segmentation_is_irrelevant();
     server_laws::only_what_is_stored_wants_memory();
     server_laws::a_pong_with_custody_follows_all_answers();
     server_laws::a_connection_sees_others_through_the_store_alone();

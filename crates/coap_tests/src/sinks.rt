@@ -9,7 +9,7 @@ const FILLED: [u8; 9] = [0xaa, 0x40, 0xe1, 0x23, 0x01, 0x00, 0x00, 0xbb, 0xcc];
 
 /// Pushes a byte, writes a message and appends two bytes, and asserts that the room falls by each.
 fn fill<S: Sink>(rt: &impl Abort, sink: &mut S) -> Result<(), Fail> {
-    let mut message = Builder::to(Code::CSM, TokenRef::empty());
+    let mut message = Builder::with_token_ref(Code::CSM, TokenRef::empty());
     message.option(2, &[1, 0, 0])?;
     let room = sink.room();
     assert!(rt; room > 0);

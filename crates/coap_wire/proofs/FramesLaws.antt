@@ -1,7 +1,7 @@
 -- The theorems on the frames of a stream: the relation determines them, and the segmentation does not change them.
 use Rattle.std.proofs.Common.{◌≡◌, ℕ, ◌+◌, ◌≤◌, List, [], ◌∷◌, ◌++◌, length, drop, Option, Some, None, refl, sym, ap, subst, ◌∙◌, arith}
-use Rattle.coap_wire.specs.Prelude.{concat, AreBytes, IsFrame, FrameFault, IsFrameFault, IsUnfinished, Beginning}
-use Rattle.coap_wire.specs.Prelude.{Unfinished, Whole, Faulty, beginning, size_bytes, fault_bytes, Frames, Sizes}
+use Rattle.coap_wire.specs.Prelude.{concat, AreBytes, IsFrame, FrameFault, IsFrameFault, IsUnfinished, StreamPrefix}
+use Rattle.coap_wire.specs.Prelude.{Unfinished, Whole, Faulty, prefix_kind, size_bytes, fault_bytes, Frames, Sizes}
 use Rattle.coap_wire.specs.Prelude.{sizes_behind, size_for, size_behind, sizes_of_rest, AreFrames, AreAtMost}
 use Rattle.coap_wire.specs.Prelude.{FramesEndWith, StandsBehind, FramedAs, with_frame, sized_frames, frames_gone_on}
 use Rattle.coap_wire.specs.Prelude.{frames_on}
@@ -16,7 +16,7 @@ use Rattle.coap_wire.proofs.StreamLaws.{AreBytes-front, whole_frame, fault_found
 abbrev FramesAreWithin : Holding
 FramesAreWithin sizes s = length (sized_frames sizes s).rest ≤ length s
 
-frames_within_step : (sizes : Sizes) (s : List ℕ) (b : Beginning) → HoldsBehind FramesAreWithin sizes s → beginning (size_for sizes s) s ≡ b → FramesAreWithin sizes s
+frames_within_step : (sizes : Sizes) (s : List ℕ) (b : StreamPrefix) → HoldsBehind FramesAreWithin sizes s → prefix_kind (size_for sizes s) s ≡ b → FramesAreWithin sizes s
 frames_within_step sizes s Unfinished again e =
     omega (arith, ap (λ (f : Frames). length f.rest) (frames_unfinished sizes s e))
 frames_within_step sizes s (Faulty fault) again e =
@@ -26,7 +26,7 @@ frames_within_step sizes s (Whole frame rest) again e =
     omega (arith, ap (λ (l : List ℕ). length l) c.bytes, length-append frame rest, again frame rest e, ap (λ (f : Frames). length f.rest) (frames_whole sizes s frame rest e))
 
 frames_rest_within : (sizes : Sizes) (s : List ℕ) → length (sized_frames sizes s).rest ≤ length s
-frames_rest_within sizes s = by_frames FramesAreWithin (λ at r again. frames_within_step at r (beginning (size_for at r) r) again refl) sizes s
+frames_rest_within sizes s = by_frames FramesAreWithin (λ at r again. frames_within_step at r (prefix_kind (size_for at r) r) again refl) sizes s
 
 -- One more frame before the others stays before them when more bytes follow.
 frame_on : (frame : List ℕ) (found others : Frames) (fault : Option FrameFault) → frames_gone_on (with_frame frame found) fault others ≡ with_frame frame (frames_gone_on found fault others)
@@ -41,7 +41,7 @@ FramesGoOn t sizes s = sized_frames sizes (s ++ t) ≡ frames_on (sizes_of_rest 
 abbrev frames_on_with : Sizes → List ℕ → List ℕ → Frames → Frames
 frames_on_with sizes s t first = frames_on (sizes_of_rest sizes s first.rest) first t
 
-frames_on_step : (t : List ℕ) (sizes : Sizes) (s : List ℕ) (b : Beginning) → HoldsBehind (FramesGoOn t) sizes s → beginning (size_for sizes s) s ≡ b → FramesGoOn t sizes s
+frames_on_step : (t : List ℕ) (sizes : Sizes) (s : List ℕ) (b : StreamPrefix) → HoldsBehind (FramesGoOn t) sizes s → prefix_kind (size_for sizes s) s ≡ b → FramesGoOn t sizes s
 frames_on_step t sizes s Unfinished again e =
     ap (λ (f : Sizes). sized_frames f (s ++ t)) (sym (rest_is_all sizes s))
     ∙ sym (ap (frames_on_with sizes s t) (frames_unfinished sizes s e))
@@ -62,11 +62,11 @@ frames_on_step t sizes s (Whole frame rest) again e =
 
 -- The segmentation of a stream does not change its frames.
 pub frames_go_on : (sizes : Sizes) (s more : List ℕ) → sized_frames sizes (s ++ more) ≡ frames_on (sizes_of_rest sizes s (sized_frames sizes s).rest) (sized_frames sizes s) more
-frames_go_on sizes s more = by_frames (FramesGoOn more) (λ at r again. frames_on_step more at r (beginning (size_for at r) r) again refl) sizes s
+frames_go_on sizes s more = by_frames (FramesGoOn more) (λ at r again. frames_on_step more at r (prefix_kind (size_for at r) r) again refl) sizes s
 
 -- ---- the function satisfies the relation
 
-framed_unfinished : (sizes : Sizes) (s : List ℕ) → beginning (size_for sizes s) s ≡ Unfinished → FramedAs sizes s (record { frames = []; rest = s; fault = None })
+framed_unfinished : (sizes : Sizes) (s : List ℕ) → prefix_kind (size_for sizes s) s ≡ Unfinished → FramedAs sizes s (record { frames = []; rest = s; fault = None })
 framed_unfinished sizes s u = record {
   more = [];
   whole = sym (append-nil s);
@@ -76,7 +76,7 @@ framed_unfinished sizes s u = record {
   behind = refl;
 }
 
-framed_faulty : (sizes : Sizes) (s : List ℕ) (fault : FrameFault) → AreBytes s → beginning (size_for sizes s) s ≡ Faulty fault → FramedAs sizes s (record { frames = []; rest = fault_bytes s; fault = Some fault })
+framed_faulty : (sizes : Sizes) (s : List ℕ) (fault : FrameFault) → AreBytes s → prefix_kind (size_for sizes s) s ≡ Faulty fault → FramedAs sizes s (record { frames = []; rest = fault_bytes s; fault = Some fault })
 framed_faulty sizes s fault fits e = record {
   more = drop (size_bytes s) s;
   whole = sym (take-append-drop (size_bytes s) s);
@@ -101,7 +101,7 @@ framed_whole sizes frame rest found is small others = record {
 abbrev FramesAreFound : Holding
 FramesAreFound sizes s = AreBytes s → FramedAs sizes s (sized_frames sizes s)
 
-framed_step : (sizes : Sizes) (s : List ℕ) (b : Beginning) → HoldsBehind FramesAreFound sizes s → beginning (size_for sizes s) s ≡ b → FramesAreFound sizes s
+framed_step : (sizes : Sizes) (s : List ℕ) (b : StreamPrefix) → HoldsBehind FramesAreFound sizes s → prefix_kind (size_for sizes s) s ≡ b → FramesAreFound sizes s
 framed_step sizes s Unfinished again e fits = subst (FramedAs sizes s) (sym (frames_unfinished sizes s e)) (framed_unfinished sizes s e)
 framed_step sizes s (Faulty fault) again e fits = subst (FramedAs sizes s) (sym (frames_faulty sizes s fault e)) (framed_faulty sizes s fault fits e)
 framed_step sizes s (Whole frame rest) again e fits =
@@ -116,7 +116,7 @@ framed_step sizes s (Whole frame rest) again e fits =
 
 -- The result of the function satisfies the relation.
 pub frames_framed : (sizes : Sizes) (s : List ℕ) → AreBytes s → FramedAs sizes s (sized_frames sizes s)
-frames_framed sizes s = by_frames FramesAreFound (λ at r again. framed_step at r (beginning (size_for at r) r) again refl) sizes s
+frames_framed sizes s = by_frames FramesAreFound (λ at r again. framed_step at r (prefix_kind (size_for at r) r) again refl) sizes s
 
 -- ---- the relation determines the result of the function
 

@@ -3,7 +3,7 @@ use Rattle.std.proofs.Common.{◌≡◌, ℕ, ◌<◌, ◌≤◌, List, [], ◌�
 use Rattle.coap_wire.specs.Prelude.{concat, Message, AreBytes, Spells, IsTokenLengthFault, IsSizeHead}
 use Rattle.coap_wire.specs.Prelude.{IsDeclaredSize, IsFrame, HasBadToken, Declares, Size, BadToken, FormatFault}
 use Rattle.coap_wire.specs.Prelude.{declared_of, message_of, FrameFault, TooLarge, IsTooLarge, IsFrameFault}
-use Rattle.coap_wire.specs.Prelude.{IsUnfinished, Beginning, Unfinished, Whole, Faulty, beginning, size_bytes}
+use Rattle.coap_wire.specs.Prelude.{IsUnfinished, StreamPrefix, Unfinished, Whole, Faulty, prefix_kind, size_bytes}
 use Rattle.coap_wire.specs.Prelude.{fault_bytes, Sizes, sizes_behind, size_for, AreAtMost, StandsBehind, size_behind}
 use Rattle.coap_wire.specs.Prelude.{StreamFault, OfFrame, Format, IsFormatFault, EndsWith, SpellEach, Splits, Stream}
 use Rattle.coap_wire.specs.Prelude.{with_message, sized_split, SplitsAs}
@@ -50,16 +50,16 @@ frame_of_front frame rest fits e =
     let head : take k frame ≡ d.0 = sym (take-append-le k frame rest within) ∙ ap (take k) bytes ∙ take_at d.0 d.1 k refl in
     (d.0, drop k frame, sym (take-append-drop k frame) ∙ ap (λ (p : List ℕ). p ++ drop k frame) head, d.3)
 
--- A frame that `beginning` finds is a frame.
-pub whole_frame : (M : ℕ) (s frame rest : List ℕ) → AreBytes s → beginning M s ≡ Whole frame rest → IsFrame frame
+-- A frame that `prefix_kind` finds is a frame.
+pub whole_frame : (M : ℕ) (s frame rest : List ℕ) → AreBytes s → prefix_kind M s ≡ Whole frame rest → IsFrame frame
 whole_frame M s frame rest fits e =
     let c = whole_parts M s frame rest e in
     frame_of_front frame rest (subst (λ (l : List ℕ). AreBytes l) c.bytes fits) (subst (λ (l : List ℕ). declared_of l ≡ Size (length frame)) c.bytes c.declared)
 
--- `beginning` finds a frame of at most M bytes.
-pub frame_begins : (M : ℕ) (frame rest : List ℕ) → IsFrame frame → length frame ≤ M → beginning M (frame ++ rest) ≡ Whole frame rest
+-- `prefix_kind` finds a frame of at most M bytes.
+pub frame_begins : (M : ℕ) (frame rest : List ℕ) → IsFrame frame → length frame ≤ M → prefix_kind M (frame ++ rest) ≡ Whole frame rest
 frame_begins M frame rest f small =
-    let alone : beginning M frame ≡ Whole (take (length frame) frame) (drop (length frame) frame) = begin_whole M frame (length frame) (size_declared frame (length frame) f) small (omega arith) in
+    let alone : prefix_kind M frame ≡ Whole (take (length frame) frame) (drop (length frame) frame) = begin_whole M frame (length frame) (size_declared frame (length frame) f) small (omega arith) in
     whole_more M frame rest frame [] (alone ∙ rw (take_all (length frame) frame (omega arith), drop_all (length frame) frame (omega arith)) refl)
 
 -- ---- an error in the first bytes
@@ -80,13 +80,13 @@ fault_size M r more TooLarge f = size_head_bytes r more f.0 f.1
 pub fault_bytes_again : (M : ℕ) (r more : List ℕ) (fault : FrameFault) → IsFrameFault M fault r → fault_bytes (r ++ more) ≡ r
 fault_bytes_again M r more fault f = take_at r more (size_bytes (r ++ more)) (sym (fault_size M r more fault f))
 
--- `beginning` finds an error, whichever bytes follow those that show it.
-pub fault_begins : (M : ℕ) (r more : List ℕ) (fault : FrameFault) → IsFrameFault M fault r → beginning M (r ++ more) ≡ Faulty fault
+-- `prefix_kind` finds an error, whichever bytes follow those that show it.
+pub fault_begins : (M : ℕ) (r more : List ℕ) (fault : FrameFault) → IsFrameFault M fault r → prefix_kind M (r ++ more) ≡ Faulty fault
 fault_begins M r more TokenLength f = faulty_more M r more TokenLength (begin_bad_token M r (bad_token_declared r (r, [], sym (append-nil r), f)))
 fault_begins M r more TooLarge f = faulty_more M r more TooLarge (begin_too_large M r f.0 (size_declared r f.0 (r, [], sym (append-nil r), f.1)) f.2)
 
--- `fault_bytes` are the bytes that show an error that `beginning` finds.
-pub fault_found : (M : ℕ) (s : List ℕ) (fault : FrameFault) → AreBytes s → beginning M s ≡ Faulty fault → IsFrameFault M fault (fault_bytes s)
+-- `fault_bytes` are the bytes that show an error that `prefix_kind` finds.
+pub fault_found : (M : ℕ) (s : List ℕ) (fault : FrameFault) → AreBytes s → prefix_kind M s ≡ Faulty fault → IsFrameFault M fault (fault_bytes s)
 fault_found M s TokenLength fits e =
     let bad : HasBadToken s = bad_token_of s fits (token_length_declared M s e) in
     let head : fault_bytes s ≡ bad.0 = ap fault_bytes bad.2 ∙ fault_bytes_again M bad.0 bad.1 TokenLength bad.3 in
@@ -100,32 +100,32 @@ fault_found M s TooLarge fits e =
 
 -- ---- unfinished frames
 
-two_beginnings : (M : ℕ) (s frame rest : List ℕ) → beginning M s ≡ Unfinished → beginning M s ≡ Whole frame rest → ⊥
+two_beginnings : (M : ℕ) (s frame rest : List ℕ) → prefix_kind M s ≡ Unfinished → prefix_kind M s ≡ Whole frame rest → ⊥
 two_beginnings M s frame rest u e = cc
 
-no_frame_in : (M : ℕ) (p q : List ℕ) → beginning M (p ++ q) ≡ Unfinished → IsFrame p → ⊥
+no_frame_in : (M : ℕ) (p q : List ℕ) → prefix_kind M (p ++ q) ≡ Unfinished → IsFrame p → ⊥
 no_frame_in M p q u f =
     elim (cases_lt M (length p)) [
       | inl large ↦ unfinished_not_faulty M (p ++ q) TooLarge u (faulty_more M p q TooLarge (begin_too_large M p (length p) (size_declared p (length p) f) large))
       | inr small ↦ two_beginnings M (p ++ q) p q u (frame_begins M p q f small)
     ]
 
--- If `beginning` returns `Unfinished`, no prefix is a frame or shows an error.
-pub unfinished_is : (M : ℕ) (s : List ℕ) → beginning M s ≡ Unfinished → IsUnfinished M s
+-- If `prefix_kind` returns `Unfinished`, no prefix is a frame or shows an error.
+pub unfinished_is : (M : ℕ) (s : List ℕ) → prefix_kind M s ≡ Unfinished → IsUnfinished M s
 unfinished_is M s u p q is =
-    let v : beginning M (p ++ q) ≡ Unfinished = sym (ap (beginning M) is) ∙ u in (
+    let v : prefix_kind M (p ++ q) ≡ Unfinished = sym (ap (prefix_kind M) is) ∙ u in (
       no_frame_in M p q v,
       λ fault f. unfinished_not_faulty M (p ++ q) fault v (fault_begins M p q fault f),
     )
 
-unfinished_by : (M : ℕ) (s : List ℕ) (b : Beginning) → AreBytes s → IsUnfinished M s → beginning M s ≡ b → beginning M s ≡ Unfinished
+unfinished_by : (M : ℕ) (s : List ℕ) (b : StreamPrefix) → AreBytes s → IsUnfinished M s → prefix_kind M s ≡ b → prefix_kind M s ≡ Unfinished
 unfinished_by M s Unfinished fits u e = e
 unfinished_by M s (Whole frame rest) fits u e = absurd ((u frame rest (whole_parts M s frame rest e).bytes).0 (whole_frame M s frame rest fits e))
 unfinished_by M s (Faulty fault) fits u e = absurd ((u (fault_bytes s) (drop (size_bytes s) s) (sym (take-append-drop (size_bytes s) s))).1 fault (fault_found M s fault fits e))
 
--- If no prefix is a frame or shows an error, `beginning` returns `Unfinished`.
-pub unfinished_again : (M : ℕ) (s : List ℕ) → AreBytes s → IsUnfinished M s → beginning M s ≡ Unfinished
-unfinished_again M s fits u = unfinished_by M s (beginning M s) fits u refl
+-- If no prefix is a frame or shows an error, `prefix_kind` returns `Unfinished`.
+pub unfinished_again : (M : ℕ) (s : List ℕ) → AreBytes s → IsUnfinished M s → prefix_kind M s ≡ Unfinished
+unfinished_again M s fits u = unfinished_by M s (prefix_kind M s) fits u refl
 
 -- ---- the maximum sizes after frames
 
@@ -145,7 +145,7 @@ frame_some frame f = omega (arith, (size_has_bytes frame (length frame) (size_de
 
 -- ---- the function satisfies the relation
 
-splits_unfinished : (sizes : Sizes) (s : List ℕ) → beginning (size_for sizes s) s ≡ Unfinished → Splits sizes s [] s None
+splits_unfinished : (sizes : Sizes) (s : List ℕ) → prefix_kind (size_for sizes s) s ≡ Unfinished → Splits sizes s [] s None
 splits_unfinished sizes s u = record {
   frames = [];
   more = [];
@@ -157,14 +157,14 @@ splits_unfinished sizes s u = record {
 }
 
 -- The maximum for bytes that begin with an error is that for the bytes that show it.
-pub size_for_fault : (sizes : Sizes) (s : List ℕ) (fault : FrameFault) → beginning (size_for sizes s) s ≡ Faulty fault → size_for sizes (fault_bytes s) ≡ size_for sizes s
+pub size_for_fault : (sizes : Sizes) (s : List ℕ) (fault : FrameFault) → prefix_kind (size_for sizes s) s ≡ Faulty fault → size_for sizes (fault_bytes s) ≡ size_for sizes s
 size_for_fault sizes s fault e =
     let n : ℕ = size_bytes s in
     let some : 1 ≤ length s = faulty_some (size_for sizes s) s fault e in
     let front : 1 ≤ length (take n s) = omega (arith, some, size_bytes_some s some, length-take n s) in
     sym (size_for_more sizes (take n s) (drop n s) front) ∙ ap (λ (l : List ℕ). size_for sizes l) (take-append-drop n s)
 
-splits_faulty : (sizes : Sizes) (s : List ℕ) (fault : FrameFault) → AreBytes s → beginning (size_for sizes s) s ≡ Faulty fault → Splits sizes s [] (fault_bytes s) (Some (OfFrame fault))
+splits_faulty : (sizes : Sizes) (s : List ℕ) (fault : FrameFault) → AreBytes s → prefix_kind (size_for sizes s) s ≡ Faulty fault → Splits sizes s [] (fault_bytes s) (Some (OfFrame fault))
 splits_faulty sizes s fault fits e = record {
   frames = [];
   more = drop (size_bytes s) s;
@@ -176,12 +176,12 @@ splits_faulty sizes s fault fits e = record {
 }
 
 -- The maximum for bytes that begin with a frame is that for the frame.
-pub size_for_whole : (sizes : Sizes) (s frame rest : List ℕ) → beginning (size_for sizes s) s ≡ Whole frame rest → size_for sizes s ≡ size_for sizes frame
+pub size_for_whole : (sizes : Sizes) (s frame rest : List ℕ) → prefix_kind (size_for sizes s) s ≡ Whole frame rest → size_for sizes s ≡ size_for sizes frame
 size_for_whole sizes s frame rest e =
     let c = whole_parts (size_for sizes s) s frame rest e in
     ap (size_for sizes) c.bytes ∙ size_for_more sizes frame rest (omega (arith, c.some))
 
-splits_bad : (sizes : Sizes) (s frame rest : List ℕ) (f : FormatFault) → AreBytes s → beginning (size_for sizes s) s ≡ Whole frame rest → message_of frame ≡ Err f → Splits sizes s [] frame (Some Format)
+splits_bad : (sizes : Sizes) (s frame rest : List ℕ) (f : FormatFault) → AreBytes s → prefix_kind (size_for sizes s) s ≡ Whole frame rest → message_of frame ≡ Err f → Splits sizes s [] frame (Some Format)
 splits_bad sizes s frame rest f fits e bad = record {
   frames = [];
   more = rest;
@@ -212,7 +212,7 @@ splits_message sizes frame rest m ms r fault spelled small others = record {
 abbrev IsSplit : Holding
 IsSplit sizes s = AreBytes s → SplitsAs sizes s (sized_split sizes s)
 
-splits_step : (sizes : Sizes) (s : List ℕ) (b : Beginning) → HoldsBehind IsSplit sizes s → beginning (size_for sizes s) s ≡ b → IsSplit sizes s
+splits_step : (sizes : Sizes) (s : List ℕ) (b : StreamPrefix) → HoldsBehind IsSplit sizes s → prefix_kind (size_for sizes s) s ≡ b → IsSplit sizes s
 splits_step sizes s Unfinished again e fits = subst (SplitsAs sizes s) (sym (sized_unfinished sizes s e)) (splits_unfinished sizes s e)
 splits_step sizes s (Faulty fault) again e fits = subst (SplitsAs sizes s) (sym (sized_faulty sizes s fault e)) (splits_faulty sizes s fault fits e)
 splits_step sizes s (Whole frame rest) again e fits =
@@ -232,7 +232,7 @@ splits_step sizes s (Whole frame rest) again e fits =
 
 -- The result of the function satisfies the relation.
 pub split_splits : (sizes : Sizes) (bytes : List ℕ) → AreBytes bytes → SplitsAs sizes bytes (sized_split sizes bytes)
-split_splits sizes bytes = by_frames IsSplit (λ at r again. splits_step at r (beginning (size_for at r) r) again refl) sizes bytes
+split_splits sizes bytes = by_frames IsSplit (λ at r again. splits_step at r (prefix_kind (size_for at r) r) again refl) sizes bytes
 
 -- ---- the relation determines the result of the function
 
@@ -246,17 +246,17 @@ format_fault_read M r fits f =
 
 -- The bytes that show an error are not empty.
 pub fault_some : (M : ℕ) (r : List ℕ) (fault : FrameFault) → IsFrameFault M fault r → 1 ≤ length r
-fault_some M r fault f = faulty_some M r fault (subst (λ (s : List ℕ). beginning M s ≡ Faulty fault) (append-nil r) (fault_begins M r [] fault f))
+fault_some M r fault f = faulty_some M r fault (subst (λ (s : List ℕ). prefix_kind M s ≡ Faulty fault) (append-nil r) (fault_begins M r [] fault f))
 
--- `beginning` finds the error with more bytes after it.
-pub fault_at_front : (sizes : Sizes) (rest more : List ℕ) (fault : FrameFault) → IsFrameFault (size_for sizes rest) fault rest → beginning (size_for sizes (rest ++ more)) (rest ++ more) ≡ Faulty fault
+-- `prefix_kind` finds the error with more bytes after it.
+pub fault_at_front : (sizes : Sizes) (rest more : List ℕ) (fault : FrameFault) → IsFrameFault (size_for sizes rest) fault rest → prefix_kind (size_for sizes (rest ++ more)) (rest ++ more) ≡ Faulty fault
 fault_at_front sizes rest more fault ended =
-    ap (λ (M : ℕ). beginning M (rest ++ more)) (size_for_more sizes rest more (fault_some (size_for sizes rest) rest fault ended)) ∙ fault_begins (size_for sizes rest) rest more fault ended
+    ap (λ (M : ℕ). prefix_kind M (rest ++ more)) (size_for_more sizes rest more (fault_some (size_for sizes rest) rest fault ended)) ∙ fault_begins (size_for sizes rest) rest more fault ended
 
--- `beginning` finds a frame of at most the maximum size.
-pub frame_at_front : (sizes : Sizes) (frame rest : List ℕ) → IsFrame frame → length frame ≤ size_for sizes frame → beginning (size_for sizes (frame ++ rest)) (frame ++ rest) ≡ Whole frame rest
+-- `prefix_kind` finds a frame of at most the maximum size.
+pub frame_at_front : (sizes : Sizes) (frame rest : List ℕ) → IsFrame frame → length frame ≤ size_for sizes frame → prefix_kind (size_for sizes (frame ++ rest)) (frame ++ rest) ≡ Whole frame rest
 frame_at_front sizes frame rest f small =
-    ap (λ (M : ℕ). beginning M (frame ++ rest)) (size_for_more sizes frame rest (frame_some frame f)) ∙ frame_begins (size_for sizes frame) frame rest f small
+    ap (λ (M : ℕ). prefix_kind M (frame ++ rest)) (size_for_more sizes frame rest (frame_some frame f)) ∙ frame_begins (size_for sizes frame) frame rest f small
 
 split_ending : (sizes : Sizes) (rest more : List ℕ) (fault : Option StreamFault) → AreBytes (rest ++ more) → EndsWith (size_for sizes rest) rest fault → StandsBehind more fault → sized_split sizes (rest ++ more) ≡ record { messages = []; rest = rest; fault = fault }
 split_ending sizes rest more None fits ended behind =

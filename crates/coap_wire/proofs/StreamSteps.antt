@@ -5,11 +5,11 @@ use Rattle.std.proofs.lemmas.List.{length-append, length-drop, length-take, leng
 use Rattle.coap_wire.specs.Prelude.{Message, extension_of, option_extension, greatest_token, code_and_extension}
 use Rattle.coap_wire.specs.Prelude.{StatesLengths, Declared, Unknown, Size, BadToken, FormatFault, one_byte_at}
 use Rattle.coap_wire.specs.Prelude.{two_bytes_at, plus, option_number_at, declared_of, message_of, FrameFault}
-use Rattle.coap_wire.specs.Prelude.{TooLarge, Beginning, Unfinished, Whole, Faulty, begins_with, beginning}
-use Rattle.coap_wire.specs.Prelude.{token_bytes, size_bytes, fault_bytes, Frames, Sizes, always, sizes_behind}
+use Rattle.coap_wire.specs.Prelude.{TooLarge, StreamPrefix, Unfinished, Whole, Faulty, begins_with, prefix_kind}
+use Rattle.coap_wire.specs.Prelude.{token_bytes, size_bytes, fault_bytes, Frames, Sizes, constant_size, sizes_behind}
 use Rattle.coap_wire.specs.Prelude.{size_for, sizes_of_rest, with_frame, frames_then, frames_within, sized_frames}
 use Rattle.coap_wire.specs.Prelude.{StreamFault, OfFrame, Format, Stream, with_message, frame_then, read_found}
-use Rattle.coap_wire.specs.Prelude.{sized_split, split, stream_then, gone_on, sized_split_on, split_on}
+use Rattle.coap_wire.specs.Prelude.{sized_split, split, stream_then, continued, sized_split_on, split_on}
 use Rattle.coap_wire.specs.declared.fault.FrameFault.TheVariants.{TokenLength}
 use Rattle.coap_wire.proofs.BodySteps.{some_is}
 use Rattle.coap_wire.proofs.FormLaws.{option_extension_none, option_extension_some}
@@ -258,28 +258,28 @@ size_at_last s b n u e = known_at_last s b u (λ v. unknown_not_size n (sym v �
 -- ---- the classification of the first bytes
 
 -- No size is known yet: the frame is unfinished.
-pub begin_unknown : (M : ℕ) (s : List ℕ) → declared_of s ≡ Unknown → beginning M s ≡ Unfinished
-unfolding beginning
+pub begin_unknown : (M : ℕ) (s : List ℕ) → declared_of s ≡ Unknown → prefix_kind M s ≡ Unfinished
+unfolding prefix_kind
 begin_unknown M s e = ap (begins_with M s) e
 
 -- The token length is invalid.
-pub begin_bad_token : (M : ℕ) (s : List ℕ) → declared_of s ≡ BadToken → beginning M s ≡ Faulty TokenLength
-unfolding beginning
+pub begin_bad_token : (M : ℕ) (s : List ℕ) → declared_of s ≡ BadToken → prefix_kind M s ≡ Faulty TokenLength
+unfolding prefix_kind
 begin_bad_token M s e = ap (begins_with M s) e
 
 -- The size is above M.
-pub begin_too_large : (M : ℕ) (s : List ℕ) (n : ℕ) → declared_of s ≡ Size n → M < n → beginning M s ≡ Faulty TooLarge
-unfolding beginning
+pub begin_too_large : (M : ℕ) (s : List ℕ) (n : ℕ) → declared_of s ≡ Size n → M < n → prefix_kind M s ≡ Faulty TooLarge
+unfolding prefix_kind
 begin_too_large M s n e h = ap (begins_with M s) e ∙ rw (lt-ltb M n h) refl
 
 -- A byte of a frame of at most M bytes is missing: the frame is unfinished.
-pub begin_short : (M : ℕ) (s : List ℕ) (n : ℕ) → declared_of s ≡ Size n → n ≤ M → length s < n → beginning M s ≡ Unfinished
-unfolding beginning
+pub begin_short : (M : ℕ) (s : List ℕ) (n : ℕ) → declared_of s ≡ Size n → n ≤ M → length s < n → prefix_kind M s ≡ Unfinished
+unfolding prefix_kind
 begin_short M s n e h k = ap (begins_with M s) e ∙ rw (le-ltb M n h, lt-ltb (length s) n k) refl
 
 -- All bytes of a frame of at most M bytes are present.
-pub begin_whole : (M : ℕ) (s : List ℕ) (n : ℕ) → declared_of s ≡ Size n → n ≤ M → n ≤ length s → beginning M s ≡ Whole (take n s) (drop n s)
-unfolding beginning
+pub begin_whole : (M : ℕ) (s : List ℕ) (n : ℕ) → declared_of s ≡ Size n → n ≤ M → n ≤ length s → prefix_kind M s ≡ Whole (take n s) (drop n s)
+unfolding prefix_kind
 begin_whole M s n e h k = ap (begins_with M s) e ∙ rw (le-ltb M n h, le-ltb (length s) n k) refl
 
 -- A size of at most M is known, and a byte of the frame is missing.
@@ -299,13 +299,13 @@ record IsWhole (M : ℕ) (s frame rest : List ℕ) : Type 0 where
   behind : drop size s ≡ rest
 
 -- The property of s that belongs to this classification.
-abbrev IsFront : ℕ → List ℕ → Beginning → Type 0
+abbrev IsFront : ℕ → List ℕ → StreamPrefix → Type 0
 IsFront M s Unfinished = (declared_of s ≡ Unknown) ⊎ LacksBytes M s
 IsFront M s (Whole frame rest) = IsWhole M s frame rest
 IsFront M s (Faulty TokenLength) = declared_of s ≡ BadToken
 IsFront M s (Faulty TooLarge) = (n : ℕ) × (declared_of s ≡ Size n) × (M < n)
 
-front_of_size : (M : ℕ) (s : List ℕ) (n : ℕ) → declared_of s ≡ Size n → IsFront M s (beginning M s)
+front_of_size : (M : ℕ) (s : List ℕ) (n : ℕ) → declared_of s ≡ Size n → IsFront M s (prefix_kind M s)
 front_of_size M s n e =
     elim (cases_lt M n) [
       | inl large ↦ subst (IsFront M s) (sym (begin_too_large M s n e large)) (n, e, large)
@@ -315,16 +315,16 @@ front_of_size M s n e =
       ]
     ]
 
-front_by : (M : ℕ) (s : List ℕ) (d : Declared) → declared_of s ≡ d → IsFront M s (beginning M s)
+front_by : (M : ℕ) (s : List ℕ) (d : Declared) → declared_of s ≡ d → IsFront M s (prefix_kind M s)
 front_by M s Unknown e = subst (IsFront M s) (sym (begin_unknown M s e)) (inl e)
 front_by M s (Size n) e = front_of_size M s n e
 front_by M s BadToken e = subst (IsFront M s) (sym (begin_bad_token M s e)) e
 
-front_is : (M : ℕ) (s : List ℕ) (b : Beginning) → beginning M s ≡ b → IsFront M s b
+front_is : (M : ℕ) (s : List ℕ) (b : StreamPrefix) → prefix_kind M s ≡ b → IsFront M s b
 front_is M s b e = subst (IsFront M s) e (front_by M s (declared_of s) refl)
 
 -- An empty stream is unfinished.
-pub unfinished_empty : (M : ℕ) → beginning M [] ≡ Unfinished
+pub unfinished_empty : (M : ℕ) → prefix_kind M [] ≡ Unfinished
 unfinished_empty M = begin_unknown M [] declared_nothing
 
 -- The frame and the rest are all bytes of s, and the frame has the declared size.
@@ -334,8 +334,8 @@ pub record IsCut (M : ℕ) (s frame rest : List ℕ) : Type 0 where
   pub small : length frame ≤ M
   pub declared : declared_of s ≡ Size (length frame)
 
--- A frame that `beginning` finds, and the bytes after it.
-pub whole_parts : (M : ℕ) (s frame rest : List ℕ) → beginning M s ≡ Whole frame rest → IsCut M s frame rest
+-- A frame that `prefix_kind` finds, and the bytes after it.
+pub whole_parts : (M : ℕ) (s frame rest : List ℕ) → prefix_kind M s ≡ Whole frame rest → IsCut M s frame rest
 whole_parts M s frame rest e =
     let w : IsWhole M s frame rest = front_is M s (Whole frame rest) e in
     let len : length frame ≡ w.size = sym (ap (λ (l : List ℕ). length l) w.front) ∙ length-take-le w.size s w.long in
@@ -347,34 +347,34 @@ whole_parts M s frame rest e =
     }
 
 -- The bytes after a frame are fewer than before.
-pub whole_shorter : (M : ℕ) (s frame rest : List ℕ) → beginning M s ≡ Whole frame rest → length rest < length s
+pub whole_shorter : (M : ℕ) (s frame rest : List ℕ) → prefix_kind M s ≡ Whole frame rest → length rest < length s
 whole_shorter M s frame rest e =
     let c = whole_parts M s frame rest e in
     omega (arith, c.some, ap (λ (l : List ℕ). length l) c.bytes, length-append frame rest)
 
 -- If the error is an invalid token length, `declared_of` returns it.
-pub token_length_declared : (M : ℕ) (s : List ℕ) → beginning M s ≡ Faulty TokenLength → declared_of s ≡ BadToken
+pub token_length_declared : (M : ℕ) (s : List ℕ) → prefix_kind M s ≡ Faulty TokenLength → declared_of s ≡ BadToken
 token_length_declared M s e = front_is M s (Faulty TokenLength) e
 
 -- If the error is a size above M, `declared_of` returns the size.
-pub too_large_declared : (M : ℕ) (s : List ℕ) → beginning M s ≡ Faulty TooLarge → (n : ℕ) × (declared_of s ≡ Size n) × (M < n)
+pub too_large_declared : (M : ℕ) (s : List ℕ) → prefix_kind M s ≡ Faulty TooLarge → (n : ℕ) × (declared_of s ≡ Size n) × (M < n)
 too_large_declared M s e = front_is M s (Faulty TooLarge) e
 
 -- A frame stays the same when more bytes follow.
-pub whole_more : (M : ℕ) (s t frame rest : List ℕ) → beginning M s ≡ Whole frame rest → beginning M (s ++ t) ≡ Whole frame (rest ++ t)
+pub whole_more : (M : ℕ) (s t frame rest : List ℕ) → prefix_kind M s ≡ Whole frame rest → prefix_kind M (s ++ t) ≡ Whole frame (rest ++ t)
 whole_more M s t frame rest e =
     let w : IsWhole M s frame rest = front_is M s (Whole frame rest) e in
     begin_whole M (s ++ t) w.size (declared_more s t w.size w.declared) w.small (omega (arith, length-append s t, w.long))
     ∙ rw (take-append-le w.size s t w.long, drop-append-le w.size s t w.long) (λ i. Whole (w.front i) (w.behind i ++ t))
 
 -- An error stays the same when more bytes follow.
-pub faulty_more : (M : ℕ) (s t : List ℕ) (fault : FrameFault) → beginning M s ≡ Faulty fault → beginning M (s ++ t) ≡ Faulty fault
+pub faulty_more : (M : ℕ) (s t : List ℕ) (fault : FrameFault) → prefix_kind M s ≡ Faulty fault → prefix_kind M (s ++ t) ≡ Faulty fault
 faulty_more M s t TokenLength e = begin_bad_token M (s ++ t) (bad_token_more s t (front_is M s (Faulty TokenLength) e))
 faulty_more M s t TooLarge e =
     let f : (n : ℕ) × (declared_of s ≡ Size n) × (M < n) = front_is M s (Faulty TooLarge) e in
     begin_too_large M (s ++ t) f.0 (declared_more s t f.0 f.1) f.2
 
-whole_alone : (M : ℕ) (s frame rest : List ℕ) → IsCut M s frame rest → beginning M s ≡ Whole frame rest → (d : Declared) → declared_of frame ≡ d → beginning M frame ≡ Whole frame []
+whole_alone : (M : ℕ) (s frame rest : List ℕ) → IsCut M s frame rest → prefix_kind M s ≡ Whole frame rest → (d : Declared) → declared_of frame ≡ d → prefix_kind M frame ≡ Whole frame []
 whole_alone M s [] rest c e d is = absurd (omega (arith, c.some))
 whole_alone M s (b ∷ f) rest c e Unknown is =
     let few = unknown_at b f is in
@@ -387,30 +387,30 @@ whole_alone M s (b ∷ f) rest c e (Size n) is =
     begin_whole M (b ∷ f) (length (b ∷ f)) (is ∙ ap Size count) c.small (omega arith)
     ∙ rw (take_all (length (b ∷ f)) (b ∷ f) (omega arith), drop_all (length (b ∷ f)) (b ∷ f) (omega arith)) refl
 whole_alone M s (b ∷ f) rest c e BadToken is =
-    let bad : ◌≡◌ {A = Beginning} (Faulty TokenLength) (Whole (b ∷ f) rest) = sym (faulty_more M (b ∷ f) rest TokenLength (begin_bad_token M (b ∷ f) is)) ∙ ap (beginning M) (sym c.bytes) ∙ e in
+    let bad : ◌≡◌ {A = StreamPrefix} (Faulty TokenLength) (Whole (b ∷ f) rest) = sym (faulty_more M (b ∷ f) rest TokenLength (begin_bad_token M (b ∷ f) is)) ∙ ap (prefix_kind M) (sym c.bytes) ∙ e in
     absurd cc
 
 -- A frame is found without the bytes after it.
-pub whole_itself : (M : ℕ) (s frame rest : List ℕ) → beginning M s ≡ Whole frame rest → beginning M frame ≡ Whole frame []
+pub whole_itself : (M : ℕ) (s frame rest : List ℕ) → prefix_kind M s ≡ Whole frame rest → prefix_kind M frame ≡ Whole frame []
 whole_itself M s frame rest e = whole_alone M s frame rest (whole_parts M s frame rest e) e (declared_of frame) refl
 
-pub unfinished_not_faulty : (M : ℕ) (s : List ℕ) (fault : FrameFault) → beginning M s ≡ Unfinished → beginning M s ≡ Faulty fault → ⊥
+pub unfinished_not_faulty : (M : ℕ) (s : List ℕ) (fault : FrameFault) → prefix_kind M s ≡ Unfinished → prefix_kind M s ≡ Faulty fault → ⊥
 unfinished_not_faulty M s fault u e = cc
 
-faulty_known : (M : ℕ) (s : List ℕ) (fault : FrameFault) → beginning M s ≡ Faulty fault → declared_of s ≡ Unknown → ⊥
+faulty_known : (M : ℕ) (s : List ℕ) (fault : FrameFault) → prefix_kind M s ≡ Faulty fault → declared_of s ≡ Unknown → ⊥
 faulty_known M s fault e u = unfinished_not_faulty M s fault (begin_unknown M s u) e
 
 -- The bytes that show an error are present.
-pub fault_has_bytes : (M : ℕ) (s : List ℕ) (fault : FrameFault) → beginning M s ≡ Faulty fault → size_bytes s ≤ length s
+pub fault_has_bytes : (M : ℕ) (s : List ℕ) (fault : FrameFault) → prefix_kind M s ≡ Faulty fault → size_bytes s ≤ length s
 fault_has_bytes M s fault e = known_bytes s (faulty_known M s fault e)
 
 -- The bytes that show an error stay the same when more bytes follow.
-pub fault_bytes_more : (M : ℕ) (s t : List ℕ) (fault : FrameFault) → beginning M s ≡ Faulty fault → fault_bytes (s ++ t) ≡ fault_bytes s
+pub fault_bytes_more : (M : ℕ) (s t : List ℕ) (fault : FrameFault) → prefix_kind M s ≡ Faulty fault → fault_bytes (s ++ t) ≡ fault_bytes s
 fault_bytes_more M s t fault e =
     let known = faulty_known M s fault e in
     ap (λ (n : ℕ). take n (s ++ t)) (size_bytes_more s t (declared_some s known)) ∙ take-append-le (size_bytes s) s t (known_bytes s known)
 
-last_is_size : (M : ℕ) (s : List ℕ) (b size : ℕ) → beginning M s ≡ Unfinished → declared_of (s ++ b ∷ []) ≡ Size size → size ≤ length (s ++ b ∷ []) → size ≡ length (s ++ b ∷ [])
+last_is_size : (M : ℕ) (s : List ℕ) (b size : ℕ) → prefix_kind M s ≡ Unfinished → declared_of (s ++ b ∷ []) ≡ Size size → size ≤ length (s ++ b ∷ []) → size ≡ length (s ++ b ∷ [])
 last_is_size M s b size u d long =
     let len : length (s ++ b ∷ []) ≡ length s + 1 = length-append s (b ∷ []) in
     elim (front_is M s Unfinished u) [
@@ -421,21 +421,21 @@ last_is_size M s b size u d long =
     ]
 
 -- A frame that one more byte completes ends with that byte.
-pub whole_at_last : (M : ℕ) (s : List ℕ) (b : ℕ) (frame rest : List ℕ) → beginning M s ≡ Unfinished → beginning M (s ++ b ∷ []) ≡ Whole frame rest → (rest ≡ []) × (frame ≡ s ++ b ∷ [])
+pub whole_at_last : (M : ℕ) (s : List ℕ) (b : ℕ) (frame rest : List ℕ) → prefix_kind M s ≡ Unfinished → prefix_kind M (s ++ b ∷ []) ≡ Whole frame rest → (rest ≡ []) × (frame ≡ s ++ b ∷ [])
 whole_at_last M s b frame rest u e =
     let w : IsWhole M (s ++ b ∷ []) frame rest = front_is M (s ++ b ∷ []) (Whole frame rest) e in
     let size = last_is_size M s b w.size u w.declared w.long in
     (sym w.behind ∙ drop_all w.size (s ++ b ∷ []) (omega arith), sym w.front ∙ take_all w.size (s ++ b ∷ []) (omega arith))
 
 -- A known size of at most M excludes an error.
-no_fault_of_size : (M : ℕ) (s : List ℕ) (n : ℕ) (fault : FrameFault) → declared_of s ≡ Size n → n ≤ M → beginning M s ≡ Faulty fault → ⊥
+no_fault_of_size : (M : ℕ) (s : List ℕ) (n : ℕ) (fault : FrameFault) → declared_of s ≡ Size n → n ≤ M → prefix_kind M s ≡ Faulty fault → ⊥
 no_fault_of_size M s n TokenLength d small e = bad_not_size n (sym (front_is M s (Faulty TokenLength) e) ∙ d)
 no_fault_of_size M s n TooLarge d small e =
     let f : (n : ℕ) × (declared_of s ≡ Size n) × (M < n) = front_is M s (Faulty TooLarge) e in
     omega (arith, small, f.2, same_size f.0 n (sym f.1 ∙ d))
 
 -- If one more byte shows an error, that byte is the last one needed.
-pub fault_at_last : (M : ℕ) (s : List ℕ) (b : ℕ) (fault : FrameFault) → beginning M s ≡ Unfinished → beginning M (s ++ b ∷ []) ≡ Faulty fault → fault_bytes (s ++ b ∷ []) ≡ s ++ b ∷ []
+pub fault_at_last : (M : ℕ) (s : List ℕ) (b : ℕ) (fault : FrameFault) → prefix_kind M s ≡ Unfinished → prefix_kind M (s ++ b ∷ []) ≡ Faulty fault → fault_bytes (s ++ b ∷ []) ≡ s ++ b ∷ []
 fault_at_last M s b fault u e =
     elim (front_is M s Unfinished u) [
       | inl unknown ↦ take_all (size_bytes (s ++ b ∷ [])) (s ++ b ∷ []) (omega (arith, known_at_last s b unknown (faulty_known M (s ++ b ∷ []) fault e)))
@@ -477,7 +477,7 @@ unknown_small (b ∷ s) e =
     omega (arith, k, size_bytes_small (b ∷ s))
 
 -- An unfinished frame has fewer than M bytes, if M is at least 8.
-pub unfinished_below : (M : ℕ) (s : List ℕ) → 8 ≤ M → beginning M s ≡ Unfinished → length s < M
+pub unfinished_below : (M : ℕ) (s : List ℕ) → 8 ≤ M → prefix_kind M s ≡ Unfinished → length s < M
 unfinished_below M s h u =
     elim (front_is M s Unfinished u) [
       | inl unknown ↦ omega (arith, unknown_small s unknown, h)
@@ -485,7 +485,7 @@ unfinished_below M s h u =
     ]
 
 -- A frame that is unfinished with the maximum M is unfinished with a larger maximum.
-pub unfinished_larger : (M N : ℕ) (s : List ℕ) → M ≤ N → beginning M s ≡ Unfinished → beginning N s ≡ Unfinished
+pub unfinished_larger : (M N : ℕ) (s : List ℕ) → M ≤ N → prefix_kind M s ≡ Unfinished → prefix_kind N s ≡ Unfinished
 unfinished_larger M N s h u =
     elim (front_is M s Unfinished u) [
       | inl unknown ↦ begin_unknown N s unknown
@@ -512,7 +512,7 @@ size_for_more sizes s t some = ap (λ (n : ℕ). sizes (n - 1)) (size_bytes_more
 -- ---- the limit of the recursion
 
 -- Two searches that agree after each frame give the same result.
-then_same : (go hop : List ℕ → List ℕ → Frames) (s : List ℕ) (b : Beginning) → ((frame rest : List ℕ) → b ≡ Whole frame rest → go frame rest ≡ hop frame rest) → frames_then go s b ≡ frames_then hop s b
+then_same : (go hop : List ℕ → List ℕ → Frames) (s : List ℕ) (b : StreamPrefix) → ((frame rest : List ℕ) → b ≡ Whole frame rest → go frame rest ≡ hop frame rest) → frames_then go s b ≡ frames_then hop s b
 then_same go hop s Unfinished h = refl
 then_same go hop s (Faulty fault) h = refl
 then_same go hop s (Whole frame rest) h = ap (with_frame frame) (h frame rest refl)
@@ -530,7 +530,7 @@ within_same zero n sizes (b ∷ s) p q = absurd (omega arith)
 within_same (suc m) zero sizes (b ∷ s) p q = absurd (omega arith)
 within_same (suc m) (suc n) sizes (b ∷ s) p q =
     then_same (λ frame. frames_within m (sizes_behind (length frame) sizes)) (λ frame. frames_within n (sizes_behind (length frame) sizes)) (b ∷ s)
-    (beginning (size_for sizes (b ∷ s)) (b ∷ s))
+    (prefix_kind (size_for sizes (b ∷ s)) (b ∷ s))
     (λ frame rest e.
     let k : length rest < length (b ∷ s) = whole_shorter (size_for sizes (b ∷ s)) (b ∷ s) frame rest e in
     within_same m n (sizes_behind (length frame) sizes) rest (omega arith) (omega arith))
@@ -551,24 +551,24 @@ abbrev pub stream_from : Sizes → List ℕ → List ℕ → Stream
 stream_from sizes frame rest = sized_split (sizes_behind (length frame) sizes) rest
 
 -- The frames of a stream are the first one, followed by the frames of the other bytes.
-pub frames_step : (sizes : Sizes) (s : List ℕ) → sized_frames sizes s ≡ frames_then (frames_from sizes) s (beginning (size_for sizes s) s)
+pub frames_step : (sizes : Sizes) (s : List ℕ) → sized_frames sizes s ≡ frames_then (frames_from sizes) s (prefix_kind (size_for sizes s) s)
 unfolding frames_within
 frames_step sizes s =
     sym (frames_enough (suc (length s)) sizes s (omega arith))
-    ∙ then_same (λ frame. frames_within (length s) (sizes_behind (length frame) sizes)) (frames_from sizes) s (beginning (size_for sizes s) s)
+    ∙ then_same (λ frame. frames_within (length s) (sizes_behind (length frame) sizes)) (frames_from sizes) s (prefix_kind (size_for sizes s) s)
     (λ frame rest e. frames_enough (length s) (sizes_behind (length frame) sizes) rest (omega (arith, whole_shorter (size_for sizes s) s frame rest e)))
 
 module _ (sizes : Sizes) (s : List ℕ) where
   -- An unfinished frame is the rest.
-  pub frames_unfinished : beginning (size_for sizes s) s ≡ Unfinished → sized_frames sizes s ≡ record { frames = []; rest = s; fault = None }
+  pub frames_unfinished : prefix_kind (size_for sizes s) s ≡ Unfinished → sized_frames sizes s ≡ record { frames = []; rest = s; fault = None }
   frames_unfinished e = frames_step sizes s ∙ ap (frames_then (frames_from sizes) s) e
 
   -- An error ends the frames.
-  pub frames_faulty : (fault : FrameFault) → beginning (size_for sizes s) s ≡ Faulty fault → sized_frames sizes s ≡ record { frames = []; rest = fault_bytes s; fault = Some fault }
+  pub frames_faulty : (fault : FrameFault) → prefix_kind (size_for sizes s) s ≡ Faulty fault → sized_frames sizes s ≡ record { frames = []; rest = fault_bytes s; fault = Some fault }
   frames_faulty fault e = frames_step sizes s ∙ ap (frames_then (frames_from sizes) s) e
 
   -- One frame, followed by the frames of the other bytes.
-  pub frames_whole : (frame rest : List ℕ) → beginning (size_for sizes s) s ≡ Whole frame rest → sized_frames sizes s ≡ with_frame frame (frames_from sizes frame rest)
+  pub frames_whole : (frame rest : List ℕ) → prefix_kind (size_for sizes s) s ≡ Whole frame rest → sized_frames sizes s ≡ with_frame frame (frames_from sizes frame rest)
   frames_whole frame rest e = frames_step sizes s ∙ ap (frames_then (frames_from sizes) s) e
 
 -- ---- induction over the frames of a stream
@@ -579,7 +579,7 @@ Holding = Sizes → List ℕ → Type 0
 
 -- The property holds for the bytes after the first frame.
 abbrev pub HoldsBehind : Holding → Sizes → List ℕ → Type 0
-HoldsBehind P sizes s = (frame rest : List ℕ) → beginning (size_for sizes s) s ≡ Whole frame rest → P (sizes_behind (length frame) sizes) rest
+HoldsBehind P sizes s = (frame rest : List ℕ) → prefix_kind (size_for sizes s) s ≡ Whole frame rest → P (sizes_behind (length frame) sizes) rest
 
 by_turns : (turns : ℕ) (P : Holding) → ((sizes : Sizes) (s : List ℕ) → HoldsBehind P sizes s → P sizes s) → (sizes : Sizes) (s : List ℕ) → length s ≤ turns → P sizes s
 by_turns zero P step sizes s k = step sizes s (λ frame rest e. absurd (omega (arith, k, whole_shorter (size_for sizes s) s frame rest e)))
@@ -592,7 +592,7 @@ by_frames P step sizes s = by_turns (length s) P step sizes s (omega arith)
 
 -- ---- the stream, step by step
 
-split_by : (sizes : Sizes) (s : List ℕ) (b : Beginning) → beginning (size_for sizes s) s ≡ b → sized_split sizes s ≡ stream_then (stream_from sizes) s b
+split_by : (sizes : Sizes) (s : List ℕ) (b : StreamPrefix) → prefix_kind (size_for sizes s) s ≡ b → sized_split sizes s ≡ stream_then (stream_from sizes) s b
 unfolding sized_split
 split_by sizes s Unfinished e = ap read_found (frames_unfinished sizes s e)
 split_by sizes s (Faulty fault) e = ap read_found (frames_faulty sizes s fault e)
@@ -600,23 +600,23 @@ split_by sizes s (Whole frame rest) e = ap read_found (frames_whole sizes s fram
 
 module _ (sizes : Sizes) (s : List ℕ) where
   -- The result for a stream is its first frame or error, followed by the result for the other bytes.
-  pub sized_step : sized_split sizes s ≡ stream_then (stream_from sizes) s (beginning (size_for sizes s) s)
-  sized_step = split_by sizes s (beginning (size_for sizes s) s) refl
+  pub sized_step : sized_split sizes s ≡ stream_then (stream_from sizes) s (prefix_kind (size_for sizes s) s)
+  sized_step = split_by sizes s (prefix_kind (size_for sizes s) s) refl
 
   -- An unfinished frame is the rest.
-  pub sized_unfinished : beginning (size_for sizes s) s ≡ Unfinished → sized_split sizes s ≡ record { messages = []; rest = s; fault = None }
+  pub sized_unfinished : prefix_kind (size_for sizes s) s ≡ Unfinished → sized_split sizes s ≡ record { messages = []; rest = s; fault = None }
   sized_unfinished e = split_by sizes s Unfinished e
 
   -- An error ends the stream.
-  pub sized_faulty : (fault : FrameFault) → beginning (size_for sizes s) s ≡ Faulty fault → sized_split sizes s ≡ record { messages = []; rest = fault_bytes s; fault = Some (OfFrame fault) }
+  pub sized_faulty : (fault : FrameFault) → prefix_kind (size_for sizes s) s ≡ Faulty fault → sized_split sizes s ≡ record { messages = []; rest = fault_bytes s; fault = Some (OfFrame fault) }
   sized_faulty fault e = split_by sizes s (Faulty fault) e
 
   -- A frame that encodes a message, followed by the result for the other bytes.
-  pub sized_message : (frame rest : List ℕ) (m : Message) → beginning (size_for sizes s) s ≡ Whole frame rest → message_of frame ≡ Ok m → sized_split sizes s ≡ with_message m (stream_from sizes frame rest)
+  pub sized_message : (frame rest : List ℕ) (m : Message) → prefix_kind (size_for sizes s) s ≡ Whole frame rest → message_of frame ≡ Ok m → sized_split sizes s ≡ with_message m (stream_from sizes frame rest)
   sized_message frame rest m e is = split_by sizes s (Whole frame rest) e ∙ ap (λ (r : Result Message FormatFault). frame_then frame r (stream_from sizes frame rest)) is
 
   -- A frame that encodes no message ends the stream.
-  pub sized_bad : (frame rest : List ℕ) (e : FormatFault) → beginning (size_for sizes s) s ≡ Whole frame rest → message_of frame ≡ Err e → sized_split sizes s ≡ record { messages = []; rest = frame; fault = Some Format }
+  pub sized_bad : (frame rest : List ℕ) (e : FormatFault) → prefix_kind (size_for sizes s) s ≡ Whole frame rest → message_of frame ≡ Err e → sized_split sizes s ≡ record { messages = []; rest = frame; fault = Some Format }
   sized_bad frame rest e is bad = split_by sizes s (Whole frame rest) is ∙ ap (λ (r : Result Message FormatFault). frame_then frame r (stream_from sizes frame rest)) bad
 
 -- ---- more bytes of a stream
@@ -628,7 +628,7 @@ not_both_fault_and_none o fault e h = none_or_some fault (sym h ∙ e)
 abbrev IsWithin : Holding
 IsWithin sizes s = length (sized_split sizes s).rest ≤ length s
 
-within_step : (sizes : Sizes) (s : List ℕ) (b : Beginning) → HoldsBehind IsWithin sizes s → beginning (size_for sizes s) s ≡ b → IsWithin sizes s
+within_step : (sizes : Sizes) (s : List ℕ) (b : StreamPrefix) → HoldsBehind IsWithin sizes s → prefix_kind (size_for sizes s) s ≡ b → IsWithin sizes s
 within_step sizes s Unfinished again e = omega (arith, ap (λ (u : Stream). length u.rest) (sized_unfinished sizes s e))
 within_step sizes s (Faulty fault) again e =
     omega (arith, ap (λ (u : Stream). length u.rest) (sized_faulty sizes s fault e), length-take (size_bytes s) s)
@@ -641,7 +641,7 @@ within_step sizes s (Whole frame rest) again e =
     ]
 
 pub rest_within : (sizes : Sizes) (s : List ℕ) → length (sized_split sizes s).rest ≤ length s
-rest_within sizes s = by_frames IsWithin (λ at r again. within_step at r (beginning (size_for at r) r) again refl) sizes s
+rest_within sizes s = by_frames IsWithin (λ at r again. within_step at r (prefix_kind (size_for at r) r) again refl) sizes s
 
 -- The sizes of the rest, if a frame comes before.
 pub rest_behind : (sizes : Sizes) (frame rest s left : List ℕ) → length s ≡ length frame + length rest → length left ≤ length rest → sizes_of_rest (sizes_behind (length frame) sizes) rest left ≡ sizes_of_rest sizes s left
@@ -656,24 +656,24 @@ rest_is_all sizes s =
     ap (λ (n : ℕ). sizes_behind n sizes) none ∙ behind_none sizes
 
 -- If there is an error or a frame, there is a byte.
-pub faulty_some : (M : ℕ) (s : List ℕ) (fault : FrameFault) → beginning M s ≡ Faulty fault → 1 ≤ length s
-faulty_some M [] fault e = let bad : ◌≡◌ {A = Beginning} Unfinished (Faulty fault) = sym (unfinished_empty M) ∙ e in absurd cc
+pub faulty_some : (M : ℕ) (s : List ℕ) (fault : FrameFault) → prefix_kind M s ≡ Faulty fault → 1 ≤ length s
+faulty_some M [] fault e = let bad : ◌≡◌ {A = StreamPrefix} Unfinished (Faulty fault) = sym (unfinished_empty M) ∙ e in absurd cc
 faulty_some M (b ∷ s) fault e = omega arith
 
-pub whole_some : (M : ℕ) (s frame rest : List ℕ) → beginning M s ≡ Whole frame rest → 1 ≤ length s
+pub whole_some : (M : ℕ) (s frame rest : List ℕ) → prefix_kind M s ≡ Whole frame rest → 1 ≤ length s
 whole_some M s frame rest e = omega (arith, whole_shorter M s frame rest e)
 
 -- More bytes change neither the error or frame found nor the maximum size for it.
-pub sized_faulty_more : (sizes : Sizes) (s t : List ℕ) (fault : FrameFault) → beginning (size_for sizes s) s ≡ Faulty fault → beginning (size_for sizes (s ++ t)) (s ++ t) ≡ Faulty fault
+pub sized_faulty_more : (sizes : Sizes) (s t : List ℕ) (fault : FrameFault) → prefix_kind (size_for sizes s) s ≡ Faulty fault → prefix_kind (size_for sizes (s ++ t)) (s ++ t) ≡ Faulty fault
 sized_faulty_more sizes s t fault e =
-    ap (λ (M : ℕ). beginning M (s ++ t)) (size_for_more sizes s t (faulty_some (size_for sizes s) s fault e)) ∙ faulty_more (size_for sizes s) s t fault e
+    ap (λ (M : ℕ). prefix_kind M (s ++ t)) (size_for_more sizes s t (faulty_some (size_for sizes s) s fault e)) ∙ faulty_more (size_for sizes s) s t fault e
 
-pub sized_whole_more : (sizes : Sizes) (s t frame rest : List ℕ) → beginning (size_for sizes s) s ≡ Whole frame rest → beginning (size_for sizes (s ++ t)) (s ++ t) ≡ Whole frame (rest ++ t)
+pub sized_whole_more : (sizes : Sizes) (s t frame rest : List ℕ) → prefix_kind (size_for sizes s) s ≡ Whole frame rest → prefix_kind (size_for sizes (s ++ t)) (s ++ t) ≡ Whole frame (rest ++ t)
 sized_whole_more sizes s t frame rest e =
-    ap (λ (M : ℕ). beginning M (s ++ t)) (size_for_more sizes s t (whole_some (size_for sizes s) s frame rest e)) ∙ whole_more (size_for sizes s) s t frame rest e
+    ap (λ (M : ℕ). prefix_kind M (s ++ t)) (size_for_more sizes s t (whole_some (size_for sizes s) s frame rest e)) ∙ whole_more (size_for sizes s) s t frame rest e
 
 -- One more message before the others stays before them when more bytes follow.
-message_on : (m : Message) (stream others : Stream) (fault : Option StreamFault) → gone_on (with_message m stream) fault others ≡ with_message m (gone_on stream fault others)
+message_on : (m : Message) (stream others : Stream) (fault : Option StreamFault) → continued (with_message m stream) fault others ≡ with_message m (continued stream fault others)
 message_on m stream others None = refl
 message_on m stream others (Some fault) = refl
 
@@ -685,7 +685,7 @@ StreamGoesOn t sizes s = sized_split sizes (s ++ t) ≡ sized_split_on (sizes_of
 abbrev on_with : Sizes → List ℕ → List ℕ → Stream → Stream
 on_with sizes s t first = sized_split_on (sizes_of_rest sizes s first.rest) first t
 
-on_step : (t : List ℕ) (sizes : Sizes) (s : List ℕ) (b : Beginning) → HoldsBehind (StreamGoesOn t) sizes s → beginning (size_for sizes s) s ≡ b → StreamGoesOn t sizes s
+on_step : (t : List ℕ) (sizes : Sizes) (s : List ℕ) (b : StreamPrefix) → HoldsBehind (StreamGoesOn t) sizes s → prefix_kind (size_for sizes s) s ≡ b → StreamGoesOn t sizes s
 on_step t sizes s Unfinished again e =
     ap (λ (f : Sizes). sized_split f (s ++ t)) (sym (rest_is_all sizes s))
     ∙ sym (ap (on_with sizes s t) (sized_unfinished sizes s e))
@@ -712,19 +712,19 @@ on_step t sizes s (Whole frame rest) again e =
 
 -- The segmentation of a stream does not change its messages.
 pub sized_goes_on : (sizes : Sizes) (s more : List ℕ) → sized_split sizes (s ++ more) ≡ sized_split_on (sizes_of_rest sizes s (sized_split sizes s).rest) (sized_split sizes s) more
-sized_goes_on sizes s more = by_frames (StreamGoesOn more) (λ at r again. on_step more at r (beginning (size_for at r) r) again refl) sizes s
+sized_goes_on sizes s more = by_frames (StreamGoesOn more) (λ at r again. on_step more at r (prefix_kind (size_for at r) r) again refl) sizes s
 
 -- If s has no error, its rest is unfinished.
 abbrev LeavesUnfinished : Holding
-LeavesUnfinished sizes s = (sized_split sizes s).fault ≡ None → beginning (size_for (sizes_of_rest sizes s (sized_split sizes s).rest) (sized_split sizes s).rest) (sized_split sizes s).rest ≡ Unfinished
+LeavesUnfinished sizes s = (sized_split sizes s).fault ≡ None → prefix_kind (size_for (sizes_of_rest sizes s (sized_split sizes s).rest) (sized_split sizes s).rest) (sized_split sizes s).rest ≡ Unfinished
 
 -- The classification of the first bytes of the rest.
-abbrev front_of_rest : Sizes → List ℕ → List ℕ → Beginning
-front_of_rest sizes s left = beginning (size_for (sizes_of_rest sizes s left) left) left
+abbrev front_of_rest : Sizes → List ℕ → List ℕ → StreamPrefix
+front_of_rest sizes s left = prefix_kind (size_for (sizes_of_rest sizes s left) left) left
 
-rest_step : (sizes : Sizes) (s : List ℕ) (b : Beginning) → HoldsBehind LeavesUnfinished sizes s → beginning (size_for sizes s) s ≡ b → LeavesUnfinished sizes s
+rest_step : (sizes : Sizes) (s : List ℕ) (b : StreamPrefix) → HoldsBehind LeavesUnfinished sizes s → prefix_kind (size_for sizes s) s ≡ b → LeavesUnfinished sizes s
 rest_step sizes s Unfinished again e h =
-    ap (λ (u : Stream). front_of_rest sizes s u.rest) (sized_unfinished sizes s e) ∙ ap (λ (f : Sizes). beginning (size_for f s) s) (rest_is_all sizes s) ∙ e
+    ap (λ (u : Stream). front_of_rest sizes s u.rest) (sized_unfinished sizes s e) ∙ ap (λ (f : Sizes). prefix_kind (size_for f s) s) (rest_is_all sizes s) ∙ e
 rest_step sizes s (Faulty fault) again e h =
     absurd (not_both_fault_and_none (sized_split sizes s).fault (OfFrame fault) (ap (λ (u : Stream). u.fault) (sized_faulty sizes s fault e)) h)
 rest_step sizes s (Whole frame rest) again e h =
@@ -736,14 +736,14 @@ rest_step sizes s (Whole frame rest) again e h =
           let same = rest_behind sizes frame rest s first.rest all (rest_within (sizes_behind (length frame) sizes) rest) in
           let is = sized_message sizes s frame rest good.0 e good.1 in
           ap (λ (u : Stream). front_of_rest sizes s u.rest) is
-          ∙ ap (λ (f : Sizes). beginning (size_for f first.rest) first.rest) (sym same)
+          ∙ ap (λ (f : Sizes). prefix_kind (size_for f first.rest) first.rest) (sym same)
           ∙ again frame rest e (sym (ap (λ (u : Stream). u.fault) is) ∙ h)
       | inr bad ↦ absurd (not_both_fault_and_none (sized_split sizes s).fault Format (ap (λ (u : Stream). u.fault) (sized_bad sizes s frame rest bad.0 e bad.1)) h)
     ]
 
 -- If there is no error, the rest is unfinished.
-pub sized_rest : (sizes : Sizes) (s : List ℕ) → (sized_split sizes s).fault ≡ None → beginning (size_for (sizes_of_rest sizes s (sized_split sizes s).rest) (sized_split sizes s).rest) (sized_split sizes s).rest ≡ Unfinished
-sized_rest sizes s = by_frames LeavesUnfinished (λ at r again. rest_step at r (beginning (size_for at r) r) again refl) sizes s
+pub sized_rest : (sizes : Sizes) (s : List ℕ) → (sized_split sizes s).fault ≡ None → prefix_kind (size_for (sizes_of_rest sizes s (sized_split sizes s).rest) (sized_split sizes s).rest) (sized_split sizes s).rest ≡ Unfinished
+sized_rest sizes s = by_frames LeavesUnfinished (λ at r again. rest_step at r (prefix_kind (size_for at r) r) again refl) sizes s
 
 -- ---- sizes that agree
 
@@ -751,7 +751,7 @@ sized_rest sizes s = by_frames LeavesUnfinished (λ at r again. rest_step at r (
 abbrev IsTold : ℕ → List ℕ → Type 0
 IsTold M s = (n : ℕ) × (declared_of s ≡ Size n) × (n ≤ M) × (length s < n)
 
-front_cases : (M : ℕ) (s : List ℕ) → beginning M s ≡ Unfinished → (declared_of s ≡ Unknown) ⊎ IsTold M s
+front_cases : (M : ℕ) (s : List ℕ) → prefix_kind M s ≡ Unfinished → (declared_of s ≡ Unknown) ⊎ IsTold M s
 front_cases M s u =
     elim (front_is M s Unfinished u) [
       | inl unknown ↦ inl unknown
@@ -759,7 +759,7 @@ front_cases M s u =
     ]
 
 -- If the size is known, a larger maximum does not change the classification.
-begins_same : (M N : ℕ) (s : List ℕ) (n : ℕ) → declared_of s ≡ Size n → n ≤ M → M ≤ N → beginning M s ≡ beginning N s
+begins_same : (M N : ℕ) (s : List ℕ) (n : ℕ) → declared_of s ≡ Size n → n ≤ M → M ≤ N → prefix_kind M s ≡ prefix_kind N s
 begins_same M N s n e small larger =
     elim (cases_lt (length s) n) [
       | inl short ↦ begin_short M s n e small short ∙ sym (begin_short N s n e (omega (arith, small, larger)) short)
@@ -769,20 +769,20 @@ begins_same M N s n e small larger =
 -- The bytes `kept` are unfinished with the sizes F. Their maximum in F is at most that in G, and F and G agree after
 -- them.
 pub record AreAlikeBehind (F G : Sizes) (kept : List ℕ) : Type 0 where
-  pub unfinished : beginning (size_for F kept) kept ≡ Unfinished
+  pub unfinished : prefix_kind (size_for F kept) kept ≡ Unfinished
   pub larger : size_for F kept ≤ size_for G kept
   pub same : (at : ℕ) → length kept ≤ at → F at ≡ G at
 
-front_agrees : (F G : Sizes) (kept more : List ℕ) → AreAlikeBehind F G kept → beginning (size_for F (kept ++ more)) (kept ++ more) ≡ beginning (size_for G (kept ++ more)) (kept ++ more)
-front_agrees F G [] more alike = ap (λ (M : ℕ). beginning M more) (alike.same (size_bytes more - 1) (omega arith))
+front_agrees : (F G : Sizes) (kept more : List ℕ) → AreAlikeBehind F G kept → prefix_kind (size_for F (kept ++ more)) (kept ++ more) ≡ prefix_kind (size_for G (kept ++ more)) (kept ++ more)
+front_agrees F G [] more alike = ap (λ (M : ℕ). prefix_kind M more) (alike.same (size_bytes more - 1) (omega arith))
 front_agrees F G (b ∷ s) more alike =
     elim (front_cases (size_for F (b ∷ s)) (b ∷ s) alike.unfinished) [
-      | inl unknown ↦ ap (λ (M : ℕ). beginning M (b ∷ (s ++ more))) (alike.same (size_bytes (b ∷ s) - 1) (omega (arith, unknown_at b s unknown)))
+      | inl unknown ↦ ap (λ (M : ℕ). prefix_kind M (b ∷ (s ++ more))) (alike.same (size_bytes (b ∷ s) - 1) (omega (arith, unknown_at b s unknown)))
       | inr told ↦ begins_same (size_for F (b ∷ s)) (size_for G (b ∷ s)) (b ∷ (s ++ more)) told.0 (declared_more (b ∷ s) more told.0 told.1) told.2 alike.larger
     ]
 
 -- A frame has at least the bytes that were kept of it.
-frame_has_kept : (M N : ℕ) (kept more frame rest : List ℕ) → beginning M kept ≡ Unfinished → beginning N (kept ++ more) ≡ Whole frame rest → length kept ≤ length frame
+frame_has_kept : (M N : ℕ) (kept more frame rest : List ℕ) → prefix_kind M kept ≡ Unfinished → prefix_kind N (kept ++ more) ≡ Whole frame rest → length kept ≤ length frame
 frame_has_kept M N [] more frame rest u e = omega arith
 frame_has_kept M N (b ∷ s) more frame rest u e =
     let declared = (whole_parts N ((b ∷ s) ++ more) frame rest e).declared in
@@ -796,7 +796,7 @@ behind_same F G m n same h =
     let above : (at : ℕ) → m ≤ n + at = λ at. omega (arith, h) in
     λ i at. same (n + at) (above at) i
 
-alike_at : (F G : Sizes) (kept more : List ℕ) (b : Beginning) → AreAlikeBehind F G kept → beginning (size_for G (kept ++ more)) (kept ++ more) ≡ b → sized_frames F (kept ++ more) ≡ sized_frames G (kept ++ more)
+alike_at : (F G : Sizes) (kept more : List ℕ) (b : StreamPrefix) → AreAlikeBehind F G kept → prefix_kind (size_for G (kept ++ more)) (kept ++ more) ≡ b → sized_frames F (kept ++ more) ≡ sized_frames G (kept ++ more)
 alike_at F G kept more Unfinished alike e =
     frames_unfinished F (kept ++ more) (front_agrees F G kept more alike ∙ e) ∙ sym (frames_unfinished G (kept ++ more) e)
 alike_at F G kept more (Faulty fault) alike e =
@@ -809,7 +809,7 @@ alike_at F G kept more (Whole frame rest) alike e =
 
 -- A larger maximum for an unfinished frame gives the same result.
 pub frames_alike : (F G : Sizes) (kept more : List ℕ) → AreAlikeBehind F G kept → sized_frames F (kept ++ more) ≡ sized_frames G (kept ++ more)
-frames_alike F G kept more alike = alike_at F G kept more (beginning (size_for G (kept ++ more)) (kept ++ more)) alike refl
+frames_alike F G kept more alike = alike_at F G kept more (prefix_kind (size_for G (kept ++ more)) (kept ++ more)) alike refl
 
 pub split_alike : (F G : Sizes) (kept more : List ℕ) → AreAlikeBehind F G kept → sized_split F (kept ++ more) ≡ sized_split G (kept ++ more)
 unfolding sized_split
@@ -820,17 +820,17 @@ split_alike F G kept more alike = ap read_found (frames_alike F G kept more alik
 abbrev AgreeTo : ℕ → Sizes → Sizes → Type 0
 AgreeTo n F G = (at : ℕ) → at < n → F at ≡ G at
 
-front_by_size : (F G : Sizes) (s : List ℕ) (d : Declared) → AgreeTo (length s) F G → declared_of s ≡ d → beginning (size_for F s) s ≡ beginning (size_for G s) s
+front_by_size : (F G : Sizes) (s : List ℕ) (d : Declared) → AgreeTo (length s) F G → declared_of s ≡ d → prefix_kind (size_for F s) s ≡ prefix_kind (size_for G s) s
 front_by_size F G s Unknown same e = begin_unknown (size_for F s) s e ∙ sym (begin_unknown (size_for G s) s e)
 front_by_size F G s BadToken same e = begin_bad_token (size_for F s) s e ∙ sym (begin_bad_token (size_for G s) s e)
 front_by_size F G s (Size n) same e =
     let there : size_bytes s - 1 < length s = omega (arith, size_has_bytes s n e, size_bytes_positive s n e) in
-    ap (λ (M : ℕ). beginning M s) (same (size_bytes s - 1) there)
+    ap (λ (M : ℕ). prefix_kind M s) (same (size_bytes s - 1) there)
 
 abbrev IsSameTo : Holding
 IsSameTo F s = (G : Sizes) → AgreeTo (length s) F G → sized_frames F s ≡ sized_frames G s
 
-same_to_step : (F : Sizes) (s : List ℕ) (b : Beginning) → HoldsBehind IsSameTo F s → beginning (size_for F s) s ≡ b → IsSameTo F s
+same_to_step : (F : Sizes) (s : List ℕ) (b : StreamPrefix) → HoldsBehind IsSameTo F s → prefix_kind (size_for F s) s ≡ b → IsSameTo F s
 same_to_step F s Unfinished again e G same =
     frames_unfinished F s e ∙ sym (frames_unfinished G s (sym (front_by_size F G s (declared_of s) same refl) ∙ e))
 same_to_step F s (Faulty fault) again e G same =
@@ -845,7 +845,7 @@ same_to_step F s (Whole frame rest) again e G same =
 
 -- The sizes after the last byte have no effect.
 pub frames_same_to : (F G : Sizes) (s : List ℕ) → ((at : ℕ) → at < length s → F at ≡ G at) → sized_frames F s ≡ sized_frames G s
-frames_same_to F G s same = by_frames IsSameTo (λ sizes r again. same_to_step sizes r (beginning (size_for sizes r) r) again refl) F s G same
+frames_same_to F G s same = by_frames IsSameTo (λ sizes r again. same_to_step sizes r (prefix_kind (size_for sizes r) r) again refl) F s G same
 
 pub split_same_to : (F G : Sizes) (s : List ℕ) → ((at : ℕ) → at < length s → F at ≡ G at) → sized_split F s ≡ sized_split G s
 unfolding sized_split
@@ -853,27 +853,27 @@ split_same_to F G s same = ap read_found (frames_same_to F G s same)
 
 -- ---- a maximum that never changes
 
-pub split_is : (M : ℕ) (s : List ℕ) → split M s ≡ sized_split (always M) s
+pub split_is : (M : ℕ) (s : List ℕ) → split M s ≡ sized_split (constant_size M) s
 unfolding split
 split_is M s = refl
 
 module _ (M : ℕ) (s : List ℕ) where
-  pub split_step : split M s ≡ stream_then (λ frame. split M) s (beginning M s)
+  pub split_step : split M s ≡ stream_then (λ frame. split M) s (prefix_kind M s)
   unfolding split
-  split_step = sized_step (always M) s
+  split_step = sized_step (constant_size M) s
 
-  pub split_unfinished : beginning M s ≡ Unfinished → split M s ≡ record { messages = []; rest = s; fault = None }
+  pub split_unfinished : prefix_kind M s ≡ Unfinished → split M s ≡ record { messages = []; rest = s; fault = None }
   unfolding split
-  split_unfinished e = sized_unfinished (always M) s e
+  split_unfinished e = sized_unfinished (constant_size M) s e
 
-  pub split_faulty : (fault : FrameFault) → beginning M s ≡ Faulty fault → split M s ≡ record { messages = []; rest = fault_bytes s; fault = Some (OfFrame fault) }
+  pub split_faulty : (fault : FrameFault) → prefix_kind M s ≡ Faulty fault → split M s ≡ record { messages = []; rest = fault_bytes s; fault = Some (OfFrame fault) }
   unfolding split
-  split_faulty fault e = sized_faulty (always M) s fault e
+  split_faulty fault e = sized_faulty (constant_size M) s fault e
 
   pub split_goes_on : (more : List ℕ) → split M (s ++ more) ≡ split_on M (split M s) more
   unfolding split
-  split_goes_on more = sized_goes_on (always M) s more
+  split_goes_on more = sized_goes_on (constant_size M) s more
 
-  pub split_rest : (split M s).fault ≡ None → beginning M (split M s).rest ≡ Unfinished
+  pub split_rest : (split M s).fault ≡ None → prefix_kind M (split M s).rest ≡ Unfinished
   unfolding split
-  split_rest h = sized_rest (always M) s h
+  split_rest h = sized_rest (constant_size M) s h

@@ -3,7 +3,7 @@
 use Rattle.std.specs.Prelude.{◌≡◌, ℕ, zero, suc, ◌+◌, ◌-◌, ◌≤◌, List, [], ◌∷◌, ◌++◌, length, Option, Some, None, nat_lt, if◌then◌else◌}
 use Rattle.std.specs.List.{concat}
 use Rattle.coap_wire.specs.Size.{IsFrame}
-use Rattle.coap_wire.specs.Beginning.{IsFrameFault, IsUnfinished, Beginning, Unfinished, Whole, Faulty, beginning, size_bytes, fault_bytes}
+use Rattle.coap_wire.specs.StreamPrefix.{IsFrameFault, IsUnfinished, StreamPrefix, Unfinished, Whole, Faulty, prefix_kind, size_bytes, fault_bytes}
 use Rattle.coap_wire.specs.declared.fault.FrameFault.{FrameFault}
 
 -- The frames of a stream, its rest, and the error that ended it, if there is one. The rest is an unfinished frame,
@@ -21,8 +21,8 @@ abbrev pub Sizes : Type 0
 Sizes = ℕ → ℕ
 
 -- The maximum `M` for every byte.
-abbrev pub always : ℕ → Sizes
-always M = λ at. M
+abbrev pub constant_size : ℕ → Sizes
+constant_size M = λ at. M
 
 -- The maximum `M` for the first `n` bytes, followed by the maximum sizes `sizes`.
 abbrev pub sizes_first : ℕ → ℕ → Sizes → Sizes
@@ -81,7 +81,7 @@ with_frame frame found = record found { frames = frame ∷ found.frames }
 
 -- The frames of a stream `s` with this classification of its first bytes. After a whole frame, `go` finds the frames of
 -- the other bytes.
-abbrev pub frames_then : (List ℕ → List ℕ → Frames) → List ℕ → Beginning → Frames
+abbrev pub frames_then : (List ℕ → List ℕ → Frames) → List ℕ → StreamPrefix → Frames
 frames_then go s Unfinished = record { frames = []; rest = s; fault = None }
 frames_then go s (Faulty fault) = record { frames = []; rest = fault_bytes s; fault = Some fault }
 frames_then go s (Whole frame rest) = with_frame frame (go frame rest)
@@ -91,7 +91,7 @@ frames_then go s (Whole frame rest) = with_frame frame (go frame rest)
 unfoldable pub frames_within : ℕ → Sizes → List ℕ → Frames
 frames_within zero sizes s = record { frames = []; rest = s; fault = None }
 frames_within (suc turns) sizes s =
-    frames_then (λ frame. frames_within turns (sizes_behind (length frame) sizes)) s (beginning (size_for sizes s) s)
+    frames_then (λ frame. frames_within turns (sizes_behind (length frame) sizes)) s (prefix_kind (size_for sizes s) s)
 
 -- The frames of the whole stream `s`.
 unfoldable pub sized_frames : Sizes → List ℕ → Frames

@@ -9,7 +9,7 @@ pub mod Refusal
 pub mod Views
 pub mod BuilderViews
 pub mod CompactViews
-pub mod Beginning
+pub mod StreamPrefix
 pub mod Frames
 pub mod Stream
 pub mod Codes

@@ -11,15 +11,15 @@ pub use Rattle.std.specs.Prelude.{◌↔◌}
 pub use Rattle.coap_wire.specs.declared.sizes.TheConstants.{BASE_MESSAGE_SIZE, MAX_EXTENDED_LENGTH}
 pub use Rattle.coap_wire.specs.declared.sizes.TheConstants.{LARGEST_MESSAGE, LARGEST_SENT_MESSAGE, LARGEST_QUEUE}
 pub use Rattle.coap_wire.specs.declared.sizes.TheConstants.{DEFAULT_QUEUE}
-pub use Rattle.coap_wire.specs.Beginning.{IsFrameFault, IsUnfinished, Unfinished, Whole, Faulty, fault_bytes}
-pub use Rattle.coap_wire.specs.Beginning.{Beginning, IsTooLarge, begins_with, size_bytes, token_bytes}
-unfoldable pub use Rattle.coap_wire.specs.Beginning.{beginning}
+pub use Rattle.coap_wire.specs.StreamPrefix.{IsFrameFault, IsUnfinished, Unfinished, Whole, Faulty, fault_bytes}
+pub use Rattle.coap_wire.specs.StreamPrefix.{StreamPrefix, IsTooLarge, begins_with, size_bytes, token_bytes}
+unfoldable pub use Rattle.coap_wire.specs.StreamPrefix.{prefix_kind}
 pub use Rattle.coap_wire.specs.BuilderViews.{built_message}
 pub use Rattle.coap_wire.specs.Faults.{IsFirstFault, HasOptionFault, IsOptionFault, IsOptionHeadCut}
 pub use Rattle.coap_wire.specs.Forms.{length_form, option_form, greatest_length, IsLengthForm}
 pub use Rattle.coap_wire.specs.Forms.{IsOptionForm, IsTokenForm, token_form, greatest_token, extension_of}
 pub use Rattle.coap_wire.specs.Forms.{option_extension}
-pub use Rattle.coap_wire.specs.Frames.{Frames, Sizes, FramedAs, always, size_for, sizes_behind, sizes_of_rest}
+pub use Rattle.coap_wire.specs.Frames.{Frames, Sizes, FramedAs, constant_size, size_for, sizes_behind, sizes_of_rest}
 pub use Rattle.coap_wire.specs.Frames.{frames_on, AreAtMost, AreFrames, FramesEndWith, StandsBehind, frames_gone_on}
 pub use Rattle.coap_wire.specs.Frames.{frames_then, size_behind, sizes_first, with_frame}
 unfoldable pub use Rattle.coap_wire.specs.Frames.{sized_frames, frames_within}
@@ -45,7 +45,7 @@ pub use Rattle.coap_wire.specs.Spelling.{IsOptionBytes, IsOptionHead}
 pub use Rattle.coap_wire.specs.Spelling.{payload_marker}
 unfoldable pub use Rattle.coap_wire.specs.Spelling.{spelling, front_spelling}
 pub use Rattle.coap_wire.specs.Stream.{Stream, SplitsAs, stream_then, sized_split_on, split_on, EndsWith, Format}
-pub use Rattle.coap_wire.specs.Stream.{IsFormatFault, OfFrame, SpellEach, Splits, StreamFault, frame_then, gone_on}
+pub use Rattle.coap_wire.specs.Stream.{IsFormatFault, OfFrame, SpellEach, Splits, StreamFault, frame_then, continued}
 pub use Rattle.coap_wire.specs.Stream.{read_found, with_message}
 unfoldable pub use Rattle.coap_wire.specs.Stream.{sized_split, split}
 pub use Rattle.coap_wire.specs.Uint.{uint_of, without_leading_zeros}
@@ -60,7 +60,7 @@ pub use Rattle.coap_wire.specs.declared.fault.FormatFault.TheVariants.{OptionDel
 pub use Rattle.coap_wire.specs.declared.fault.FormatFault.TheVariants.{TokenLength}
 pub use Rattle.coap_wire.specs.declared.fault.FrameFault.{FrameFault}
 pub use Rattle.coap_wire.specs.declared.fault.FrameFault.TheVariants.{TooLarge}
-pub use Rattle.coap_wire.specs.declared.frame.Declared.{Declared}
-pub use Rattle.coap_wire.specs.declared.frame.Declared.TheVariants.{BadToken, Size, Unknown}
-pub use Rattle.coap_wire.specs.declared.kinds.OptionKind.{OptionKind}
+pub use Rattle.coap_wire.specs.declared.declaration.Declared.{Declared}
+pub use Rattle.coap_wire.specs.declared.declaration.Declared.TheVariants.{BadToken, Size, Unknown}
+pub use Rattle.coap_wire.specs.declared.option_table.OptionKind.{OptionKind}
 pub use Rattle.coap_wire.specs.declared.option.OptionRef.{OptionRef}

@@ -4,8 +4,8 @@ use Rattle.std.specs.Prelude.{ℕ, zero, suc, ◌+◌, ◌-◌, ◌/◌, ◌%◌
 use Rattle.std.specs.Int.{w16, w32, from_be_bytes}
 use Rattle.coap_wire.specs.Message.{CoapOption, Message, BodyValue}
 use Rattle.coap_wire.specs.Forms.{greatest_token}
-use Rattle.coap_wire.specs.declared.frame.Declared.{Declared}
-use Rattle.coap_wire.specs.declared.frame.Declared.TheVariants as declared
+use Rattle.coap_wire.specs.declared.declaration.Declared.{Declared}
+use Rattle.coap_wire.specs.declared.declaration.Declared.TheVariants as declared
 use Rattle.coap_wire.specs.declared.fault.FormatFault.{FormatFault}
 use Rattle.coap_wire.specs.declared.fault.FormatFault.TheVariants.{TokenLength, OptionDelta, OptionLength, OptionCut, OptionNumber, EmptyPayload, NotOneFrame}
 

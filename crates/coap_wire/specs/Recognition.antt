@@ -3,7 +3,7 @@ use Rattle.std.specs.Prelude.{◌≡◌, ◌≢◌, ℕ, ◌%◌, ◌≤◌, Lis
 use Rattle.std.specs.List.{list_all}
 use Rattle.coap_wire.specs.Message.{CoapOption}
 use Rattle.coap_wire.specs.OptionNumbers as numbers
-use Rattle.coap_wire.specs.declared.kinds.OptionKind.{OptionKind}
+use Rattle.coap_wire.specs.declared.option_table.OptionKind.{OptionKind}
 
 -- ---- the table
 

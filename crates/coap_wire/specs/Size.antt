@@ -2,8 +2,8 @@
 -- exactly one frame.
 use Rattle.std.specs.Prelude.{◌≡◌, ℕ, ◌+◌, ◌*◌, ◌%◌, ◌<◌, ◌≤◌, List, [], ◌∷◌, ◌++◌, length, ◌⊎◌}
 use Rattle.coap_wire.specs.Forms.{IsLengthForm, IsOptionForm, greatest_token}
-use Rattle.coap_wire.specs.declared.frame.Declared.{Declared}
-use Rattle.coap_wire.specs.declared.frame.Declared.TheVariants.{Unknown, Size, BadToken}
+use Rattle.coap_wire.specs.declared.declaration.Declared.{Declared}
+use Rattle.coap_wire.specs.declared.declaration.Declared.TheVariants.{Unknown, Size, BadToken}
 
 -- The code and the extension of the token length. If the extension is empty, no byte: the size is then known before the
 -- code.

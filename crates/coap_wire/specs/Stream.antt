@@ -5,8 +5,8 @@ use Rattle.coap_wire.specs.Message.{Message}
 use Rattle.coap_wire.specs.Spelling.{Spells}
 use Rattle.coap_wire.specs.Size.{IsFrame}
 use Rattle.coap_wire.specs.Reading.{message_of}
-use Rattle.coap_wire.specs.Beginning.{IsFrameFault, IsUnfinished, Beginning, Unfinished, Whole, Faulty, fault_bytes}
-use Rattle.coap_wire.specs.Frames.{Frames, Sizes, always, AreAtMost, StandsBehind, size_behind, sized_frames}
+use Rattle.coap_wire.specs.StreamPrefix.{IsFrameFault, IsUnfinished, StreamPrefix, Unfinished, Whole, Faulty, fault_bytes}
+use Rattle.coap_wire.specs.Frames.{Frames, Sizes, constant_size, AreAtMost, StandsBehind, size_behind, sized_frames}
 use Rattle.coap_wire.specs.declared.fault.FormatFault.{FormatFault}
 use Rattle.coap_wire.specs.declared.fault.FrameFault.{FrameFault}
 
@@ -82,11 +82,11 @@ sized_split sizes s = read_found (sized_frames sizes s)
 
 -- The same, if the maximum size is always `M`.
 unfoldable pub split : ℕ → List ℕ → Stream
-split M s = sized_split (always M) s
+split M s = sized_split (constant_size M) s
 
 -- The result for a stream `s` with this classification of its first bytes. After a whole frame, `go` splits the other
 -- bytes.
-abbrev pub stream_then : (List ℕ → List ℕ → Stream) → List ℕ → Beginning → Stream
+abbrev pub stream_then : (List ℕ → List ℕ → Stream) → List ℕ → StreamPrefix → Stream
 stream_then go s Unfinished = record { messages = []; rest = s; fault = None }
 stream_then go s (Faulty fault) = record { messages = []; rest = fault_bytes s; fault = Some (OfFrame fault) }
 stream_then go s (Whole frame rest) = frame_then frame (message_of frame) (go frame rest)
@@ -98,14 +98,14 @@ abbrev pub behind : List Message → Stream → Stream
 behind before stream = record stream { messages = before ++ stream.messages }
 
 -- The result `stream`, followed by `others` if there is no error.
-abbrev pub gone_on : Stream → Option StreamFault → Stream → Stream
-gone_on stream None others = behind stream.messages others
-gone_on stream (Some fault) others = stream
+abbrev pub continued : Stream → Option StreamFault → Stream → Stream
+continued stream None others = behind stream.messages others
+continued stream (Some fault) others = stream
 
 -- The result for a stream that continues with `more`, if `stream` is the result for its first bytes. The function `go`
 -- splits the rest followed by `more`. After an error, `more` is ignored.
 abbrev pub gone_on_by : (List ℕ → Stream) → Stream → List ℕ → Stream
-gone_on_by go stream more = gone_on stream stream.fault (go (stream.rest ++ more))
+gone_on_by go stream more = continued stream stream.fault (go (stream.rest ++ more))
 
 -- The same with maximum sizes that count from the first byte of the rest of `stream`.
 abbrev pub sized_split_on : Sizes → Stream → List ℕ → Stream

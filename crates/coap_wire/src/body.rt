@@ -4,8 +4,8 @@ ghost use Rattle.std.specs.Prelude.{◌≡◌, IsOk};
 ghost use Rattle.coap_wire.specs.Prelude.{body_at, body_read, known_options, AreOrdered};
 
 use crate::options::Options;
-use crate::reading::payload_of;
-use crate::recognition::Known;
+use crate::decode::payload_of;
+use crate::recognition::RecognisedOptions;
 use std::marker::Model;
 
 /// Options and payload of a message, borrowed from its frame: a `MessageRef` without code and token, in one slice.
@@ -37,10 +37,10 @@ impl<'a> Body<'a> {
     }
 
     /// Returns an iterator over the recognised options, in order of number (RFC 7252 sections 5.4, 5.10).
-    pub fn known(&self) -> Known<'a>
+    pub fn known(&self) -> RecognisedOptions<'a>
         ensures { result ≡ known_options self.now.options }
     {
-        Known::of_options(self.options())
+        RecognisedOptions::of_options(self.options())
     }
 
     /// Returns an iterator over all options, in order of number.

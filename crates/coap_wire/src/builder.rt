@@ -11,7 +11,7 @@ use crate::option::OptionRef;
 use crate::sink::Sink;
 use crate::sizes::{LARGEST_MESSAGE, MAX_EXTENDED_LENGTH};
 use crate::token::{Token, TokenRef};
-use crate::writing::{
+use crate::encode::{
     head_size, marker_size, option_size, write_head, write_marker, write_options,
 };
 use arrayvec::ArrayVec;
@@ -55,16 +55,16 @@ impl<'a, const N: usize> MessageBuilder<'a, N> {
     pub fn new(code: Code, token: &'a Token) -> MessageBuilder<'a, N>
         ensures { result ≡ record { code = code; token = token.now.items; options = []; payload = [] } }
     {
-        MessageBuilder::to(code, TokenRef::of(token))
+        MessageBuilder::with_token_ref(code, TokenRef::of(token))
     }
 
     /// Creates a builder like `new`, with a borrowed token.
-    pub fn to(code: Code, token: TokenRef<'a>) -> MessageBuilder<'a, N>
+    pub fn with_token_ref(code: Code, token: TokenRef<'a>) -> MessageBuilder<'a, N>
         ensures { result ≡ record { code = code; token = token.entry; options = []; payload = [] } }
     {
         MessageBuilder {
             code,
-            token: token.again(),
+            token: token.copy(),
             options: ArrayVec::new(),
             options_size: 0,
             payload: &[],

@@ -9,7 +9,7 @@ use crate::code::Code;
 use crate::sink::Sink;
 use crate::token::TokenRef;
 use crate::uint::significant_bytes;
-use crate::writing::{head_size, marker_size, write_head, write_marker, write_option};
+use crate::encode::{head_size, marker_size, write_head, write_marker, write_option};
 use arrayvec::ArrayVec;
 use std::marker::Model;
 
@@ -58,7 +58,7 @@ impl<'t, 'p, const N: usize> CompactBuilder<'t, 'p, N> {
     {
         CompactBuilder {
             code,
-            token: token.again(),
+            token: token.copy(),
             options: ArrayVec::new(),
             last: 0,
             payload: &[],

@@ -5,8 +5,8 @@ ghost use Rattle.coap_wire.specs.Prelude.{Message, CoapOption, AreBytes, AreOrde
 ghost use Rattle.coap_wire.specs.Prelude.{greatest_length, IsOptionForm, option_form, MAX_EXTENDED_LENGTH, IsTokenForm};
 ghost use Rattle.coap_wire.specs.Prelude.{token_form, greatest_token, Spells, spelling, HasSpelling, IsDeclaredSize};
 ghost use Rattle.coap_wire.specs.Prelude.{IsFrame, Declares, declared_of, IsFirstFault, IsFrameFault, IsUnfinished};
-ghost use Rattle.coap_wire.specs.Prelude.{Unfinished, Whole, Faulty, beginning, fault_bytes, Frames, Sizes, FramedAs};
-ghost use Rattle.coap_wire.specs.Prelude.{always, size_for, sizes_behind, sizes_of_rest, sized_frames, frames_on};
+ghost use Rattle.coap_wire.specs.Prelude.{Unfinished, Whole, Faulty, prefix_kind, fault_bytes, Frames, Sizes, FramedAs};
+ghost use Rattle.coap_wire.specs.Prelude.{constant_size, size_for, sizes_behind, sizes_of_rest, sized_frames, frames_on};
 ghost use Rattle.coap_wire.specs.Prelude.{Stream, SplitsAs, sized_split, split, stream_then, sized_split_on, split_on};
 ghost use Rattle.coap_wire.specs.Prelude.{uint_of, bytes_of_uint, IsFirstWithNumber, IsRecognised, is_recognised};
 ghost use Rattle.coap_wire.specs.Prelude.{Declared, FormatFault, FrameFault};
@@ -47,7 +47,7 @@ pub fn no_spelling_begins_another()
 {}
 
 /// States that a message has an encoding if and only if its parts are in range (`HasSpelling`). `spelling` computes it.
-pub fn what_is_in_range_has_a_spelling()
+pub fn messages_in_range_have_an_encoding()
     ensures has { (m : Message) → HasSpelling m → Spells (spelling m) m }
     ensures no_other { (m : Message) (s : List ℕ) → Spells s m → HasSpelling m }
 {}
@@ -78,12 +78,12 @@ pub fn stream_is_split_once()
     ensures has { (sizes : Sizes) (s : List ℕ) → AreBytes s → SplitsAs sizes s (sized_split sizes s) }
     ensures no_other { (sizes : Sizes) (s : List ℕ) (other : Stream) → AreBytes s → SplitsAs sizes s other
         → other ≡ sized_split sizes s }
-    ensures one_size { (M : ℕ) (s : List ℕ) → split M s ≡ sized_split (always M) s }
+    ensures one_size { (M : ℕ) (s : List ℕ) → split M s ≡ sized_split (constant_size M) s }
 {}
 
 /// States that the segmentation of a stream does not change its messages. To split `s ++ more`, split `s`, then
 /// continue from its rest with `more`. After an error, `more` is ignored.
-pub fn cuts_do_not_matter()
+pub fn segmentation_is_irrelevant()
     ensures sized { (sizes : Sizes) (s more : List ℕ) → sized_split sizes (s ++ more)
         ≡ sized_split_on (sizes_of_rest sizes s (sized_split sizes s).rest) (sized_split sizes s) more }
     ensures one_size { (M : ℕ) (s more : List ℕ) → split M (s ++ more) ≡ split_on M (split M s) more }
@@ -99,7 +99,7 @@ pub fn frames_are_found_once()
 
 /// States that the segmentation of a stream does not change its frames. To find those of `s ++ more`, find those of
 /// `s`, then continue from the rest with `more`. After an error, `more` is ignored.
-pub fn cuts_do_not_matter_to_frames()
+pub fn frame_segmentation_is_irrelevant()
     ensures { (sizes : Sizes) (s more : List ℕ) → sized_frames sizes (s ++ more)
         ≡ frames_on (sizes_of_rest sizes s (sized_frames sizes s).rest) (sized_frames sizes s) more }
 {}
@@ -111,7 +111,7 @@ pub fn cuts_do_not_matter_to_frames()
 pub fn sizes_matter_where_they_are_in_force()
     ensures behind { (F G : Sizes) (s : List ℕ) → ((at : ℕ) → at < length s → F at ≡ G at) →
         sized_split F s ≡ sized_split G s }
-    ensures before { (F G : Sizes) (kept more : List ℕ) → beginning (size_for F kept) kept ≡ Unfinished
+    ensures before { (F G : Sizes) (kept more : List ℕ) → prefix_kind (size_for F kept) kept ≡ Unfinished
         → size_for F kept ≤ size_for G kept
         → ((at : ℕ) → length kept ≤ at → F at ≡ G at) → sized_split F (kept ++ more) ≡ sized_split G (kept ++ more) }
 {}
@@ -121,68 +121,68 @@ pub fn sizes_matter_where_they_are_in_force()
 /// rest.
 pub fn a_stream_goes_on_with_the_size_in_force()
     ensures left { (F : Sizes) (N : ℕ) (s : List ℕ) → ((at : ℕ) → F at ≤ N) → (sized_split F s).fault ≡ None
-        → beginning N (sized_split F s).rest ≡ Unfinished }
+        → prefix_kind N (sized_split F s).rest ≡ Unfinished }
     ensures more { (F : Sizes) (N : ℕ) (s more : List ℕ) → ((at : ℕ) → F at ≤ N) → ((at : ℕ) → length s ≤ at → F at ≡ N)
         → sized_split F (s ++ more) ≡ split_on N (sized_split F s) more }
 {}
 
 /// States that a stream can be read in order. The result is that of the first frame, followed by the result for the
 /// bytes after it. If there is no error, the rest is an unfinished frame.
-pub fn stream_is_read_from_its_front()
+pub fn stream_is_read_in_order()
     ensures front { (sizes : Sizes) (s : List ℕ) → sized_split sizes s
-        ≡ stream_then (λ frame. sized_split (sizes_behind (length frame) sizes)) s (beginning (size_for sizes s) s) }
+        ≡ stream_then (λ frame. sized_split (sizes_behind (length frame) sizes)) s (prefix_kind (size_for sizes s) s) }
     ensures rest { (sizes : Sizes) (s rest : List ℕ) → (sized_split sizes s).fault ≡ None →
-        (sized_split sizes s).rest ≡ rest → beginning (size_for (sizes_of_rest sizes s rest) rest) rest ≡ Unfinished }
-    ensures front_of_one_size { (M : ℕ) (s : List ℕ) → split M s ≡ stream_then (λ frame. split M) s (beginning M s) }
+        (sized_split sizes s).rest ≡ rest → prefix_kind (size_for (sizes_of_rest sizes s rest) rest) rest ≡ Unfinished }
+    ensures front_of_one_size { (M : ℕ) (s : List ℕ) → split M s ≡ stream_then (λ frame. split M) s (prefix_kind M s) }
     ensures rest_of_one_size { (M : ℕ) (s : List ℕ) → (split M s).fault ≡ None →
-        beginning M (split M s).rest ≡ Unfinished }
+        prefix_kind M (split M s).rest ≡ Unfinished }
 {}
 
-/// States that `beginning` agrees with the relations `IsFrame`, `IsFrameFault` and `IsUnfinished`. The first bytes are
+/// States that `prefix_kind` agrees with the relations `IsFrame`, `IsFrameFault` and `IsUnfinished`. The first bytes are
 /// a frame of at most `M` bytes, or `fault_bytes` shows an error, or the frame is unfinished.
-pub fn beginning_finds_what_stands_at_the_front()
+pub fn prefix_kind_finds_first_frame()
     ensures frame_found { (M : ℕ) (frame rest : List ℕ) → IsFrame frame → length frame ≤ M →
-        beginning M (frame ++ rest) ≡ Whole frame rest }
-    ensures frame_stands { (M : ℕ) (s frame rest : List ℕ) → AreBytes s → beginning M s ≡ Whole frame rest →
+        prefix_kind M (frame ++ rest) ≡ Whole frame rest }
+    ensures frame_stands { (M : ℕ) (s frame rest : List ℕ) → AreBytes s → prefix_kind M s ≡ Whole frame rest →
         IsFrame frame }
     ensures fault_found { (M : ℕ) (r more : List ℕ) (fault : FrameFault) → IsFrameFault M fault r →
-        beginning M (r ++ more) ≡ Faulty fault }
-    ensures fault_stands { (M : ℕ) (s : List ℕ) (fault : FrameFault) → AreBytes s → beginning M s ≡ Faulty fault →
+        prefix_kind M (r ++ more) ≡ Faulty fault }
+    ensures fault_stands { (M : ℕ) (s : List ℕ) (fault : FrameFault) → AreBytes s → prefix_kind M s ≡ Faulty fault →
         IsFrameFault M fault (fault_bytes s) }
-    ensures neither_found { (M : ℕ) (s : List ℕ) → AreBytes s → IsUnfinished M s → beginning M s ≡ Unfinished }
-    ensures neither_stands { (M : ℕ) (s : List ℕ) → beginning M s ≡ Unfinished → IsUnfinished M s }
+    ensures neither_found { (M : ℕ) (s : List ℕ) → AreBytes s → IsUnfinished M s → prefix_kind M s ≡ Unfinished }
+    ensures neither_stands { (M : ℕ) (s : List ℕ) → prefix_kind M s ≡ Unfinished → IsUnfinished M s }
 {}
 
-/// States that a frame found by `beginning` is the first 2 to `M` bytes of the stream, and is found without the bytes
+/// States that a frame found by `prefix_kind` is the first 2 to `M` bytes of the stream, and is found without the bytes
 /// after it.
 pub fn frame_at_the_front_is_the_first_bytes()
-    ensures bytes { (M : ℕ) (s frame rest : List ℕ) → beginning M s ≡ Whole frame rest → s ≡ frame ++ rest }
-    ensures at_least { (M : ℕ) (s frame rest : List ℕ) → beginning M s ≡ Whole frame rest → 2 ≤ length frame }
-    ensures at_most { (M : ℕ) (s frame rest : List ℕ) → beginning M s ≡ Whole frame rest → length frame ≤ M }
-    ensures alone { (M : ℕ) (s frame rest : List ℕ) → beginning M s ≡ Whole frame rest →
-        beginning M frame ≡ Whole frame [] }
+    ensures bytes { (M : ℕ) (s frame rest : List ℕ) → prefix_kind M s ≡ Whole frame rest → s ≡ frame ++ rest }
+    ensures at_least { (M : ℕ) (s frame rest : List ℕ) → prefix_kind M s ≡ Whole frame rest → 2 ≤ length frame }
+    ensures at_most { (M : ℕ) (s frame rest : List ℕ) → prefix_kind M s ≡ Whole frame rest → length frame ≤ M }
+    ensures alone { (M : ℕ) (s frame rest : List ℕ) → prefix_kind M s ≡ Whole frame rest →
+        prefix_kind M frame ≡ Whole frame [] }
 {}
 
-/// States that a frame or an error found by `beginning` stays the same when more bytes follow.
-pub fn what_stands_at_the_front_stays()
-    ensures whole { (M : ℕ) (s more frame rest : List ℕ) → beginning M s ≡ Whole frame rest →
-        beginning M (s ++ more) ≡ Whole frame (rest ++ more) }
-    ensures fault { (M : ℕ) (s more : List ℕ) (fault : FrameFault) → beginning M s ≡ Faulty fault →
-        beginning M (s ++ more) ≡ Faulty fault }
-    ensures fault_bytes { (M : ℕ) (s more : List ℕ) (fault : FrameFault) → beginning M s ≡ Faulty fault →
+/// States that a frame or an error found by `prefix_kind` stays the same when more bytes follow.
+pub fn prefix_classification_is_stable()
+    ensures whole { (M : ℕ) (s more frame rest : List ℕ) → prefix_kind M s ≡ Whole frame rest →
+        prefix_kind M (s ++ more) ≡ Whole frame (rest ++ more) }
+    ensures fault { (M : ℕ) (s more : List ℕ) (fault : FrameFault) → prefix_kind M s ≡ Faulty fault →
+        prefix_kind M (s ++ more) ≡ Faulty fault }
+    ensures fault_bytes { (M : ℕ) (s more : List ℕ) (fault : FrameFault) → prefix_kind M s ≡ Faulty fault →
         fault_bytes (s ++ more) ≡ fault_bytes s }
 {}
 
 /// States that an unfinished frame is shorter than the maximum size, if that is at least 8. The frame is unfinished
 /// with a larger maximum too. If one more byte gives a frame or an error, that byte is its last one.
 pub fn unfinished_beginning_needs_more_bytes()
-    ensures empty { (M : ℕ) → beginning M [] ≡ Unfinished }
-    ensures shorter { (M : ℕ) (s : List ℕ) → 8 ≤ M → beginning M s ≡ Unfinished → length s < M }
-    ensures larger { (M N : ℕ) (s : List ℕ) → M ≤ N → beginning M s ≡ Unfinished → beginning N s ≡ Unfinished }
-    ensures frame { (M : ℕ) (s : List ℕ) (b : ℕ) (frame rest : List ℕ) → beginning M s ≡ Unfinished →
-        beginning M (s ++ b ∷ []) ≡ Whole frame rest → (rest ≡ []) × (frame ≡ s ++ b ∷ []) }
-    ensures fault { (M : ℕ) (s : List ℕ) (b : ℕ) (fault : FrameFault) → beginning M s ≡ Unfinished →
-        beginning M (s ++ b ∷ []) ≡ Faulty fault → fault_bytes (s ++ b ∷ []) ≡ s ++ b ∷ [] }
+    ensures empty { (M : ℕ) → prefix_kind M [] ≡ Unfinished }
+    ensures shorter { (M : ℕ) (s : List ℕ) → 8 ≤ M → prefix_kind M s ≡ Unfinished → length s < M }
+    ensures larger { (M N : ℕ) (s : List ℕ) → M ≤ N → prefix_kind M s ≡ Unfinished → prefix_kind N s ≡ Unfinished }
+    ensures frame { (M : ℕ) (s : List ℕ) (b : ℕ) (frame rest : List ℕ) → prefix_kind M s ≡ Unfinished →
+        prefix_kind M (s ++ b ∷ []) ≡ Whole frame rest → (rest ≡ []) × (frame ≡ s ++ b ∷ []) }
+    ensures fault { (M : ℕ) (s : List ℕ) (b : ℕ) (fault : FrameFault) → prefix_kind M s ≡ Unfinished →
+        prefix_kind M (s ++ b ∷ []) ≡ Faulty fault → fault_bytes (s ++ b ∷ []) ≡ s ++ b ∷ [] }
 {}
 
 /// States that the bytes of a number below 2^64 encode that number, so numbers with equal bytes are equal (RFC 7252

@@ -1,7 +1,7 @@
 //! CoAP messages over reliable transports: their encoding (RFC 8323 section 3.2, RFC 7252 section 3.1, RFC 8974 section
 //! 2.1), and the frames of a stream.
 //!
-//! - `parse` decodes a frame into a `MessageRef`, which borrows the frame's bytes. `Options`, `Known` and
+//! - `parse` decodes a frame into a `MessageRef`, which borrows the frame's bytes. `Options`, `RecognisedOptions` and
 //!   `CheckedOptions` iterate over its options.
 //! - `Builder` and `CompactBuilder` encode a message into a `Sink`.
 //! - `declared` returns the size that the first bytes of a frame declare, or reports an invalid token length.
@@ -23,33 +23,33 @@ mod code;
 mod compact;
 mod fault;
 mod form;
-mod frame;
-mod kinds;
+mod declaration;
+mod option_table;
 pub mod laws;
 mod message;
 mod option;
 pub mod option_numbers;
 mod options;
-mod reading;
+mod decode;
 mod recognition;
 mod sink;
 mod size;
 mod sizes;
 mod token;
 mod uint;
-mod writing;
+mod encode;
 
 pub use body::Body;
 pub use builder::{Builder, MessageBuilder};
 pub use code::Code;
 pub use compact::{CompactBuilder, SHORT_OPTIONS, ShortBuilder};
 pub use fault::{BuildFault, FormatFault, FrameFault};
-pub use frame::Declared;
-pub use kinds::{OptionKind, kind};
+pub use declaration::Declared;
+pub use option_table::{OptionKind, kind};
 pub use message::{MessageRef, parse};
 pub use option::OptionRef;
 pub use options::Options;
-pub use recognition::{CheckedOption, CheckedOptions, Known};
+pub use recognition::{CheckedOption, CheckedOptions, RecognisedOptions};
 pub use sink::{Sink, SliceSink};
 pub use size::declared;
 pub use sizes::{

@@ -8,8 +8,8 @@ use crate::body::Body;
 use crate::code::Code;
 use crate::fault::FormatFault;
 use crate::options::Options;
-use crate::reading::{head_of, payload_of};
-use crate::recognition::{CheckedOptions, Known, critical_of};
+use crate::decode::{head_of, payload_of};
+use crate::recognition::{CheckedOptions, RecognisedOptions, first_unrecognised_critical};
 use crate::token::TokenRef;
 use std::marker::Model;
 
@@ -69,10 +69,10 @@ impl<'a> MessageRef<'a> {
     ///
     /// An option is recognised if `kind` has its number and allows the length of its value. An option that is not
     /// repeatable must also be the first one with its number.
-    pub fn known(&self) -> Known<'a>
+    pub fn known(&self) -> RecognisedOptions<'a>
         ensures { result ≡ known_options self.now.options }
     {
-        Known::of_options(self.options())
+        RecognisedOptions::of_options(self.options())
     }
 
     /// Returns an iterator over all options, in order of number. Each item says whether the option is recognised.
@@ -87,7 +87,7 @@ impl<'a> MessageRef<'a> {
     pub fn first_critical(&self) -> Option<u16>
         ensures { result ≡ first_critical self.now.options }
     {
-        critical_of(self.options())
+        first_unrecognised_critical(self.options())
     }
 
     /// Returns the payload, or an empty slice if there is none.

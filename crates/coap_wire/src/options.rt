@@ -4,7 +4,7 @@ ghost use Rattle.std.specs.Prelude.{◌≡◌, IsOk};
 ghost use Rattle.coap_wire.specs.Prelude.{body_at, options_in, YieldsFirstBy, item_count, coap_option};
 
 use crate::option::{OptionRef, PAYLOAD_MARKER};
-use crate::reading::option_after;
+use crate::decode::read_option;
 use std::marker::Model;
 
 /// Iterator over the options of a message, in order of number. Contracts see the list of the options that are left.
@@ -51,7 +51,7 @@ impl<'a> Iterator for Options<'a> {
         if *first == PAYLOAD_MARKER {
             return None;
         }
-        let Ok((option, rest)) = option_after(self.base, *first, after) else {
+        let Ok((option, rest)) = read_option(self.base, *first, after) else {
             unreachable!()
         };
         self.base = option.number;

@@ -5,7 +5,7 @@ ghost use Rattle.std.specs.Prelude.{◌≡◌};
 ghost use Rattle.coap_wire.specs.Prelude.{AreOrdered, is_recognised, option_before, first_critical, coap_option};
 ghost use Rattle.coap_wire.specs.Prelude.{known_options, checked_option, checked_options, YieldsFirstBy, item_count};
 
-use crate::kinds::kind;
+use crate::option_table::kind;
 use crate::option::OptionRef;
 use crate::options::Options;
 use std::marker::Model;
@@ -27,7 +27,7 @@ fn recognises(before: Option<u16>, option: &OptionRef) -> bool
 }
 
 /// Returns the number of the first critical option that is not recognised, or `None` if there is none.
-pub(crate) fn critical_of(options: Options) -> Option<u16>
+pub(crate) fn first_unrecognised_critical(options: Options) -> Option<u16>
     requires { AreOrdered 0 options }
     ensures { result ≡ first_critical options.entry }
 {
@@ -44,12 +44,12 @@ pub(crate) fn critical_of(options: Options) -> Option<u16>
 /// Iterator over the recognised options of a message, in order of number. Contracts see the list of those that are
 /// left.
 #[derive(Drop)]
-pub struct Known<'a> {
+pub struct RecognisedOptions<'a> {
     before: Option<u16>,
     options: Options<'a>,
 }
 
-impl<'a> Model for Known<'a> {
+impl<'a> Model for RecognisedOptions<'a> {
     ghost use Rattle.std.specs.Prelude.{List, unwrap_or};
     ghost use Rattle.coap_wire.specs.Message.{CoapOption, AreOrdered};
     ghost use Rattle.coap_wire.specs.Recognition.{known_behind, option_before};
@@ -61,20 +61,20 @@ impl<'a> Model for Known<'a> {
     ghost invariant = { λ k. AreOrdered (unwrap_or k.before 0) k.options };
 }
 
-impl<'a> Known<'a> {
+impl<'a> RecognisedOptions<'a> {
     /// Returns an iterator over the recognised ones of all options of a message.
-    pub(crate) fn of_options(options: Options<'a>) -> Known<'a>
+    pub(crate) fn of_options(options: Options<'a>) -> RecognisedOptions<'a>
         requires { AreOrdered 0 options }
         ensures { result ≡ known_options options.entry }
     {
-        Known {
+        RecognisedOptions {
             before: None,
             options,
         }
     }
 }
 
-impl<'a> Iterator for Known<'a> {
+impl<'a> Iterator for RecognisedOptions<'a> {
     type Item = OptionRef<'a>;
 
     ghost next_gives = { YieldsFirstBy coap_option (λ os. os) };

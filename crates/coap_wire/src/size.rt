@@ -3,8 +3,8 @@
 ghost use Rattle.std.specs.Prelude.{◌≡◌};
 ghost use Rattle.coap_wire.specs.Prelude.{Declares, declared_of};
 
-use crate::frame::Declared;
-use crate::reading::{NO_TOKEN_LENGTH, length_after, token_length_after};
+use crate::declaration::Declared;
+use crate::decode::{NO_TOKEN_LENGTH, read_length, read_token_length};
 use crate::token::MAX_TOKEN;
 
 /// Returns the size of a frame, as far as its first bytes declare it.
@@ -29,12 +29,12 @@ fn declared_by(head: &[u8]) -> Declared
     if *first % 16 == NO_TOKEN_LENGTH {
         return Declared::BadToken;
     }
-    let Some((length, rest)) = length_after(*first / 16, after) else {
+    let Some((length, rest)) = read_length(*first / 16, after) else {
         return Declared::Unknown;
     };
     let before_code = 1 + (after.len() - rest.len()) as u64;
     let behind_code = rest.get(1..).unwrap_or_default();
-    let Some((token_length, rest)) = token_length_after(*first % 16, behind_code) else {
+    let Some((token_length, rest)) = read_token_length(*first % 16, behind_code) else {
         return Declared::Unknown;
     };
     if token_length as usize > MAX_TOKEN {

@@ -74,7 +74,7 @@ impl<'a> TokenRef<'a> {
     }
 
     /// Returns another borrow of the same bytes.
-    pub fn again(&self) -> TokenRef<'a>
+    pub fn copy(&self) -> TokenRef<'a>
         ensures token { result ≡ self.now }
         ensures short { length self.now ≤ greatest_token }
     {
@@ -97,7 +97,7 @@ impl<'a> TokenRef<'a> {
     }
 
     /// Returns `true` if the bytes are those of an owned token (RFC 7252 section 5.3.1).
-    pub fn is(&self, token: &Token) -> bool
+    pub fn equals(&self, token: &Token) -> bool
         ensures { result ≡ pointwise nat_eq token.now.items self.now }
     {
         token.as_slice() == self.bytes

@@ -182,7 +182,7 @@ impl Link {
         }
         forget_pinged_in(&mut self.asked, message.token());
         Verdict::Pong {
-            token: message.token().again(),
+            token: message.token().copy(),
             custody: asks_custody(message),
         }
     }
@@ -211,7 +211,7 @@ impl Link {
             forget_asked_in(&mut self.asked, message.token());
         }
         Verdict::Answer {
-            token: message.token().again(),
+            token: message.token().copy(),
             last,
         }
     }
@@ -239,7 +239,7 @@ impl Link {
         ensures after { self.new
             ≡ link_with self.old (request_reaction (standing_in self.old) message.now role.Client).effect }
     {
-        let response = ShortBuilder::new(Code::NOT_IMPLEMENTED, message.token().again());
+        let response = ShortBuilder::new(Code::NOT_IMPLEMENTED, message.token().copy());
         let bare = bare_of(response.code(), response.token());
         self.answer(&response, &bare)
     }

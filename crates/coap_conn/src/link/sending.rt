@@ -200,7 +200,7 @@ impl Link {
             (pong_with false token.now)).effect }
     {
         let pong = pong_to(token, custody);
-        let plain = ShortBuilder::new(Code::PONG, token.again());
+        let plain = ShortBuilder::new(Code::PONG, token.copy());
         self.answer(&pong, &plain)
     }
 

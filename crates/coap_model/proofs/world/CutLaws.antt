@@ -3,7 +3,7 @@ use Rattle.std.proofs.Common.{◌≡◌, ℕ, List, [], ◌∷◌, ◌++◌, Opt
 use Rattle.std.proofs.lemmas.Bool.{cases_Bool}
 use Rattle.std.proofs.lemmas.List.{append-nil, map-append}
 use Rattle.std.proofs.Math.Seq.{drop-append_seam}
-use Rattle.coap_model.specs.Prelude.{StreamFault, Stream, split, behind, gone_on, split_on, ConfigValues, new_world}
+use Rattle.coap_model.specs.Prelude.{StreamFault, Stream, split, behind, continued, split_on, ConfigValues, new_world}
 use Rattle.coap_model.specs.Prelude.{after_steps, Event, Took, Ended, taken_in, taken_on, size_by, size_on}
 use Rattle.coap_model.specs.Prelude.{stream_on, spelled_on, beyond, steps_by, steps_behind, steps_of, world_after}
 use Rattle.coap_model.proofs.world.StepLaws.{taken_then, steps_behind_more, size_then, sizes_then, read_before, stream_more, spelled_by, spelled_then}
@@ -37,7 +37,7 @@ behind_alike M es fs (g ∷ gs) alike = cc (by_alike M es fs g alike, behind_ali
 
 -- A stream continued by s and then by t.
 parts : (id : ℕ) (before s t : Stream) (fault : Option StreamFault) → before.fault ≡ None → s.fault ≡ fault
-    → beyond id before (gone_on (behind before.messages s) fault t) ≡ beyond id before (behind before.messages s) ++ beyond id (behind before.messages s) (gone_on (behind before.messages s) fault t)
+    → beyond id before (continued (behind before.messages s) fault t) ≡ beyond id before (behind before.messages s) ++ beyond id (behind before.messages s) (continued (behind before.messages s) fault t)
 parts id before s t None none is =
     rw (drop-append_seam (before.messages ++ s.messages) t.messages) (simp (none, is, append_assoc, drop-append_seam, map-append, append-nil))
 parts id before s t (Some fault) none is = rw (nothing_beyond id (behind before.messages s)) (sym (append-nil (beyond id before (behind before.messages s))))

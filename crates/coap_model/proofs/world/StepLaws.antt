@@ -1,6 +1,6 @@
 -- Events and steps in sequence: the steps, the world and the bytes of a longer list, and the lists that are accepted.
 use Rattle.std.proofs.Common.{◌≡◌, ◌≢◌, ℕ, ◌-◌, ◌<◌, ◌≤◌, nat_lt, if◌then◌else◌, List, [], ◌∷◌, ◌++◌, length, map, drop, Option, Some, None, refl, sym, ap, subst, ◌∙◌, append_assoc, arith}
-use Rattle.coap_model.specs.Prelude.{AllByRecursion, Message, Unfinished, beginning, always, sizes_first}
+use Rattle.coap_model.specs.Prelude.{AllByRecursion, Message, Unfinished, prefix_kind, constant_size, sizes_first}
 use Rattle.coap_model.specs.Prelude.{StreamFault, Stream, sized_split, split_on, LimitValues, ConfigValues, World}
 use Rattle.coap_model.specs.Prelude.{Step, new_world, after_steps, Event, Took, Announced, taken_in, taken_on}
 use Rattle.coap_model.specs.Prelude.{size_by, size_on, sizes_on, stream_on, spelled_on, new_fault, beyond, steps_by}
@@ -116,7 +116,7 @@ size_stays id e = (M : ℕ) → size_by id e M ≡ M
 
 pub sizes_then : (M id : ℕ) (es : List Event) (e : Event) → size_stays id e → sizes_on M id (es ++ e ∷ []) ≡ sizes_on M id es
 unfolding sizes_on
-sizes_then M id [] e stays = ap (λ (N : ℕ). sizes_first (length (taken_in id e)) M (always N)) (stays M) ∙ first_always (length (taken_in id e)) M
+sizes_then M id [] e stays = ap (λ (N : ℕ). sizes_first (length (taken_in id e)) M (constant_size N)) (stays M) ∙ first_always (length (taken_in id e)) M
 sizes_then M id (d ∷ es) e stays = ap (sizes_first (length (taken_in id d)) M) (sizes_then (size_by id d M) id es e stays)
 
 -- No earlier size was larger than the current one.
@@ -156,7 +156,7 @@ pub stream_same : (M id : ℕ) (es : List Event) (e : Event) → taken_in id e �
 stream_same M id es e none = read_before M id es e ∙ rw (none, append-nil (taken_on id es)) refl
 
 -- The bytes left over are unfinished for the current size.
-pub rest_unfinished : (M id : ℕ) (es : List Event) → (stream_on M id es).fault ≡ None → beginning (size_on M id es) (stream_on M id es).rest ≡ Unfinished
+pub rest_unfinished : (M id : ℕ) (es : List Event) → (stream_on M id es).fault ≡ None → prefix_kind (size_on M id es) (stream_on M id es).rest ≡ Unfinished
 rest_unfinished M id es none = left_unfinished (sizes_on M id es) (size_on M id es) (taken_on id es) (sizes_within M id es) none
 
 -- All streams at once, for an event without bytes on any connection.

@@ -3,7 +3,7 @@ use Rattle.std.proofs.Common.{◌≡◌, ℕ, ◌+◌, ◌-◌, ◌≤◌, List,
 use Rattle.std.proofs.lemmas.Grind.{take_at_read}
 use Rattle.std.proofs.lemmas.List.{length-append, take_at}
 use Rattle.std.proofs.Math.Seq.{drop-length, drop-append_seam}
-use Rattle.coap_model.specs.Prelude.{Message, message_of, FormatFault, FrameFault, Unfinished, beginning}
+use Rattle.coap_model.specs.Prelude.{Message, message_of, FormatFault, FrameFault, Unfinished, prefix_kind}
 use Rattle.coap_model.specs.Prelude.{fault_bytes, OfFrame, Format, Stream, split, behind, AFrame, AFault, Framing}
 use Rattle.coap_model.specs.Prelude.{framing_at, framing, without_last, Event, Took, size_on, stream_on, new_fault}
 use Rattle.coap_model.specs.Prelude.{beyond, steps_by}
@@ -68,7 +68,7 @@ no_bytes_steps M id es = ap (beyond id (stream_on M id es)) (no_bytes_stream M i
 
 -- ---- a frame without its last byte
 
-module _ (M : ℕ) (kept piece frame : List ℕ) (n : ℕ) (u : beginning M kept ≡ Unfinished) (is : (framing M kept piece).finding ≡ AFrame frame) (all : front_of M kept piece ≡ n + 1) where
+module _ (M : ℕ) (kept piece frame : List ℕ) (n : ℕ) (u : prefix_kind M kept ≡ Unfinished) (is : (framing M kept piece).finding ≡ AFrame frame) (all : front_of M kept piece ≡ n + 1) where
   pub front_within : n + 1 ≤ length piece
   front_within = rw all at (taken_within M kept piece u)
 
@@ -82,7 +82,7 @@ module _ (M : ℕ) (kept piece frame : List ℕ) (n : ℕ) (u : beginning M kept
       let cut : take (n + 1) piece ≡ take n piece ++ last = (take_at_read piece n 0 (omega (arith, front_within))).1 in
       let bytes : frame ≡ front ++ last = frame_taken M kept piece frame u is ∙ rw (all, cut) (sym (append_assoc kept (take n piece) last)) in
       let but_last : without_last frame ≡ front = rw bytes (take_at front last (length (front ++ last) - 1) (omega (arith, length-append front last))) in
-      ap (framing_at kept (take n piece)) (ap (beginning M) (sym but_last) ∙ front_unfinished M frame (whole_itself M (kept ++ piece) frame first.0 first.1))
+      ap (framing_at kept (take n piece)) (ap (prefix_kind M) (sym but_last) ∙ front_unfinished M frame (whole_itself M (kept ++ piece) frame first.0 first.1))
 
 -- ---- the bytes accepted of an input slice
 

@@ -1,6 +1,6 @@
 -- Defined by this project: the events of a server, the steps that they make, and the world after them.
 use Rattle.std.specs.Prelude.{◌≡◌, ℕ, ◌+◌, ◌<◌, ◌≤◌, true, List, [], ◌∷◌, ◌++◌, length, map, drop, Option, Some, None, nat_lt, ◌==◌, ◌&&◌, if◌then◌else◌}
-use Rattle.coap_wire.specs.Frames.{Sizes, always, sizes_first}
+use Rattle.coap_wire.specs.Frames.{Sizes, constant_size, sizes_first}
 use Rattle.coap_wire.specs.Stream.{StreamFault, Stream, sized_split}
 use Rattle.coap_frame.specs.Framing.{framing}
 use Rattle.coap_conn.specs.History.{link_of}
@@ -69,7 +69,7 @@ size_on M id (e ∷ es) = size_on (size_by id e M) id es
 -- RFC 8323 section 5.3.1: for each byte accepted on a connection, the largest message that the connection accepted when
 -- this byte came. Bytes after these events have the last size.
 unfoldable pub sizes_on : ℕ → ℕ → List Event → Sizes
-sizes_on M id [] = always M
+sizes_on M id [] = constant_size M
 sizes_on M id (e ∷ es) = sizes_first (length (taken_in id e)) M (sizes_on (size_by id e M) id es)
 
 -- The stream of all bytes accepted on a connection: its messages, the bytes left over, and the error that ended it, if

@@ -4,12 +4,12 @@ use Rattle.std.proofs.Common.{◌≡◌, ◌⊎◌, ℕ, zero, suc, ◌+◌, ◌
 use Rattle.std.proofs.lemmas.Bool.{ne_eqb}
 use Rattle.std.proofs.lemmas.List.{append-nil, length-append, length-drop, drop-append-le, drop-drop, take-append-le, length-take}
 use Rattle.std.proofs.Math.Seq.{drop-length, drop-append-add, take-append-add, take-length}
-use Rattle.coap_server_engine.specs.Prelude.{Stream, Beginning, Unfinished, Faulty, beginning, fault_bytes, framing_at}
+use Rattle.coap_server_engine.specs.Prelude.{Stream, StreamPrefix, Unfinished, Faulty, prefix_kind, fault_bytes, framing_at}
 use Rattle.coap_server_engine.specs.Prelude.{framing, ConfigValues, Fed, unfed, fed_once, fed_turns, fed, SessionValue}
 use Rattle.coap_server_engine.specs.Prelude.{ServerValue, session_of, server_taken, count_taken, Side, handles, World}
 use Rattle.coap_server_engine.specs.Prelude.{side_of, Event, Took, stream_on, world_after, size_on, session_shown}
 use Rattle.coap_server_engine.specs.Prelude.{server_shown, server_of, Shows}
-use Rattle.coap_wire.specs.Beginning.{Whole}
+use Rattle.coap_wire.specs.StreamPrefix.{Whole}
 use Rattle.coap_wire.proofs.StreamSteps.{whole_more, faulty_more, fault_bytes_more}
 use Rattle.coap_frame.proofs.FrontLaws.{some_in_front}
 use Rattle.coap_frame.proofs.GivenLaws.{taken_within, nothing_taken, frame_taken, fault_taken}
@@ -55,7 +55,7 @@ record Goes (v : ServerValue) (es : List Event) (id : ℕ) : Type 0 where
   pub there : side_of id (world_after v.config es).sides ≡ Some side
   pub handling : handles side ≡ true
   pub no_fault : (stream_on v.config.limits.max_message id es).fault ≡ None
-  pub unfinished : beginning (size_here v es id) (rest_here v es id) ≡ Unfinished
+  pub unfinished : prefix_kind (size_here v es id) (rest_here v es id) ≡ Unfinished
   pub counts : (bytes : List ℕ) → count_taken v id bytes ≡ front_of (size_here v es id) (rest_here v es id) bytes
 
 module _ (v : ServerValue) (es : List Event) (id : ℕ) (shows : Shows v es) (t : Side) (there : side_of id (world_after v.config es).sides ≡ Some t) where
@@ -94,34 +94,34 @@ same_lengths : (kept before xs ys : List ℕ) (n k : ℕ) → n ≤ length xs �
 same_lengths kept before xs ys n k few less same = grind (arith, length-append {A = ℕ}, length-take {A = ℕ})
 
 -- The bytes of the first frame or error, or all bytes if there is neither.
-abbrev bytes_in_front : List ℕ → Beginning → List ℕ
+abbrev bytes_in_front : List ℕ → StreamPrefix → List ℕ
 bytes_in_front bytes Unfinished = bytes
 bytes_in_front bytes (Whole frame left) = frame
 bytes_in_front bytes (Faulty fault) = fault_bytes bytes
 
 module _ (M : ℕ) (kept piece : List ℕ) where
-  finding_at : (b : Beginning) → beginning M (kept ++ piece) ≡ b → (framing M kept piece).finding ≡ (framing_at kept piece b).finding
+  finding_at : (b : StreamPrefix) → prefix_kind M (kept ++ piece) ≡ b → (framing M kept piece).finding ≡ (framing_at kept piece b).finding
   unfolding framing
-  finding_at b is = ap (λ (b : Beginning). (framing_at kept piece b).finding) is
+  finding_at b is = ap (λ (b : StreamPrefix). (framing_at kept piece b).finding) is
 
-  all_at : beginning M kept ≡ Unfinished → beginning M (kept ++ piece) ≡ Unfinished → front_of M kept piece ≡ length piece
+  all_at : prefix_kind M kept ≡ Unfinished → prefix_kind M (kept ++ piece) ≡ Unfinished → front_of M kept piece ≡ length piece
   all_at unfinished is = nothing_taken M kept piece unfinished (finding_at Unfinished is)
 
   -- These bytes are the accepted ones.
-  bytes_taken_are : beginning M kept ≡ Unfinished → (b : Beginning) → beginning M (kept ++ piece) ≡ b
+  bytes_taken_are : prefix_kind M kept ≡ Unfinished → (b : StreamPrefix) → prefix_kind M (kept ++ piece) ≡ b
       → kept ++ take (front_of M kept piece) piece ≡ bytes_in_front (kept ++ piece) b
   bytes_taken_are unfinished Unfinished is = rw (all_at unfinished is, take-length)
   bytes_taken_are unfinished (Whole frame left) is = sym (frame_taken M kept piece frame unfinished (finding_at (Whole frame left) is))
   bytes_taken_are unfinished (Faulty fault) is = (fault_taken M kept piece fault unfinished (finding_at (Faulty fault) is)).1
 
-module _ (M : ℕ) (kept xs zs : List ℕ) (unfinished : beginning M kept ≡ Unfinished) where
+module _ (M : ℕ) (kept xs zs : List ℕ) (unfinished : prefix_kind M kept ≡ Unfinished) where
   -- If a frame or an error is found, later bytes make no difference.
-  same_front_taken : (b : Beginning) → b ≢ Unfinished → beginning M (kept ++ xs) ≡ b → front_of M kept (xs ++ zs) ≡ front_of M kept xs
+  same_front_taken : (b : StreamPrefix) → b ≢ Unfinished → prefix_kind M (kept ++ xs) ≡ b → front_of M kept (xs ++ zs) ≡ front_of M kept xs
   same_front_taken b found is =
       let within = taken_within M kept (xs ++ zs) unfinished in
       omega (arith, same_lengths kept kept (xs ++ zs) xs _ _ within (taken_within M kept xs unfinished) (bytes_alike b found is))
     where
-      bytes_alike : (b : Beginning) → b ≢ Unfinished → beginning M (kept ++ xs) ≡ b
+      bytes_alike : (b : StreamPrefix) → b ≢ Unfinished → prefix_kind M (kept ++ xs) ≡ b
           → kept ++ take (front_of M kept (xs ++ zs)) (xs ++ zs) ≡ kept ++ take (front_of M kept xs) xs
       bytes_alike Unfinished found is = absurd (found refl)
       bytes_alike (Whole frame left) found is =
@@ -132,9 +132,9 @@ module _ (M : ℕ) (kept xs zs : List ℕ) (unfinished : beginning M kept ≡ Un
           ∙ rw append_assoc at (fault_bytes_more M (kept ++ xs) zs fault is) ∙ sym (bytes_taken_are M kept xs unfinished (Faulty fault) is)
 
   -- If neither is found, later bytes are read as if the earlier ones were kept.
-  later_front : beginning M (kept ++ xs) ≡ Unfinished → front_of M kept (xs ++ zs) ≡ length xs + front_of M (kept ++ xs) zs
+  later_front : prefix_kind M (kept ++ xs) ≡ Unfinished → front_of M kept (xs ++ zs) ≡ length xs + front_of M (kept ++ xs) zs
   later_front still =
-      let b = beginning M (kept ++ (xs ++ zs)) in
+      let b = prefix_kind M (kept ++ (xs ++ zs)) in
       let whole = bytes_taken_are M kept (xs ++ zs) unfinished b refl in
       let part = bytes_taken_are M (kept ++ xs) zs still b (rw append_assoc refl) in
       let within = taken_within M kept (xs ++ zs) unfinished in
@@ -235,7 +235,7 @@ module _ (v : ServerValue) (es : List Event) (id : ℕ) (xs ys : List ℕ) (show
       record { server = rw (whole, parts.server, first); count = rw (whole, parts.count, first, add_assoc n) }
 
   -- Neither is found in the first part: all of it is accepted, and the next take continues after it.
-  later_parts : beginning (size_here v es id) (rest_here v es id ++ xs) ≡ Unfinished → 0 < length xs → 0 < length ys → IsFedInParts v id xs ys
+  later_parts : prefix_kind (size_here v es id) (rest_here v es id ++ xs) ≡ Unfinished → 0 < length xs → 0 < length ys → IsFedInParts v id xs ys
   later_parts still some more =
       let M : ℕ = v.config.limits.max_message in
       let now : List Event = es ++ Took id xs ∷ [] in
@@ -272,7 +272,7 @@ module _ (v : ServerValue) (es : List Event) (id : ℕ) (xs ys : List ℕ) (show
 
 going_parts : (v : ServerValue) (es : List Event) (id : ℕ) (xs ys : List ℕ) → Shows v es → (goes : Goes v es id) → 0 < length xs
     → ((w : ServerValue) (fs : List Event) (zs : List ℕ) → Shows w fs → length zs < length xs → IsFedInParts w id zs ys)
-    → (b : Beginning) → beginning (size_here v es id) (rest_here v es id ++ xs) ≡ b → IsFedInParts v id xs ys
+    → (b : StreamPrefix) → prefix_kind (size_here v es id) (rest_here v es id ++ xs) ≡ b → IsFedInParts v id xs ys
 going_parts v es id xs [] shows goes some again b is = no_second_part v id xs
 going_parts v es id xs (y ∷ ys) shows goes some again Unfinished is = later_parts v es id xs (y ∷ ys) shows goes is some (omega arith)
 going_parts v es id xs (y ∷ ys) shows goes some again b is =
@@ -288,7 +288,7 @@ parts_within (suc few) v es id (x ∷ xs) ys shows within =
       | inr goes ↦
           going_parts v es id (x ∷ xs) ys shows goes (omega arith)
           (λ w fs zs then_shows fewer. parts_within few w fs id zs ys then_shows (omega (arith, fewer, within)))
-          (beginning (size_here v es id) (rest_here v es id ++ x ∷ xs)) refl
+          (prefix_kind (size_here v es id) (rest_here v es id ++ x ∷ xs)) refl
     ]
 
 -- Bytes in two consecutive parts have the same effect as in one, and the same number of them is accepted.

@@ -3,7 +3,7 @@ use Rattle.std.proofs.Common.{◌≡◌, ◌≢◌, ℕ, ◌+◌, ◌≤◌, Boo
 use Rattle.std.proofs.lemmas.Bool.Decides.{nat_tests}
 use Rattle.std.proofs.lemmas.Bool.{cases_Bool}
 use Rattle.std.proofs.lemmas.List.{length-take-le, length-map, map-append}
-use Rattle.coap_server_engine.specs.Prelude.{Message, message_of, Unfinished, beginning, StreamFault, OfFrame, Format}
+use Rattle.coap_server_engine.specs.Prelude.{Message, message_of, Unfinished, prefix_kind, StreamFault, OfFrame, Format}
 use Rattle.coap_server_engine.specs.Prelude.{Stream, frame_then, FormatFault, Framing, Finding, AFrame, AFault, framing}
 use Rattle.coap_server_engine.specs.Prelude.{reject_of, StoreValue, put_in, removed_in, changed, IsPut}
 use Rattle.coap_server_engine.specs.Prelude.{ConfigValues, Host, SessionValue, session_takes, session_handled}
@@ -443,7 +443,7 @@ module _ (v : ServerValue) (es : List Event) (id : ℕ) (piece : List ℕ) (n : 
   size_there : t.history.own_max ≡ size_so_far
   size_there = (accepted_is v.config es shows.accepted).sizes id t there
 
-  pub refused_unfinished : (stream_then.fault ≡ None) × (beginning size_so_far stream_then.rest ≡ Unfinished)
+  pub refused_unfinished : (stream_then.fault ≡ None) × (prefix_kind size_so_far stream_then.rest ≡ Unfinished)
   refused_unfinished =
       let none = handling_goes_on v.config es id t (accepted_is v.config es shows.accepted) there refusing_handles in
       (none, rest_unfinished v.config.limits.max_message id es none)

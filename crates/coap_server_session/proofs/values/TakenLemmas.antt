@@ -1,6 +1,6 @@
 -- After input that changes no resource, a connection has nothing to settle but its pending entries.
 use Rattle.std.proofs.Common.{◌≡◌, ℕ, ◌+◌, ◌-◌, Bool, true, false, ◌&&◌, List, [], ◌++◌, length, take, Option, Some, None, refl, sym, ap, subst, ◌∙◌, arith, not, nat_lt, ◌==◌, Result, Ok, Err}
-use Rattle.coap_server_session.specs.Prelude.{AllByRecursion, Message, Beginning, Unfinished, Faulty, beginning}
+use Rattle.coap_server_session.specs.Prelude.{AllByRecursion, Message, StreamPrefix, Unfinished, Faulty, prefix_kind}
 use Rattle.coap_server_session.specs.Prelude.{FormatFault, message_of, Framing, Finding, AFrame, AFault, framing_at}
 use Rattle.coap_server_session.specs.Prelude.{framing, without_last, is_open, takes_messages, OfFrame, reject_of, fit}
 use Rattle.coap_server_session.specs.Prelude.{bare_response, LinkValue, limit_in, link_after, response_with_observe}
@@ -14,7 +14,7 @@ use Rattle.coap_server_session.specs.Prelude.{settled_held}
 use Rattle.std.proofs.lemmas.Bool.{eqb-true, and_parts, cond_both}
 use Rattle.std.proofs.lemmas.List.{length-append, take-append-le}
 use Rattle.std.proofs.Math.Seq.{take-append-add}
-use Rattle.coap_wire.specs.Beginning.{Whole}
+use Rattle.coap_wire.specs.StreamPrefix.{Whole}
 use Rattle.coap_wire.proofs.StreamSteps.{whole_parts, whole_itself}
 use Rattle.coap_frame.proofs.FramingLemmas.{front_unfinished}
 use Rattle.coap_frame.specs.Framing.{Nothing}
@@ -91,7 +91,7 @@ taking_settles_held host v piece settled =
 -- ---- allocation failed
 
 -- Input that lacks the last byte of a frame is unfinished.
-before_whole : (M : ℕ) (kept piece frame rest : List ℕ) (count : ℕ) → beginning M (kept ++ piece) ≡ Whole frame rest → length piece - length rest ≡ count + 1 → beginning M (kept ++ take count piece) ≡ Unfinished
+before_whole : (M : ℕ) (kept piece frame rest : List ℕ) (count : ℕ) → prefix_kind M (kept ++ piece) ≡ Whole frame rest → length piece - length rest ≡ count + 1 → prefix_kind M (kept ++ take count piece) ≡ Unfinished
 before_whole M kept piece frame rest count whole taken =
     let parts = whole_parts M (kept ++ piece) frame rest whole in
     let size : length frame - 1 ≡ length kept + count = omega (arith, taken, ap length parts.bytes, length-append kept piece, length-append frame rest) in
@@ -100,11 +100,11 @@ before_whole M kept piece frame rest count whole taken =
     ∙ take-append-le (length frame - 1) frame rest (omega arith) in
     rw front (front_unfinished M frame (whole_itself M (kept ++ piece) frame rest whole))
 
--- The effect of an input slice, from the result of `beginning`.
-abbrev taking_begun : Host → SessionValue → List ℕ → Beginning → Taking
+-- The effect of an input slice, from the result of `prefix_kind`.
+abbrev taking_begun : Host → SessionValue → List ℕ → StreamPrefix → Taking
 taking_begun host v piece b = taking_found host v (framing_at v.frame piece b) (framing_at v.frame piece b).finding
 
-put_is_whole : (host : Host) (v : SessionValue) (piece : List ℕ) (b : Beginning) (count : ℕ) → (taking_begun host v piece b).count ≡ count + 1 → IsPut (taking_begun host v piece b).change
+put_is_whole : (host : Host) (v : SessionValue) (piece : List ℕ) (b : StreamPrefix) (count : ℕ) → (taking_begun host v piece b).count ≡ count + 1 → IsPut (taking_begun host v piece b).change
     → (frame : List ℕ) × (rest : List ℕ) × (b ≡ Whole frame rest) × (length piece - length rest ≡ count + 1)
 put_is_whole host v piece Unfinished count last puts = absurd puts
 put_is_whole host v piece (Faulty fault) count last puts = absurd puts
@@ -114,7 +114,7 @@ put_is_whole host v piece (Whole frame rest) count last puts = (frame, rest, ref
     counted (Ok m) = refl
     counted (Err e) = refl
 
-taking_where_takes : (host : Host) (v : SessionValue) (piece : List ℕ) → session_takes v ≡ true → taking host v piece ≡ taking_begun host v piece (beginning (session_max v) (v.frame ++ piece))
+taking_where_takes : (host : Host) (v : SessionValue) (piece : List ℕ) → session_takes v ≡ true → taking host v piece ≡ taking_begun host v piece (prefix_kind (session_max v) (v.frame ++ piece))
 unfolding taking framing
 taking_where_takes host v piece takes = rw takes refl
 
@@ -124,7 +124,7 @@ module _ (host : Host) (v : SessionValue) (piece : List ℕ) (count : ℕ) (refu
   front_taken =
       let M : ℕ = session_max v in
       let all = taking_where_takes host v piece refuses.takes in
-      let whole = put_is_whole host v piece (beginning M (v.frame ++ piece)) count (sym (ap (λ (t : Taking). t.count) all) ∙ refuses.last) (subst (λ (t : Taking). IsPut t.change) all refuses.stores) in
+      let whole = put_is_whole host v piece (prefix_kind M (v.frame ++ piece)) count (sym (ap (λ (t : Taking). t.count) all) ∙ refuses.last) (subst (λ (t : Taking). IsPut t.change) all refuses.stores) in
       taking_where_takes host v (take count piece) refuses.takes ∙ ap (taking_begun host v (take count piece)) (before_whole M v.frame piece whole.0 whole.1 count whole.2 whole.3)
 
   pub refused_changes_nothing : (taking host v (take count piece)).change ≡ answer.Nothing

@@ -35,7 +35,7 @@ returns-in-Whole c =
     let filled = subst (λ (s : Standing). IsFilled max [] p (take taken p) taken s) c.in-Whole.is c.stand-taken.ensures in
     let is = framing_whole max [] p (take taken p) taken filled in
     record {
-      after = ap (λ (b : List ℕ). framer_of max held.Beginning b c.args.copied.now) c.requires.empty ∙ alone_frame max c.args.copied.now taken p c.requires.countable filled;
+      after = ap (λ (b : List ℕ). framer_of max held.Prefix b c.args.copied.now) c.requires.empty ∙ alone_frame max c.args.copied.now taken p c.requires.countable filled;
       taken = sym (ap (λ (f : Framing). f.taken) is);
       within = filled.within;
       found = ap (finding_in (take taken p)) c.in-Whole.is ∙ sym (ap (λ (f : Framing). f.finding) is);
@@ -50,7 +50,7 @@ returns-in-Fault c =
     let filled = subst (λ (s : Standing). IsFilled max [] p (take taken p) taken s) c.in-Fault.is c.stand-taken.ensures in
     let is = framing_fault max [] p (take taken p) taken c.in-Fault.field-0 filled in
     record {
-      after = ap (λ (b : List ℕ). framer_of max held.Beginning b c.args.copied.now) c.requires.empty ∙ alone_fault max c.args.copied.now taken p c.in-Fault.field-0 c.requires.countable filled;
+      after = ap (λ (b : List ℕ). framer_of max held.Prefix b c.args.copied.now) c.requires.empty ∙ alone_fault max c.args.copied.now taken p c.in-Fault.field-0 c.requires.countable filled;
       taken = sym (ap (λ (f : Framing). f.taken) is);
       within = filled.within;
       found = ap (finding_in (take taken p)) c.in-Fault.is ∙ sym (ap (λ (f : Framing). f.finding) is);

@@ -49,7 +49,7 @@ returns-in-Fault c =
     let filled = subst (λ (s : Standing). IsFilled max kept p new taken s) c.in-Fault.is c.fill-taken.ensures.filled in
     let is = framing_fault max kept p new taken fault filled in
     record {
-      after = ap (λ (b : List ℕ). framer_of max held.Beginning b c.saturating_add.result) c.clear.ensures.items ∙ behind_fault max c.args.copied.now kept p new taken c.saturating_add.result c.requires.some c.saturating_add.ensures fault filled;
+      after = ap (λ (b : List ℕ). framer_of max held.Prefix b c.saturating_add.result) c.clear.ensures.items ∙ behind_fault max c.args.copied.now kept p new taken c.saturating_add.result c.requires.some c.saturating_add.ensures fault filled;
       taken = sym (ap (λ (f : Framing). f.taken) is);
       within = filled.within;
       found = ap (finding_in (take taken p)) c.in-Fault.is ∙ sym (ap (λ (f : Framing). f.finding) is);

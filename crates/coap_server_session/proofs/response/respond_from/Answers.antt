@@ -8,7 +8,7 @@ returns g c =
     let r = c.args.plan.now.response in
     let token = c.args.token.now in
     let bare : Message = record { code = r.code; token = token; options = []; payload = [] } in
-    let fresh : c.new-response.result ≡ bare = rw (c.again.ensures.token, c.code.ensures) at c.new-response.ensures in
+    let fresh : c.new-response.result ≡ bare = rw (c.copy.ensures.token, c.code.ensures) at c.new-response.ensures in
     let built = is_response token c.args.observes r _ _ _ _ _ _ _ (record {
       etag = rw (fresh, c.etag.ensures.value) at c.add_etag.ensures.added;
       observe = c.add_observe.ensures.added;

@@ -1,0 +1,187 @@
+//! Functions that decode the parts of a frame, from left to right.
+
+ghost use Rattle.std.specs.Prelude.{◌≡◌, ◌≤◌, length, option_map, IfSome, IfOk};
+ghost use Rattle.coap_wire.specs.Prelude.{greatest_length, MAX_EXTENDED_LENGTH, one_byte_at, two_bytes_at};
+ghost use Rattle.coap_wire.specs.Prelude.{four_bytes_at, length_at, option_number_at, token_length_at, head_at};
+ghost use Rattle.coap_wire.specs.Prelude.{option_head_at, option_at, body_at, Gives, GivesPayload, coap_option};
+
+use crate::code::Code;
+use crate::fault::FormatFault;
+use crate::option::{OptionRef, PAYLOAD_MARKER};
+use crate::token::{MAX_TOKEN, TokenRef};
+
+/// Nibble that encodes no token length (RFC 8974 section 2.1).
+pub(crate) const NO_TOKEN_LENGTH: u8 = 15;
+
+#[tactic(auto, unfolding(crate::specs::Reading::two_bytes_at))]
+fn two_bytes(bytes: &[u8]) -> Option<(u16, &[u8])>
+    ensures value { option_map (λ x. (x.0, x.1.now)) result ≡ two_bytes_at bytes.now }
+    ensures rest { IfSome result (λ x. length x.1.now ≤ length bytes.now) }
+{
+    if bytes.len() < 2 {
+        return None;
+    }
+    let (front, rest) = bytes.split_at(2);
+    Some((u16::from_be_bytes([front[0], front[1]]), rest))
+}
+
+#[tactic(auto, unfolding(crate::specs::Reading::four_bytes_at))]
+fn four_bytes(bytes: &[u8]) -> Option<(u32, &[u8])>
+    ensures value { option_map (λ x. (x.0, x.1.now)) result ≡ four_bytes_at bytes.now }
+    ensures rest { IfSome result (λ x. length x.1.now ≤ length bytes.now) }
+{
+    if bytes.len() < 4 {
+        return None;
+    }
+    let (front, rest) = bytes.split_at(4);
+    Some((
+        u32::from_be_bytes([front[0], front[1], front[2], front[3]]),
+        rest,
+    ))
+}
+
+/// Returns the length that a nibble and the bytes after it encode, and the bytes after the extension. Returns `None` if
+/// the extension is incomplete (RFC 8323 section 3.2).
+#[tactic(auto, unfolding(crate::specs::Reading::length_at, crate::specs::Reading::one_byte_at))]
+pub(crate) fn read_length(nibble: u8, bytes: &[u8]) -> Option<(u64, &[u8])>
+    ensures value { option_map (λ x. (x.0, x.1.now)) result ≡ length_at nibble bytes.now }
+    ensures bound { IfSome result (λ x. x.0 ≤ greatest_length) }
+    ensures rest { IfSome result (λ x. length x.1.now ≤ length bytes.now) }
+{
+    if nibble < 13 {
+        return Some((u64::from(nibble), bytes));
+    }
+    if nibble == 13 {
+        let (byte, rest) = bytes.split_first()?;
+        return Some((u64::from(*byte) + 13, rest));
+    }
+    if nibble == 14 {
+        let (number, rest) = two_bytes(bytes)?;
+        return Some((u64::from(number) + 269, rest));
+    }
+    let (number, rest) = four_bytes(bytes)?;
+    Some((u64::from(number) + 65805, rest))
+}
+
+/// Returns the option delta or option length that a nibble below 15 and the bytes after it encode, and the bytes after
+/// the extension. Returns `None` if the extension is incomplete (RFC 7252 section 3.1).
+#[tactic(auto, unfolding(crate::specs::Reading::option_number_at, crate::specs::Reading::one_byte_at))]
+fn read_option_number(nibble: u8, bytes: &[u8]) -> Option<(u32, &[u8])>
+    ensures value { option_map (λ x. (x.0, x.1.now)) result ≡ option_number_at nibble bytes.now }
+    ensures bound { IfSome result (λ x. x.0 ≤ MAX_EXTENDED_LENGTH) }
+    ensures rest { IfSome result (λ x. length x.1.now ≤ length bytes.now) }
+{
+    if nibble < 13 {
+        return Some((u32::from(nibble), bytes));
+    }
+    if nibble == 13 {
+        let (byte, rest) = bytes.split_first()?;
+        return Some((u32::from(*byte) + 13, rest));
+    }
+    let (number, rest) = two_bytes(bytes)?;
+    Some((u32::from(number) + 269, rest))
+}
+
+/// Returns the token length that a nibble below 15 encodes, if `bytes` follow the code, and the bytes after the
+/// extension. Returns `None` if the extension is incomplete (RFC 8974 section 2.1).
+pub(crate) fn read_token_length(nibble: u8, bytes: &[u8]) -> Option<(u32, &[u8])>
+    ensures value { option_map (λ x. (x.0, x.1.now)) result ≡ token_length_at nibble bytes.now }
+    ensures bound { IfSome result (λ x. x.0 ≤ MAX_EXTENDED_LENGTH) }
+    ensures rest { IfSome result (λ x. length x.1.now ≤ length bytes.now) }
+{
+    read_option_number(nibble, bytes)
+}
+
+/// Returns the token, the body and the code of bytes that are exactly one frame. The body is the options, the marker
+/// and the payload.
+#[tactic(auto, unfolding(crate::specs::Reading::head_at))]
+pub(crate) fn head_of(frame: &[u8]) -> Result<(TokenRef<'_>, &[u8], Code), FormatFault>
+    ensures { Gives (λ x. record { code = x.2; token = x.0; body = x.1.now }) result (head_at frame.now) }
+{
+    let Some((first, rest)) = frame.split_first() else {
+        return Err(FormatFault::NotOneFrame);
+    };
+    if *first % 16 == NO_TOKEN_LENGTH {
+        return Err(FormatFault::TokenLength);
+    }
+    let Some((length, rest)) = read_length(*first / 16, rest) else {
+        return Err(FormatFault::NotOneFrame);
+    };
+    let Some((code, rest)) = rest.split_first() else {
+        return Err(FormatFault::NotOneFrame);
+    };
+    let Some((token_length, rest)) = read_token_length(*first % 16, rest) else {
+        return Err(FormatFault::NotOneFrame);
+    };
+    let token_length = token_length as usize;
+    if token_length > MAX_TOKEN {
+        return Err(FormatFault::TokenLength);
+    }
+    if rest.len() as u64 != token_length as u64 + length {
+        return Err(FormatFault::NotOneFrame);
+    }
+    let (token, body) = rest.split_at(token_length);
+    Ok((TokenRef::of_bytes(token), body, Code::new(*code)))
+}
+
+/// Returns the delta and the length of an option with this first byte, and the bytes after both extensions.
+#[tactic(auto, unfolding(crate::specs::Reading::option_head_at))]
+fn option_head(first: u8, after: &[u8]) -> Result<(u32, u32, &[u8]), FormatFault>
+    ensures value { Gives (λ x. (x.0, x.1, x.2.now)) result (option_head_at first after.now) }
+    ensures bound { IfOk result (λ x. x.0 ≤ MAX_EXTENDED_LENGTH) }
+{
+    if first / 16 == 15 {
+        return Err(FormatFault::OptionDelta);
+    }
+    if first % 16 == 15 {
+        return Err(FormatFault::OptionLength);
+    }
+    let Some((delta, rest)) = read_option_number(first / 16, after) else {
+        return Err(FormatFault::OptionCut);
+    };
+    let Some((length, rest)) = read_option_number(first % 16, rest) else {
+        return Err(FormatFault::OptionCut);
+    };
+    Ok((delta, length, rest))
+}
+
+/// Returns the option with this first byte, and the bytes after it. The option number is `base` plus the delta.
+#[tactic(auto, unfolding(crate::specs::Reading::option_at))]
+pub(crate) fn read_option(
+    base: u16,
+    first: u8,
+    after: &[u8],
+) -> Result<(OptionRef<'_>, &[u8]), FormatFault>
+    ensures { Gives (λ x. (coap_option x.0, x.1.now)) result (option_at base first after.now) }
+{
+    let (delta, length, rest) = option_head(first, after)?;
+    let Ok(number) = u16::try_from(u32::from(base) + delta) else {
+        return Err(FormatFault::OptionNumber);
+    };
+    let length = length as usize;
+    if rest.len() < length {
+        return Err(FormatFault::OptionCut);
+    }
+    let (value, rest) = rest.split_at(length);
+    Ok((OptionRef { number, value }, rest))
+}
+
+/// Returns the payload of a body, after reading all options, or the first error of the body.
+pub(crate) fn payload_of(body: &[u8]) -> Result<&[u8], FormatFault>
+    ensures { GivesPayload result (body_at 0 body.now) }
+{
+    let mut base = 0;
+    let mut rest = body;
+    while let Some((first, after)) = rest.split_first() {
+        if *first == PAYLOAD_MARKER {
+            if after.is_empty() {
+                return Err(FormatFault::EmptyPayload);
+            }
+            return Ok(after);
+        }
+        let (option, behind) = read_option(base, *first, after)?;
+        base = option.number;
+        rest = behind;
+    }
+    Ok(rest)
+}
