@@ -1,7 +1,7 @@
 -- Properties of a client after accepted calls, and the state of the client after one more call.
 use Rattle.std.proofs.Common.{◌≡◌, ℕ, ◌≤◌, Bool, true, false, cond, List, [], ◌∷◌, ◌++◌, length, map, take, Some, None, Result, Ok, Err, refl, sym, ap, subst, ◌∙◌, arith}
 use Rattle.coap_client_engine.specs.Prelude.{nat_le, Message, message_of, StreamFault, OfFrame, Format, Stream, frame_then}
-use Rattle.coap_client_engine.specs.Prelude.{fault_bytes, FormatFault, Framing, Finding, Nothing, AFrame, AFault, framing}
+use Rattle.coap_client_engine.specs.Prelude.{fault_bytes, FormatFault, Framing, FrameEventValue, Nothing, AFrame, AFault, framing}
 use Rattle.coap_client_engine.specs.Prelude.{Phase, Reject, Client, LimitValues, takes_messages, reject_of}
 use Rattle.coap_client_engine.specs.Prelude.{OutstandingValue, History, IsHistory, new_history, after, after_asking}
 use Rattle.coap_client_engine.specs.Prelude.{link_of, LinkValue, free_in, link_after, Method, TargetValue, ExtrasValue}
@@ -87,7 +87,7 @@ steps_read (Ok m) = Handles m ∷ []
 steps_read (Err e) = Faults Format ∷ []
 
 -- The steps of bytes, by what the framer found in them.
-abbrev pub steps_found : Finding → List ClientStep
+abbrev pub steps_found : FrameEventValue → List ClientStep
 steps_found Nothing = []
 steps_found (AFrame frame) = steps_read (message_of frame)
 steps_found (AFault fault) = Faults (OfFrame fault) ∷ []
@@ -99,7 +99,7 @@ read_added : (frame : List ℕ) (r : Result Message FormatFault) → map Handles
 read_added frame (Ok m) = refl
 read_added frame (Err e) = refl
 
-added_steps : (kept bytes : List ℕ) (f : Finding) → map Handles (added_by kept bytes f).messages ++ new_fault None (added_by kept bytes f).fault ≡ steps_found f
+added_steps : (kept bytes : List ℕ) (f : FrameEventValue) → map Handles (added_by kept bytes f).messages ++ new_fault None (added_by kept bytes f).fault ≡ steps_found f
 added_steps kept bytes Nothing = refl
 added_steps kept bytes (AFrame frame) = read_added frame (message_of frame)
 added_steps kept bytes (AFault fault) = refl
@@ -165,7 +165,7 @@ module _ (h : History) (is : IsHistory h) (live : takes_messages h.phase ≡ tru
     live = λ takes. refl;
   }
 
-  taken_found : (f : Framing) (found : Finding) → (found ≡ Nothing → f.kept ≡ kept ++ bytes) → IsTaken h (taking_found (client_shown h kept) f found) f.taken (steps_found found) (added_by kept bytes found)
+  taken_found : (f : Framing) (found : FrameEventValue) → (found ≡ Nothing → f.kept ≡ kept ++ bytes) → IsTaken h (taking_found (client_shown h kept) f found) f.taken (steps_found found) (added_by kept bytes found)
   taken_found f Nothing all = taken_nothing f (all refl)
   taken_found f (AFrame frame) all = taken_read f.taken frame (message_of frame)
   taken_found f (AFault fault) all = taken_fault f.taken (OfFrame fault) (fault_bytes (kept ++ bytes))

@@ -1,7 +1,7 @@
 -- The processed messages are exactly those that the accepted bytes encode, and malformed bytes stop the connection.
 use Rattle.std.proofs.Common.{◌≡◌, ℕ, Bool, true, false, cond, List, [], ◌∷◌, ◌++◌, length, Some, None, Result, Ok, Err, refl, sym, ap, subst, ◌∙◌}
 use Rattle.coap_client_engine.specs.Prelude.{◌≤◌, nat_le, is_none, Message, message_of, FormatFault, StreamFault, OfFrame}
-use Rattle.coap_client_engine.specs.Prelude.{Format, Stream, frame_then, Finding, Nothing, AFrame, AFault, Framing, framing}
+use Rattle.coap_client_engine.specs.Prelude.{Format, Stream, frame_then, FrameEventValue, Nothing, AFrame, AFault, Framing, framing}
 use Rattle.coap_client_engine.specs.Prelude.{Stopped, Reason, takes_messages, reject_of, reject_reason, LimitValues}
 use Rattle.coap_client_engine.specs.Prelude.{OutstandingValue, Ping, asking_refusal, cancel_refusal, next_token, with_token}
 use Rattle.coap_client_engine.specs.Prelude.{entry_of, ping_with, stop, abort, react, History, standing_now, asking_now}
@@ -51,7 +51,7 @@ module _ (M : ℕ) (calls : List ClientCall) (bytes : List ℕ) (h : History) wh
     read_makes frame (Ok m) adds = OneMessage does m adds
     read_makes frame (Err f) adds = OneFault does Format frame adds
 
-    found_makes : (finding : Finding) → AddsTo M calls bytes (added_by (stream_in M calls).rest bytes finding)
+    found_makes : (finding : FrameEventValue) → AddsTo M calls bytes (added_by (stream_in M calls).rest bytes finding)
         → TakeMakes M calls bytes h
     found_makes Nothing adds =
         NoStep adds.steps (ap (λ (s : Stream). s.messages) adds.stream ∙ append-nil (stream_in M calls).messages) (ap (λ (s : Stream). s.fault) adds.stream ∙ sym none)

@@ -1,7 +1,7 @@
 -- The framer and the link of a client treat an input slice as the definition `taking` says.
 use Rattle.std.proofs.Common.{◌≡◌, ℕ, Bool, true, false, cond, List, [], ◌++◌, take, Option, None, Result, Ok, Err, refl, sym, ap, subst, ◌∙◌}
 use Rattle.coap_client_engine.specs.Prelude.{Message, message_of, StreamPrefix, Unfinished, Whole, Faulty, prefix_kind}
-use Rattle.coap_client_engine.specs.Prelude.{FormatFault, FrameFault, FramerValue, IsFramer, Framing, Finding, Nothing}
+use Rattle.coap_client_engine.specs.Prelude.{FormatFault, FrameFault, FramerValue, IsFramer, Framing, FrameEventValue, Nothing}
 use Rattle.coap_client_engine.specs.Prelude.{AFrame, AFault, framing_at, framing, framing_of, framer_after, frame_back}
 use Rattle.coap_client_engine.specs.Prelude.{LimitValues, AreInRange, takes_messages, reject_of_frame, reject_reason, react}
 use Rattle.coap_client_engine.specs.Prelude.{LinkValue, standing_in, ClientValue, EventValue, Taking, client_takes}
@@ -18,10 +18,10 @@ use Rattle.coap_conn.proofs.LinkLemmas.{stays_so}
 
 module _ (v : FramerValue) (l : LinkValue) (piece : List ℕ) where
   -- The event, by what the framer found.
-  abbrev told_of_finding : Finding → Option EventValue
+  abbrev told_of_finding : FrameEventValue → Option EventValue
   told_of_finding found = (taking_found (record { frame = v.kept; link = l }) (framing_of v piece) found).event
 
-  told_as : (h : Heard) (read : Result Message FormatFault) (found : Finding) → (framing_of v piece).finding ≡ found → heard_value h read ≡ told_of_finding found → heard_value h read ≡ (taking_framed v l piece).event
+  told_as : (h : Heard) (read : Result Message FormatFault) (found : FrameEventValue) → (framing_of v piece).finding ≡ found → heard_value h read ≡ told_of_finding found → heard_value h read ≡ (taking_framed v l piece).event
   told_as h read found is told = told ∙ ap told_of_finding (sym is)
 
   pub told_nothing : (h : Heard) (read : Result Message FormatFault) → (framing_of v piece).finding ≡ Nothing → h ≡ heard.Nothing → heard_value h read ≡ (taking_framed v l piece).event
@@ -50,7 +50,7 @@ module _ (v : FramerValue) (l : LinkValue) (piece : List ℕ) where
   count_of_read (Ok m) n = refl
   count_of_read (Err e) n = refl
 
-  count_by : (found : Finding) → (framing_of v piece).taken ≡ (taking_found (record { frame = v.kept; link = l }) (framing_of v piece) found).count
+  count_by : (found : FrameEventValue) → (framing_of v piece).taken ≡ (taking_found (record { frame = v.kept; link = l }) (framing_of v piece) found).count
   count_by Nothing = refl
   count_by (AFrame frame) = count_of_read (message_of frame) (framing_of v piece).taken
   count_by (AFault fault) = refl
@@ -76,7 +76,7 @@ limits_read : (w : ClientValue) (n : ℕ) (read : Result Message FormatFault) �
 limits_read w n (Ok m) = stays_so (λ (l : LinkValue). l.limits) (takes_messages w.link.phase) w.link _ refl
 limits_read w n (Err e) = stays_so (λ (l : LinkValue). l.limits) (takes_messages w.link.phase) w.link _ refl
 
-pub limits_found : (w : ClientValue) (f : Framing) (found : Finding) → (taking_found w f found).client.link.limits ≡ w.link.limits
+pub limits_found : (w : ClientValue) (f : Framing) (found : FrameEventValue) → (taking_found w f found).client.link.limits ≡ w.link.limits
 limits_found w f Nothing = refl
 limits_found w f (AFrame frame) = limits_read w f.taken (message_of frame)
 limits_found w f (AFault fault) = stays_so (λ (l : LinkValue). l.limits) (takes_messages w.link.phase) w.link _ refl

@@ -5,7 +5,7 @@ use Rattle.coap_wire.specs.Reading.{message_of}
 use Rattle.coap_wire.specs.Recognition.{first_critical}
 use Rattle.coap_wire.specs.Stream.{OfFrame}
 use Rattle.coap_wire.specs.declared.fault.FormatFault.{FormatFault}
-use Rattle.coap_frame.specs.Framing.{Framing, Finding, Nothing, AFrame, AFault, framing}
+use Rattle.coap_frame.specs.Framing.{Framing, FrameEventValue, Nothing, AFrame, AFault, framing}
 use Rattle.coap_conn.specs.declared.reason.Reason.{Reason}
 use Rattle.coap_conn.specs.declared.phase.Role.TheVariants.{Client}
 use Rattle.coap_conn.specs.declared.phase.Reject.{Reject}
@@ -93,7 +93,7 @@ taking_read v count (Ok m) = record { count = count; client = record { frame = [
 taking_read v count (Err e) = taking_rejected v count reject.Format
 
 -- The result of a `take`, by what the framer found in the bytes: nothing, a frame or an error.
-abbrev pub taking_found : ClientValue → Framing → Finding → Taking
+abbrev pub taking_found : ClientValue → Framing → FrameEventValue → Taking
 taking_found v f Nothing = record { count = f.taken; client = record v { frame = f.kept }; event = None }
 taking_found v f (AFault fault) = taking_rejected v f.taken (reject_of (OfFrame fault))
 taking_found v f (AFrame frame) = taking_read v f.taken (message_of frame)

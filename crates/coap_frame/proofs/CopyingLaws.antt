@@ -1,8 +1,8 @@
 -- The changes of the count of copied bytes by the calls of a framer.
 use Rattle.std.proofs.Common.{◌≡◌, ◌≢◌, ℕ, ◌+◌, ◌-◌, ◌≤◌, List, [], ◌∷◌, ◌++◌, length, refl, ap, arith}
 use Rattle.std.proofs.lemmas.List.{length-append, length-take}
-use Rattle.coap_frame.specs.Prelude.{StreamPrefix, Unfinished, Whole, Faulty, prefix_kind, FramerValue, IsFramer, Finding}
-use Rattle.coap_frame.specs.Prelude.{Nothing, AFrame, AFault, Framing, framing_at, framing, framing_of, counted}
+use Rattle.coap_frame.specs.Prelude.{StreamPrefix, Unfinished, Whole, Faulty, prefix_kind, FramerValue, IsFramer, FrameEventValue}
+use Rattle.coap_frame.specs.Prelude.{Nothing, AFrame, AFault, Framing, framing_at, framing, framing_of, count_after}
 use Rattle.coap_frame.specs.Prelude.{copied_alone, copied_of, framer_after, without_last, frame_back, copied_back}
 use Rattle.coap_frame.specs.Prelude.{with_frame_back, FramerCall, Next, Unread, Clear, Raise, MayCall, after_call}
 use Rattle.coap_frame.specs.Prelude.{IsCountedNext, IsCountedUnread, IsCounted, AreCounted}
@@ -12,7 +12,7 @@ use Rattle.coap_frame.proofs.FramingLemmas.{empty_framer, framing_is_framer, unr
 
 -- ---- a chunk
 
-copied_alone_within : (taken : ℕ) (finding : Finding) → copied_alone taken finding ≤ taken
+copied_alone_within : (taken : ℕ) (finding : FrameEventValue) → copied_alone taken finding ≤ taken
 copied_alone_within taken Nothing = omega arith
 copied_alone_within taken (AFrame frame) = omega arith
 copied_alone_within taken (AFault fault) = omega arith
@@ -64,7 +64,7 @@ lies_back (b ∷ spent) piece = omega (arith, length-take (length (b ∷ spent) 
 
 unread_counted : (v : FramerValue) (piece : List ℕ) → IsFramer v → IsCountedUnread v piece (with_frame_back v piece)
 unread_counted v piece is = record {
-  whole = λ none. ap (λ (s : List ℕ). counted v.copied (copied_back s piece)) none;
+  whole = λ none. ap (λ (s : List ℕ). count_after v.copied (copied_back s piece)) none;
   split = λ some. omega (arith, is.countable, none_back v.spent piece some);
   honest = λ below. omega (arith, below, lies_back v.spent piece);
 }

@@ -6,7 +6,7 @@ use Rattle.coap_frame.specs.Prelude.{declared_of, Declared, Unknown, Size, BadTo
 use Rattle.coap_frame.specs.Prelude.{TooLarge, StreamPrefix, Unfinished, Whole, Faulty, prefix_kind, fault_bytes}
 use Rattle.coap_frame.specs.Prelude.{size_bytes, IsTakenTo, IsFilled}
 use Rattle.coap_wire.proofs.StreamSteps.{begin_unknown, begin_bad_token, begin_too_large, begin_short, begin_whole, size_has_bytes, size_at_last, declared_more, faulty_more, fault_bytes_more, fault_at_last, fault_has_bytes}
-use Rattle.coap_frame.specs.declared.filling.Standing.TheVariants as standing
+use Rattle.coap_frame.specs.declared.filling.FrameStatus.TheVariants as standing
 use Rattle.std.proofs.Math.Seq.{take-append-add}
 
 -- An unfinished frame with a known size has fewer bytes than that, and the size is not too large.

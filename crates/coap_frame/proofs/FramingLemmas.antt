@@ -3,12 +3,12 @@ use Rattle.std.proofs.Common.{◌≡◌, ◌≢◌, ℕ, ◌-◌, ◌<◌, ◌�
 use Rattle.std.proofs.lemmas.Bool.{cases_lt}
 use Rattle.std.proofs.lemmas.List.{length-append, length-drop, take-append-drop}
 use Rattle.coap_frame.specs.Prelude.{StreamPrefix, Unfinished, Whole, Faulty, prefix_kind, fault_bytes, FramerValue}
-use Rattle.coap_frame.specs.Prelude.{IsFramer, Finding, Nothing, AFrame, AFault, Framing, split_frame, framing_at}
-use Rattle.coap_frame.specs.Prelude.{framing, counted, copied_of, framed, framer_after, without_last, frame_back}
-use Rattle.coap_frame.specs.Prelude.{with_frame_back, MayUnread, framer_of, spent_in, IsFilled, FrameFault, Held}
+use Rattle.coap_frame.specs.Prelude.{IsFramer, FrameEventValue, Nothing, AFrame, AFault, Framing, split_frame, framing_at}
+use Rattle.coap_frame.specs.Prelude.{framing, count_after, copied_of, framed, framer_after, without_last, frame_back}
+use Rattle.coap_frame.specs.Prelude.{with_frame_back, MayUnread, framer_of, spent_in, IsFilled, FrameFault, BufferContent}
 use Rattle.coap_wire.proofs.StreamSteps.{unfinished_empty, unfinished_below, whole_parts, whole_itself, whole_more, faulty_more}
-use Rattle.coap_frame.specs.declared.framer.Held.TheVariants as held
-use Rattle.coap_frame.specs.declared.filling.Standing.TheVariants as standing
+use Rattle.coap_frame.specs.declared.framer.BufferContent.TheVariants as held
+use Rattle.coap_frame.specs.declared.filling.FrameStatus.TheVariants as standing
 
 module _ (max : ℕ) (kept piece new : List ℕ) (taken : ℕ) where
   pub framing_unfinished : IsFilled max kept piece new taken standing.Unfinished
@@ -46,7 +46,7 @@ module _ (max c taken : ℕ) (piece : List ℕ) where
   bare = framer_of max held.Prefix [] c
 
   -- The chunk begins a frame that it does not end.
-  pub alone_more : (buffer : List ℕ) (copied : ℕ) → IsFilled max [] piece (take taken piece) taken standing.Unfinished → buffer ≡ piece → copied ≡ counted c taken → framer_of max held.Prefix buffer copied ≡ framer_after bare piece
+  pub alone_more : (buffer : List ℕ) (copied : ℕ) → IsFilled max [] piece (take taken piece) taken standing.Unfinished → buffer ≡ piece → copied ≡ count_after c taken → framer_of max held.Prefix buffer copied ≡ framer_after bare piece
   alone_more buffer copied filled lies count =
       ap (λ (b : List ℕ). framer_of max held.Prefix b copied) (lies ∙ sym (filled.stands.2))
       ∙ ap (λ (n : ℕ). framer_of max held.Prefix (take taken piece) n) count
@@ -55,10 +55,10 @@ module _ (max c taken : ℕ) (piece : List ℕ) where
   -- The chunk alone has the frame or the error.
   alone_found : (f : Framing) → c ≤ 18446744073709551615 → framing max [] piece ≡ f → f.kept ≡ [] → f.spent ≡ [] → copied_of [] f ≡ 0 → bare ≡ framer_after bare piece
   alone_found f count is kept spent none =
-      let same : c ≡ counted c (copied_of [] f) = omega (arith, count, none) in
+      let same : c ≡ count_after c (copied_of [] f) = omega (arith, count, none) in
       ap (λ (n : ℕ). framer_of max held.Prefix [] n) same
-      ∙ ap (λ (k : List ℕ). framer_of max held.Prefix k (counted c (copied_of [] f))) (sym kept)
-      ∙ ap (λ (s : List ℕ). record { max = max; kept = f.kept; spent = s; copied = counted c (copied_of [] f) }) (sym spent)
+      ∙ ap (λ (k : List ℕ). framer_of max held.Prefix k (count_after c (copied_of [] f))) (sym kept)
+      ∙ ap (λ (s : List ℕ). record { max = max; kept = f.kept; spent = s; copied = count_after c (copied_of [] f) }) (sym spent)
       ∙ sym (ap (framed bare) is)
 
   pub alone_frame : c ≤ 18446744073709551615 → IsFilled max [] piece (take taken piece) taken standing.Whole → bare ≡ framer_after bare piece
@@ -77,14 +77,14 @@ split_behind : (kept frame : List ℕ) → 0 < length kept → split_frame kept 
 split_behind [] frame some = absurd (omega arith)
 split_behind (b ∷ kept) frame some = refl
 
-module _ (max c : ℕ) (kept piece new : List ℕ) (taken copied : ℕ) (some : 0 < length kept) (count : copied ≡ counted c taken) where
+module _ (max c : ℕ) (kept piece new : List ℕ) (taken copied : ℕ) (some : 0 < length kept) (count : copied ≡ count_after c taken) where
   -- A framer that keeps these bytes.
   abbrev keeping : FramerValue
   keeping = framer_of max held.Prefix kept c
 
   behind_found : (f : Framing) → framing max kept piece ≡ f → f.taken ≡ taken → record { max = max; kept = f.kept; spent = f.spent; copied = copied } ≡ framer_after keeping piece
   behind_found f is all =
-      let more : copied ≡ counted c (copied_of kept f) = count ∙ ap (counted c) (sym all ∙ sym (copied_behind kept f some)) in
+      let more : copied ≡ count_after c (copied_of kept f) = count ∙ ap (count_after c) (sym all ∙ sym (copied_behind kept f some)) in
       ap (λ (n : ℕ). record { max = max; kept = f.kept; spent = f.spent; copied = n }) more
       ∙ sym (ap (framed keeping) is)
 
@@ -100,20 +100,20 @@ module _ (max c : ℕ) (kept piece new : List ℕ) (taken copied : ℕ) (some : 
   behind_fault fault filled = behind_found _ (framing_fault max kept piece new taken fault filled) refl
 
 -- No frame was found.
-abbrev HasNoFrame : Finding → Type 0
+abbrev HasNoFrame : FrameEventValue → Type 0
 HasNoFrame Nothing = Unit {0}
 HasNoFrame (AFrame frame) = ⊥
 HasNoFrame (AFault fault) = Unit {0}
 
 -- Without a frame, there is no split frame.
-spent_at : (kept piece : List ℕ) (b : StreamPrefix) (finding : Finding) → (framing_at kept piece b).finding ≡ finding → HasNoFrame finding → (framing_at kept piece b).spent ≡ []
+spent_at : (kept piece : List ℕ) (b : StreamPrefix) (finding : FrameEventValue) → (framing_at kept piece b).finding ≡ finding → HasNoFrame finding → (framing_at kept piece b).spent ≡ []
 spent_at kept piece Unfinished finding e none = refl
 spent_at kept piece (Whole frame rest) Nothing e none = absurd cc
 spent_at kept piece (Whole frame rest) (AFrame found) e none = absurd none
 spent_at kept piece (Whole frame rest) (AFault fault) e none = absurd cc
 spent_at kept piece (Faulty fault) finding e none = refl
 
-pub none_spent : (max : ℕ) (kept piece : List ℕ) (finding : Finding) → (framing max kept piece).finding ≡ finding → HasNoFrame finding → (framing max kept piece).spent ≡ []
+pub none_spent : (max : ℕ) (kept piece : List ℕ) (finding : FrameEventValue) → (framing max kept piece).finding ≡ finding → HasNoFrame finding → (framing max kept piece).spent ≡ []
 unfolding framing
 none_spent max kept piece finding e none = spent_at kept piece (prefix_kind max (kept ++ piece)) finding e none
 
@@ -204,7 +204,7 @@ pub back_piece : (v : FramerValue) (piece : List ℕ) → (v.spent ≢ []) ⊎ (
 back_piece v piece back none = piece_back v piece v.spent refl back none
 
 -- The bytes of a split frame are those of the buffer.
-pub spent_lies : (held : Held) (bytes : List ℕ) → 0 < length (spent_in held bytes) → spent_in held bytes ≡ bytes
+pub spent_lies : (held : BufferContent) (bytes : List ℕ) → 0 < length (spent_in held bytes) → spent_in held bytes ≡ bytes
 spent_lies held.Prefix bytes some = absurd (omega arith)
 spent_lies held.Split bytes some = refl
 

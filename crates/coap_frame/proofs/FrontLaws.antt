@@ -2,7 +2,7 @@
 use Rattle.std.proofs.Common.{◌≡◌, ℕ, zero, suc, ◌-◌, ◌<◌, ◌≤◌, List, [], ◌∷◌, ◌++◌, length, take, drop, Some, None, refl, sym, ap, ◌∙◌, append_assoc, arith}
 use Rattle.std.proofs.lemmas.List.{append-nil, length-append, length-take-le, take-append-drop, take_all}
 use Rattle.coap_frame.specs.Prelude.{message_of, FrameFault, StreamPrefix, Unfinished, Whole, Faulty, prefix_kind}
-use Rattle.coap_frame.specs.Prelude.{fault_bytes, OfFrame, Stream, frame_then, split, Framing, Finding, Nothing}
+use Rattle.coap_frame.specs.Prelude.{fault_bytes, OfFrame, Stream, frame_then, split, Framing, FrameEventValue, Nothing}
 use Rattle.coap_frame.specs.Prelude.{AFrame, AFault, split_frame, framing_at, framing}
 use Rattle.coap_wire.proofs.StreamSteps.{unfinished_empty, whole_itself, whole_more, faulty_more, fault_at_last, fault_bytes_more, split_step, split_unfinished, split_faulty}
 use Rattle.coap_frame.proofs.GivenLaws.{taken_within, frame_taken, fault_taken}
@@ -122,7 +122,7 @@ some_in_front M kept piece u some = some_fronted M kept piece (framing M kept pi
 -- ---- the addition of bytes to a stream
 
 -- The messages, the rest and the error that bytes add after kept bytes, if they are all taken and have this finding.
-abbrev pub added_by : List ℕ → List ℕ → Finding → Stream
+abbrev pub added_by : List ℕ → List ℕ → FrameEventValue → Stream
 added_by kept bytes Nothing = record { messages = []; rest = kept ++ bytes; fault = None }
 added_by kept bytes (AFrame frame) = frame_then frame (message_of frame) (record { messages = []; rest = []; fault = None })
 added_by kept bytes (AFault fault) = record { messages = []; rest = fault_bytes (kept ++ bytes); fault = Some (OfFrame fault) }

@@ -5,14 +5,14 @@ use Rattle.std.proofs.lemmas.List.{append-nil, take-append-drop, take-append-le,
 use Rattle.std.proofs.Math.Seq.{take-append-add}
 use Rattle.coap_frame.specs.Prelude.{FrameFault, StreamPrefix, Unfinished, Whole, Faulty, prefix_kind, size_bytes}
 use Rattle.coap_frame.specs.Prelude.{fault_bytes, Frames, Sizes, constant_size, sizes_first, size_for, sizes_behind}
-use Rattle.coap_frame.specs.Prelude.{with_frame, sized_frames, FramerValue, IsFramer, Finding, Nothing, AFrame}
+use Rattle.coap_frame.specs.Prelude.{with_frame, sized_frames, FramerValue, IsFramer, FrameEventValue, Nothing, AFrame}
 use Rattle.coap_frame.specs.Prelude.{AFault, Framing, split_frame, framing_at, framing, framing_of, framer_after}
 use Rattle.coap_frame.specs.Prelude.{without_last, frame_back, MayUnread, raise_refusal, with_size, asked_for}
-use Rattle.coap_frame.specs.Prelude.{Handed, Piece, Given, given_then, given_by, stream_given, IsGiven, taken_of}
+use Rattle.coap_frame.specs.Prelude.{FramerInput, Piece, FramerOutput, given_then, output_of, stream_given, IsGiven, taken_of}
 use Rattle.coap_frame.specs.Prelude.{unread_after, last_byte}
 use Rattle.coap_wire.proofs.StreamSteps.{whole_parts, whole_itself, whole_more, faulty_more, fault_bytes_more, fault_at_last, size_has_bytes, size_bytes_more, AreAlikeBehind, frames_unfinished, frames_faulty, frames_whole, frames_alike}
 use Rattle.coap_wire.proofs.SizesLaws.{first_in, first_past, behind_first, first_none, first_always}
-use Rattle.coap_frame.specs.Given.{Size}
+use Rattle.coap_frame.specs.FramerOutput.{Size}
 use Rattle.coap_frame.proofs.FramingLemmas.{framing_is_framer, frame_is_small, front_unfinished}
 use Rattle.coap_frame.proofs.RaiseLemmas.{unfinished_with, allowed_by, asked_is_framer}
 
@@ -69,7 +69,7 @@ kept_within_frame M kept piece frame rest u e =
     ]
 
 -- The content of the kept bytes and the bytes taken, by the finding, and the bytes kept afterwards.
-abbrev IsFoundAt : ℕ → List ℕ → List ℕ → ℕ → List ℕ → Finding → Type 0
+abbrev IsFoundAt : ℕ → List ℕ → List ℕ → ℕ → List ℕ → FrameEventValue → Type 0
 IsFoundAt max kept piece taken after Nothing = (taken ≡ length piece) × (after ≡ kept ++ take taken piece)
 IsFoundAt max kept piece taken after (AFrame frame) = (frame ≡ kept ++ take taken piece) × (prefix_kind max frame ≡ Whole frame []) × (after ≡ [])
 IsFoundAt max kept piece taken after (AFault fault) =
@@ -108,8 +108,8 @@ unfolding framing
 call_is max kept piece u = call_at max kept piece (prefix_kind max (kept ++ piece)) u refl
 
 -- The same, for the finding of a call.
-found_is : (max : ℕ) (kept piece : List ℕ) (finding : Finding) → prefix_kind max kept ≡ Unfinished → (framing max kept piece).finding ≡ finding → IsFoundAt max kept piece (framing max kept piece).taken (framing max kept piece).kept finding
-found_is max kept piece finding u e = subst (λ (f : Finding). IsFoundAt max kept piece (framing max kept piece).taken (framing max kept piece).kept f) e (call_is max kept piece u).found
+found_is : (max : ℕ) (kept piece : List ℕ) (finding : FrameEventValue) → prefix_kind max kept ≡ Unfinished → (framing max kept piece).finding ≡ finding → IsFoundAt max kept piece (framing max kept piece).taken (framing max kept piece).kept finding
+found_is max kept piece finding u e = subst (λ (f : FrameEventValue). IsFoundAt max kept piece (framing max kept piece).taken (framing max kept piece).kept f) e (call_is max kept piece u).found
 
 -- ---- the sizes of the bytes taken
 
@@ -148,7 +148,7 @@ size_at_frame M frame more S whole =
 
 -- ---- a list of calls
 
-given_step : (v after : FramerValue) (piece : List ℕ) (taken : ℕ) (go : FramerValue → Given) (finding : Finding) → after.max ≡ v.max → IsFoundAt v.max v.kept piece taken after.kept finding → IsGiven after (go after) → IsGiven v (given_then go (take taken piece) v.max after finding)
+given_step : (v after : FramerValue) (piece : List ℕ) (taken : ℕ) (go : FramerValue → FramerOutput) (finding : FrameEventValue) → after.max ≡ v.max → IsFoundAt v.max v.kept piece taken after.kept finding → IsGiven after (go after) → IsGiven v (given_then go (take taken piece) v.max after finding)
 given_step v after piece taken go Nothing max found again =
     let more = (go after).taken in
     let S = (go after).sizes in
@@ -203,7 +203,7 @@ raised_alike max new kept S u le =
       same = λ place past. first_past n max S place past ∙ sym (first_past n new S place past);
     }
 
-given_raised : (v : FramerValue) (new : ℕ) (given : Given) → IsFramer v → v.max ≤ new → IsGiven (with_size v new) given → IsGiven v given
+given_raised : (v : FramerValue) (new : ℕ) (given : FramerOutput) → IsFramer v → v.max ≤ new → IsGiven (with_size v new) given → IsGiven v given
 given_raised v new given is le again =
     let same : stream_given v given ≡ stream_given (with_size v new) given =
     frames_alike (sizes_first (length v.kept) v.max given.sizes) (sizes_first (length v.kept) new given.sizes) v.kept given.taken (raised_alike v.max new v.kept given.sizes is.unfinished le) in
@@ -214,13 +214,13 @@ given_raised v new given is le again =
       nothing_kept = again.nothing_kept;
     }
 
-given_asked : (v : FramerValue) (new : ℕ) (given : Given) (allowed : Bool) → is_none (raise_refusal v.max new) ≡ allowed → IsFramer v → IsGiven (if allowed then with_size v new else v) given → IsGiven v given
+given_asked : (v : FramerValue) (new : ℕ) (given : FramerOutput) (allowed : Bool) → is_none (raise_refusal v.max new) ≡ allowed → IsFramer v → IsGiven (if allowed then with_size v new else v) given → IsGiven v given
 given_asked v new given true e is again = given_raised v new given is (allowed_by v.max new e).0 again
 given_asked v new given false e is again = again
 
 -- The output of a framer agrees with the stream.
-pub given_is : (v : FramerValue) (handed : List Handed) → IsFramer v → IsGiven v (given_by v handed)
-unfolding given_by
+pub given_is : (v : FramerValue) (handed : List FramerInput) → IsFramer v → IsGiven v (output_of v handed)
+unfolding output_of
 given_is v [] is =
     let same =
     ap (λ (f : Sizes). sized_frames f (v.kept ++ [])) (first_always (length v.kept) v.max)
@@ -232,9 +232,9 @@ given_is v [] is =
       nothing_kept = λ fault some. absurd cc;
     }
 given_is v (Size new ∷ more) is =
-    given_asked v new (given_by (asked_for v new) more) (is_none (raise_refusal v.max new)) refl is (given_is (asked_for v new) more (asked_is_framer v new is))
+    given_asked v new (output_of (asked_for v new) more) (is_none (raise_refusal v.max new)) refl is (given_is (asked_for v new) more (asked_is_framer v new is))
 given_is v (Piece p ∷ more) is =
-    given_step v (framer_after v p) p (framing_of v p).taken (λ now. given_by now more) (framing_of v p).finding refl (call_is v.max v.kept p is.unfinished).found (given_is (framer_after v p) more (framing_is_framer v p is))
+    given_step v (framer_after v p) p (framing_of v p).taken (λ now. output_of now more) (framing_of v p).finding refl (call_is v.max v.kept p is.unfinished).found (given_is (framer_after v p) more (framing_is_framer v p is))
 
 -- ---- the number of bytes taken of a chunk
 

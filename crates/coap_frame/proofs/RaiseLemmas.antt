@@ -3,9 +3,9 @@ use Rattle.std.proofs.Common.{◌≡◌, ℕ, ◌-◌, ◌<◌, ◌≤◌, Bool,
 use Rattle.std.proofs.lemmas.Bool.{cases_lt, lt-ltb, le-ltb}
 use Rattle.coap_frame.specs.Prelude.{declared_of, StreamPrefix, Unfinished, Faulty, prefix_kind, size_bytes, Declared}
 use Rattle.coap_frame.specs.Prelude.{Unknown, Size, BadToken, TokenLength, FramerValue, IsFramer, raise_refusal}
-use Rattle.coap_frame.specs.Prelude.{with_size, asked_for, framer_of, kept_in, Held, RaiseFault, Lower}
+use Rattle.coap_frame.specs.Prelude.{with_size, asked_for, framer_of, kept_in, BufferContent, RaiseFault, Lower}
 use Rattle.coap_wire.proofs.StreamSteps.{begin_unknown, begin_bad_token, begin_short, size_has_bytes, declared_some, unfinished_larger, unknown_not_size}
-use Rattle.coap_frame.specs.declared.framer.Held.TheVariants as held
+use Rattle.coap_frame.specs.declared.framer.BufferContent.TheVariants as held
 use Rattle.coap_frame.specs.declared.fault.RaiseFault.TheVariants.{TooLarge}
 use Rattle.coap_frame.proofs.FillLemmas.{told_unfinished}
 
@@ -60,11 +60,11 @@ raised_is_framer v new is larger small = record {
 }
 
 -- The same for a framer given by its buffer, in which only the kept bytes stay.
-pub raised_holds : (max new copied : ℕ) (was now : Held) (bytes left : List ℕ) → IsFramer (framer_of max was bytes copied) → max ≤ new → new ≤ 1048576
+pub raised_holds : (max new copied : ℕ) (was now : BufferContent) (bytes left : List ℕ) → IsFramer (framer_of max was bytes copied) → max ≤ new → new ≤ 1048576
     → now ≡ held.Prefix → left ≡ kept_in was bytes → IsFramer (framer_of new now left copied)
 raised_holds max new copied was now bytes left is larger small begins keeps =
     let begun : IsFramer (framer_of new held.Prefix (kept_in was bytes) copied) = raised_is_framer (framer_of max was bytes copied) new is larger small in
-    subst (λ (h : Held). IsFramer (framer_of new h left copied)) (sym begins)
+    subst (λ (h : BufferContent). IsFramer (framer_of new h left copied)) (sym begins)
     (subst (λ (b : List ℕ). IsFramer (framer_of new held.Prefix b copied)) (sym keeps) begun)
 
 framer_where_allowed : (v : FramerValue) (new : ℕ) (allowed : Bool) → is_none (raise_refusal v.max new) ≡ allowed → IsFramer v → IsFramer (if allowed then with_size v new else v)

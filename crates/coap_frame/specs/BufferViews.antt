@@ -1,32 +1,32 @@
 -- Defined by this project: the content of a framer's buffer as values of the model.
 use Rattle.std.specs.Prelude.{ℕ, List, []}
-use Rattle.coap_frame.specs.Framing.{FramerValue, Finding, Nothing, AFrame, AFault}
-use Rattle.coap_frame.specs.declared.framer.Held.{Held}
-use Rattle.coap_frame.specs.declared.framer.Held.TheVariants.{StreamPrefix, Split}
-use Rattle.coap_frame.specs.declared.filling.Standing.{Standing}
-use Rattle.coap_frame.specs.declared.filling.Standing.TheVariants as standing
+use Rattle.coap_frame.specs.Framing.{FramerValue, FrameEventValue, Nothing, AFrame, AFault}
+use Rattle.coap_frame.specs.declared.framer.BufferContent.{BufferContent}
+use Rattle.coap_frame.specs.declared.framer.BufferContent.TheVariants.{StreamPrefix, Split}
+use Rattle.coap_frame.specs.declared.filling.FrameStatus.{FrameStatus}
+use Rattle.coap_frame.specs.declared.filling.FrameStatus.TheVariants as standing
 
 -- The bytes of an unfinished frame in a buffer with these bytes.
-abbrev pub kept_in : Held → List ℕ → List ℕ
+abbrev pub kept_in : BufferContent → List ℕ → List ℕ
 kept_in StreamPrefix bytes = bytes
 kept_in Split bytes = []
 
 -- The split frame in a buffer with these bytes, or no byte.
-abbrev pub spent_in : Held → List ℕ → List ℕ
+abbrev pub spent_in : BufferContent → List ℕ → List ℕ
 spent_in StreamPrefix bytes = []
 spent_in Split bytes = bytes
 
 -- The model value of a framer with this maximum, these bytes in its buffer, and this count of copied bytes.
-abbrev pub framer_of : ℕ → Held → List ℕ → ℕ → FramerValue
+abbrev pub framer_of : ℕ → BufferContent → List ℕ → ℕ → FramerValue
 framer_of max held bytes copied = record { max = max; kept = kept_in held bytes; spent = spent_in held bytes; copied = copied }
 
 -- The frame that was found: the split frame in the buffer, or otherwise the bytes taken of the chunk.
-abbrev pub frame_in : Held → List ℕ → List ℕ → List ℕ
+abbrev pub frame_in : BufferContent → List ℕ → List ℕ → List ℕ
 frame_in StreamPrefix bytes taken = taken
 frame_in Split bytes taken = bytes
 
 -- The finding for a status, if these are the bytes of the frame.
-abbrev pub finding_in : List ℕ → Standing → Finding
+abbrev pub finding_in : List ℕ → FrameStatus → FrameEventValue
 finding_in bytes standing.Unfinished = Nothing
 finding_in bytes standing.Whole = AFrame bytes
 finding_in bytes (standing.Fault fault) = AFault fault

@@ -1,6 +1,6 @@
 -- Defined by this project: the number of bytes that the calls of a framer copy into its buffer.
 use Rattle.std.specs.Prelude.{◌≡◌, ◌≢◌, ℕ, ◌+◌, ◌-◌, ◌≤◌, ◌<◌, List, [], ◌∷◌, length}
-use Rattle.coap_frame.specs.Framing.{FramerValue, AFrame, framing_of, counted, framer_after, with_frame_back, MayUnread}
+use Rattle.coap_frame.specs.Framing.{FramerValue, AFrame, framing_of, count_after, framer_after, with_frame_back, MayUnread}
 use Rattle.coap_frame.specs.Raising.{asked_for}
 
 -- A call that changes a framer.
@@ -25,13 +25,13 @@ after_call v Clear = record v { kept = []; spent = [] }
 after_call v (Raise new) = asked_for v new
 
 -- The number of bytes in the buffer.
-abbrev pub lying : FramerValue → ℕ
-lying v = length v.kept + length v.spent
+abbrev pub buffered_length : FramerValue → ℕ
+buffered_length v = length v.kept + length v.spent
 
 -- The number of bytes in the buffer exceeds `before` by at most the increase of the count, unless the count has
 -- saturated.
-abbrev pub IsHonest : ℕ → FramerValue → FramerValue → Type 0
-IsHonest before v after = after.copied < 18446744073709551615 → lying after + v.copied ≤ before + after.copied
+abbrev pub CountsBufferedBytes : ℕ → FramerValue → FramerValue → Type 0
+CountsBufferedBytes before v after = after.copied < 18446744073709551615 → buffered_length after + v.copied ≤ before + after.copied
 
 -- The change by a chunk. The count grows by at most the bytes taken, and not at all for a frame that is whole in the
 -- chunk. `honest` compares with the kept bytes alone, since a split frame is discarded.
@@ -39,14 +39,14 @@ pub record IsCountedNext (v : FramerValue) (piece : List ℕ) (after : FramerVal
   pub grows : v.copied ≤ after.copied
   pub most : after.copied ≤ v.copied + (framing_of v piece).taken
   pub whole : (frame : List ℕ) → v.kept ≡ [] → (framing_of v piece).finding ≡ AFrame frame → after.copied ≡ v.copied
-  pub honest : IsHonest (length v.kept) v after
+  pub honest : CountsBufferedBytes (length v.kept) v after
 
 -- The change by `unread`: a frame that was whole in its chunk adds its length less 1. A split frame, which is in the
 -- buffer, adds nothing.
 pub record IsCountedUnread (v : FramerValue) (piece : List ℕ) (after : FramerValue) : Type 0 where
-  pub whole : v.spent ≡ [] → after.copied ≡ counted v.copied (length piece - 1)
+  pub whole : v.spent ≡ [] → after.copied ≡ count_after v.copied (length piece - 1)
   pub split : v.spent ≢ [] → after.copied ≡ v.copied
-  pub honest : IsHonest (length v.spent) v after
+  pub honest : CountsBufferedBytes (length v.spent) v after
 
 -- The change of the count by a call.
 abbrev pub IsCounted : FramerValue → FramerCall → FramerValue → Type 0

@@ -2,26 +2,26 @@
 use Rattle.std.specs.Prelude.{◌≡◌, ℕ, List, [], Option, Some, None, Result, Ok, Err}
 use Rattle.std.specs.Borrow.{Bor}
 use Rattle.coap_wire.specs.declared.fault.FrameFault.{FrameFault}
-use Rattle.coap_frame.specs.declared.framer.Found.{Found}
-use Rattle.coap_frame.specs.declared.framer.Found.TheVariants as found
+use Rattle.coap_frame.specs.declared.framer.FrameEvent.{FrameEvent}
+use Rattle.coap_frame.specs.declared.framer.FrameEvent.TheVariants as found
 use Rattle.coap_frame.specs.declared.framer.Framed.{Framed}
-use Rattle.coap_frame.specs.Framing.{Finding, Nothing, AFrame, AFault, Framing}
+use Rattle.coap_frame.specs.Framing.{FrameEventValue, Nothing, AFrame, AFault, Framing}
 
 -- The finding, without its location in memory.
-abbrev pub finding_of : Found → Finding
+abbrev pub finding_of : FrameEvent → FrameEventValue
 finding_of found.More = Nothing
 finding_of (found.Frame f) = AFrame f.now
 finding_of (found.Whole f) = AFrame f.now
 finding_of (found.Fault fault) = AFault fault
 
--- The finding in a result of `Found::frame`.
-abbrev pub finding_read : Result (Option (Bor (List ℕ))) FrameFault → Finding
+-- The finding in a result of `FrameEvent::frame`.
+abbrev pub finding_read : Result (Option (Bor (List ℕ))) FrameFault → FrameEventValue
 finding_read (Ok None) = Nothing
 finding_read (Ok (Some f)) = AFrame f.now
 finding_read (Err fault) = AFault fault
 
 -- The bytes borrowed from the buffer.
-abbrev pub lent_of : Found → List ℕ
+abbrev pub lent_of : FrameEvent → List ℕ
 lent_of found.More = []
 lent_of (found.Frame f) = f.now
 lent_of (found.Whole f) = []

@@ -22,15 +22,15 @@ pub record IsFramer (v : FramerValue) : Type 0 where
   pub whole : (v.spent ≡ []) ⊎ ((prefix_kind v.max v.spent ≡ Whole v.spent []) × (v.kept ≡ []))
 
 -- The finding in a chunk, without its location in memory.
-pub data Finding : Type 0 where
-  Nothing : Finding
-  AFrame : List ℕ → Finding
-  AFault : FrameFault → Finding
+pub data FrameEventValue : Type 0 where
+  Nothing : FrameEventValue
+  AFrame : List ℕ → FrameEventValue
+  AFault : FrameFault → FrameEventValue
 
 -- The effect of a chunk: the number of bytes taken, the finding, and the kept bytes and the split frame afterwards.
 pub record Framing : Type 0 where
   pub taken : ℕ
-  pub finding : Finding
+  pub finding : FrameEventValue
   pub kept : List ℕ
   pub spent : List ℕ
 
@@ -58,11 +58,11 @@ framing_of v piece = framing v.max v.kept piece
 -- ---- bytes copied into the buffer
 
 -- The count after `more` bytes are copied. It saturates at the largest number of 64 bits.
-abbrev pub counted : ℕ → ℕ → ℕ
-counted count more = min (count + more) 18446744073709551615
+abbrev pub count_after : ℕ → ℕ → ℕ
+count_after count more = min (count + more) 18446744073709551615
 
 -- The number of bytes copied if no byte was kept. The beginning of a frame is copied. A whole frame or an error is not.
-abbrev pub copied_alone : ℕ → Finding → ℕ
+abbrev pub copied_alone : ℕ → FrameEventValue → ℕ
 copied_alone taken Nothing = taken
 copied_alone taken (AFrame frame) = 0
 copied_alone taken (AFault fault) = 0
@@ -77,7 +77,7 @@ copied_of (b ∷ kept) f = f.taken
 
 -- The framer after a chunk with this effect.
 abbrev pub framed : FramerValue → Framing → FramerValue
-framed v f = record v { kept = f.kept; spent = f.spent; copied = counted v.copied (copied_of v.kept f) }
+framed v f = record v { kept = f.kept; spent = f.spent; copied = count_after v.copied (copied_of v.kept f) }
 
 -- The framer after it took its bytes of a chunk.
 abbrev pub framer_after : FramerValue → List ℕ → FramerValue
@@ -103,7 +103,7 @@ copied_back (b ∷ spent) piece = 0
 -- The framer after the last byte of the frame was taken back.
 abbrev pub with_frame_back : FramerValue → List ℕ → FramerValue
 with_frame_back v piece =
-    record v { kept = without_last (frame_back v.spent piece); spent = []; copied = counted v.copied (copied_back v.spent piece) }
+    record v { kept = without_last (frame_back v.spent piece); spent = []; copied = count_after v.copied (copied_back v.spent piece) }
 
 -- The precondition of `unread`: the buffer has a split frame, or the chunk is exactly one frame and no byte is kept.
 abbrev pub MayUnread : FramerValue → List ℕ → Type 0

@@ -3,7 +3,7 @@ pub mod FramerViews
 pub mod FramedViews
 pub mod Filling
 pub mod BufferViews
-pub mod Given
+pub mod FramerOutput
 pub mod Copying
 pub mod Raising
 pub mod Prelude

@@ -29,17 +29,17 @@ pub use Rattle.coap_frame.specs.Filling.{IsHead, IsFilled, IsTakenTo}
 pub use Rattle.coap_frame.specs.FramedViews.{finding_of, finding_read, IsFramed, lent_of}
 pub use Rattle.coap_frame.specs.FramerViews.{framer_value, is_framer}
 pub use Rattle.coap_frame.specs.Framing.{framing_of, framer_after, IsFramer, MayUnread, with_frame_back, FramerValue}
-pub use Rattle.coap_frame.specs.Framing.{Nothing, AFrame, AFault, without_last, Finding, Framing, copied_alone}
-pub use Rattle.coap_frame.specs.Framing.{copied_back, copied_of, counted, frame_back, framed, framing_at, split_frame}
+pub use Rattle.coap_frame.specs.Framing.{Nothing, AFrame, AFault, without_last, FrameEventValue, Framing, copied_alone}
+pub use Rattle.coap_frame.specs.Framing.{copied_back, copied_of, count_after, frame_back, framed, framing_at, split_frame}
 unfoldable pub use Rattle.coap_frame.specs.Framing.{framing}
-pub use Rattle.coap_frame.specs.Given.{Handed, IsGiven, taken_of, unread_after, last_byte, Given, Piece, given_then}
-pub use Rattle.coap_frame.specs.Given.{stream_given}
-unfoldable pub use Rattle.coap_frame.specs.Given.{given_by}
+pub use Rattle.coap_frame.specs.FramerOutput.{FramerInput, IsGiven, taken_of, unread_after, last_byte, FramerOutput, Piece, given_then}
+pub use Rattle.coap_frame.specs.FramerOutput.{stream_given}
+unfoldable pub use Rattle.coap_frame.specs.FramerOutput.{output_of}
 pub use Rattle.coap_frame.specs.Raising.{raised, IsRaiseAnswer, asked_for, raise_refusal, with_size}
 -- ---- coap_frame, declared
 pub use Rattle.coap_frame.specs.declared.fault.RaiseFault.{RaiseFault}
 pub use Rattle.coap_frame.specs.declared.fault.RaiseFault.TheVariants.{Lower}
-pub use Rattle.coap_frame.specs.declared.filling.Standing.{Standing}
-pub use Rattle.coap_frame.specs.declared.framer.Found.{Found}
+pub use Rattle.coap_frame.specs.declared.filling.FrameStatus.{FrameStatus}
+pub use Rattle.coap_frame.specs.declared.framer.FrameEvent.{FrameEvent}
 pub use Rattle.coap_frame.specs.declared.framer.Framer.TheInside.{Inside}
-pub use Rattle.coap_frame.specs.declared.framer.Held.{Held}
+pub use Rattle.coap_frame.specs.declared.framer.BufferContent.{BufferContent}

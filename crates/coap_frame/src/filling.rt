@@ -13,7 +13,7 @@ const NO_TOKEN_LENGTH: u8 = 15;
 
 /// Status of the bytes taken from a chunk or collected in a buffer.
 #[derive(Clone, Copy)]
-pub(crate) enum Standing {
+pub(crate) enum FrameStatus {
     /// Beginning of a frame, or no byte: more bytes are needed.
     Unfinished,
     /// Exactly one whole frame.
@@ -23,20 +23,20 @@ pub(crate) enum Standing {
 }
 
 /// Returns the number of bytes to take from a chunk that begins a frame, and the status of these bytes.
-pub(crate) fn stand(piece: &[u8], max: usize) -> (usize, Standing)
+pub(crate) fn classify(piece: &[u8], max: usize) -> (usize, FrameStatus)
     ensures { IsFilled max [] piece.now (take result.0 piece.now) result.0 result.1 }
 {
     match declared(piece) {
-        Declared::Unknown => (piece.len(), Standing::Unfinished),
-        Declared::BadToken => (size_bytes(piece), Standing::Fault(FrameFault::TokenLength)),
+        Declared::Unknown => (piece.len(), FrameStatus::Unfinished),
+        Declared::BadToken => (size_bytes(piece), FrameStatus::Fault(FrameFault::TokenLength)),
         Declared::Size(size) => {
             if size > max as u64 {
-                return (size_bytes(piece), Standing::Fault(FrameFault::TooLarge));
+                return (size_bytes(piece), FrameStatus::Fault(FrameFault::TooLarge));
             }
             if size > piece.len() as u64 {
-                return (piece.len(), Standing::Unfinished);
+                return (piece.len(), FrameStatus::Unfinished);
             }
-            (size as usize, Standing::Whole)
+            (size as usize, FrameStatus::Whole)
         }
     }
 }
@@ -109,7 +109,7 @@ fn fill_head(buffer: &mut Vec<u8>, piece: &[u8]) -> (usize, Declared)
 
 /// Appends bytes of the chunk until the buffer has a whole frame of at most `max` bytes or an error, or the chunk ends.
 /// Returns the number of bytes taken.
-pub(crate) fn fill(buffer: &mut Vec<u8>, max: usize, piece: &[u8]) -> (usize, Standing)
+pub(crate) fn fill(buffer: &mut Vec<u8>, max: usize, piece: &[u8]) -> (usize, FrameStatus)
     requires unfinished { prefix_kind max buffer.old.items ≡ Unfinished }
     requires low { BASE_MESSAGE_SIZE ≤ max }
     requires room { max ≤ vec_capacity buffer.old }
@@ -118,20 +118,20 @@ pub(crate) fn fill(buffer: &mut Vec<u8>, max: usize, piece: &[u8]) -> (usize, St
 {
     let (taken, size) = fill_head(buffer, piece);
     match size {
-        Declared::Unknown => (taken, Standing::Unfinished),
-        Declared::BadToken => (taken, Standing::Fault(FrameFault::TokenLength)),
+        Declared::Unknown => (taken, FrameStatus::Unfinished),
+        Declared::BadToken => (taken, FrameStatus::Fault(FrameFault::TokenLength)),
         Declared::Size(size) => {
             if size > max as u64 {
-                return (taken, Standing::Fault(FrameFault::TooLarge));
+                return (taken, FrameStatus::Fault(FrameFault::TooLarge));
             }
             let missing = size as usize - buffer.len();
             let rest = &piece[taken..];
             if rest.len() < missing {
                 append(buffer, rest);
-                return (piece.len(), Standing::Unfinished);
+                return (piece.len(), FrameStatus::Unfinished);
             }
             append(buffer, &rest[..missing]);
-            (taken + missing, Standing::Whole)
+            (taken + missing, FrameStatus::Whole)
         }
     }
 }

@@ -5,18 +5,18 @@ ghost use Rattle.coap_frame.specs.Prelude.{Unfinished, prefix_kind, framing, fra
 ghost use Rattle.coap_frame.specs.Prelude.{kept_in, frame_in, finding_in, finding_of, finding_read, sem, follows_so};
 ghost use Rattle.coap_frame.specs.Prelude.{none, IsFramer, MayUnread, with_frame_back, IsFramed, raised, IsRaiseAnswer};
 ghost use Rattle.coap_frame.specs.Prelude.{BASE_MESSAGE_SIZE, LARGEST_MESSAGE};
-ghost use Rattle.coap_frame.specs.declared.framer.Held.TheVariants as held_as;
+ghost use Rattle.coap_frame.specs.declared.framer.BufferContent.TheVariants as held_as;
 ghost use Rattle.coap_frame.specs.contracts.framer.Framer.{the_row};
 
 use crate::fault::RaiseFault;
-use crate::filling::{Standing, append, fill, stand};
+use crate::filling::{FrameStatus, append, fill, classify};
 use coap_wire::{FrameFault, LARGEST_MESSAGE};
 use std::alloc::{AllocError, Global};
 use std::marker::Model;
 
 /// Finding of `Framer::next` in a chunk.
 #[derive(Clone, Copy)]
-pub enum Found<'a, 'p> {
+pub enum FrameEvent<'a, 'p> {
     /// No whole frame. All of the chunk is taken.
     More,
     /// Split frame, of which earlier chunks had bytes, borrowed from the framer's buffer. The chunk is taken up to the
@@ -29,7 +29,7 @@ pub enum Found<'a, 'p> {
     Fault(FrameFault),
 }
 
-impl<'a> Found<'a, 'a> {
+impl<'a> FrameEvent<'a, 'a> {
     /// Returns the frame, from the chunk or from the buffer, or `None` if there is no whole frame.
     ///
     /// # Errors
@@ -40,10 +40,10 @@ impl<'a> Found<'a, 'a> {
         ensures { finding_read result ≡ finding_of self.entry }
     {
         match self {
-            Found::More => Ok(None),
-            Found::Frame(frame) => Ok(Some(frame)),
-            Found::Whole(frame) => Ok(Some(frame)),
-            Found::Fault(fault) => Err(fault),
+            FrameEvent::More => Ok(None),
+            FrameEvent::Frame(frame) => Ok(Some(frame)),
+            FrameEvent::Whole(frame) => Ok(Some(frame)),
+            FrameEvent::Fault(fault) => Err(fault),
         }
     }
 }
@@ -54,12 +54,12 @@ pub struct Framed<'a, 'p> {
     /// Number of bytes taken.
     pub taken: usize,
     /// Finding in these bytes.
-    pub what: Found<'a, 'p>,
+    pub what: FrameEvent<'a, 'p>,
 }
 
 /// Content of a framer's buffer.
 #[derive(Clone, Copy)]
-enum Held {
+enum BufferContent {
     /// Beginning of an unfinished frame, or no byte.
     Prefix,
     /// Split frame that `next` returned.
@@ -75,7 +75,7 @@ enum Held {
 pub struct Framer {
     max: usize,
     buffer: Vec<u8>,
-    held: Held,
+    held: BufferContent,
     copied: u64,
 }
 
@@ -109,7 +109,7 @@ impl Framer {
         Ok(Framer {
             max,
             buffer: Vec::with_capacity(alloc, max)?,
-            held: Held::Prefix,
+            held: BufferContent::Prefix,
             copied: 0,
         })
     }
@@ -132,11 +132,11 @@ impl Framer {
             piece,
         );
         let what = match standing {
-            Standing::Unfinished => Found::More,
-            Standing::Fault(fault) => Found::Fault(fault),
-            Standing::Whole => match self.held {
-                Held::Prefix => Found::Whole(&piece[..taken]),
-                Held::Split => Found::Frame(&self.buffer),
+            FrameStatus::Unfinished => FrameEvent::More,
+            FrameStatus::Fault(fault) => FrameEvent::Fault(fault),
+            FrameStatus::Whole => match self.held {
+                BufferContent::Prefix => FrameEvent::Whole(&piece[..taken]),
+                BufferContent::Split => FrameEvent::Frame(&self.buffer),
             },
         };
         Framed { taken, what }
@@ -147,7 +147,7 @@ impl Framer {
         ensures { self.new ≡ record self.old { kept = []; spent = [] } }
     {
         self.buffer.clear();
-        self.held = Held::Prefix;
+        self.held = BufferContent::Prefix;
     }
 
     /// Raises the maximum size of a frame to `new` bytes.
@@ -171,7 +171,7 @@ impl Framer {
         if new > LARGEST_MESSAGE {
             return Err(RaiseFault::TooLarge);
         }
-        let Ok(()) = widen(&mut self.buffer, new) else {
+        let Ok(()) = grow(&mut self.buffer, new) else {
             return Err(RaiseFault::Memory);
         };
         keep_beginning(&mut self.buffer, &mut self.held);
@@ -186,8 +186,8 @@ impl Framer {
         ensures invariant { IsFramer self.now }
     {
         match self.held {
-            Held::Prefix => self.buffer.len(),
-            Held::Split => 0,
+            BufferContent::Prefix => self.buffer.len(),
+            BufferContent::Split => 0,
         }
     }
 
@@ -196,8 +196,8 @@ impl Framer {
         ensures { result ≡ length self.now.spent }
     {
         match self.held {
-            Held::Split => self.buffer.len(),
-            Held::Prefix => 0,
+            BufferContent::Split => self.buffer.len(),
+            BufferContent::Prefix => 0,
         }
     }
 
@@ -206,8 +206,8 @@ impl Framer {
         ensures { result.now ≡ self.now.spent }
     {
         match self.held {
-            Held::Split => &self.buffer,
-            Held::Prefix => &[],
+            BufferContent::Split => &self.buffer,
+            BufferContent::Prefix => &[],
         }
     }
 
@@ -252,12 +252,12 @@ impl Framer {
             append(&mut self.buffer, front);
             self.copied = self.copied.saturating_add(front.len() as u64);
         }
-        self.held = Held::Prefix;
+        self.held = BufferContent::Prefix;
     }
 }
 
 /// Grows the capacity of a buffer to exactly `room` bytes if it is smaller. The content stays.
-fn widen(buffer: &mut Vec<u8>, room: usize) -> Result<(), AllocError>
+fn grow(buffer: &mut Vec<u8>, room: usize) -> Result<(), AllocError>
     ensures items { buffer.new.items ≡ buffer.old.items }
     ensures exact { OnOk result (vec_capacity buffer.new ≡ larger (vec_capacity buffer.old) room) }
     ensures ok { OnOk result (room ≤ vec_capacity buffer.new) }
@@ -268,16 +268,16 @@ fn widen(buffer: &mut Vec<u8>, room: usize) -> Result<(), AllocError>
 }
 
 /// Discards a split frame, and keeps the bytes of an unfinished frame.
-fn keep_beginning(buffer: &mut Vec<u8>, held: &mut Held)
+fn keep_beginning(buffer: &mut Vec<u8>, held: &mut BufferContent)
     ensures items { buffer.new.items ≡ kept_in held.old buffer.old.items }
     ensures held { held.new ≡ held_as.Prefix }
     ensures capacity { vec_capacity buffer.old ≤ vec_capacity buffer.new }
 {
     match *held {
-        Held::Prefix => {}
-        Held::Split => {
+        BufferContent::Prefix => {}
+        BufferContent::Split => {
             buffer.clear();
-            *held = Held::Prefix;
+            *held = BufferContent::Prefix;
         }
     }
 }
@@ -285,11 +285,11 @@ fn keep_beginning(buffer: &mut Vec<u8>, held: &mut Held)
 /// Takes bytes of a chunk. Those of a split frame are copied into the buffer.
 fn advance(
     buffer: &mut Vec<u8>,
-    held: &mut Held,
+    held: &mut BufferContent,
     copied: &mut u64,
     max: usize,
     piece: &[u8],
-) -> (usize, Standing)
+) -> (usize, FrameStatus)
     requires unfinished { prefix_kind max (kept_in held.old buffer.old.items) ≡ Unfinished }
     requires countable { copied.old ≤ 18446744073709551615 }
     requires low { BASE_MESSAGE_SIZE ≤ max }
@@ -304,19 +304,19 @@ fn advance(
 {
     keep_beginning(buffer, held);
     if buffer.is_empty() {
-        advance_alone(buffer, copied, max, piece)
+        advance_in_piece(buffer, copied, max, piece)
     } else {
-        advance_behind(buffer, held, copied, max, piece)
+        advance_in_buffer(buffer, held, copied, max, piece)
     }
 }
 
 /// Takes bytes of a chunk if no byte is kept. Only the beginning of an unfinished frame is copied into the buffer.
-fn advance_alone(
+fn advance_in_piece(
     buffer: &mut Vec<u8>,
     copied: &mut u64,
     max: usize,
     piece: &[u8],
-) -> (usize, Standing)
+) -> (usize, FrameStatus)
     requires empty { buffer.old.items ≡ [] }
     requires countable { copied.old ≤ 18446744073709551615 }
     requires low { BASE_MESSAGE_SIZE ≤ max }
@@ -328,26 +328,26 @@ fn advance_alone(
     ensures found { finding_in (take result.0 piece.now) result.1 ≡ (framing max [] piece.now).finding }
     ensures capacity { max ≤ vec_capacity buffer.new }
 {
-    let (taken, standing) = stand(piece, max);
+    let (taken, standing) = classify(piece, max);
     match standing {
-        Standing::Unfinished => {
+        FrameStatus::Unfinished => {
             append(buffer, piece);
             *copied = copied.saturating_add(taken as u64);
         }
-        Standing::Whole => {}
-        Standing::Fault(_) => {}
+        FrameStatus::Whole => {}
+        FrameStatus::Fault(_) => {}
     }
     (taken, standing)
 }
 
 /// Takes bytes of a chunk, and appends them to the kept bytes of an unfinished frame.
-fn advance_behind(
+fn advance_in_buffer(
     buffer: &mut Vec<u8>,
-    held: &mut Held,
+    held: &mut BufferContent,
     copied: &mut u64,
     max: usize,
     piece: &[u8],
-) -> (usize, Standing)
+) -> (usize, FrameStatus)
     requires unfinished { prefix_kind max buffer.old.items ≡ Unfinished }
     requires some { 0 < length buffer.old.items }
     requires low { BASE_MESSAGE_SIZE ≤ max }
@@ -363,11 +363,11 @@ fn advance_behind(
     let (taken, standing) = fill(buffer, max, piece);
     *copied = copied.saturating_add(taken as u64);
     *held = match standing {
-        Standing::Unfinished => Held::Prefix,
-        Standing::Whole => Held::Split,
-        Standing::Fault(_) => {
+        FrameStatus::Unfinished => BufferContent::Prefix,
+        FrameStatus::Whole => BufferContent::Split,
+        FrameStatus::Fault(_) => {
             buffer.clear();
-            Held::Prefix
+            BufferContent::Prefix
         }
     };
     (taken, standing)

@@ -3,8 +3,8 @@
 ghost use Rattle.std.specs.Prelude.{◌≡◌, ℕ, ◌≤◌, List, ◌++◌, length, take};
 ghost use Rattle.coap_frame.specs.Prelude.{Unfinished, Faulty, prefix_kind, fault_bytes, FrameFault, FramerValue};
 ghost use Rattle.coap_frame.specs.Prelude.{IsFramer, Nothing, AFrame, AFault, MayUnread, framing, framing_of};
-ghost use Rattle.coap_frame.specs.Prelude.{framer_after, without_last, FramerCall, AreCounted, Handed, IsGiven};
-ghost use Rattle.coap_frame.specs.Prelude.{given_by, taken_of, unread_after, last_byte};
+ghost use Rattle.coap_frame.specs.Prelude.{framer_after, without_last, FramerCall, AreCounted, FramerInput, IsGiven};
+ghost use Rattle.coap_frame.specs.Prelude.{output_of, taken_of, unread_after, last_byte};
 
 /// States that the frames, the error and the kept bytes are those of the stream that the framer received.
 ///
@@ -13,8 +13,8 @@ ghost use Rattle.coap_frame.specs.Prelude.{given_by, taken_of, unread_after, las
 /// maximum when the last byte that states the size is taken. If the token length has an extension, this is the last
 /// byte of that extension. Otherwise it is the last byte of the frame's length (RFC 8323 section 3.2, RFC 8974 section
 /// 2.1).
-pub fn framer_gives_the_frames()
-    ensures { (v : FramerValue) (handed : List Handed) → IsFramer v → IsGiven v (given_by v handed) }
+pub fn framer_yields_stream_frames()
+    ensures { (v : FramerValue) (handed : List FramerInput) → IsFramer v → IsGiven v (output_of v handed) }
 {}
 
 /// States how many bytes of a chunk are taken. If nothing is found, all are taken. Otherwise they end with the last
@@ -32,7 +32,7 @@ pub fn framer_takes_each_piece_to_its_end()
 {}
 
 /// States that `next` keeps the invariant of a framer, for every chunk.
-pub fn framer_stays_one()
+pub fn framer_invariant_is_kept()
     ensures { (v : FramerValue) (piece : List ℕ) → IsFramer v → IsFramer (framer_after v piece) }
 {}
 

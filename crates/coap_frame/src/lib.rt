@@ -1,7 +1,7 @@
 //! Splits a stream of bytes into frames (RFC 8323 section 3.2), however it is split into reads.
 //!
 //! - `Framer` accepts chunks of the stream and returns each frame when its last byte arrives. A frame that is whole in
-//!   the chunk is returned from there and not copied (`Found`).
+//!   the chunk is returned from there and not copied (`FrameEvent`).
 //! - `FrameFault` is the reason if the bytes begin no frame, `RaiseFault` the reason if the maximum size is not raised.
 //! - `laws` has the theorems on calls of a framer.
 //!
@@ -18,4 +18,4 @@ pub mod laws;
 
 pub use coap_wire::FrameFault;
 pub use fault::RaiseFault;
-pub use framer::{Found, Framed, Framer};
+pub use framer::{FrameEvent, Framed, Framer};

@@ -22,7 +22,7 @@ unfoldable pub use Rattle.coap_wire.specs.Stream.{sized_split, split}
 pub use Rattle.coap_wire.specs.declared.fault.FormatFault.{FormatFault}
 pub use Rattle.coap_wire.specs.declared.fault.FrameFault.{FrameFault}
 -- ---- coap_frame
-pub use Rattle.coap_frame.specs.Framing.{AFault, AFrame, Finding, Framing, framing_at, without_last}
+pub use Rattle.coap_frame.specs.Framing.{AFault, AFrame, FrameEventValue, Framing, framing_at, without_last}
 unfoldable pub use Rattle.coap_frame.specs.Framing.{framing}
 pub use Rattle.coap_wire.specs.declared.sizes.TheConstants.{LARGEST_MESSAGE}
 -- ---- coap_conn

@@ -2,7 +2,7 @@
 //! `unread BYTES`, `clear`, `raise MAX`, `look` and `copied`.
 
 use crate::faults::tell_fault;
-use coap_frame::{Found, Framed, Framer};
+use coap_frame::{FrameEvent, Framed, Framer};
 use coap_told::{Told, cut, number, read_hex};
 use std::alloc::{AllocError, Global};
 
@@ -18,16 +18,16 @@ pub(crate) fn opened(alloc: Global, text: &str) -> Option<Result<Framer, AllocEr
 /// Tells what was found in a piece, and how many of its bytes were taken.
 fn found(framed: &Framed, told: &mut Told) {
     match framed.what {
-        Found::More => told.word("More"),
-        Found::Frame(frame) => {
+        FrameEvent::More => told.word("More"),
+        FrameEvent::Frame(frame) => {
             told.word("Frame");
             told.hex(frame);
         }
-        Found::Whole(frame) => {
+        FrameEvent::Whole(frame) => {
             told.word("Whole");
             told.hex(frame);
         }
-        Found::Fault(fault) => tell_fault(&fault, fault as u8, told),
+        FrameEvent::Fault(fault) => tell_fault(&fault, fault as u8, told),
     }
     told.word("taken");
     told.number(framed.taken as u64);
@@ -39,7 +39,7 @@ fn each(framer: &mut Framer, bytes: &[u8], told: &mut Told) {
     for byte in bytes {
         let piece = [*byte];
         let framed = framer.next(&piece);
-        if framed.taken != 1 || !matches!(framed.what, Found::More) {
+        if framed.taken != 1 || !matches!(framed.what, FrameEvent::More) {
             told.word("not for each");
         }
     }
@@ -66,7 +66,7 @@ fn all(framer: &mut Framer, piece: &[u8], told: &mut Told) {
 fn hold(framer: &mut Framer, piece: &[u8], told: &mut Told) {
     let framed = framer.next(piece);
     let taken = framed.taken;
-    let Found::Whole(frame) = framed.what else {
+    let FrameEvent::Whole(frame) = framed.what else {
         told.word("split");
         return;
     };

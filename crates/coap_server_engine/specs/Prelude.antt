@@ -22,7 +22,7 @@ pub use Rattle.coap_wire.specs.Stream.{StreamFault, Format, OfFrame, Stream, fra
 unfoldable pub use Rattle.coap_wire.specs.Stream.{split}
 pub use Rattle.coap_wire.specs.declared.fault.FormatFault.{FormatFault}
 -- ---- coap_frame
-pub use Rattle.coap_frame.specs.Framing.{AFault, AFrame, Finding, Framing}
+pub use Rattle.coap_frame.specs.Framing.{AFault, AFrame, FrameEventValue, Framing}
 pub use Rattle.coap_frame.specs.Framing.{framing_at}
 unfoldable pub use Rattle.coap_frame.specs.Framing.{framing}
 -- ---- coap_conn

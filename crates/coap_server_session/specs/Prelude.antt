@@ -23,10 +23,10 @@ pub use Rattle.coap_wire.specs.declared.fault.FormatFault.{FormatFault}
 pub use Rattle.coap_wire.specs.declared.sizes.TheConstants.{LARGEST_MESSAGE, MAX_EXTENDED_LENGTH}
 -- ---- coap_frame
 pub use Rattle.coap_frame.specs.FramedViews.{finding_read}
-pub use Rattle.coap_frame.specs.Framing.{AFault, AFrame, Finding, FramerValue, Framing, IsFramer, framer_after}
+pub use Rattle.coap_frame.specs.Framing.{AFault, AFrame, FrameEventValue, FramerValue, Framing, IsFramer, framer_after}
 pub use Rattle.coap_frame.specs.Framing.{framing_at, framing_of, without_last}
 unfoldable pub use Rattle.coap_frame.specs.Framing.{framing}
-pub use Rattle.coap_frame.specs.Given.{taken_of, unread_after}
+pub use Rattle.coap_frame.specs.FramerOutput.{taken_of, unread_after}
 pub use Rattle.coap_frame.specs.Raising.{raise_refusal, with_size}
 -- ---- coap_conn
 pub use Rattle.coap_conn.specs.Calls.{link_after, standing_due, end_reason, Call}

@@ -7,7 +7,7 @@ use Rattle.coap_model.specs.Prelude.{side_written, side_ended, side_released, si
 use Rattle.coap_model.specs.Prelude.{may_raise, Place, World, Step, new_world, side_of, on_side, ticks, acted}
 use Rattle.coap_model.specs.Prelude.{settled_place, Event, steps_of, world_after, taken_in, size_on, stream_on}
 use Rattle.coap_model.specs.Prelude.{spelled_on, steps_by, takes, IfSide, IsAccepted, AreAccepted, Message}
-use Rattle.coap_model.specs.Prelude.{message_of, FormatFault, Finding, AFrame, AFault, History, link_of}
+use Rattle.coap_model.specs.Prelude.{message_of, FormatFault, FrameEventValue, AFrame, AFault, History, link_of}
 use Rattle.coap_model.specs.Prelude.{may_announce, StoreValue, put_in, removed_in}
 use Rattle.std.proofs.lemmas.List.Sums.{length-filter, count_by-le-length}
 use Rattle.std.proofs.lemmas.List.{length-append, length-map, nil_from_length}
@@ -325,7 +325,7 @@ module _ (c : ConfigValues) (es : List Event) (id : ℕ) (bytes : List ℕ) (s :
       stepped_reached (world.Handled id m) adds.steps tt (λ n size is. cc) (λ t at takes. ap (λ (u : Stream). u.fault) adds.stream)
   frame_reached frame (Err f) does adds = fault_reached frame _ does adds
 
-  found_reached : (found : Finding) → handles s ≡ true → Adds c.limits.max_message id es bytes (added_by (stream_on c.limits.max_message id es).rest bytes found) → IsReached c events_then
+  found_reached : (found : FrameEventValue) → handles s ≡ true → Adds c.limits.max_message id es bytes (added_by (stream_on c.limits.max_message id es).rest bytes found) → IsReached c events_then
   found_reached Nothing does adds = quiet_reached adds.steps (λ takes. ap (λ (u : Stream). u.fault) adds.stream)
   found_reached (AFrame frame) does adds = frame_reached frame (message_of frame) does adds
   found_reached (AFault fault) does adds = fault_reached _ _ does adds

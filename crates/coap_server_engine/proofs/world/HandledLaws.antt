@@ -4,7 +4,7 @@ use Rattle.std.proofs.Common.{◌≡◌, ℕ, ◌+◌, Bool, true, List, [], ◌
 use Rattle.std.proofs.Common.{Ok, Err, refl, sym, ap, subst, ◌∙◌, ◌⊎◌, inl, inr, arith, option_map, IfOk, ◌≢◌}
 use Rattle.std.proofs.lemmas.Bool.{lt-ltb, le-ltb, cases_eq, cases_Bool}
 use Rattle.std.proofs.lemmas.List.{append-nil, length-append, take_all}
-use Rattle.coap_server_engine.specs.Prelude.{Message, message_of, FormatFault, OfFrame, Format, Stream, Finding, AFrame}
+use Rattle.coap_server_engine.specs.Prelude.{Message, message_of, FormatFault, OfFrame, Format, Stream, FrameEventValue, AFrame}
 use Rattle.coap_server_engine.specs.Prelude.{AFault, framing, Reason, stop_of, after, ConfigValues, Host, Taken, TakeFault}
 use Rattle.coap_server_engine.specs.Prelude.{SessionValue, taking, taking_read, taking_found, ServerValue, session_of}
 use Rattle.coap_server_engine.specs.Prelude.{count_taken, server_taken_on, server_taken, stop_on, handled_so, handled_on}
@@ -55,7 +55,7 @@ module _ (c : ConfigValues) (es : List Event) (id : ℕ) (piece : List ℕ) (s :
     frame_so frame (Ok m) e reads = OneMessage refl does m (piece_adds_message c.limits.max_message id es piece no_fault_before frame m e reads)
     frame_so frame (Err f) e reads = OneFault refl does Format frame (piece_adds_bad c.limits.max_message id es piece no_fault_before frame f e reads)
 
-    found_so : (found : Finding) → (framing handling_size rest_before piece).finding ≡ found → TakesFront (taking_found host session_before (framing handling_size rest_before piece) found).handled
+    found_so : (found : FrameEventValue) → (framing handling_size rest_before piece).finding ≡ found → TakesFront (taking_found host session_before (framing handling_size rest_before piece) found).handled
     found_so Nothing e =
         let adds = piece_adds_nothing c.limits.max_message id es piece no_fault_before e in
         NoStep refl adds.steps (rw (adds.stream, append-nil) refl) (rw adds.stream (sym no_fault_before))

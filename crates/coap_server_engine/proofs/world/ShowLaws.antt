@@ -4,7 +4,7 @@ use Rattle.std.proofs.lemmas.Bool.Decides.{nat_tests}
 use Rattle.std.proofs.lemmas.Bool.{cases_Bool}
 use Rattle.std.proofs.lemmas.List.{length-take-le, length-map, map-append}
 use Rattle.coap_server_engine.specs.Prelude.{Message, message_of, Unfinished, prefix_kind, StreamFault, OfFrame, Format}
-use Rattle.coap_server_engine.specs.Prelude.{Stream, frame_then, FormatFault, Framing, Finding, AFrame, AFault, framing}
+use Rattle.coap_server_engine.specs.Prelude.{Stream, frame_then, FormatFault, Framing, FrameEventValue, AFrame, AFault, framing}
 use Rattle.coap_server_engine.specs.Prelude.{reject_of, StoreValue, put_in, removed_in, changed, IsPut}
 use Rattle.coap_server_engine.specs.Prelude.{ConfigValues, Host, SessionValue, session_takes, session_handled}
 use Rattle.coap_server_engine.specs.Prelude.{session_rejected, change_by, Taking, taking_read, taking_found, taking}
@@ -92,7 +92,7 @@ pub taking_front : (host : Host) (M : ℕ) (rest piece : List ℕ) (t : Side) �
 unfolding taking
 taking_front host M rest piece t most does = rw ((handles_parts t does).0, (handles_parts t does).1, most) refl
 
-count_found : (host : Host) (s : SessionValue) (f : Framing) (found : Finding) → (taking_found host s f found).count ≡ f.taken
+count_found : (host : Host) (s : SessionValue) (f : Framing) (found : FrameEventValue) → (taking_found host s f found).count ≡ f.taken
 count_found host s f found = grind arith
 
 -- The number of bytes that it accepts.
@@ -103,14 +103,14 @@ taking_count host M rest piece t most =
     grind (arith, taking_front host M rest piece t most, count_found host s f f.finding, taking_stopped host s piece)
 
 -- A representation is stored only by a frame whose message stores it.
-pub record StoresBy (host : Host) (s : SessionValue) (found : Finding) : Type 0 where
+pub record StoresBy (host : Host) (s : SessionValue) (found : FrameEventValue) : Type 0 where
   pub frame : List ℕ
   pub message : Message
   pub is : found ≡ AFrame frame
   pub reads : message_of frame ≡ Ok message
   pub puts : IsPut (change_by host s.link message)
 
-stores_by : (host : Host) (s : SessionValue) (f : Framing) (found : Finding) → IsPut (taking_found host s f found).change → StoresBy host s found
+stores_by : (host : Host) (s : SessionValue) (f : Framing) (found : FrameEventValue) → IsPut (taking_found host s f found).change → StoresBy host s found
 stores_by host s f (AFrame frame) put = by (message_of frame) refl put
   where
     by : (read : Result Message FormatFault) → message_of frame ≡ read → IsPut (taking_read host s f.taken read).change → StoresBy host s (AFrame frame)
@@ -205,7 +205,7 @@ module _ (c : ConfigValues) (es : List Event) (id : ℕ) (piece : List ℕ) (t :
         ∙ handled_shown w.store w.now known.moment known.versioned so_far t m (history_there c es id t small there) does)
     frame_takes frame (Err f) adds = fault_takes Format frame adds
 
-    found_takes : (found : Finding) → framing_then.finding ≡ found → Adds most id es front_taken_then (added_by so_far front_taken_then found) → TakesAs (taking_found host_then session_then framing_then found)
+    found_takes : (found : FrameEventValue) → framing_then.finding ≡ found → Adds most id es front_taken_then (added_by so_far front_taken_then found) → TakesAs (taking_found host_then session_then framing_then found)
     found_takes Nothing e adds =
         took_quietly front_taken_then (record session_then { frame = framing_then.kept }) adds.steps
         (ap (λ (u : Stream). session_shown u.rest t) adds.stream ∙ rw ((handles_parts t does).0, front_kept in_force so_far piece e) refl)

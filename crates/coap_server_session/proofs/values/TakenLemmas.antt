@@ -1,7 +1,7 @@
 -- After input that changes no resource, a connection has nothing to settle but its pending entries.
 use Rattle.std.proofs.Common.{◌≡◌, ℕ, ◌+◌, ◌-◌, Bool, true, false, ◌&&◌, List, [], ◌++◌, length, take, Option, Some, None, refl, sym, ap, subst, ◌∙◌, arith, not, nat_lt, ◌==◌, Result, Ok, Err}
 use Rattle.coap_server_session.specs.Prelude.{AllByRecursion, Message, StreamPrefix, Unfinished, Faulty, prefix_kind}
-use Rattle.coap_server_session.specs.Prelude.{FormatFault, message_of, Framing, Finding, AFrame, AFault, framing_at}
+use Rattle.coap_server_session.specs.Prelude.{FormatFault, message_of, Framing, FrameEventValue, AFrame, AFault, framing_at}
 use Rattle.coap_server_session.specs.Prelude.{framing, without_last, is_open, takes_messages, OfFrame, reject_of, fit}
 use Rattle.coap_server_session.specs.Prelude.{bare_response, LinkValue, limit_in, link_after, response_with_observe}
 use Rattle.coap_server_session.specs.Prelude.{same_bytes, Change, changes, IsPut, Host, moment_after, asks_entry, has_place}
@@ -70,7 +70,7 @@ read_none host v count (Ok m) none =
     (λ _. all_if fresh (is_open l.phase) v.observers none)
 read_none host v count (Err e) none = all_if (λ o. is_stale host o ≡ false) (is_open (link_after v.link (call.Reject reject.Format)).phase) v.observers none
 
-found_none : (host : Host) (v : SessionValue) (f : Framing) (what : Finding) → NoneStale host v.observers → NoneStale host (taking_found host v f what).session.observers
+found_none : (host : Host) (v : SessionValue) (f : Framing) (what : FrameEventValue) → NoneStale host v.observers → NoneStale host (taking_found host v f what).session.observers
 found_none host v f Nothing none = none
 found_none host v f (AFrame frame) none = read_none host v f.taken (message_of frame) none
 found_none host v f (AFault fault) none =

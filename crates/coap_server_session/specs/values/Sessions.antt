@@ -4,7 +4,7 @@ use Rattle.coap_wire.specs.Message.{Message}
 use Rattle.coap_wire.specs.Reading.{message_of}
 use Rattle.coap_wire.specs.Stream.{OfFrame}
 use Rattle.coap_wire.specs.declared.fault.FormatFault.{FormatFault}
-use Rattle.coap_frame.specs.Framing.{Framing, Finding, Nothing, AFrame, AFault, framing}
+use Rattle.coap_frame.specs.Framing.{Framing, FrameEventValue, Nothing, AFrame, AFault, framing}
 use Rattle.coap_conn.specs.declared.phase.Role.TheVariants.{Server}
 use Rattle.coap_conn.specs.declared.phase.Reject.{Reject}
 use Rattle.coap_conn.specs.declared.phase.Reject.TheVariants as reject
@@ -233,7 +233,7 @@ taking_read host v count (Ok m) = record { count = count; handled = true; sessio
 taking_read host v count (Err e) = record { count = count; handled = false; session = session_rejected v reject.Format; change = Change.Nothing }
 
 -- The effect of an input slice, from the result of the framer.
-abbrev pub taking_found : Host → SessionValue → Framing → Finding → Taking
+abbrev pub taking_found : Host → SessionValue → Framing → FrameEventValue → Taking
 taking_found host v f Nothing = record { count = f.taken; handled = false; session = record v { frame = f.kept }; change = Change.Nothing }
 taking_found host v f (AFault fault) = record { count = f.taken; handled = false; session = session_rejected v (reject_of (OfFrame fault)); change = Change.Nothing }
 taking_found host v f (AFrame frame) = taking_read host v f.taken (message_of frame)

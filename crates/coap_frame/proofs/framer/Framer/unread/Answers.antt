@@ -1,7 +1,7 @@
 use Rattle.std.proofs.Common.{◌≡◌, ◌-◌, ◌<◌, ◌++◌, ℕ, List, length, take, ap, sym, subst, ◌∙◌, arith}
 use Rattle.std.proofs.lemmas.List.{length-take}
 use Rattle.coap_frame.specs.Prelude.{prefix_kind, FramerValue, IsFramer, is_framer, spent_in, Inside}
-use Rattle.coap_frame.specs.declared.framer.Held.TheVariants as held
+use Rattle.coap_frame.specs.declared.framer.BufferContent.TheVariants as held
 use Rattle.coap_frame.proofs.FramingLemmas.{back_spent, back_piece, frame_is_small, spent_lies, front_framer}
 use Rattle.coap_frame.proofs.framer.Framer.unread.Goals.{then-spent-gt0, else-spent-gt0}
 use Rattle.coap_frame.proofs.framer.Framer.unread.Goals as goal

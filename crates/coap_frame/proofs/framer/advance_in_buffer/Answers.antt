@@ -1,8 +1,8 @@
 use Rattle.std.proofs.Common.{List, ℕ, take, sym, ap, subst, ◌∙◌, arith}
-use Rattle.coap_frame.specs.Prelude.{Framing, IsFilled, finding_in, framer_of, Standing}
-use Rattle.coap_frame.specs.declared.framer.Held.TheVariants as held
+use Rattle.coap_frame.specs.Prelude.{Framing, IsFilled, finding_in, framer_of, FrameStatus}
+use Rattle.coap_frame.specs.declared.framer.BufferContent.TheVariants as held
 use Rattle.coap_frame.proofs.FramingLemmas.{framing_unfinished, framing_whole, framing_fault, behind_more, behind_frame, behind_fault}
-use Rattle.coap_frame.proofs.framer.advance_behind.Goals as goal
+use Rattle.coap_frame.proofs.framer.advance_in_buffer.Goals as goal
 
 pub returns-in-Unfinished : goal.returns-in-Unfinished
 returns-in-Unfinished c =
@@ -11,7 +11,7 @@ returns-in-Unfinished c =
     let p = c.args.piece.now in
     let new = c.fill-taken.new.buffer.items in
     let taken = c.fill-taken.result.0 in
-    let filled = subst (λ (s : Standing). IsFilled max kept p new taken s) c.in-Unfinished.is c.fill-taken.ensures.filled in
+    let filled = subst (λ (s : FrameStatus). IsFilled max kept p new taken s) c.in-Unfinished.is c.fill-taken.ensures.filled in
     let is = framing_unfinished max kept p new taken filled in
     record {
       after = behind_more max c.args.copied.now kept p new taken c.saturating_add.result c.requires.some c.saturating_add.ensures filled;
@@ -28,7 +28,7 @@ returns-in-Whole c =
     let p = c.args.piece.now in
     let new = c.fill-taken.new.buffer.items in
     let taken = c.fill-taken.result.0 in
-    let filled = subst (λ (s : Standing). IsFilled max kept p new taken s) c.in-Whole.is c.fill-taken.ensures.filled in
+    let filled = subst (λ (s : FrameStatus). IsFilled max kept p new taken s) c.in-Whole.is c.fill-taken.ensures.filled in
     let is = framing_whole max kept p new taken filled in
     record {
       after = behind_frame max c.args.copied.now kept p new taken c.saturating_add.result c.requires.some c.saturating_add.ensures filled;
@@ -46,7 +46,7 @@ returns-in-Fault c =
     let new = c.fill-taken.new.buffer.items in
     let taken = c.fill-taken.result.0 in
     let fault = c.in-Fault.field-0 in
-    let filled = subst (λ (s : Standing). IsFilled max kept p new taken s) c.in-Fault.is c.fill-taken.ensures.filled in
+    let filled = subst (λ (s : FrameStatus). IsFilled max kept p new taken s) c.in-Fault.is c.fill-taken.ensures.filled in
     let is = framing_fault max kept p new taken fault filled in
     record {
       after = ap (λ (b : List ℕ). framer_of max held.Prefix b c.saturating_add.result) c.clear.ensures.items ∙ behind_fault max c.args.copied.now kept p new taken c.saturating_add.result c.requires.some c.saturating_add.ensures fault filled;

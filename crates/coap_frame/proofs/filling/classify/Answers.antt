@@ -1,7 +1,7 @@
 use Rattle.std.proofs.Common.{sym, ◌∙◌, arith}
 use Rattle.coap_wire.proofs.StreamSteps.{begin_unknown, begin_short}
 use Rattle.coap_frame.proofs.FillLemmas.{stands_more, stands_bad_token, stands_too_large, stands_whole}
-use Rattle.coap_frame.proofs.filling.stand.Goals as goal
+use Rattle.coap_frame.proofs.filling.classify.Goals as goal
 
 pub returns-then-size-max : goal.returns-then-size-max
 returns-then-size-max c =

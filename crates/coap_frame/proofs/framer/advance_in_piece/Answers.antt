@@ -1,14 +1,14 @@
 use Rattle.std.proofs.Common.{List, ℕ, [], ◌++◌, length, take, sym, ap, subst, ◌∙◌, arith}
 use Rattle.coap_wire.proofs.StreamSteps.{unfinished_below}
-use Rattle.coap_frame.specs.Prelude.{Framing, IsFilled, finding_in, framer_of, Standing}
-use Rattle.coap_frame.specs.declared.framer.Held.TheVariants as held
+use Rattle.coap_frame.specs.Prelude.{Framing, IsFilled, finding_in, framer_of, FrameStatus}
+use Rattle.coap_frame.specs.declared.framer.BufferContent.TheVariants as held
 use Rattle.coap_frame.proofs.FramingLemmas.{framing_unfinished, framing_whole, framing_fault, alone_more, alone_frame, alone_fault}
-use Rattle.coap_frame.proofs.framer.advance_alone.Goals as goal
+use Rattle.coap_frame.proofs.framer.advance_in_piece.Goals as goal
 
 pub append-requires : goal.append-requires
 append-requires c =
     let p = c.args.piece.now in
-    let filled = subst (λ (s : Standing). IsFilled c.args.max [] p (take c.stand-taken.result.0 p) c.stand-taken.result.0 s) c.in-Unfinished.is c.stand-taken.ensures in
+    let filled = subst (λ (s : FrameStatus). IsFilled c.args.max [] p (take c.classify-taken.result.0 p) c.classify-taken.result.0 s) c.in-Unfinished.is c.classify-taken.ensures in
     let below = unfinished_below c.args.max p (omega (arith, c.requires.low)) filled.stands.0 in
     omega (arith, below, c.requires.room, ap (λ (b : List ℕ). length b) c.requires.empty)
 
@@ -16,8 +16,8 @@ pub returns-in-Unfinished : goal.returns-in-Unfinished
 returns-in-Unfinished c =
     let max = c.args.max in
     let p = c.args.piece.now in
-    let taken = c.stand-taken.result.0 in
-    let filled = subst (λ (s : Standing). IsFilled max [] p (take taken p) taken s) c.in-Unfinished.is c.stand-taken.ensures in
+    let taken = c.classify-taken.result.0 in
+    let filled = subst (λ (s : FrameStatus). IsFilled max [] p (take taken p) taken s) c.in-Unfinished.is c.classify-taken.ensures in
     let is = framing_unfinished max [] p (take taken p) taken filled in
     record {
       after = alone_more max c.args.copied.now taken p c.append.new.buffer.items c.saturating_add.result filled (c.append.ensures.items ∙ ap (λ (b : List ℕ). b ++ p) c.requires.empty) c.saturating_add.ensures;
@@ -31,8 +31,8 @@ pub returns-in-Whole : goal.returns-in-Whole
 returns-in-Whole c =
     let max = c.args.max in
     let p = c.args.piece.now in
-    let taken = c.stand-taken.result.0 in
-    let filled = subst (λ (s : Standing). IsFilled max [] p (take taken p) taken s) c.in-Whole.is c.stand-taken.ensures in
+    let taken = c.classify-taken.result.0 in
+    let filled = subst (λ (s : FrameStatus). IsFilled max [] p (take taken p) taken s) c.in-Whole.is c.classify-taken.ensures in
     let is = framing_whole max [] p (take taken p) taken filled in
     record {
       after = ap (λ (b : List ℕ). framer_of max held.Prefix b c.args.copied.now) c.requires.empty ∙ alone_frame max c.args.copied.now taken p c.requires.countable filled;
@@ -46,8 +46,8 @@ pub returns-in-Fault : goal.returns-in-Fault
 returns-in-Fault c =
     let max = c.args.max in
     let p = c.args.piece.now in
-    let taken = c.stand-taken.result.0 in
-    let filled = subst (λ (s : Standing). IsFilled max [] p (take taken p) taken s) c.in-Fault.is c.stand-taken.ensures in
+    let taken = c.classify-taken.result.0 in
+    let filled = subst (λ (s : FrameStatus). IsFilled max [] p (take taken p) taken s) c.in-Fault.is c.classify-taken.ensures in
     let is = framing_fault max [] p (take taken p) taken c.in-Fault.field-0 filled in
     record {
       after = ap (λ (b : List ℕ). framer_of max held.Prefix b c.args.copied.now) c.requires.empty ∙ alone_fault max c.args.copied.now taken p c.in-Fault.field-0 c.requires.countable filled;
