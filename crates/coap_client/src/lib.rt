@@ -18,6 +18,6 @@ pub use coap_request::{ClientPlan, Extras, Method, Mode, ServerPlan, Target, Tar
 pub mod laws {
     pub use coap_client_engine::laws::{
         segmentation_is_irrelevant, limits_are_kept, messages_are_those_spelled, tokens_are_given_once,
-        what_is_queued_fits,
+        queued_messages_fit_limit,
     };
 }

@@ -2,7 +2,7 @@
 use Rattle.std.proofs.Common.{◌≡◌, ℕ, Bool, true, false, cond, List, [], ◌∷◌, ◌++◌, refl, sym, ◌∙◌}
 use Rattle.coap_client_engine.specs.Prelude.{◌+◌, is_none, Message, takes_messages, reject_of, reject_reason, AllFit}
 use Rattle.coap_client_engine.specs.Prelude.{OutstandingValue, Ping, with_cancelled, asking_refusal, cancel_refusal}
-use Rattle.coap_client_engine.specs.Prelude.{next_token, with_token, entry_of, ping_with, Effect, stop, abort, react}
+use Rattle.coap_client_engine.specs.Prelude.{next_token, with_token, entry_of, ping_with, ReactionResult, stop, abort, react}
 use Rattle.coap_client_engine.specs.Prelude.{History, limit_now, standing_now, asking_now, with_effect, after_asking, after}
 use Rattle.coap_client_engine.specs.Prelude.{end_reason, ClientStep, Handles, Faults, Requests, Cancels, Pings, Writes}
 use Rattle.coap_client_engine.specs.Prelude.{Ends, step}
@@ -19,7 +19,7 @@ grows_none : (h k : History) → k.queued ≡ h.queued → GrowsFit h k
 grows_none h k same = ([], same ∙ sym (append-nil h.queued), tt)
 
 -- A conditional effect.
-effect_grows_fit : (h : History) (e : Effect) (does : Bool) → AllFit (limit_now h) e.queued → GrowsFit h (cond does (with_effect h e) h)
+effect_grows_fit : (h : History) (e : ReactionResult) (does : Bool) → AllFit (limit_now h) e.queued → GrowsFit h (cond does (with_effect h e) h)
 effect_grows_fit h e true fit = (e.queued, refl, fit)
 effect_grows_fit h e false fit = grows_none h h refl
 

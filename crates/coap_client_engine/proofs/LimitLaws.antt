@@ -4,9 +4,9 @@ use Rattle.std.proofs.Common.{◌≡◌, ℕ, ◌+◌, ◌<◌, ◌≤◌, Bool,
 use Rattle.coap_client_engine.specs.Prelude.{is_none, Message, spelling, Client, Reason, LimitValues, AreInRange}
 use Rattle.coap_client_engine.specs.Prelude.{takes_messages, abort_of, reject_of, reject_reason, AllFit, fit}
 use Rattle.coap_client_engine.specs.Prelude.{OutstandingValue, Ping, cancelled_by, asking_refusal, cancel_refusal}
-use Rattle.coap_client_engine.specs.Prelude.{next_token, with_token, entry_of, ping_with, Standing, stop, abort, react}
-use Rattle.coap_client_engine.specs.Prelude.{Effect, History, IsHistory, new_history, limit_now, standing_now, asking_now}
-use Rattle.coap_client_engine.specs.Prelude.{waiting_of, with_effect, after, after_asking, bytes_of, end_reason, HeldValue}
+use Rattle.coap_client_engine.specs.Prelude.{next_token, with_token, entry_of, ping_with, ConnectionState, stop, abort, react}
+use Rattle.coap_client_engine.specs.Prelude.{ReactionResult, History, IsHistory, new_history, limit_now, standing_now, asking_now}
+use Rattle.coap_client_engine.specs.Prelude.{waiting_of, with_effect, after, after_asking, bytes_of, end_reason, PendingEntryValue}
 use Rattle.coap_client_engine.specs.Prelude.{request_of, cancel_of, is_cut, ClientCall, ClientStep, Took, Sent, Cancelled}
 use Rattle.coap_client_engine.specs.Prelude.{Pinged, Wrote, Ended, Handles, Faults, Requests, Cancels, Pings, Writes, Ends}
 use Rattle.coap_client_engine.specs.Prelude.{stream_in, steps_by, steps_of, step, after_steps, client_after, handles}
@@ -17,7 +17,7 @@ use Rattle.coap_wire.proofs.StreamSteps.{unfinished_below}
 use Rattle.coap_conn.specs.Calls as call
 use Rattle.coap_conn.proofs.SmallLemmas.{first_csm_bytes_small}
 use Rattle.coap_conn.proofs.AskingLaws.{none_where, asked_size, cancel_size}
-use Rattle.coap_conn.proofs.AskedLaws.{asked_no_more, asked_few}
+use Rattle.coap_conn.proofs.OutstandingLaws.{asked_no_more, asked_few}
 use Rattle.coap_conn.proofs.HistoryLaws.{reaction_fits, stopped_fits}
 use Rattle.coap_client_engine.proofs.ClientSteps.{stream_rest_unfinished, client_first, client_same, client_step, by_calls}
 use Rattle.coap_client_engine.proofs.ClientReached.{limits_same, accepted_reach}
@@ -28,17 +28,17 @@ use Rattle.coap_conn.proofs.WaitingLaws.{one_small, limit_within, queued_waits, 
 -- ---- the effect of a message
 
 -- An effect queues at most one message, and keeps an empty pending list empty.
-record IsSparing (s : Standing) (e : Effect) : Type 0 where
+record IsSparing (s : ConnectionState) (e : ReactionResult) : Type 0 where
   one : length e.queued ≤ 1
   none : s.held ≡ [] → e.held ≡ []
 
-react_sparing : (s : Standing) (m : Message) → IsSparing s (react s m).effect
+react_sparing : (s : ConnectionState) (m : Message) → IsSparing s (react s m).effect
 react_sparing s m = react_so s m (IsSparing s) (record {
   stays = record { one = omega arith; none = λ e. e };
   stands = λ now outstanding stands. record { one = omega arith; none = λ e. e };
   stops = λ why farewell plain one may. record { one = one; none = λ e. refl };
   queues = λ n no. record { one = omega arith; none = λ e. e };
-  keeps = λ ping custody some. record { one = omega arith; none = λ e. absurd (omega (arith, some, ap (λ (held : List HeldValue). length held) e)) };
+  keeps = λ ping custody some. record { one = omega arith; none = λ e. absurd (omega (arith, some, ap (λ (held : List PendingEntryValue). length held) e)) };
 })
 
 -- ---- pending and outstanding entries

@@ -6,10 +6,10 @@ use Rattle.coap_client_engine.specs.Prelude.{Unfinished, Whole, Faulty, prefix_k
 use Rattle.coap_client_engine.specs.Prelude.{split_frame, framing_at, framing, framing_of, framer_after, frame_back, Reply}
 use Rattle.coap_client_engine.specs.Prelude.{Bare, Role, Server, Client, Reason, is_waiting, stop_of, ReservedCode}
 use Rattle.coap_client_engine.specs.Prelude.{CsmExpected, BadSignalOption, PeerAbort, bad_csm_option, has_critical_option}
-use Rattle.coap_client_engine.specs.Prelude.{fit, bare_response, without_options, Pong, OutstandingValue, is_asked, is_last}
-use Rattle.coap_client_engine.specs.Prelude.{is_pinged, without_asked, without_pinged, VerdictValue, Standing, Reaction}
+use Rattle.coap_client_engine.specs.Prelude.{fit, bare_response, without_options, Pong, OutstandingValue, matches_response, is_last}
+use Rattle.coap_client_engine.specs.Prelude.{matches_pong, without_asked, without_pinged, VerdictValue, ConnectionState, Reaction}
 use Rattle.coap_client_engine.specs.Prelude.{tells, aborts, told_of, sends, is_reserved, is_signal, is_method}
-use Rattle.coap_client_engine.specs.Prelude.{minds_critical_options, asks_custody, pong_with, pong_of, holds, leaves}
+use Rattle.coap_client_engine.specs.Prelude.{checks_critical_options, asks_custody, pong_with, pong_of, holds, leaves}
 use Rattle.coap_client_engine.specs.Prelude.{late_pong, ping_reaction, not_implemented, request_reaction, release_reaction}
 use Rattle.coap_client_engine.specs.Prelude.{csm_reaction, answered, response_reaction, pong_reaction, open_reaction}
 use Rattle.coap_client_engine.specs.Prelude.{live_reaction, reaction_unless, react}
@@ -30,7 +30,7 @@ IsOf m (verdict.Pong token custody) = token ≡ m.token
 IsOf m verdict.Stranger = Unit {0}
 IsOf m (verdict.Stopped why) = Unit {0}
 
-module _ (s : Standing) (m : Message) where
+module _ (s : ConnectionState) (m : Message) where
   of_if : (b : Bool) (one other : Reaction) → IsOf m one.verdict → IsOf m other.verdict → IsOf m (cond b one other).verdict
   of_if true one other is isnt = is
   of_if false one other is isnt = isnt
@@ -66,10 +66,10 @@ module _ (s : Standing) (m : Message) where
   of_answered (Some e) = of_if (is_last m e) (leaves s (without_asked m.token s.outstanding) (verdict.Answer m.token true)) (tells s (verdict.Answer m.token false)) refl refl
 
   of_pong : IsOf m (pong_reaction s m).verdict
-  of_pong = of_if (list_any (is_pinged m.token) s.outstanding) (leaves s (without_pinged m.token s.outstanding) (verdict.Pong m.token (asks_custody m))) (tells s verdict.Stranger) refl tt
+  of_pong = of_if (list_any (matches_pong m.token) s.outstanding) (leaves s (without_pinged m.token s.outstanding) (verdict.Pong m.token (asks_custody m))) (tells s verdict.Stranger) refl tt
 
   of_response : IsOf m (response_reaction s m).verdict
-  of_response = of_answered (find (is_asked m.token) s.outstanding)
+  of_response = of_answered (find (matches_response m.token) s.outstanding)
 
   -- The last two cases of an open connection: a request and a response.
   abbrev method_or : Reaction
@@ -103,7 +103,7 @@ module _ (s : Standing) (m : Message) where
   of_ping_or = of_if (m.code == code.ping) (ping_reaction s m) release_or of_ping of_release_or
 
   of_open : IsOf m (open_reaction s m).verdict
-  of_open = of_if (minds_critical_options m.code && has_critical_option m) (aborts s BadSignalOption) ping_or tt of_ping_or
+  of_open = of_if (checks_critical_options m.code && has_critical_option m) (aborts s BadSignalOption) ping_or tt of_ping_or
 
   -- The cases of a connection that is waiting or open.
   abbrev open_or : Reaction
@@ -142,10 +142,10 @@ module _ (s : Standing) (m : Message) where
   unfolding react
   verdict_is_of = of_unless (stop_of s.phase)
 
-pub answer_token : (s : Standing) (m : Message) (token : List ℕ) (last : Bool) → verdict.Answer token last ≡ (react s m).verdict → m.token ≡ token
+pub answer_token : (s : ConnectionState) (m : Message) (token : List ℕ) (last : Bool) → verdict.Answer token last ≡ (react s m).verdict → m.token ≡ token
 answer_token s m token last is = sym (subst (IsOf m) (sym is) (verdict_is_of s m))
 
-pub pong_token : (s : Standing) (m : Message) (token : List ℕ) (custody : Bool) → verdict.Pong token custody ≡ (react s m).verdict → m.token ≡ token
+pub pong_token : (s : ConnectionState) (m : Message) (token : List ℕ) (custody : Bool) → verdict.Pong token custody ≡ (react s m).verdict → m.token ≡ token
 pong_token s m token custody is = sym (subst (IsOf m) (sym is) (verdict_is_of s m))
 
 -- ---- the frame of the message

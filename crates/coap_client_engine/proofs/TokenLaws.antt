@@ -11,7 +11,7 @@ use Rattle.coap_client_engine.specs.Prelude.{Writes, Ends, step, steps_by, after
 use Rattle.coap_client_engine.specs.Prelude.{AreAcceptedBehind, AreAccepted, token_given, tokens_behind, tokens_given}
 use Rattle.coap_client_engine.specs.Prelude.{AreDifferent}
 use Rattle.std.proofs.lemmas.Bool.{cond_both}
-use Rattle.coap_conn.proofs.AskedLaws.{tokens_differ, token_left}
+use Rattle.coap_conn.proofs.OutstandingLaws.{tokens_differ, token_left}
 use Rattle.coap_client_engine.proofs.ClientSteps.{client_more, client_step}
 
 -- ---- the number of the last token

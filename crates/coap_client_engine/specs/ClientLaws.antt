@@ -1,7 +1,7 @@
 -- Defined by this project: definitions that the theorems over clients use.
 use Rattle.std.specs.Prelude.{◌≢◌, ℕ, List, [], ◌∷◌, ◌++◌}
 use Rattle.std.specs.List.{AllByRecursion}
-use Rattle.coap_conn.specs.Asking.{next_token}
+use Rattle.coap_conn.specs.RequestState.{next_token}
 use Rattle.coap_conn.specs.Limits.{LimitValues}
 use Rattle.coap_client_engine.specs.ClientWorld.{ClientCall, Took, Sent, Cancelled, Pinged, Wrote, Ended, client_after}
 

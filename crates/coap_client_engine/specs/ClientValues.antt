@@ -18,7 +18,7 @@ use Rattle.coap_conn.specs.Rejects.{reject_of, reject_reason}
 use Rattle.coap_conn.specs.Verdicts.{VerdictValue}
 use Rattle.coap_conn.specs.Verdicts as verdict
 use Rattle.coap_conn.specs.Reaction.{react}
-use Rattle.coap_conn.specs.Asking.{else_refusal, new_refusal, asking_refusal, observation_refusal, cancel_refusal, next_token, with_token, ping_with}
+use Rattle.coap_conn.specs.RequestState.{else_refusal, new_refusal, asking_refusal, observation_refusal, cancel_refusal, next_token, with_token, ping_with}
 use Rattle.coap_conn.specs.LinkValue.{LinkValue, new_link, free_in, standing_in, asking_in}
 use Rattle.coap_conn.specs.Calls.{link_after}
 use Rattle.coap_conn.specs.Calls as call

@@ -26,22 +26,22 @@ unfoldable pub use Rattle.coap_frame.specs.Framing.{framing}
 -- ---- coap_conn
 pub use Rattle.coap_conn.specs.Announced.{bad_csm_option, has_critical_option}
 unfoldable pub use Rattle.coap_conn.specs.Announced.{announced}
-pub use Rattle.coap_conn.specs.Asking.{next_token, else_refusal, entry_of, ping_with, with_token}
-unfoldable pub use Rattle.coap_conn.specs.Asking.{asking_refusal, cancel_refusal, new_refusal, observation_refusal}
+pub use Rattle.coap_conn.specs.RequestState.{next_token, else_refusal, entry_of, ping_with, with_token}
+unfoldable pub use Rattle.coap_conn.specs.RequestState.{asking_refusal, cancel_refusal, new_refusal, observation_refusal}
 pub use Rattle.coap_conn.specs.Calls.{link_after, end_reason}
 pub use Rattle.coap_conn.specs.Fit.{AllFit, bare_response, fit, without_options}
-pub use Rattle.coap_conn.specs.Held.{HeldValue, Pong}
+pub use Rattle.coap_conn.specs.PendingEntries.{PendingEntryValue, Pong}
 pub use Rattle.coap_conn.specs.History.{History, limit_now, waiting_of, IsHistory, after, after_asking, asking_now}
 pub use Rattle.coap_conn.specs.History.{link_of, new_history, standing_now, with_effect}
 pub use Rattle.coap_conn.specs.Limits.{LimitValues, AreInRange, default_limits}
 pub use Rattle.coap_conn.specs.LinkValue.{standing_in, LinkValue, asking_in, bytes_of, free_in}
-pub use Rattle.coap_conn.specs.Outstanding.{Observation, OutstandingValue, Ping, Request, cancelled_by, is_asked}
-pub use Rattle.coap_conn.specs.Outstanding.{is_last, is_pinged, with_cancelled, without_asked, without_pinged}
+pub use Rattle.coap_conn.specs.Outstanding.{Observation, OutstandingValue, Ping, Request, cancelled_by, matches_response}
+pub use Rattle.coap_conn.specs.Outstanding.{is_last, matches_pong, with_cancelled, without_asked, without_pinged}
 unfoldable pub use Rattle.coap_conn.specs.Outstanding.{is_notification}
 pub use Rattle.coap_conn.specs.Phases.{IsLive, is_waiting, stop_of, takes_messages}
-pub use Rattle.coap_conn.specs.Reaction.{Effect, Reaction, Standing, abort, aborts, answered, asks_custody}
+pub use Rattle.coap_conn.specs.Reaction.{ReactionResult, Reaction, ConnectionState, abort, aborts, answered, asks_custody}
 pub use Rattle.coap_conn.specs.Reaction.{csm_reaction, holds, is_method, is_reserved, is_signal, late_pong, leaves}
-pub use Rattle.coap_conn.specs.Reaction.{minds_critical_options, not_implemented, open_reaction, ping_reaction, pong_of}
+pub use Rattle.coap_conn.specs.Reaction.{checks_critical_options, not_implemented, open_reaction, ping_reaction, pong_of}
 pub use Rattle.coap_conn.specs.Reaction.{pong_reaction, pong_with, reaction_unless, release_reaction, request_reaction}
 pub use Rattle.coap_conn.specs.Reaction.{response_reaction, sends, stop, tells, told_of}
 unfoldable pub use Rattle.coap_conn.specs.Reaction.{react, live_reaction}

@@ -2,7 +2,7 @@
 -- follows.
 use Rattle.std.specs.Prelude.{◌≡◌, ◌≢◌, ◌+◌, ℕ, max, nat_lt, Bool, true, false, ◌&&◌, ◌⊎◌, List, [], ◌∷◌, ◌++◌, length, take, drop, Option, Some, None}
 use Rattle.std.specs.List.{flat_map}
-use Rattle.coap_conn.specs.Asking.{next_token}
+use Rattle.coap_conn.specs.RequestState.{next_token}
 use Rattle.coap_conn.specs.History.{History}
 use Rattle.coap_conn.specs.Limits.{default_limits}
 use Rattle.coap_conn.specs.declared.phase.Phase.{Phase}

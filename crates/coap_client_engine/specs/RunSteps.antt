@@ -15,7 +15,7 @@ use Rattle.coap_client_engine.specs.ClientValues as value
 use Rattle.coap_client_engine.specs.ClientWorld.{ClientCall, Wrote, Ended}
 use Rattle.coap_io.specs.declared.wire.Got.{Got}
 use Rattle.coap_io.specs.declared.wire.Got.TheVariants.{Bytes, Later, End, Failed}
-use Rattle.coap_conn.specs.Asking.{next_token}
+use Rattle.coap_conn.specs.RequestState.{next_token}
 use Rattle.coap_request.specs.Requests.{ExtrasValue}
 use Rattle.coap_client_engine.specs.RunTexts.{stop_line, fault_line, option_line, response_line, payload_text}
 use Rattle.coap_request.specs.declared.plan.ClientPlan.{ClientPlan}

@@ -41,7 +41,7 @@ pub fn tokens_are_given_once()
 {}
 
 /// States that every message that a step queues fits the limit of the peer and the local limit at that time.
-pub fn what_is_queued_fits()
+pub fn queued_messages_fit_limit()
     ensures { (h : History) (s : ClientStep) →
         (more : List Message) × ((step h s).queued ≡ h.queued ++ more) × AllFit (limit_now h) more }
 {}

@@ -5,10 +5,10 @@ use Rattle.coap_conn.specs.Prelude.{Reason, Role, Server, Client, Reply, Whole, 
 use Rattle.coap_conn.specs.Prelude.{abort_of, announcement, announced, token_announcement, announced_token, last_or}
 use Rattle.coap_conn.specs.Prelude.{last_told, has_critical_option, bad_csm_option, AllFit, fit, fitted}
 use Rattle.coap_conn.specs.Prelude.{abort_fitted, without_payload, without_options, bare_response, LimitValues}
-use Rattle.coap_conn.specs.Prelude.{AreInRange, HeldValue, Answer, Pong, OutstandingValue, is_asked, is_last}
-use Rattle.coap_conn.specs.Prelude.{is_pinged, asking_refusal, cancel_refusal, Standing, Reaction, react}
+use Rattle.coap_conn.specs.Prelude.{AreInRange, PendingEntryValue, Answer, Pong, OutstandingValue, matches_response, is_last}
+use Rattle.coap_conn.specs.Prelude.{matches_pong, asking_refusal, cancel_refusal, ConnectionState, Reaction, react}
 use Rattle.coap_conn.specs.Prelude.{reaction_unless, live_reaction, open_reaction, csm_reaction, request_reaction}
-use Rattle.coap_conn.specs.Prelude.{send, send_as, abort, is_reserved, is_signal, is_method, minds_critical_options}
+use Rattle.coap_conn.specs.Prelude.{send, send_as, abort, is_reserved, is_signal, is_method, checks_critical_options}
 use Rattle.coap_conn.specs.Prelude.{asks_custody, pong_with, pong_of, ping_reaction, pong_reaction, answered}
 use Rattle.coap_conn.specs.Prelude.{response_reaction, not_implemented, due_effect, History, new_history, limit_now}
 use Rattle.coap_conn.specs.Prelude.{standing_now, asking_now, release}
@@ -67,54 +67,54 @@ abort_fit : (limit : ℕ) (abort : Option Message) → AllFit limit (abort_fitte
 abort_fit limit None = tt
 abort_fit limit (Some m) = fitted_fit limit m (without_payload m)
 
-aborted_fit : (s : Standing) (why : Reason) → AllFit s.limit (abort s why).queued
+aborted_fit : (s : ConnectionState) (why : Reason) → AllFit s.limit (abort s why).queued
 aborted_fit s why = abort_fit s.limit (abort_of why)
 
-sent_as : (s : Standing) (m less : Message) (r : Reply) → AllFit s.limit (fitted m less r) → AllFit s.limit (send_as s m less r).queued
+sent_as : (s : ConnectionState) (m less : Message) (r : Reply) → AllFit s.limit (fitted m less r) → AllFit s.limit (send_as s m less r).queued
 sent_as s m less Whole each = each
 sent_as s m less Bare each = each
 sent_as s m less Stopped each = tt
 
-send_fit : (s : Standing) (m less : Message) → AllFit s.limit (send s m less).queued
+send_fit : (s : ConnectionState) (m less : Message) → AllFit s.limit (send s m less).queued
 send_fit s m less = sent_as s m less (fit s.limit m less) (fitted_fit s.limit m less)
 
-abbrev Fits : Standing → Reaction → Type 0
+abbrev Fits : ConnectionState → Reaction → Type 0
 Fits s r = AllFit s.limit r.effect.queued
 
-csm_fit : (s : Standing) (bad : Option ℕ) → Fits s (csm_reaction s bad)
+csm_fit : (s : ConnectionState) (bad : Option ℕ) → Fits s (csm_reaction s bad)
 csm_fit s None = tt
 csm_fit s (Some number) = aborted_fit s (reason.BadCsm number)
 
-request_fit : (s : Standing) (m : Message) (role : Role) → Fits s (request_reaction s m role)
+request_fit : (s : ConnectionState) (m : Message) (role : Role) → Fits s (request_reaction s m role)
 request_fit s m Server = tt
 request_fit s m Client = send_fit s (not_implemented m) (bare_response (not_implemented m))
 
-answered_fit : (s : Standing) (m : Message) (e : Option OutstandingValue) → Fits s (answered s m e)
+answered_fit : (s : ConnectionState) (m : Message) (e : Option OutstandingValue) → Fits s (answered s m e)
 answered_fit s m None = tt
 answered_fit s m (Some e) = cond_both (is_last m e) _ _ (Fits s) (λ f. tt) (λ f. tt)
 
-response_fit : (s : Standing) (m : Message) → Fits s (response_reaction s m)
-response_fit s m = answered_fit s m (find (is_asked m.token) s.outstanding)
+response_fit : (s : ConnectionState) (m : Message) → Fits s (response_reaction s m)
+response_fit s m = answered_fit s m (find (matches_response m.token) s.outstanding)
 
-pong_fit : (s : Standing) (m : Message) → Fits s (pong_reaction s m)
-pong_fit s m = cond_both (list_any (is_pinged m.token) s.outstanding) _ _ (Fits s) (λ e. tt) (λ e. tt)
+pong_fit : (s : ConnectionState) (m : Message) → Fits s (pong_reaction s m)
+pong_fit s m = cond_both (list_any (matches_pong m.token) s.outstanding) _ _ (Fits s) (λ e. tt) (λ e. tt)
 
-ping_fit : (s : Standing) (m : Message) → Fits s (ping_reaction s m)
+ping_fit : (s : ConnectionState) (m : Message) → Fits s (ping_reaction s m)
 ping_fit s m =
     cond_both (asks_custody m && nat_lt 0 (length s.held)) _ _ (Fits s)
     (λ e. cond_both (nat_lt (length s.held) s.most) _ _ (Fits s) (λ f. tt) (λ f. send_fit s (pong_with false m.token) (pong_with false m.token)))
     (λ e. send_fit s (pong_of m) (without_options (pong_of m)))
 
-open_fit : (s : Standing) (m : Message) → Fits s (open_reaction s m)
+open_fit : (s : ConnectionState) (m : Message) → Fits s (open_reaction s m)
 open_fit s m =
-    cond_both (minds_critical_options m.code && has_critical_option m) _ _ (Fits s) (λ e. aborted_fit s reason.BadSignalOption)
+    cond_both (checks_critical_options m.code && has_critical_option m) _ _ (Fits s) (λ e. aborted_fit s reason.BadSignalOption)
     (λ e. cond_both (m.code == code.ping) _ _ (Fits s) (λ e. ping_fit s m)
     (λ e. cond_both (m.code == code.release) _ _ (Fits s) (λ e. tt)
     (λ e. cond_both (m.code == code.pong) _ _ (Fits s) (λ e. pong_fit s m)
     (λ e. cond_both (is_signal m.code) _ _ (Fits s) (λ e. tt)
     (λ e. cond_both (is_method m.code) _ _ (Fits s) (λ e. request_fit s m s.role) (λ e. response_fit s m))))))
 
-live_fit : (s : Standing) (m : Message) → Fits s (live_reaction s m)
+live_fit : (s : ConnectionState) (m : Message) → Fits s (live_reaction s m)
 unfolding live_reaction
 live_fit s m =
     cond_both (is_reserved m.code) _ _ (Fits s) (λ e. aborted_fit s reason.ReservedCode)
@@ -123,11 +123,11 @@ live_fit s m =
     (λ e. cond_both (m.code == code.csm) _ _ (Fits s) (λ e. csm_fit s (bad_csm_option m))
     (λ e. cond_both (is_waiting s.phase) _ _ (Fits s) (λ e. aborted_fit s reason.CsmExpected) (λ e. open_fit s m)))))
 
-unless_fit : (s : Standing) (m : Message) (over : Option Reason) → Fits s (reaction_unless s m over)
+unless_fit : (s : ConnectionState) (m : Message) (over : Option Reason) → Fits s (reaction_unless s m over)
 unless_fit s m None = live_fit s m
 unless_fit s m (Some why) = tt
 
-react_fit : (s : Standing) (m : Message) → Fits s (react s m)
+react_fit : (s : ConnectionState) (m : Message) → Fits s (react s m)
 unfolding react
 react_fit s m = unless_fit s m (stop_of s.phase)
 
@@ -148,12 +148,12 @@ stopped_fits h why = aborted_fit (standing_now h) why
 pub released_fits : (h : History) → 2 ≤ limit_now h → AllFit (limit_now h) (release ∷ [])
 released_fits h enough = (omega (arith, enough, release_small), tt)
 
-due_fit : (s : Standing) (e : Option HeldValue) → AllFit s.limit (due_effect s e).queued
+due_fit : (s : ConnectionState) (e : Option PendingEntryValue) → AllFit s.limit (due_effect s e).queued
 due_fit s None = tt
 due_fit s (Some (Answer token moment)) = tt
 due_fit s (Some (Pong token)) = send_fit s (pong_with true token) (pong_with false token)
 
-pub due_fits : (h : History) (e : Option HeldValue) → AllFit (limit_now h) (due_effect (standing_now h) e).queued
+pub due_fits : (h : History) (e : Option PendingEntryValue) → AllFit (limit_now h) (due_effect (standing_now h) e).queued
 due_fits h e = due_fit (standing_now h) e
 
 pub asked_fits : (h : History) (m : Message) → asking_refusal (asking_now h) m ≡ None → AllFit (limit_now h) (m ∷ [])

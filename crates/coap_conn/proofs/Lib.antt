@@ -1,7 +1,7 @@
 pub mod AskingLaws
 pub mod LinkLemmas
 pub mod PendingLemmas
-pub mod AskedLemmas
+pub mod OutstandingLemmas
 pub mod SmallLemmas
 pub mod CsmLemmas
 pub mod HistoryLaws
@@ -9,8 +9,8 @@ pub mod RequestLemmas
 pub mod FirstLaws
 pub mod AnnounceLaws
 pub mod StopLaws
-pub mod HeldLaws
-pub mod AskedLaws
+pub mod PendingLaws
+pub mod OutstandingLaws
 pub mod ReactionLaws
 pub mod WaitingLaws
 pub mod GrowLaws

@@ -1,9 +1,9 @@
 -- A link represents its history after each call.
 use Rattle.std.proofs.Common.{◌≡◌, ℕ, ◌≤◌, Bool, true, false, cond, List, [], ◌∷◌, ◌++◌, length, drop, Option, Some, None, refl, sym, ap, subst, ◌∙◌, arith}
 use Rattle.coap_conn.specs.Prelude.{unwrap_or, filter_map, Message, spelling, Phase, Role, LimitValues, announcement}
-use Rattle.coap_conn.specs.Prelude.{announced, token_announcement, announced_token, last_or, last_told, HeldValue}
-use Rattle.coap_conn.specs.Prelude.{OutstandingValue, Effect, LinkValue, bytes_of, own_csm, first_csm, new_link}
-use Rattle.coap_conn.specs.Prelude.{link_with, Call, Deed, Handles, Does, Holds, Asks, Announces, Writes, doing}
+use Rattle.coap_conn.specs.Prelude.{announced, token_announcement, announced_token, last_or, last_told, PendingEntryValue}
+use Rattle.coap_conn.specs.Prelude.{OutstandingValue, ReactionResult, LinkValue, bytes_of, own_csm, first_csm, new_link}
+use Rattle.coap_conn.specs.Prelude.{link_with, Call, CallEffect, Handles, Does, Holds, Asks, Announces, Writes, call_effect}
 use Rattle.coap_conn.specs.Prelude.{link_with_deed, link_after, IsWithin, History, IsHistory, LinkShows, link_of}
 use Rattle.coap_conn.specs.Prelude.{new_history, with_effect, with_deed, after, takes_messages, sizes_of}
 use Rattle.std.proofs.lemmas.List.{append-nil, drop-append-le, drop-drop, length-append, length-drop}
@@ -23,12 +23,12 @@ pub history_more : (h : History) (ms : List Message) → IsHistory h → h.writt
 history_more h ms is = omega (arith, is, ap (λ (t : List ℕ). length t) (bytes_more h.queued ms), length-append (bytes_of h.queued) (bytes_of ms))
 
 -- The link that represents a history, with other queued bytes, phase, entries and sizes of the peer.
-abbrev link_at : History → List ℕ → Phase → List HeldValue → List OutstandingValue → ℕ → ℕ → LinkValue
+abbrev link_at : History → List ℕ → Phase → List PendingEntryValue → List OutstandingValue → ℕ → ℕ → LinkValue
 link_at h waiting phase held outstanding peer_max peer_token =
     record { role = h.role; limits = h.limits; waiting = waiting; phase = phase; own_max = h.own_max; peer_max = peer_max; peer_token = peer_token; held = held; outstanding = outstanding; tokens = h.tokens }
 
 -- An effect on the link is the same effect on the history.
-effect_of : (h : History) (e : Effect) → IsHistory h → link_with (link_of h) e ≡ link_of (with_effect h e)
+effect_of : (h : History) (e : ReactionResult) → IsHistory h → link_with (link_of h) e ≡ link_of (with_effect h e)
 effect_of h e is = ap (λ (w : List ℕ). link_at h w e.phase e.held e.outstanding (announced h.handled) (announced_token h.handled)) (sym (waiting_more h e.queued is))
 
 -- ---- announcements
@@ -65,7 +65,7 @@ token_none = refl
 
 -- ---- effects
 
-heard_of : (h : History) (m : Message) (e : Effect) → IsHistory h → link_with_deed (link_of h) (Handles m e) ≡ link_of (with_deed h (Handles m e))
+heard_of : (h : History) (m : Message) (e : ReactionResult) → IsHistory h → link_with_deed (link_of h) (Handles m e) ≡ link_of (with_deed h (Handles m e))
 heard_of h m e is =
     let max : ℕ = unwrap_or (announcement m) (announced h.handled) in
     let token : ℕ = unwrap_or (token_announcement m) (announced_token h.handled) in
@@ -87,7 +87,7 @@ written_of : (h : History) (n : ℕ) → link_with_deed (link_of h) (Writes n) �
 written_of h n = ap (λ (w : List ℕ). link_at h w h.phase h.held h.outstanding (announced h.handled) (announced_token h.handled)) (drop-drop n h.written (bytes_of h.queued))
 
 -- An effect of a call on the link is the same effect on the history.
-deed_of : (h : History) (d : Deed) → IsHistory h → link_with_deed (link_of h) d ≡ link_of (with_deed h d)
+deed_of : (h : History) (d : CallEffect) → IsHistory h → link_with_deed (link_of h) d ≡ link_of (with_deed h d)
 deed_of h (Handles m e) is = heard_of h m e is
 deed_of h (Does e) is = effect_of h e is
 deed_of h (Holds e) is = refl
@@ -96,7 +96,7 @@ deed_of h (Announces size) is = announces_of h size is
 deed_of h (Writes n) is = written_of h n
 
 -- The effect of a call keeps `IsHistory`.
-deed_kept : (h : History) (d : Deed) → IsHistory h → IsWithin (link_of h) d → IsHistory (with_deed h d)
+deed_kept : (h : History) (d : CallEffect) → IsHistory h → IsWithin (link_of h) d → IsHistory (with_deed h d)
 deed_kept h (Handles m e) is within = history_more h e.queued is
 deed_kept h (Does e) is within = history_more h e.queued is
 deed_kept h (Holds e) is within = is
@@ -105,7 +105,7 @@ deed_kept h (Announces size) is within = history_more h (own_csm size ∷ []) is
 deed_kept h (Writes n) is within = omega (arith, within, is, length-drop h.written (bytes_of h.queued))
 
 -- The same if the effect depends on a condition.
-done_shown : (new : LinkValue) (h : History) (so : Bool) (d : Deed) → new ≡ cond so (link_with_deed (link_of h) d) (link_of h)
+done_shown : (new : LinkValue) (h : History) (so : Bool) (d : CallEffect) → new ≡ cond so (link_with_deed (link_of h) d) (link_of h)
     → IsHistory h → IsWithin (link_of h) d → LinkShows new (cond so (with_deed h d) h)
 done_shown new h true d same is within = record { is_history = deed_kept h d is within; same = same ∙ deed_of h d is }
 done_shown new h false d same is within = record { is_history = is; same = same }
@@ -120,16 +120,16 @@ new_shown role limits tokens new is = record {
 }
 
 -- A link that represents a history represents the history after a call, too.
-pub shows : (v new : LinkValue) (c : Call) → IsWithin v (doing v c).deed → new ≡ link_after v c → (h : History) → LinkShows v h → LinkShows new (after h c)
+pub shows : (v new : LinkValue) (c : Call) → IsWithin v (call_effect v c).deed → new ≡ link_after v c → (h : History) → LinkShows v h → LinkShows new (after h c)
 shows v new c within is h shown =
-    done_shown new h (doing (link_of h) c).so (doing (link_of h) c).deed (is ∙ ap (λ (w : LinkValue). link_after w c) shown.same) shown.is_history
-    (subst (λ (w : LinkValue). IsWithin w (doing w c).deed) shown.same within)
+    done_shown new h (call_effect (link_of h) c).so (call_effect (link_of h) c).deed (is ∙ ap (λ (w : LinkValue). link_after w c) shown.same) shown.is_history
+    (subst (λ (w : LinkValue). IsWithin w (call_effect w c).deed) shown.same within)
 
 -- The same for the link that `link_of` gives.
-pub shown_after : (h : History) (c : Call) → IsWithin (link_of h) (doing (link_of h) c).deed → IsHistory h → LinkShows (link_after (link_of h) c) (after h c)
+pub shown_after : (h : History) (c : Call) → IsWithin (link_of h) (call_effect (link_of h) c).deed → IsHistory h → LinkShows (link_after (link_of h) c) (after h c)
 shown_after h c within is = shows (link_of h) (link_after (link_of h) c) c within refl h (record { is_history = is; same = refl })
 
-pub after_link : (h : History) (c : Call) → IsWithin (link_of h) (doing (link_of h) c).deed → IsHistory h → link_of (after h c) ≡ link_after (link_of h) c
+pub after_link : (h : History) (c : Call) → IsWithin (link_of h) (call_effect (link_of h) c).deed → IsHistory h → link_of (after h c) ≡ link_after (link_of h) c
 after_link h c within is = sym (shown_after h c within is).same
 
 -- ---- parts that calls leave unchanged

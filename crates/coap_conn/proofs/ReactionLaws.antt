@@ -2,10 +2,10 @@
 use Rattle.std.proofs.Common.{◌≡◌, ℕ, Bool, true, false, List, [], ◌∷◌, Option, Some, None, refl, ap, ◌∙◌, ◌≤◌, arith, length, nat_lt, ◌&&◌, ◌==◌, not, ◌/◌}
 use Rattle.coap_conn.specs.Prelude.{AllByRecursion, Message, Phase, Reply, Whole, Bare, Stopped, Role, Server, Client}
 use Rattle.coap_conn.specs.Prelude.{Reason, stop_of, answers, is_waiting, abort_of, has_critical_option, fit}
-use Rattle.coap_conn.specs.Prelude.{abort_fitted, bare_response, Pong, OutstandingValue, VerdictValue, Standing, Effect}
+use Rattle.coap_conn.specs.Prelude.{abort_fitted, bare_response, Pong, OutstandingValue, VerdictValue, ConnectionState, ReactionResult}
 use Rattle.coap_conn.specs.Prelude.{Reaction, stay, stop, send_as, holds, react, reaction_unless, live_reaction}
 use Rattle.coap_conn.specs.Prelude.{open_reaction, request_reaction, ping_reaction, is_reserved, is_signal, is_method}
-use Rattle.coap_conn.specs.Prelude.{minds_critical_options, asks_custody, is_custody_pong, pong_with, pong_of}
+use Rattle.coap_conn.specs.Prelude.{checks_critical_options, asks_custody, is_custody_pong, pong_with, pong_of}
 use Rattle.coap_conn.specs.Prelude.{not_implemented, aborts, leaves, tells, told_of, message_reason, is_response}
 use Rattle.coap_conn.specs.Prelude.{is_asking}
 use Rattle.std.proofs.lemmas.Bool.{cond_both, and_parts, ltb-true, and_left, and_right, eqb-true}
@@ -47,19 +47,19 @@ StopsAtMost p = message_stop (stop_of p) ≡ 1
 
 -- Holds if `n` may be sent at once after `m`. A server sends no response by itself and nothing after a request. A Pong
 -- with Custody follows only a Ping with Custody.
-pub record MayFollow (s : Standing) (m n : Message) : Type 0 where
+pub record MayFollow (s : ConnectionState) (m n : Message) : Type 0 where
   pub plain : s.role ≡ Server → IsNoResponse n × (is_asking m ≡ false)
   pub pong : is_custody_pong n ≡ true → ((m.code == code.ping) ≡ true) × (asks_custody m ≡ true) × (n.token ≡ m.token)
 
-client_may : (s : Standing) (m n : Message) → s.role ≡ Client → IsNoPong n → MayFollow s m n
+client_may : (s : ConnectionState) (m n : Message) → s.role ≡ Client → IsNoPong n → MayFollow s m n
 client_may s m n client no_pong = grind arith
 
-pong_allowed : (s : Standing) (m : Message) → (m.code == code.ping) ≡ true → (custody : Bool) → (custody ≡ true → asks_custody m ≡ true) → MayFollow s m (pong_with custody m.token)
+pong_allowed : (s : ConnectionState) (m : Message) → (m.code == code.ping) ≡ true → (custody : Bool) → (custody ≡ true → asks_custody m ≡ true) → MayFollow s m (pong_with custody m.token)
 pong_allowed s m ping custody asks = let other : is_asking m ≡ false = grind arith in grind arith
 
 -- The cases of a proof that P holds for every reaction to a message that is accepted. A server leaves requests to its
 -- caller, and a Pong with Custody may become pending.
-pub record LiveCases (s : Standing) (m : Message) (P : Reaction → Type 0) : Type 0 where
+pub record LiveCases (s : ConnectionState) (m : Message) (P : Reaction → Type 0) : Type 0 where
   pub asked : P (tells s verdict.Request)
   pub stands : (now : Phase) (outstanding : List OutstandingValue) (what : VerdictValue) → is_asking m ≡ false → (StopsAtMost s.phase → StopsAtMost now) → (answers now ≡ false → answers s.phase ≡ false)
       → P (record { effect = record (stay s) { phase = now; outstanding = outstanding }; verdict = what })
@@ -67,7 +67,7 @@ pub record LiveCases (s : Standing) (m : Message) (P : Reaction → Type 0) : Ty
   pub queues : (n : Message) (what : VerdictValue) → MayFollow s m n → P (record { effect = record (stay s) { queued = n ∷ [] }; verdict = what })
   pub keeps : is_waiting s.phase ≡ false → is_asking m ≡ false → (m.code == code.ping) ≡ true → asks_custody m ≡ true → 1 ≤ length s.held → P (holds s (Pong m.token))
 
-module _ (s : Standing) (m : Message) (P : Reaction → Type 0) (cases : LiveCases s m P) where
+module _ (s : ConnectionState) (m : Message) (P : Reaction → Type 0) (cases : LiveCases s m P) where
   aborts_so : (why : Reason) → message_reason why ≡ 1 → P (aborts s why)
   aborts_so why is = cases.stops why _ _ (abort_plain s.limit why) (abort_one s.limit (abort_of why)) is
 
@@ -109,7 +109,7 @@ module _ (s : Standing) (m : Message) (P : Reaction → Type 0) (cases : LiveCas
 
   open_so : is_waiting s.phase ≡ false → P (open_reaction s m)
   open_so now =
-      cond_both (minds_critical_options m.code && has_critical_option m) _ _ P (λ e. aborts_so reason.BadSignalOption refl)
+      cond_both (checks_critical_options m.code && has_critical_option m) _ _ P (λ e. aborts_so reason.BadSignalOption refl)
       (λ e. cond_both (m.code == code.ping) _ _ P (λ is. ping_so now is)
       (λ e. cond_both (m.code == code.release) _ _ P
       (λ is. cases.stands (phase.Releasing reason.PeerRelease) [] _ (code_differs code.release refl is) (λ is. refl) (λ off. absurd cc))
@@ -129,7 +129,7 @@ module _ (s : Standing) (m : Message) (P : Reaction → Type 0) (cases : LiveCas
 
 -- The cases of a proof that P holds for every effect of a message. A server leaves responses to its caller, and a Pong
 -- with Custody may become pending.
-pub record ReactionCases (s : Standing) (m : Message) (P : Effect → Type 0) : Type 0 where
+pub record ReactionCases (s : ConnectionState) (m : Message) (P : ReactionResult → Type 0) : Type 0 where
   pub stays : P (stay s)
   pub stands : (now : Phase) (outstanding : List OutstandingValue) → (StopsAtMost s.phase → StopsAtMost now) → P (record (stay s) { phase = now; outstanding = outstanding })
   pub stops : (why : Reason) (farewell : List Message) → AllByRecursion IsPlain farewell → length farewell ≤ 1 → message_reason why ≡ 1 → P (stop s why farewell)
@@ -137,7 +137,7 @@ pub record ReactionCases (s : Standing) (m : Message) (P : Effect → Type 0) : 
   pub keeps : (m.code == code.ping) ≡ true → asks_custody m ≡ true → 1 ≤ length s.held → P (holds s (Pong m.token)).effect
 
 -- P holds for the effect of a message if it holds in each case.
-pub react_so : (s : Standing) (m : Message) (P : Effect → Type 0) (cases : ReactionCases s m P) → P (react s m).effect
+pub react_so : (s : ConnectionState) (m : Message) (P : ReactionResult → Type 0) (cases : ReactionCases s m P) → P (react s m).effect
 unfolding react
 react_so s m P cases = by (stop_of s.phase)
   where

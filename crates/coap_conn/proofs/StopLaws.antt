@@ -1,6 +1,6 @@
 -- Nothing follows a stop.
 use Rattle.std.proofs.Common.{◌≡◌, ℕ, Bool, true, false, List, ◌&&◌, cond, Option, Some, refl, ap}
-use Rattle.coap_conn.specs.Prelude.{is_none, Message, Reason, Phase, stop_of, answers, is_open, Standing}
+use Rattle.coap_conn.specs.Prelude.{is_none, Message, Reason, Phase, stop_of, answers, is_open, ConnectionState}
 use Rattle.coap_conn.specs.Prelude.{reaction_unless, react, asking_refusal, cancel_refusal, next_token, with_token}
 use Rattle.coap_conn.specs.Prelude.{ping_with, fits, own_csm, Call, needs_live, History, limit_now, asking_now}
 use Rattle.coap_conn.specs.Prelude.{may_hold, after}
@@ -13,7 +13,7 @@ use Rattle.coap_conn.proofs.AskingLaws.{not_asked, not_cancelled}
 stays_over : (h after : History) (why : Reason) → stop_of h.phase ≡ Some why → cond (is_none (stop_of h.phase)) after h ≡ h
 stays_over h after why over = ap (λ (o : Option Reason). cond (is_none o) after h) over
 
-pub told_over : (s : Standing) (m : Message) (why : Reason) → stop_of s.phase ≡ Some why → (react s m).verdict ≡ verdict.Stopped why
+pub told_over : (s : ConnectionState) (m : Message) (why : Reason) → stop_of s.phase ≡ Some why → (react s m).verdict ≡ verdict.Stopped why
 unfolding react
 told_over s m why over = ap (λ (o : Option Reason). (reaction_unless s m o).verdict) over
 

@@ -2,10 +2,10 @@
 use Rattle.std.proofs.Common.{◌≡◌, ℕ, true, false, List, [], ◌∷◌, Some, None, refl}
 use Rattle.coap_conn.specs.Prelude.{CoapOption, Message, spelling, bytes_of_uint, known_behind, is_recognised}
 use Rattle.coap_conn.specs.Prelude.{kind_of, first_critical_behind, Server, Client, TooMany, TooBig, NoRoom}
-use Rattle.coap_conn.specs.Prelude.{TokensSpent, NoSuchToken, HeldValue, Answer, Pong, due_index, first_due}
+use Rattle.coap_conn.specs.Prelude.{TokensSpent, NoSuchToken, PendingEntryValue, Answer, Pong, due_index, first_due}
 use Rattle.coap_conn.specs.Prelude.{without_due, OutstandingValue, Observation, Ping, is_notification}
-use Rattle.coap_conn.specs.Prelude.{with_cancelled, Asking, new_refusal, asking_refusal, cancel_refusal, next_token}
-use Rattle.coap_conn.specs.Prelude.{own_csm, VerdictValue, Standing, Effect, Reaction, live_reaction, react}
+use Rattle.coap_conn.specs.Prelude.{with_cancelled, RequestState, new_refusal, asking_refusal, cancel_refusal, next_token}
+use Rattle.coap_conn.specs.Prelude.{own_csm, VerdictValue, ConnectionState, ReactionResult, Reaction, live_reaction, react}
 use Rattle.coap_conn.specs.Prelude.{due_effect}
 use Rattle.coap_conn.specs.declared.reason.Reason.TheVariants as reason
 use Rattle.coap_conn.specs.declared.phase.Phase.TheVariants as phase
@@ -62,7 +62,7 @@ not_before a = refl
 -- ---- Pings with Custody
 
 -- A server on an open connection that sends messages of up to 1,152 bytes.
-abbrev server : List HeldValue → ℕ → Standing
+abbrev server : List PendingEntryValue → ℕ → ConnectionState
 server held most = record { role = Server; phase = phase.Open; limit = 1152; held = held; most = most; outstanding = [] }
 
 -- A Ping with the token 7 and Custody.
@@ -75,7 +75,7 @@ custody_pong = record { code = 227; token = 7 ∷ []; options = record { number 
 abbrev plain_pong : Message
 plain_pong = record { code = 227; token = 7 ∷ []; options = []; payload = [] }
 
-abbrev is_done : Effect → Reaction
+abbrev is_done : ReactionResult → Reaction
 is_done e = record { effect = e; verdict = verdict.Done }
 
 -- If no entry is pending, the Pong has Custody.
@@ -118,7 +118,7 @@ abort_gives_up a p moment = refl
 -- ---- outstanding entries
 
 -- A client on an open connection that sends messages of up to 1,152 bytes.
-abbrev client : List OutstandingValue → Standing
+abbrev client : List OutstandingValue → ConnectionState
 client outstanding = record { role = Client; phase = phase.Open; limit = 1152; held = []; most = 0; outstanding = outstanding }
 
 -- A message with the token 1.
@@ -208,7 +208,7 @@ one_cancelled = refl
 
 -- An open connection with this number of the last token and these free bytes. The limits are 2 outstanding entries and
 -- messages of 20 bytes.
-abbrev asking : List OutstandingValue → ℕ → ℕ → Asking
+abbrev asking : List OutstandingValue → ℕ → ℕ → RequestState
 asking outstanding tokens free = record { phase = phase.Open; outstanding = outstanding; most = 2; tokens = tokens; limit = 20; free = free }
 
 -- A GET with the token 1, of 3 bytes.

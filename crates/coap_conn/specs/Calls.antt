@@ -8,11 +8,11 @@ use Rattle.coap_conn.specs.declared.phase.Reject.{Reject as Fault}
 use Rattle.coap_conn.specs.Phases.{takes_messages, answers, is_open}
 use Rattle.coap_conn.specs.Rejects.{reject_reason}
 use Rattle.coap_conn.specs.Fit.{fits, bare_response}
-use Rattle.coap_conn.specs.Held.{HeldValue, Answer, first_due, without_due}
+use Rattle.coap_conn.specs.PendingEntries.{PendingEntryValue, Answer, first_due, without_due}
 use Rattle.coap_conn.specs.Outstanding.{OutstandingValue, with_cancelled}
 use Rattle.coap_conn.specs.Outstanding as outstanding
-use Rattle.coap_conn.specs.Asking.{asking_refusal, cancel_refusal, next_token, with_token, entry_of, ping_with}
-use Rattle.coap_conn.specs.Reaction.{Standing, Effect, stop, abort, send, react, due_effect}
+use Rattle.coap_conn.specs.RequestState.{asking_refusal, cancel_refusal, next_token, with_token, entry_of, ping_with}
+use Rattle.coap_conn.specs.Reaction.{ConnectionState, ReactionResult, stop, abort, send, react, due_effect}
 use Rattle.coap_conn.specs.LinkValue.{LinkValue, can_hold, standing_in, asking_in, bytes_of, own_csm, limit_in, link_with, link_heard}
 
 -- A call with its arguments:
@@ -49,21 +49,21 @@ pub data Call : Type 0 where
 -- - `Asks`: the message `m` is queued, and the outstanding entries and the number of the last token become these.
 -- - `Announces`: a CSM with this size is queued, and the size applies at once.
 -- - `Writes`: `n` bytes were written.
-pub data Deed : Type 0 where
-  Handles : (m : Message) (e : Effect) → Deed
-  Does : (e : Effect) → Deed
-  Holds : (e : HeldValue) → Deed
-  Asks : (m : Message) (outstanding : List OutstandingValue) (tokens : ℕ) → Deed
-  Announces : (size : ℕ) → Deed
-  Writes : (n : ℕ) → Deed
+pub data CallEffect : Type 0 where
+  Handles : (m : Message) (e : ReactionResult) → CallEffect
+  Does : (e : ReactionResult) → CallEffect
+  Holds : (e : PendingEntryValue) → CallEffect
+  Asks : (m : Message) (outstanding : List OutstandingValue) (tokens : ℕ) → CallEffect
+  Announces : (size : ℕ) → CallEffect
+  Writes : (n : ℕ) → CallEffect
 
 -- The effect of a call: `deed` if `so` is true, otherwise none.
 pub record Doing : Type 0 where
   pub so : Bool
-  pub deed : Deed
+  pub deed : CallEffect
 
 -- The effect `deed` if `so` is true.
-abbrev pub where_so : Bool → Deed → Doing
+abbrev pub where_so : Bool → CallEffect → Doing
 where_so so deed = record { so = so; deed = deed }
 
 -- ---- parts of effects
@@ -78,7 +78,7 @@ abbrev pub release : Message
 release = record { code = code.release; token = []; options = []; payload = [] }
 
 -- The state without the pending entry that is due first at `now`.
-abbrev pub standing_due : ℕ → Standing → Standing
+abbrev pub standing_due : ℕ → ConnectionState → ConnectionState
 standing_due now s = record s { held = without_due now s.held }
 
 -- The effect of sending `m`, or `less` if `m` is too large, in the phases that send responses. In other phases there is
@@ -99,25 +99,25 @@ may_announce v size = is_open v.phase && fits (limit_in v) (own_csm size)
 
 -- The effect of a call. Messages, malformed bytes and the end of input have an effect only in phases that accept
 -- messages.
-abbrev pub doing : LinkValue → Call → Doing
-doing v (Handle m) = where_so (takes_messages v.phase) (Handles m (react (standing_in v) m).effect)
-doing v (Reject fault) = where_so (takes_messages v.phase) (Does (abort (standing_in v) (reject_reason fault)))
-doing v (End cut) = where_so (takes_messages v.phase) (Does (stop (standing_in v) (end_reason cut) []))
-doing v (Reply m) = sends_one v m (bare_response m)
-doing v (Hold token moment) = where_so (is_open v.phase && can_hold v) (Holds (Answer token moment))
-doing v (Due now) = where_so true (Does (due_effect (standing_due now (standing_in v)) (first_due now v.held)))
-doing v Release = where_so (is_open v.phase) (Does (stop (standing_in v) ReleasedHere (release ∷ [])))
-doing v (Request m observe) = asks_one v (with_token m (next_token v.tokens)) (entry_of observe (next_token v.tokens))
-doing v (Cancel token m) =
+abbrev pub call_effect : LinkValue → Call → Doing
+call_effect v (Handle m) = where_so (takes_messages v.phase) (Handles m (react (standing_in v) m).effect)
+call_effect v (Reject fault) = where_so (takes_messages v.phase) (Does (abort (standing_in v) (reject_reason fault)))
+call_effect v (End cut) = where_so (takes_messages v.phase) (Does (stop (standing_in v) (end_reason cut) []))
+call_effect v (Reply m) = sends_one v m (bare_response m)
+call_effect v (Hold token moment) = where_so (is_open v.phase && can_hold v) (Holds (Answer token moment))
+call_effect v (Due now) = where_so true (Does (due_effect (standing_due now (standing_in v)) (first_due now v.held)))
+call_effect v Release = where_so (is_open v.phase) (Does (stop (standing_in v) ReleasedHere (release ∷ [])))
+call_effect v (Request m observe) = asks_one v (with_token m (next_token v.tokens)) (entry_of observe (next_token v.tokens))
+call_effect v (Cancel token m) =
     where_so (is_none (cancel_refusal (asking_in v) token (with_token m token))) (Asks (with_token m token) (with_cancelled token v.outstanding) v.tokens)
-doing v (Ping custody) = asks_one v (ping_with custody (next_token v.tokens)) (outstanding.Ping (next_token v.tokens))
-doing v (Announce size) = where_so (may_announce v size) (Announces size)
-doing v (Written n) = where_so true (Writes n)
+call_effect v (Ping custody) = asks_one v (ping_with custody (next_token v.tokens)) (outstanding.Ping (next_token v.tokens))
+call_effect v (Announce size) = where_so (may_announce v size) (Announces size)
+call_effect v (Written n) = where_so true (Writes n)
 
 -- ---- the link after a call
 
 -- The link after an effect.
-abbrev pub link_with_deed : LinkValue → Deed → LinkValue
+abbrev pub link_with_deed : LinkValue → CallEffect → LinkValue
 link_with_deed v (Handles m e) = link_heard v m e
 link_with_deed v (Does e) = link_with v e
 link_with_deed v (Holds e) = record v { held = v.held ++ e ∷ [] }
@@ -131,9 +131,9 @@ link_done v d = if d.so then link_with_deed v d.deed else v
 
 -- The link after a call.
 abbrev pub link_after : LinkValue → Call → LinkValue
-link_after v c = link_done v (doing v c)
+link_after v c = link_done v (call_effect v c)
 
 -- Holds if an effect writes no more bytes than are queued.
-abbrev pub IsWithin : LinkValue → Deed → Type 0
+abbrev pub IsWithin : LinkValue → CallEffect → Type 0
 IsWithin v (Writes n) = n ≤ length v.waiting
 IsWithin v other = Unit {0}

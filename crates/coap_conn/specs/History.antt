@@ -7,12 +7,12 @@ use Rattle.coap_conn.specs.declared.phase.Phase.TheVariants.{Waiting}
 use Rattle.coap_conn.specs.declared.phase.Role.{Role}
 use Rattle.coap_conn.specs.Limits.{LimitValues}
 use Rattle.coap_conn.specs.Announced.{announced, announced_token}
-use Rattle.coap_conn.specs.Held.{HeldValue}
+use Rattle.coap_conn.specs.PendingEntries.{PendingEntryValue}
 use Rattle.coap_conn.specs.Outstanding.{OutstandingValue}
-use Rattle.coap_conn.specs.Asking.{Asking}
-use Rattle.coap_conn.specs.Reaction.{Standing, Effect}
+use Rattle.coap_conn.specs.RequestState.{RequestState}
+use Rattle.coap_conn.specs.Reaction.{ConnectionState, ReactionResult}
 use Rattle.coap_conn.specs.LinkValue.{LinkValue, bytes_of, own_csm, first_csm, limit_in, standing_in, asking_in, can_hold}
-use Rattle.coap_conn.specs.Calls.{Call, Deed, Handles, Does, Holds, Asks, Announces, Writes, Doing, doing, sends_one, asks_one}
+use Rattle.coap_conn.specs.Calls.{Call, CallEffect, Handles, Does, Holds, Asks, Announces, Writes, Doing, call_effect, sends_one, asks_one}
 
 -- The history of one end of a connection. `handled` and `queued` are the messages handled and queued, in order, and
 -- `written` is the number of queued bytes that were written. The other fields are the state: `own_max` is the size of
@@ -26,7 +26,7 @@ pub record History : Type 0 where
   pub written : ℕ
   pub phase : Phase
   pub own_max : ℕ
-  pub held : List HeldValue
+  pub held : List PendingEntryValue
   pub outstanding : List OutstandingValue
   pub tokens : ℕ
 
@@ -64,11 +64,11 @@ abbrev pub limit_now : History → ℕ
 limit_now h = limit_in (link_of h)
 
 -- The state that decides the reaction to a message after a history.
-abbrev pub standing_now : History → Standing
+abbrev pub standing_now : History → ConnectionState
 standing_now h = standing_in (link_of h)
 
 -- The state that decides whether a request may be sent after a history.
-abbrev pub asking_now : History → Asking
+abbrev pub asking_now : History → RequestState
 asking_now h = asking_in (link_of h)
 
 -- True if the pending list is not full.
@@ -78,11 +78,11 @@ may_hold h = can_hold (link_of h)
 -- ---- effects
 
 -- The history after an effect.
-abbrev pub with_effect : History → Effect → History
+abbrev pub with_effect : History → ReactionResult → History
 with_effect h e = record h { queued = h.queued ++ e.queued; phase = e.phase; held = e.held; outstanding = e.outstanding }
 
 -- The history after the effect of a call.
-abbrev pub with_deed : History → Deed → History
+abbrev pub with_deed : History → CallEffect → History
 with_deed h (Handles m e) = record (with_effect h e) { handled = h.handled ++ m ∷ [] }
 with_deed h (Does e) = with_effect h e
 with_deed h (Holds e) = record h { held = h.held ++ e ∷ [] }
@@ -96,7 +96,7 @@ done h d = if d.so then with_deed h d.deed else h
 
 -- The history after a call, whose effect is that on the link that represents the history.
 abbrev pub after : History → Call → History
-after h c = done h (doing (link_of h) c)
+after h c = done h (call_effect (link_of h) c)
 
 -- The history after `m` was sent, or `less` if `m` is too large, in the phases that send responses.
 abbrev pub after_send : History → Message → Message → History

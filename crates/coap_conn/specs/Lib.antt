@@ -7,12 +7,12 @@ pub mod Rejects
 pub mod Announced
 pub mod Fit
 pub mod Verdicts
-pub mod Held
-pub mod HeldViews
+pub mod PendingEntries
+pub mod PendingEntryViews
 pub mod Outstanding
 pub mod OutstandingViews
 pub mod Reaction
-pub mod Asking
+pub mod RequestState
 pub mod LinkValue
 pub mod Calls
 pub mod CallKinds

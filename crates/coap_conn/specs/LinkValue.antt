@@ -13,10 +13,10 @@ use Rattle.coap_conn.specs.declared.phase.Role.{Role}
 use Rattle.coap_conn.specs.Phases.{is_over, answers}
 use Rattle.coap_conn.specs.Limits.{LimitValues}
 use Rattle.coap_conn.specs.Announced.{base_token, bad_csm_option, csm_size, csm_token, announcement, token_announcement, size_limit}
-use Rattle.coap_conn.specs.Held.{HeldValue}
+use Rattle.coap_conn.specs.PendingEntries.{PendingEntryValue}
 use Rattle.coap_conn.specs.Outstanding.{OutstandingValue}
-use Rattle.coap_conn.specs.Asking.{Asking}
-use Rattle.coap_conn.specs.Reaction.{Standing, Effect, csm_reaction, live_reaction}
+use Rattle.coap_conn.specs.RequestState.{RequestState}
+use Rattle.coap_conn.specs.Reaction.{ConnectionState, ReactionResult, csm_reaction, live_reaction}
 use Rattle.coap_wire.specs.declared.sizes.TheConstants.{BASE_MESSAGE_SIZE}
 
 -- The value of a `Link`. `waiting` are the bytes queued for writing. `own_max` is the size of the largest message
@@ -30,7 +30,7 @@ pub record LinkValue : Type 0 where
   pub own_max : ℕ
   pub peer_max : ℕ
   pub peer_token : ℕ
-  pub held : List HeldValue
+  pub held : List PendingEntryValue
   pub outstanding : List OutstandingValue
   pub tokens : ℕ
 
@@ -72,11 +72,11 @@ abbrev pub sizes_of : LinkValue → LimitValues × ℕ
 sizes_of l = (l.limits, l.own_max)
 
 -- The state that decides the reaction to a message.
-abbrev pub standing_in : LinkValue → Standing
+abbrev pub standing_in : LinkValue → ConnectionState
 standing_in v = record { role = v.role; phase = v.phase; limit = limit_in v; held = v.held; most = v.limits.pending; outstanding = v.outstanding }
 
 -- The state that decides whether a request may be sent.
-abbrev pub asking_in : LinkValue → Asking
+abbrev pub asking_in : LinkValue → RequestState
 asking_in v = record { phase = v.phase; outstanding = v.outstanding; most = v.limits.outstanding; tokens = v.tokens; limit = limit_in v; free = free_in v }
 
 -- ---- queued messages
@@ -111,11 +111,11 @@ new_link role limits tokens =
     record { role = role; limits = limits; waiting = bytes_of (first_csm limits.max_message ∷ []); phase = Waiting; own_max = limits.max_message; peer_max = BASE_MESSAGE_SIZE; peer_token = base_token; held = []; outstanding = []; tokens = tokens }
 
 -- The link after an effect.
-abbrev pub link_with : LinkValue → Effect → LinkValue
+abbrev pub link_with : LinkValue → ReactionResult → LinkValue
 link_with v e = record v { waiting = v.waiting ++ bytes_of e.queued; phase = e.phase; held = e.held; outstanding = e.outstanding }
 
 -- The link after a message with this effect. The sizes that the message announces become those of the peer.
-abbrev pub link_heard : LinkValue → Message → Effect → LinkValue
+abbrev pub link_heard : LinkValue → Message → ReactionResult → LinkValue
 link_heard v m e =
     record (link_with v e) { peer_max = unwrap_or (announcement m) v.peer_max; peer_token = unwrap_or (token_announcement m) v.peer_token }
 

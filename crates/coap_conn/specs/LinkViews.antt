@@ -2,7 +2,7 @@
 use Rattle.std.specs.Prelude.{◌≡◌, ◌≤◌, map}
 use Rattle.std.specs.Vec.{vec_capacity}
 use Rattle.coap_conn.specs.LinkValue.{LinkValue, IsLink}
-use Rattle.coap_conn.specs.HeldViews.{held_value}
+use Rattle.coap_conn.specs.PendingEntryViews.{held_value}
 use Rattle.coap_conn.specs.OutstandingViews.{outstanding_value}
 use Rattle.coap_conn.specs.Verdicts.{VerdictValue}
 use Rattle.coap_conn.specs.Verdicts as value

@@ -22,10 +22,10 @@ same_token one other = pointwise nat_eq one other
 
 -- True if a response with this token matches the entry, which is then a request or an observation (RFC 7252 section
 -- 5.3.2).
-abbrev pub is_asked : List ℕ → OutstandingValue → Bool
-is_asked token (Request asked) = same_token asked token
-is_asked token (Observation asked cancelled) = same_token asked token
-is_asked token (Ping asked) = false
+abbrev pub matches_response : List ℕ → OutstandingValue → Bool
+matches_response token (Request asked) = same_token asked token
+matches_response token (Observation asked cancelled) = same_token asked token
+matches_response token (Ping asked) = false
 
 -- True if a response has an Observe option that is recognised (RFC 7641 section 2).
 abbrev pub has_observe : Message → Bool
@@ -52,10 +52,10 @@ is_request_entry (Ping token) = false
 -- ---- Pongs
 
 -- True if a Pong with this token matches the entry, which is then a Ping.
-abbrev pub is_pinged : List ℕ → OutstandingValue → Bool
-is_pinged token (Request asked) = false
-is_pinged token (Observation asked cancelled) = false
-is_pinged token (Ping pinged) = same_token pinged token
+abbrev pub matches_pong : List ℕ → OutstandingValue → Bool
+matches_pong token (Request asked) = false
+matches_pong token (Observation asked cancelled) = false
+matches_pong token (Ping pinged) = same_token pinged token
 
 -- ---- cancellation
 
@@ -75,11 +75,11 @@ cancelled_by token (Ping pinged) = Ping pinged
 
 -- The entries without the requests and observations with this token.
 abbrev pub without_asked : List ℕ → List OutstandingValue → List OutstandingValue
-without_asked token entries = filter (λ e. not (is_asked token e)) entries
+without_asked token entries = filter (λ e. not (matches_response token e)) entries
 
 -- The entries without the Pings with this token.
 abbrev pub without_pinged : List ℕ → List OutstandingValue → List OutstandingValue
-without_pinged token entries = filter (λ e. not (is_pinged token e)) entries
+without_pinged token entries = filter (λ e. not (matches_pong token e)) entries
 
 -- The entries after the cancellation of the observation with this token.
 abbrev pub with_cancelled : List ℕ → List OutstandingValue → List OutstandingValue

@@ -1,8 +1,8 @@
 -- Defined by this project: the value of an `Outstanding` in contracts.
 use Rattle.coap_conn.specs.Outstanding.{OutstandingValue}
 use Rattle.coap_conn.specs.Outstanding as value
-use Rattle.coap_conn.specs.declared.asked.Outstanding.{Outstanding}
-use Rattle.coap_conn.specs.declared.asked.Outstanding.TheVariants.{Request, Observation, Ping}
+use Rattle.coap_conn.specs.declared.outstanding.Outstanding.{Outstanding}
+use Rattle.coap_conn.specs.declared.outstanding.Outstanding.TheVariants.{Request, Observation, Ping}
 
 -- The value of an outstanding entry, with the token as a list of bytes.
 abbrev pub outstanding_value : Outstanding → OutstandingValue

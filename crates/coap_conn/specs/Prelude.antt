@@ -28,20 +28,20 @@ pub use Rattle.coap_conn.specs.Announced.{is_bad, first_size, has_critical_optio
 pub use Rattle.coap_conn.specs.Announced.{token_length, token_told, announcement, token_announcement, csm_size}
 pub use Rattle.coap_conn.specs.Announced.{csm_token, is_size, is_token_length, last_or, last_told}
 unfoldable pub use Rattle.coap_conn.specs.Announced.{announced, announced_token}
-pub use Rattle.coap_conn.specs.Asking.{next_token, observation_refusal, size_refusal, with_token, ping_with, Asking}
-pub use Rattle.coap_conn.specs.Asking.{else_refusal, entry_of, has_observation, token_refusal}
-unfoldable pub use Rattle.coap_conn.specs.Asking.{asking_refusal, cancel_refusal, new_refusal}
+pub use Rattle.coap_conn.specs.RequestState.{next_token, observation_refusal, size_refusal, with_token, ping_with, RequestState}
+pub use Rattle.coap_conn.specs.RequestState.{else_refusal, entry_of, has_observation, token_refusal}
+unfoldable pub use Rattle.coap_conn.specs.RequestState.{asking_refusal, cancel_refusal, new_refusal}
 pub use Rattle.coap_conn.specs.CallKinds.{needs_live, gives_token, announces}
-pub use Rattle.coap_conn.specs.Calls.{Call, release, may_announce, link_after, Announces, Asks, Deed, Does, Doing}
-pub use Rattle.coap_conn.specs.Calls.{Handles, Holds, IsWithin, Writes, asks_one, doing, link_done, link_with_deed}
+pub use Rattle.coap_conn.specs.Calls.{Call, release, may_announce, link_after, Announces, Asks, CallEffect, Does, Doing}
+pub use Rattle.coap_conn.specs.Calls.{Handles, Holds, IsWithin, Writes, asks_one, call_effect, link_done, link_with_deed}
 pub use Rattle.coap_conn.specs.Calls.{standing_due}
 pub use Rattle.coap_conn.specs.Fit.{AllFit, fit, fits, fitted, bare_response, abort_fitted, without_options}
 pub use Rattle.coap_conn.specs.Fit.{without_payload}
-pub use Rattle.coap_conn.specs.Held.{HeldValue, Answer, Pong, HoldsNothingDue, IsDueFirst, come, next_moment}
-pub use Rattle.coap_conn.specs.Held.{AnAnswer, due_told, is_answer_at, least_come, answer_index, pong_index, to_come}
-pub use Rattle.coap_conn.specs.Held.{else_index, held_at, without_at}
-unfoldable pub use Rattle.coap_conn.specs.Held.{first_due, without_due, due_index}
-pub use Rattle.coap_conn.specs.HeldViews.{due_value, held_value}
+pub use Rattle.coap_conn.specs.PendingEntries.{PendingEntryValue, Answer, Pong, NothingIsDue, IsDueFirst, due_moment, next_moment}
+pub use Rattle.coap_conn.specs.PendingEntries.{AnAnswer, due_told, is_answer_at, earliest_due, answer_index, pong_index, future_moment}
+pub use Rattle.coap_conn.specs.PendingEntries.{else_index, held_at, without_at}
+unfoldable pub use Rattle.coap_conn.specs.PendingEntries.{first_due, without_due, due_index}
+pub use Rattle.coap_conn.specs.PendingEntryViews.{due_value, held_value}
 pub use Rattle.coap_conn.specs.History.{History, AnnouncedFirst, link_of, new_history, limit_now, standing_now, after}
 pub use Rattle.coap_conn.specs.History.{after_send, asking_now, after_asking, LinkShows, IsHistory, may_hold}
 pub use Rattle.coap_conn.specs.History.{with_deed, with_effect}
@@ -51,17 +51,17 @@ pub use Rattle.coap_conn.specs.LinkValue.{bytes_of, asking_in, standing_in, link
 pub use Rattle.coap_conn.specs.LinkValue.{can_hold, csm_with, first_csm_with, first_csm, LinkValue, link_heard}
 pub use Rattle.coap_conn.specs.LinkValue.{own_token_length, sizes_of}
 pub use Rattle.coap_conn.specs.LinkViews.{verdict_value, link_value}
-pub use Rattle.coap_conn.specs.Outstanding.{is_asked, is_pinged, may_cancel, is_last, has_observe, without_asked}
+pub use Rattle.coap_conn.specs.Outstanding.{matches_response, matches_pong, may_cancel, is_last, has_observe, without_asked}
 pub use Rattle.coap_conn.specs.Outstanding.{without_pinged, with_cancelled, cancelled_by, OutstandingValue}
 pub use Rattle.coap_conn.specs.Outstanding.{is_request_entry, Observation, Ping}
 unfoldable pub use Rattle.coap_conn.specs.Outstanding.{is_notification}
 pub use Rattle.coap_conn.specs.OutstandingViews.{outstanding_value}
 pub use Rattle.coap_conn.specs.Phases.{stop_of, IsLive, IsAnswering, is_waiting, is_open, answers, takes_messages}
 pub use Rattle.coap_conn.specs.QueueValue.{IsNextPart, free_of, IsQueue}
-pub use Rattle.coap_conn.specs.Reaction.{asks_custody, Standing, send, abort, stay, due_effect, is_custody_pong}
-pub use Rattle.coap_conn.specs.Reaction.{is_reserved, is_signal, is_method, minds_critical_options, csm_reaction}
+pub use Rattle.coap_conn.specs.Reaction.{asks_custody, ConnectionState, send, abort, stay, due_effect, is_custody_pong}
+pub use Rattle.coap_conn.specs.Reaction.{is_reserved, is_signal, is_method, checks_critical_options, csm_reaction}
 pub use Rattle.coap_conn.specs.Reaction.{open_reaction, ping_reaction, request_reaction, release_reaction}
-pub use Rattle.coap_conn.specs.Reaction.{response_reaction, pong_reaction, stop, told_of, pong_with, sends, Effect}
+pub use Rattle.coap_conn.specs.Reaction.{response_reaction, pong_reaction, stop, told_of, pong_with, sends, ReactionResult}
 pub use Rattle.coap_conn.specs.Reaction.{Reaction, answered, becomes, holds, late_pong, leaves, not_implemented}
 pub use Rattle.coap_conn.specs.Reaction.{pong_of, reaction_unless, send_as, tells, aborts, is_asking, is_response}
 unfoldable pub use Rattle.coap_conn.specs.Reaction.{react, live_reaction}
@@ -72,8 +72,8 @@ pub use Rattle.coap_conn.specs.Release.{release_refusal}
 pub use Rattle.coap_conn.specs.RingLends.{ring_row, lends_bytes}
 pub use Rattle.coap_conn.specs.Verdicts.{Request, VerdictValue}
 -- ---- coap_conn, declared
-pub use Rattle.coap_conn.specs.declared.asked.Outstanding.{Outstanding}
-pub use Rattle.coap_conn.specs.declared.pending.Held.{Held}
+pub use Rattle.coap_conn.specs.declared.outstanding.Outstanding.{Outstanding}
+pub use Rattle.coap_conn.specs.declared.pending.PendingEntry.{PendingEntry}
 pub use Rattle.coap_conn.specs.declared.phase.Phase.{Phase}
 pub use Rattle.coap_conn.specs.declared.phase.Reject.{Reject}
 pub use Rattle.coap_conn.specs.declared.phase.Reply.{Reply}

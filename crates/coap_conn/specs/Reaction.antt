@@ -16,70 +16,70 @@ use Rattle.coap_conn.specs.declared.phase.Reply.TheVariants as reply
 use Rattle.coap_conn.specs.Reasons.{abort_of}
 use Rattle.coap_conn.specs.Announced.{has_critical_option, bad_csm_option}
 use Rattle.coap_conn.specs.Fit.{fit, bare_response, without_options, abort_fitted}
-use Rattle.coap_conn.specs.Held.{HeldValue, Answer, Pong}
-use Rattle.coap_conn.specs.Outstanding.{OutstandingValue, is_asked, is_last, is_pinged, without_asked, without_pinged}
+use Rattle.coap_conn.specs.PendingEntries.{PendingEntryValue, Answer, Pong}
+use Rattle.coap_conn.specs.Outstanding.{OutstandingValue, matches_response, is_last, matches_pong, without_asked, without_pinged}
 use Rattle.coap_conn.specs.Verdicts.{VerdictValue}
 use Rattle.coap_conn.specs.Verdicts as verdict
 
 -- The state that decides a reaction. `limit` is the size of the largest message that may be sent, `held` are the
 -- pending entries, and `most` is their limit.
-pub record Standing : Type 0 where
+pub record ConnectionState : Type 0 where
   pub role : Role
   pub phase : Phase
   pub limit : ℕ
-  pub held : List HeldValue
+  pub held : List PendingEntryValue
   pub most : ℕ
   pub outstanding : List OutstandingValue
 
 -- The effect of a reaction: the messages queued, and the state after it.
-pub record Effect : Type 0 where
+pub record ReactionResult : Type 0 where
   pub queued : List Message
   pub phase : Phase
-  pub held : List HeldValue
+  pub held : List PendingEntryValue
   pub outstanding : List OutstandingValue
 
 -- A reaction: its effect, and the verdict that the caller receives.
 pub record Reaction : Type 0 where
-  pub effect : Effect
+  pub effect : ReactionResult
   pub verdict : VerdictValue
 
 -- ---- effects
 
 -- No change.
-abbrev pub stay : Standing → Effect
+abbrev pub stay : ConnectionState → ReactionResult
 stay s = record { queued = []; phase = s.phase; held = s.held; outstanding = s.outstanding }
 
 -- A stop of the connection, the only one defined. These messages are the last ones queued, and all pending and
 -- outstanding entries are dropped.
-abbrev pub stop : Standing → Reason → List Message → Effect
+abbrev pub stop : ConnectionState → Reason → List Message → ReactionResult
 stop s why farewell = record { queued = farewell; phase = phase.Stopped why; held = []; outstanding = [] }
 
 -- A stop with the Abort for its reason, if there is one, reduced to fit the peer's limit.
-abbrev pub abort : Standing → Reason → Effect
+abbrev pub abort : ConnectionState → Reason → ReactionResult
 abort s why = stop s why (abort_fitted s.limit (abort_of why))
 
 -- The effect of sending `m` with this result: `m` is queued, or `less` in its place, or the connection stops.
-abbrev pub send_as : Standing → Message → Message → Reply → Effect
+abbrev pub send_as : ConnectionState → Message → Message → Reply → ReactionResult
 send_as s m less reply.Whole = record (stay s) { queued = m ∷ [] }
 send_as s m less reply.Bare = record (stay s) { queued = less ∷ [] }
 send_as s m less reply.Stopped = stop s PeerTooSmall []
 
 -- The effect of sending `m`, or `less` if `m` is too large. If both are too large, the connection stops.
-abbrev pub send : Standing → Message → Message → Effect
+abbrev pub send : ConnectionState → Message → Message → ReactionResult
 send s m less = send_as s m less (fit s.limit m less)
 
 -- ---- parts of reactions
 
 -- No change, and this verdict.
-abbrev pub tells : Standing → VerdictValue → Reaction
+abbrev pub tells : ConnectionState → VerdictValue → Reaction
 tells s what = record { effect = stay s; verdict = what }
 
 -- Another phase, and this verdict. No message is queued.
-abbrev pub becomes : Standing → Phase → VerdictValue → Reaction
+abbrev pub becomes : ConnectionState → Phase → VerdictValue → Reaction
 becomes s now what = record { effect = record (stay s) { phase = now }; verdict = what }
 
 -- A stop with the Abort for its reason, and the verdict `Stopped`.
-abbrev pub aborts : Standing → Reason → Reaction
+abbrev pub aborts : ConnectionState → Reason → Reaction
 aborts s why = record { effect = abort s why; verdict = verdict.Stopped why }
 
 -- The verdict on a message to which a reply was sent with this result.
@@ -89,7 +89,7 @@ told_of reply.Bare = verdict.Done
 told_of reply.Stopped = verdict.Stopped PeerTooSmall
 
 -- The reply `m` to a message, or `less` if `m` is too large, and the verdict on that message.
-abbrev pub sends : Standing → Message → Message → Reaction
+abbrev pub sends : ConnectionState → Message → Message → Reaction
 sends s m less = record { effect = send s m less; verdict = told_of (fit s.limit m less) }
 
 -- ---- codes
@@ -115,14 +115,14 @@ abbrev pub is_response : Message → Bool
 is_response m = code.class_of m.code == 2 || (code.class_of m.code == 4 || code.class_of m.code == 5)
 
 -- True if a critical option stops the connection in messages with this code: Ping, Pong and Release.
-abbrev pub minds_critical_options : ℕ → Bool
-minds_critical_options byte = byte == code.ping || byte == code.pong || byte == code.release
+abbrev pub checks_critical_options : ℕ → Bool
+checks_critical_options byte = byte == code.ping || byte == code.pong || byte == code.release
 
 -- ---- messages
 
 -- The reaction to a CSM. The first option that a CSM must not have, given by its number, stops the connection.
 -- Otherwise the connection is open.
-abbrev pub csm_reaction : Standing → Option ℕ → Reaction
+abbrev pub csm_reaction : ConnectionState → Option ℕ → Reaction
 csm_reaction s (Some number) = aborts s (BadCsm number)
 csm_reaction s None = becomes s phase.Open (if is_waiting s.phase then verdict.Opened else verdict.Done)
 
@@ -148,17 +148,17 @@ abbrev pub is_custody_pong : Message → Bool
 is_custody_pong m = m.code == code.pong && asks_custody m
 
 -- The reaction that appends this entry to the pending list, and the verdict `Done`.
-abbrev pub holds : Standing → HeldValue → Reaction
+abbrev pub holds : ConnectionState → PendingEntryValue → Reaction
 holds s e = record { effect = record (stay s) { held = s.held ++ e ∷ [] }; verdict = verdict.Done }
 
 -- The reaction to a Ping with Custody if entries are pending: the Pong is appended to the pending list. If the list is
 -- full, the Pong is sent at once without Custody.
-abbrev pub late_pong : Standing → Message → Reaction
+abbrev pub late_pong : ConnectionState → Message → Reaction
 late_pong s m = if nat_lt (length s.held) s.most then holds s (Pong m.token) else sends s (pong_with false m.token) (pong_with false m.token)
 
 -- The reaction to a Ping. A Pong with Custody says that all requests before the Ping were answered, so it waits for the
 -- pending entries (RFC 8323 section 5.4.1).
-abbrev pub ping_reaction : Standing → Message → Reaction
+abbrev pub ping_reaction : ConnectionState → Message → Reaction
 ping_reaction s m = if asks_custody m && nat_lt 0 (length s.held) then late_pong s m else sends s (pong_of m) (without_options (pong_of m))
 
 -- The response 5.01 (Not Implemented) to a request.
@@ -166,23 +166,23 @@ abbrev pub not_implemented : Message → Message
 not_implemented m = record { code = code.not_implemented; token = m.token; options = []; payload = [] }
 
 -- The reaction to a request. At a server the caller responds; at a client the response is 5.01.
-abbrev pub request_reaction : Standing → Message → Role → Reaction
+abbrev pub request_reaction : ConnectionState → Message → Role → Reaction
 request_reaction s m Server = tells s verdict.Request
 request_reaction s m Client = sends s (not_implemented m) (bare_response (not_implemented m))
 
 -- The reaction to a Release. No more messages are accepted, and outstanding entries are dropped. Pending entries are
 -- still sent (RFC 8323 section 5.5).
-abbrev pub release_reaction : Standing → Reaction
+abbrev pub release_reaction : ConnectionState → Reaction
 release_reaction s = record { effect = record (stay s) { phase = phase.Releasing PeerRelease; outstanding = [] }; verdict = verdict.Stopped PeerRelease }
 
 -- ---- responses and Pongs
 
 -- The reaction that leaves these entries outstanding, and this verdict.
-abbrev pub leaves : Standing → List OutstandingValue → VerdictValue → Reaction
+abbrev pub leaves : ConnectionState → List OutstandingValue → VerdictValue → Reaction
 leaves s outstanding what = record { effect = record (stay s) { outstanding = outstanding }; verdict = what }
 
 -- The reaction to a response that matches this entry, or none. The last response removes the entry.
-abbrev pub answered : Standing → Message → Option OutstandingValue → Reaction
+abbrev pub answered : ConnectionState → Message → Option OutstandingValue → Reaction
 answered s m None = tells s verdict.Stranger
 answered s m (Some e) =
     if is_last m e then leaves s (without_asked m.token s.outstanding) (verdict.Answer m.token true)
@@ -190,21 +190,21 @@ answered s m (Some e) =
 
 -- The reaction to a response, which matches the request or observation with its token, or none (RFC 7252 section
 -- 5.3.2).
-abbrev pub response_reaction : Standing → Message → Reaction
-response_reaction s m = answered s m (find (is_asked m.token) s.outstanding)
+abbrev pub response_reaction : ConnectionState → Message → Reaction
+response_reaction s m = answered s m (find (matches_response m.token) s.outstanding)
 
 -- The reaction to a Pong, which matches the Ping with its token, or none (RFC 8323 section 5.4).
-abbrev pub pong_reaction : Standing → Message → Reaction
+abbrev pub pong_reaction : ConnectionState → Message → Reaction
 pong_reaction s m =
-    if list_any (is_pinged m.token) s.outstanding
+    if list_any (matches_pong m.token) s.outstanding
     then leaves s (without_pinged m.token s.outstanding) (verdict.Pong m.token (asks_custody m))
     else tells s verdict.Stranger
 
 -- The reaction of an open connection to a message that is neither Empty nor CSM nor Abort, and whose code is not
 -- reserved. The first case that applies decides.
-abbrev pub open_reaction : Standing → Message → Reaction
+abbrev pub open_reaction : ConnectionState → Message → Reaction
 open_reaction s m =
-    if minds_critical_options m.code && has_critical_option m then aborts s BadSignalOption
+    if checks_critical_options m.code && has_critical_option m then aborts s BadSignalOption
     else (if m.code == code.ping then ping_reaction s m
     else (if m.code == code.release then release_reaction s
     else (if m.code == code.pong then pong_reaction s m
@@ -214,7 +214,7 @@ open_reaction s m =
 
 -- The reaction to a message in the phases `Waiting` and `Open`. The first case that applies decides. An Abort is not
 -- answered by an Abort.
-unfoldable pub live_reaction : Standing → Message → Reaction
+unfoldable pub live_reaction : ConnectionState → Message → Reaction
 live_reaction s m =
     if is_reserved m.code then aborts s ReservedCode
     else (if m.code == code.empty then tells s verdict.Done
@@ -224,19 +224,19 @@ live_reaction s m =
     else open_reaction s m))))
 
 -- The reaction to a message, which changes nothing if there is a reason to accept none.
-abbrev pub reaction_unless : Standing → Message → Option Reason → Reaction
+abbrev pub reaction_unless : ConnectionState → Message → Option Reason → Reaction
 reaction_unless s m None = live_reaction s m
 reaction_unless s m (Some why) = tells s (verdict.Stopped why)
 
 -- The reaction to a message.
-unfoldable pub react : Standing → Message → Reaction
+unfoldable pub react : ConnectionState → Message → Reaction
 react s m = reaction_unless s m (stop_of s.phase)
 
 -- ---- due entries
 
 -- The effect after an entry that was due is removed. A response is sent by the caller. A Pong is sent with Custody, or
 -- without if only that fits.
-abbrev pub due_effect : Standing → Option HeldValue → Effect
+abbrev pub due_effect : ConnectionState → Option PendingEntryValue → ReactionResult
 due_effect s None = stay s
 due_effect s (Some (Answer token moment)) = stay s
 due_effect s (Some (Pong token)) = send s (pong_with true token) (pong_with false token)

@@ -8,9 +8,9 @@ ghost use Rattle.coap_conn.specs.Prelude.{token_announcement, announced_token, A
 ghost use Rattle.coap_conn.specs.Prelude.{History, AnnouncedFirst, link_of, new_history, limit_now, standing_now};
 ghost use Rattle.coap_conn.specs.Prelude.{after, after_send, asking_now, after_asking, Call, release, may_announce};
 ghost use Rattle.coap_conn.specs.Prelude.{needs_live, gives_token, announces, asking_refusal, cancel_refusal};
-ghost use Rattle.coap_conn.specs.Prelude.{next_token, OutstandingValue, is_asked, is_pinged, is_notification};
-ghost use Rattle.coap_conn.specs.Prelude.{is_request_entry, without_asked, without_pinged, stop_of, HeldValue, Answer};
-ghost use Rattle.coap_conn.specs.Prelude.{Pong, HoldsNothingDue, IsDueFirst, come, first_due, without_due, Standing};
+ghost use Rattle.coap_conn.specs.Prelude.{next_token, OutstandingValue, matches_response, matches_pong, is_notification};
+ghost use Rattle.coap_conn.specs.Prelude.{is_request_entry, without_asked, without_pinged, stop_of, PendingEntryValue, Answer};
+ghost use Rattle.coap_conn.specs.Prelude.{Pong, NothingIsDue, IsDueFirst, due_moment, first_due, without_due, ConnectionState};
 ghost use Rattle.coap_conn.specs.Prelude.{react, send, abort, stay, due_effect, is_custody_pong, asks_custody};
 ghost use Rattle.coap_conn.specs.Prelude.{is_reserved, is_signal, is_method, Request, Reject, Role, Reason};
 ghost use Rattle.coap_conn.specs.Calls as call;
@@ -32,14 +32,14 @@ pub fn last_announcement_counts()
 {}
 
 /// States that each message, at the time when it is queued, fits `max_sent` and the peer's Max-Message-Size.
-pub fn what_is_queued_fits()
+pub fn queued_messages_fit_limit()
     ensures new { (role : Role) (limits : LimitValues) (tokens : ℕ) → AreInRange limits →
         AllFit (limit_now (new_history role limits tokens)) (new_history role limits tokens).queued }
     ensures message { (h : History) (m : Message) → AllFit (limit_now h) (react (standing_now h) m).effect.queued }
     ensures sent { (h : History) (m less : Message) → AllFit (limit_now h) (send (standing_now h) m less).queued }
     ensures stopped { (h : History) (why : Reason) → AllFit (limit_now h) (abort (standing_now h) why).queued }
     ensures released { (h : History) → 2 ≤ limit_now h → AllFit (limit_now h) (release ∷ []) }
-    ensures due { (h : History) (e : Option HeldValue) → AllFit (limit_now h) (due_effect (standing_now h) e).queued }
+    ensures due { (h : History) (e : Option PendingEntryValue) → AllFit (limit_now h) (due_effect (standing_now h) e).queued }
     ensures asked { (h : History) (m : Message) → asking_refusal (asking_now h) m ≡ None →
         AllFit (limit_now h) (m ∷ []) }
     ensures announced { (h : History) (size : ℕ) → may_announce (link_of h) size ≡ true
@@ -69,10 +69,10 @@ pub fn own_size_is_announced()
 /// States that no message is taken as a request before the peer's CSM. Only a valid CSM opens the connection (RFC 8323
 /// section 3.3).
 pub fn peer_announces_before_requests()
-    ensures request { (s : Standing) (m : Message) → s.phase ≡ Waiting → (react s m).verdict ≡ Request → ⊥ }
-    ensures opens_by_code { (s : Standing) (m : Message) → s.phase ≡ Waiting → (react s m).effect.phase ≡ Open →
+    ensures request { (s : ConnectionState) (m : Message) → s.phase ≡ Waiting → (react s m).verdict ≡ Request → ⊥ }
+    ensures opens_by_code { (s : ConnectionState) (m : Message) → s.phase ≡ Waiting → (react s m).effect.phase ≡ Open →
         m.code ≡ code.csm }
-    ensures opens_whole { (s : Standing) (m : Message) → s.phase ≡ Waiting → (react s m).effect.phase ≡ Open →
+    ensures opens_whole { (s : ConnectionState) (m : Message) → s.phase ≡ Waiting → (react s m).effect.phase ≡ Open →
         bad_csm_option m ≡ None }
 {}
 
@@ -81,7 +81,7 @@ pub fn peer_announces_before_requests()
 pub fn nothing_follows_a_stop()
     ensures call { (h : History) (c : Call) (why : Reason) → needs_live c ≡ true → stop_of h.phase ≡ Some why →
         after h c ≡ h }
-    ensures told { (s : Standing) (m : Message) (why : Reason) → stop_of s.phase ≡ Some why →
+    ensures told { (s : ConnectionState) (m : Message) (why : Reason) → stop_of s.phase ≡ Some why →
         (react s m).verdict ≡ verdict.Stopped why }
     ensures sent { (h : History) (m less : Message) (why : Reason) → h.phase ≡ Stopped why → after_send h m less ≡ h }
 {}
@@ -89,16 +89,16 @@ pub fn nothing_follows_a_stop()
 /// States which entry is due first, and that it is removed from the list. Responses whose time has come precede Pongs:
 /// the earliest time first, and of equal times the first entry. Otherwise a Pong is due that no entry precedes. No
 /// entry is returned only if none is due.
-pub fn what_is_due_comes_first()
-    ensures answer { (now : ℕ) (held : List HeldValue) (token : List ℕ) (moment : ℕ) →
+pub fn due_entry_is_first()
+    ensures answer { (now : ℕ) (held : List PendingEntryValue) (token : List ℕ) (moment : ℕ) →
         first_due now held ≡ Some (Answer token moment) → IsDueFirst now held token moment (without_due now held) }
-    ensures pong { (now : ℕ) (held : List HeldValue) (token : List ℕ) → first_due now held ≡ Some (Pong token) →
+    ensures pong { (now : ℕ) (held : List PendingEntryValue) (token : List ℕ) → first_due now held ≡ Some (Pong token) →
         held ≡ Pong token ∷ without_due now held }
-    ensures alone { (now : ℕ) (held : List HeldValue) (token : List ℕ) → first_due now held ≡ Some (Pong token) →
-        AllByRecursion (λ e. come now e ≡ None) held }
-    ensures nothing { (now : ℕ) (held : List HeldValue) → first_due now held ≡ None →
-        HoldsNothingDue now held × (without_due now held ≡ held) }
-    ensures fewer { (now : ℕ) (held : List HeldValue) (e : HeldValue) → first_due now held ≡ Some e →
+    ensures alone { (now : ℕ) (held : List PendingEntryValue) (token : List ℕ) → first_due now held ≡ Some (Pong token) →
+        AllByRecursion (λ e. due_moment now e ≡ None) held }
+    ensures nothing { (now : ℕ) (held : List PendingEntryValue) → first_due now held ≡ None →
+        NothingIsDue now held × (without_due now held ≡ held) }
+    ensures fewer { (now : ℕ) (held : List PendingEntryValue) (e : PendingEntryValue) → first_due now held ≡ Some e →
         length held ≡ 1 + length (without_due now held) }
 {}
 
@@ -106,55 +106,55 @@ pub fn what_is_due_comes_first()
 /// of pending entries stays within its limit. A message only appends to the list, a Release leaves it unchanged, and a
 /// message that stops the connection empties it.
 pub fn custody_waits_for_what_is_held()
-    ensures at_once { (s : Standing) (m : Message) → list_any is_custody_pong (react s m).effect.queued ≡ true →
+    ensures at_once { (s : ConnectionState) (m : Message) → list_any is_custody_pong (react s m).effect.queued ≡ true →
         s.held ≡ [] }
-    ensures few { (s : Standing) (m : Message) → length s.held ≤ s.most → length (react s m).effect.held ≤ s.most }
-    ensures kept { (s : Standing) (m : Message) → stop_of (react s m).effect.phase ≡ None →
-        (more : List HeldValue) × ((react s m).effect.held ≡ s.held ++ more) }
-    ensures released { (s : Standing) (m : Message) (why : Reason) → s.phase ≡ Open →
+    ensures few { (s : ConnectionState) (m : Message) → length s.held ≤ s.most → length (react s m).effect.held ≤ s.most }
+    ensures kept { (s : ConnectionState) (m : Message) → stop_of (react s m).effect.phase ≡ None →
+        (more : List PendingEntryValue) × ((react s m).effect.held ≡ s.held ++ more) }
+    ensures released { (s : ConnectionState) (m : Message) (why : Reason) → s.phase ≡ Open →
         (react s m).effect.phase ≡ Releasing why → (react s m).effect.held ≡ s.held }
-    ensures given_up { (s : Standing) (m : Message) (why : Reason) → stop_of s.phase ≡ None →
+    ensures given_up { (s : ConnectionState) (m : Message) (why : Reason) → stop_of s.phase ≡ None →
         (react s m).effect.phase ≡ Stopped why → (react s m).effect.held ≡ [] }
 {}
 
 /// States that the number of outstanding entries stays within its limit. A message adds none, and a cancellation leaves
 /// their number unchanged. A stop and the peer's Release empty the list.
 pub fn outstanding_is_limited()
-    ensures message { (s : Standing) (m : Message) → length (react s m).effect.outstanding ≤ length s.outstanding }
+    ensures message { (s : ConnectionState) (m : Message) → length (react s m).effect.outstanding ≤ length s.outstanding }
     ensures call { (h : History) (c : Call) → length h.outstanding ≤ h.limits.outstanding →
         length (after h c).outstanding ≤ h.limits.outstanding }
     ensures cancelled { (h : History) (token : List ℕ) (m : Message) →
         length (after h (call.Cancel token m)).outstanding ≡ length h.outstanding }
-    ensures given_up { (s : Standing) (m : Message) (why : Reason) → stop_of s.phase ≡ None →
+    ensures given_up { (s : ConnectionState) (m : Message) (why : Reason) → stop_of s.phase ≡ None →
         stop_of (react s m).effect.phase ≡ Some why → (react s m).effect.outstanding ≡ [] }
 {}
 
 /// States which outstanding entry a response or a Pong matches: that with its token (RFC 7252 section 5.3.2). After the
 /// last response no request or observation has the token. Any other response is a notification and changes nothing (RFC
 /// 7641 section 3.6). A response or Pong that matches an entry is reported, and one that matches none changes nothing.
-pub fn answers_end_what_was_asked()
-    ensures answer { (s : Standing) (m : Message) (token : List ℕ) (last : Bool) →
+pub fn responses_end_requests()
+    ensures answer { (s : ConnectionState) (m : Message) (token : List ℕ) (last : Bool) →
         (react s m).verdict ≡ verdict.Answer token last →
-        (token ≡ m.token) × (list_any (is_asked token) s.outstanding ≡ true) }
-    ensures last { (s : Standing) (m : Message) (token : List ℕ) → (react s m).verdict ≡ verdict.Answer token true →
+        (token ≡ m.token) × (list_any (matches_response token) s.outstanding ≡ true) }
+    ensures last { (s : ConnectionState) (m : Message) (token : List ℕ) → (react s m).verdict ≡ verdict.Answer token true →
         (react s m).effect ≡ record (stay s) { outstanding = without_asked token s.outstanding } }
     ensures gone { (token : List ℕ) (outstanding : List OutstandingValue) →
-        list_any (is_asked token) (without_asked token outstanding) ≡ false }
-    ensures notified { (s : Standing) (m : Message) (token : List ℕ) →
+        list_any (matches_response token) (without_asked token outstanding) ≡ false }
+    ensures notified { (s : ConnectionState) (m : Message) (token : List ℕ) →
         (react s m).verdict ≡ verdict.Answer token false → (is_notification m ≡ true) × ((react s m).effect ≡ stay s) }
-    ensures ended { (s : Standing) (m : Message) (token : List ℕ) → (react s m).verdict ≡ verdict.Answer token true →
-        is_notification m ≡ true → list_any (λ e. is_asked token e && is_request_entry e) s.outstanding ≡ true }
-    ensures pong { (s : Standing) (m : Message) (token : List ℕ) (custody : Bool) →
+    ensures ended { (s : ConnectionState) (m : Message) (token : List ℕ) → (react s m).verdict ≡ verdict.Answer token true →
+        is_notification m ≡ true → list_any (λ e. matches_response token e && is_request_entry e) s.outstanding ≡ true }
+    ensures pong { (s : ConnectionState) (m : Message) (token : List ℕ) (custody : Bool) →
         (react s m).verdict ≡ verdict.Pong token custody →
-        (token ≡ m.token) × (custody ≡ asks_custody m) × (list_any (is_pinged token) s.outstanding ≡ true)
+        (token ≡ m.token) × (custody ≡ asks_custody m) × (list_any (matches_pong token) s.outstanding ≡ true)
         × ((react s m).effect ≡ record (stay s) { outstanding = without_pinged token s.outstanding }) }
-    ensures stranger { (s : Standing) (m : Message) → (react s m).verdict ≡ verdict.Stranger →
+    ensures stranger { (s : ConnectionState) (m : Message) → (react s m).verdict ≡ verdict.Stranger →
         (react s m).effect ≡ stay s }
-    ensures response_told { (s : Standing) (m : Message) → s.phase ≡ Open → is_reserved m.code ≡ false →
-        is_signal m.code ≡ false → is_method m.code ≡ false → list_any (is_asked m.token) s.outstanding ≡ true →
+    ensures response_told { (s : ConnectionState) (m : Message) → s.phase ≡ Open → is_reserved m.code ≡ false →
+        is_signal m.code ≡ false → is_method m.code ≡ false → list_any (matches_response m.token) s.outstanding ≡ true →
         (last : Bool) × ((react s m).verdict ≡ verdict.Answer m.token last) }
-    ensures pong_told { (s : Standing) (m : Message) → s.phase ≡ Open → m.code ≡ code.pong →
-        has_critical_option m ≡ false → list_any (is_pinged m.token) s.outstanding ≡ true →
+    ensures pong_told { (s : ConnectionState) (m : Message) → s.phase ≡ Open → m.code ≡ code.pong →
+        has_critical_option m ≡ false → list_any (matches_pong m.token) s.outstanding ≡ true →
         (react s m).verdict ≡ verdict.Pong m.token (asks_custody m) }
 {}
 

@@ -12,7 +12,7 @@
 //! `coap_server_session` and `coap_client_engine` have a link each. Continue with `link.rt`.
 #![tactic(auto)]
 
-mod asked;
+mod outstanding;
 mod csm;
 pub mod laws;
 mod limits;

@@ -3,16 +3,16 @@
 //! The clauses `after`, `answer` and `err` of a call state its exact effect on the `Link`. The clause `shows` states
 //! its meaning: which history of messages the link represents after the call.
 
-mod asking;
-mod heard;
-mod holding;
-mod sending;
+mod new_requests;
+mod receive;
+mod due_entries;
+mod transmit;
 
-use crate::asked::Outstanding;
+use crate::outstanding::Outstanding;
 use crate::csm::BASE_TOKEN;
 use crate::limits::Limits;
 use crate::messages::announce_first;
-use crate::pending::{Held, next_of};
+use crate::pending::{PendingEntry, next_of};
 use crate::phase::{Phase, Role};
 use crate::queue::OutQueue;
 use coap_wire::BASE_MESSAGE_SIZE;
@@ -31,7 +31,7 @@ pub struct Link {
     peer_max: u32,
     peer_token: u32,
     /// Delayed responses and Pongs. The memory is reserved once.
-    pending: Vec<Held>,
+    pending: Vec<PendingEntry>,
     /// Outstanding requests, observations and Pings. The memory is reserved once.
     asked: Vec<Outstanding>,
     tokens: u64,

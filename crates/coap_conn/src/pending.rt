@@ -2,16 +2,16 @@
 
 ghost use Rattle.std.specs.Prelude.{◌≡◌, ℕ, List, map, option_map, filter_map, position, ◌≤◌, ◌<◌, ◌++◌, ◌∷◌, []};
 ghost use Rattle.std.specs.Prelude.{length, not, nat_lt, IfOk, IfSome, Some, slice_get, ◌==◌, remove};
-ghost use Rattle.coap_conn.specs.Prelude.{reduce, come as moment_come, is_answer_at as is_answer_due_at};
-ghost use Rattle.coap_conn.specs.Prelude.{least_come as least_moment, answer_index as index_of_answer};
+ghost use Rattle.coap_conn.specs.Prelude.{reduce, due_moment as moment_come, is_answer_at as is_answer_due_at};
+ghost use Rattle.coap_conn.specs.Prelude.{earliest_due as least_moment, answer_index as index_of_answer};
 ghost use Rattle.coap_conn.specs.Prelude.{due_index as index_due, next_moment as moment_next, pong_index};
-ghost use Rattle.coap_conn.specs.Prelude.{to_come as moment_to_come, held_value};
+ghost use Rattle.coap_conn.specs.Prelude.{future_moment as moment_to_come, held_value};
 
 use coap_wire::Token;
 
-/// Entry of the pending list. In contracts its value is a `HeldValue`.
+/// Entry of the pending list. In contracts its value is a `PendingEntryValue`.
 #[derive(Drop)]
-pub(crate) enum Held {
+pub(crate) enum PendingEntry {
     /// Response to a request, due at a time.
     Answer {
         /// Token of the request.
@@ -23,23 +23,23 @@ pub(crate) enum Held {
     Pong(Token),
 }
 
-impl Held {
+impl PendingEntry {
     /// Returns the time of a response that is due at `now` or earlier.
-    fn come(&self, now: u64) -> Option<u64>
+    fn due_moment(&self, now: u64) -> Option<u64>
         ensures { result ≡ moment_come now (held_value self.now) }
     {
         match self {
-            Held::Answer { moment, .. } if *moment <= now => Some(*moment),
+            PendingEntry::Answer { moment, .. } if *moment <= now => Some(*moment),
             _ => None,
         }
     }
 
     /// Returns the time of a response that is due after `now`.
-    fn to_come(&self, now: u64) -> Option<u64>
+    fn future_moment(&self, now: u64) -> Option<u64>
         ensures { result ≡ moment_to_come now (held_value self.now) }
     {
         match self {
-            Held::Answer { moment, .. } if *moment > now => Some(*moment),
+            PendingEntry::Answer { moment, .. } if *moment > now => Some(*moment),
             _ => None,
         }
     }
@@ -49,15 +49,15 @@ impl Held {
         ensures { result ≡ is_answer_due_at due (held_value self.now) }
     {
         match self {
-            Held::Answer { moment, .. } => *moment == due,
-            Held::Pong(_) => false,
+            PendingEntry::Answer { moment, .. } => *moment == due,
+            PendingEntry::Pong(_) => false,
         }
     }
 }
 
 /// Returns the index of the entry that is due first at `now`. Responses whose time has come precede Pongs: the earliest
 /// time first, and of equal times the first entry. Otherwise a Pong is due if it is the first entry of the list.
-pub(crate) fn due_in(held: &[Held], now: u64) -> Option<usize>
+pub(crate) fn due_in(held: &[PendingEntry], now: u64) -> Option<usize>
     ensures first { result ≡ index_due now (map held_value held.now) }
     ensures within { IfSome result (λ i. i < length held.now) }
 {
@@ -68,33 +68,33 @@ pub(crate) fn due_in(held: &[Held], now: u64) -> Option<usize>
 }
 
 /// Returns the index of the response that is due first at `now`: of the earliest time, the first entry.
-fn answer_in(held: &[Held], now: u64) -> Option<usize>
+fn answer_in(held: &[PendingEntry], now: u64) -> Option<usize>
     ensures { result ≡ index_of_answer (least_moment now (map held_value held.now)) (map held_value held.now) }
 {
-    let least = least_come(held, now)?;
+    let least = earliest_due(held, now)?;
     held.iter().position(|one| one.is_answer_at(least))
 }
 
 /// Returns the earliest time of the responses that are due at `now`.
-fn least_come(held: &[Held], now: u64) -> Option<u64>
+fn earliest_due(held: &[PendingEntry], now: u64) -> Option<u64>
     ensures { result ≡ least_moment now (map held_value held.now) }
 {
-    held.iter().filter_map(|one| one.come(now)).min()
+    held.iter().filter_map(|one| one.due_moment(now)).min()
 }
 
 /// Returns the earliest time, after `now`, at which a response is due.
-pub(crate) fn next_of(held: &[Held], now: u64) -> Option<u64>
+pub(crate) fn next_of(held: &[PendingEntry], now: u64) -> Option<u64>
     ensures { result ≡ moment_next now (map held_value held.now) }
 {
-    held.iter().filter_map(|one| one.to_come(now)).min()
+    held.iter().filter_map(|one| one.future_moment(now)).min()
 }
 
 /// Returns the index of a Pong that no entry precedes, which is 0.
-fn pong_in(held: &[Held]) -> Option<usize>
+fn pong_in(held: &[PendingEntry]) -> Option<usize>
     ensures { result ≡ pong_index (map held_value held.now) }
 {
     match held {
-        [Held::Pong(_), ..] => Some(0),
+        [PendingEntry::Pong(_), ..] => Some(0),
         _ => None,
     }
 }

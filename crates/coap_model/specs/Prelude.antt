@@ -28,17 +28,17 @@ pub use Rattle.coap_wire.specs.declared.sizes.TheConstants.{LARGEST_MESSAGE}
 -- ---- coap_conn
 pub use Rattle.coap_conn.specs.Announced.{announcement, bad_csm_option, csm_size, size_limit, size_unless}
 unfoldable pub use Rattle.coap_conn.specs.Announced.{announced}
-pub use Rattle.coap_conn.specs.Calls.{standing_due, end_reason, Call, doing, may_announce, release}
+pub use Rattle.coap_conn.specs.Calls.{standing_due, end_reason, Call, call_effect, may_announce, release}
 pub use Rattle.coap_conn.specs.Fit.{AllFit, bare_response, fit, bare_code, fits}
-pub use Rattle.coap_conn.specs.Held.{HeldValue, Answer, Pong, HoldsNothingDue, answer_index, come, else_index}
-pub use Rattle.coap_conn.specs.Held.{held_at, pong_index}
-unfoldable pub use Rattle.coap_conn.specs.Held.{first_due, without_due, due_index}
+pub use Rattle.coap_conn.specs.PendingEntries.{PendingEntryValue, Answer, Pong, NothingIsDue, answer_index, due_moment, else_index}
+pub use Rattle.coap_conn.specs.PendingEntries.{held_at, pong_index}
+unfoldable pub use Rattle.coap_conn.specs.PendingEntries.{first_due, without_due, due_index}
 pub use Rattle.coap_conn.specs.History.{limit_now, standing_now, after, History, IsHistory, link_of, may_hold}
 pub use Rattle.coap_conn.specs.History.{new_history, with_effect}
 pub use Rattle.coap_conn.specs.Limits.{LimitValues, AreInRange}
 pub use Rattle.coap_conn.specs.LinkValue.{limit_in, LinkValue, bytes_of, free_in, own_csm}
 pub use Rattle.coap_conn.specs.Phases.{is_open, answers, takes_messages, stop_of}
-pub use Rattle.coap_conn.specs.Reaction.{send, pong_with, is_custody_pong, Effect, Reaction, Standing, abort}
+pub use Rattle.coap_conn.specs.Reaction.{send, pong_with, is_custody_pong, ReactionResult, Reaction, ConnectionState, abort}
 pub use Rattle.coap_conn.specs.Reaction.{asks_custody, due_effect, reaction_unless, send_as, stay, stop, is_asking}
 pub use Rattle.coap_conn.specs.Reaction.{is_response}
 unfoldable pub use Rattle.coap_conn.specs.Reaction.{live_reaction, react}

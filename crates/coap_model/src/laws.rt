@@ -3,7 +3,7 @@
 
 ghost use Rattle.std.specs.Prelude.{◌≡◌, ℕ, Bool, ◌<◌, ◌≤◌, List, [], ◌∷◌, ◌++◌, length, true, false, Some, None};
 ghost use Rattle.coap_model.specs.Prelude.{AllByRecursion, Message, StreamFault, LimitValues, AreInRange, AllFit};
-ghost use Rattle.coap_model.specs.Prelude.{bare_response, HeldValue, Answer, Pong, without_due, answers, send};
+ghost use Rattle.coap_model.specs.Prelude.{bare_response, PendingEntryValue, Answer, Pong, without_due, answers, send};
 ghost use Rattle.coap_model.specs.Prelude.{pong_with, is_custody_pong, limit_now, standing_now, after, standing_due};
 ghost use Rattle.coap_model.specs.Prelude.{StoreValue, answer_of, ConfigValues, Side, waiting_on, handles};
 ghost use Rattle.coap_model.specs.Prelude.{asks_answer, held_for, moment_after, held_message, next_held, side_after};
@@ -21,7 +21,7 @@ ghost use Rattle.coap_model.specs.world.World.{Opened};
 /// The limit (`limit_now`) is the largest message that may be sent on the connection. A step appends messages to those
 /// that a connection has queued and changes no other. If the step opens the connection and the limits are in range, all
 /// its queued messages fit.
-pub fn what_is_queued_fits()
+pub fn queued_messages_fit_limit()
     ensures more { (limits : LimitValues) (w : World) (st : Step) (id : ℕ) (s t : Side) → side_of id w.sides ≡ Some s →
         side_of id (step limits w st).sides ≡ Some t →
         (more : List Message) × (t.history.queued ≡ s.history.queued ++ more) × AllFit (limit_now t.history) more }
@@ -184,7 +184,7 @@ pub fn what_is_held_is_sent()
     ensures written { (s : Side) (n : ℕ) → (side_written s n).history.held ≡ s.history.held }
     ensures told { (store : StoreValue) (now : ℕ) (s : Side) → next_held now s ≡ None →
         KeepsHeld s (settled_once store now s) }
-    ensures taken { (store : StoreValue) (now : ℕ) (s : Side) (e : HeldValue) → next_held now s ≡ Some e →
+    ensures taken { (store : StoreValue) (now : ℕ) (s : Side) (e : PendingEntryValue) → next_held now s ≡ Some e →
         answers s.history.phase ≡ true → (settled_once store now s).history.phase ≡ s.history.phase →
         (settled_once store now s).history.held ≡ without_due now s.history.held }
     ensures answer { (store : StoreValue) (now : ℕ) (s : Side) (token : List ℕ) (moment : ℕ) →

@@ -31,8 +31,8 @@ pub use Rattle.coap_frame.specs.Raising.{raise_refusal, with_size}
 -- ---- coap_conn
 pub use Rattle.coap_conn.specs.Calls.{link_after, standing_due, end_reason, Call}
 pub use Rattle.coap_conn.specs.Fit.{bare_response, fit, fits}
-pub use Rattle.coap_conn.specs.Held.{HeldValue, Answer, Pong, come, next_moment, to_come}
-unfoldable pub use Rattle.coap_conn.specs.Held.{first_due, without_due}
+pub use Rattle.coap_conn.specs.PendingEntries.{PendingEntryValue, Answer, Pong, due_moment, next_moment, future_moment}
+unfoldable pub use Rattle.coap_conn.specs.PendingEntries.{first_due, without_due}
 pub use Rattle.coap_conn.specs.History.{limit_now, after, History, IsHistory, link_of}
 pub use Rattle.coap_conn.specs.Limits.{LimitValues, AreInRange}
 pub use Rattle.coap_conn.specs.LinkValue.{IsReady, can_hold, limit_in, is_finished, LinkValue, free_in, link_with}

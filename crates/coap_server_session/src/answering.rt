@@ -2,7 +2,7 @@
 
 ghost use Rattle.std.specs.Prelude.{◌≡◌, ◌<◌, ◌≤◌, ◌++◌, ◌∷◌, [], ℕ, Option, map, true, Some, None, is_some, length};
 ghost use Rattle.std.specs.Prelude.{slice_get, if◌then◌else◌, IfOk, OnOk, OnErr};
-ghost use Rattle.coap_server_session.specs.Prelude.{IsAnswering, AreMarked, IsTagged, marks_after, is_open, HeldValue};
+ghost use Rattle.coap_server_session.specs.Prelude.{IsAnswering, AreMarked, IsTagged, marks_after, is_open, PendingEntryValue};
 ghost use Rattle.coap_server_session.specs.Prelude.{first_due, IsReady, can_hold, link_after, changed, unheld};
 ghost use Rattle.coap_server_session.specs.Prelude.{response_message, change_value, path_of, IsPut, TakesChange};
 ghost use Rattle.coap_server_session.specs.Prelude.{change_hash, MayWatch, asks_entry as asks};
@@ -161,7 +161,7 @@ fn answer_late(
 /// A delayed response is sent here. A Pong with Custody is queued by `Link::due` (RFC 8323 section 5.4.1).
 pub(crate) fn send_due(link: &mut Link, now: u64) -> bool
     requires { IsReady link.old }
-    ensures sent { (e : HeldValue) → first_due now link.old.held ≡ Some e → link.new ≡ link_sent link.old now e }
+    ensures sent { (e : PendingEntryValue) → first_due now link.old.held ≡ Some e → link.new ≡ link_sent link.old now e }
     ensures silent { first_due now link.old.held ≡ None → link.new ≡ link.old }
     ensures found { result ≡ is_some (first_due now link.old.held) }
 {

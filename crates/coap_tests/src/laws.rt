@@ -6,7 +6,7 @@ use coap_serve::laws as server_laws;
 #[test]
 fn calls_laws(_rt: HostRuntime) {
     laws::last_announcement_counts();
-    laws::what_is_queued_fits();
+    laws::queued_messages_fit_limit();
     laws::own_announcement_comes_first();
     laws::peer_announces_before_requests();
     server_laws::segmentation_is_irrelevant();

@@ -1,7 +1,7 @@
 -- For each token, as many responses are queued or pending as requests with it were handled: the counts, and
 -- consequences of this statement.
 use Rattle.std.proofs.Common.{◌≡◌, ℕ, ◌+◌, ◌≤◌, Bool, true, false, ◌&&◌, List, [], ◌∷◌, ◌++◌, refl, ap, ◌∙◌, append_assoc, arith, sym, inl, inr}
-use Rattle.coap_model.specs.Prelude.{AllByRecursion, Message, HeldValue, Answer, Pong, is_custody_pong, same_bytes}
+use Rattle.coap_model.specs.Prelude.{AllByRecursion, Message, PendingEntryValue, Answer, Pong, is_custody_pong, same_bytes}
 use Rattle.coap_model.specs.Prelude.{responds, asks_held, is_asking, HasResponse, HaveOwnAnswers}
 use Rattle.std.proofs.lemmas.Bool.{cases_Bool}
 use Rattle.std.proofs.lemmas.List.{append-nil}
@@ -41,11 +41,11 @@ requests ms token = count (asks_with token) ms
 abbrev pub responses : List Message → Tally
 responses ms token = count (responds token) ms
 
-abbrev pub awaits : List ℕ → HeldValue → Bool
+abbrev pub awaits : List ℕ → PendingEntryValue → Bool
 awaits token (Answer own moment) = same_bytes own token
 awaits token (Pong own) = false
 
-abbrev pub held_back : List HeldValue → Tally
+abbrev pub held_back : List PendingEntryValue → Tally
 held_back es token = count (awaits token) es
 
 -- ---- a Ping that was handled
@@ -83,11 +83,11 @@ abbrev pub queue : RowOf Message
 queue = record { Claims = λ q P. is_custody_pong q ≡ true → P q.token; to = λ q P Q go is pong. go q.token (is pong); counts = responds }
 
 -- The pending entries.
-abbrev pub IfPong : HeldValue → (List ℕ → Type 0) → Type 0
+abbrev pub IfPong : PendingEntryValue → (List ℕ → Type 0) → Type 0
 IfPong (Answer token moment) P = Unit {0}
 IfPong (Pong token) P = P token
 
-abbrev pub pending : RowOf HeldValue
+abbrev pub pending : RowOf PendingEntryValue
 pending = record { Claims = IfPong; to = λ e P Q go is. grind arith; counts = awaits }
 
 module _ {A : Type 0} (row : RowOf A) where

@@ -3,7 +3,7 @@
 use Rattle.std.proofs.Common.{◌≡◌, ℕ, ◌≤◌, Bool, true, false, ◌&&◌, ◌==◌, List, [], ◌∷◌, ◌++◌, Option, Some, None, refl, sym, ap, subst, arith, is_none}
 use Rattle.coap_model.specs.Prelude.{AllByRecursion, list_any, Message, Phase, Server, Reply, Whole, Bare, Stopped}
 use Rattle.coap_model.specs.Prelude.{Reason, LimitValues, stop_of, takes_messages, answers, fit, bare_response}
-use Rattle.coap_model.specs.Prelude.{HeldValue, Answer, Pong, first_due, without_due, is_request, Reaction, stay}
+use Rattle.coap_model.specs.Prelude.{PendingEntryValue, Answer, Pong, first_due, without_due, is_request, Reaction, stay}
 use Rattle.coap_model.specs.Prelude.{send_as, react, reaction_unless, asks_custody, is_custody_pong}
 use Rattle.coap_model.specs.Prelude.{pong_with, History, standing_now, with_effect, after, limit_now, own_csm}
 use Rattle.coap_model.specs.Prelude.{standing_due, release, same_bytes, StoreValue, Response, held_response}
@@ -15,7 +15,7 @@ use Rattle.std.proofs.lemmas.Bool.{both_ways, cond_both, cond-true, or_left}
 use lib.Pointwise.{bytes_decides}
 use Rattle.coap_wire.specs.Codes as code
 use Rattle.coap_conn.specs.Calls as call
-use Rattle.coap_conn.proofs.HeldLaws.{due_pong, custody_at_once, due_answer}
+use Rattle.coap_conn.proofs.PendingLaws.{due_pong, custody_at_once, due_answer}
 use Rattle.coap_model.proofs.world.WalkLaws.{heard, sent, due_is, faulted_between, written_between, ended_between, released_between, announced_between}
 use Rattle.coap_model.proofs.world.GoingOn.{kept_after, Keeps}
 use Rattle.coap_model.proofs.world.SideLaws.{held_room, settled_cases, handles_parts}
@@ -33,7 +33,7 @@ nothing token = 0
 -- ---- a history with responses still to be queued
 
 -- `first` counts those to be queued before the pending entries, `total` counts all.
-record FollowsBut (first total : Tally) (handled queued : List Message) (held : List HeldValue) (now : Phase) : Type 0 where
+record FollowsBut (first total : Tally) (handled queued : List Message) (held : List PendingEntryValue) (now : Phase) : Type 0 where
   pongs : Behind queue handled nothing queued
   behind : Behind pending handled (plus first (responses queued)) held
   all : takes_messages now ≡ true → AtMost (requests handled) (plus (plus total (responses queued)) (held_back held))
@@ -49,7 +49,7 @@ plain_behind : (ms : List Message) (n : Tally) (qs : List Message) → AllByRecu
 plain_behind ms n qs plain = pongs_other ms n qs (all_to IsPlain IsNoPong (λ m is. is.1) qs plain)
 
 -- More messages are queued, with a Pong with Custody only if one may be queued.
-module _ {b d : Tally} {ms qs : List Message} {es : List HeldValue} {p : Phase} (is : FollowsBut b d ms qs es p) (more : List Message) (may : Behind queue ms (responses qs) more) where
+module _ {b d : Tally} {ms qs : List Message} {es : List PendingEntryValue} {p : Phase} (is : FollowsBut b d ms qs es p) (more : List Message) (may : Behind queue ms (responses qs) more) where
   pongs_may : Behind queue ms nothing (qs ++ more)
   pongs_may = behind_then queue ms nothing (responses qs) qs more (omega arith) is.pongs may
 
@@ -72,7 +72,7 @@ module _ {b d : Tally} {ms qs : List Message} {es : List HeldValue} {p : Phase} 
   over_follows over = record { pongs = pongs_may; behind = tt; all = λ live. absurd (both_ways _ over live); quiet = λ off. refl }
 
 -- One more entry is pending.
-held_follows : {b d f : Tally} {ms qs : List Message} {es : List HeldValue} {p : Phase} → FollowsBut b d ms qs es p → (e : HeldValue) → IfPong e (IsBehind ms (plus (plus b (responses qs)) (held_back es))) → answers p ≡ true → AtMost d (plus f (held_back (e ∷ [])))
+held_follows : {b d f : Tally} {ms qs : List Message} {es : List PendingEntryValue} {p : Phase} → FollowsBut b d ms qs es p → (e : PendingEntryValue) → IfPong e (IsBehind ms (plus (plus b (responses qs)) (held_back es))) → answers p ≡ true → AtMost d (plus f (held_back (e ∷ [])))
     → FollowsBut b f ms qs (es ++ e ∷ []) p
 held_follows {b} {ms = ms} {qs = qs} {es = es} {p = p} is e may on total = record {
   pongs = is.pongs;
@@ -152,7 +152,7 @@ module _ (h : History) (m : Message) (server : h.role ≡ Server) (live : takes_
   may_behind n may first custody =
       let asks = may.pong custody in
       subst (IsBehind now_handled (responses h.queued)) (sym asks.2)
-      (ping_behind (responses h.queued) (λ t. omega (arith, is.all live t, ap (λ (es : List HeldValue). held_back es t) (first custody))) asks.0 asks.1)
+      (ping_behind (responses h.queued) (λ t. omega (arith, is.all live t, ap (λ (es : List PendingEntryValue). held_back es t) (first custody))) asks.0 asks.1)
 
   unless_follows : (over : Option Reason) → is_none over ≡ true → Claim (reaction_unless (standing_now h) m over)
   unless_follows None none = live_so (standing_now h) m Claim (record {
@@ -205,7 +205,7 @@ module _ (store : StoreValue) (now : ℕ) (s : Side) (m : Message) (server : s.h
 
 -- ---- settling
 
-module _ (h : History) (is : PongsFollow h) (before : List HeldValue) (e : HeldValue) (behind : List HeldValue) (there : h.held ≡ before ++ e ∷ behind) where
+module _ (h : History) (is : PongsFollow h) (before : List PendingEntryValue) (e : PendingEntryValue) (behind : List PendingEntryValue) (there : h.held ≡ before ++ e ∷ behind) where
   -- If an entry is pending, responses are sent.
   held_on : answers h.phase ≡ true
   held_on = grind (arith, is.quiet, length-append before (e ∷ behind))
@@ -220,12 +220,12 @@ module _ (h : History) (is : PongsFollow h) (before : List HeldValue) (e : HeldV
     quiet = λ off. absurd (both_ways (answers h.phase) off held_on);
   }
 
-sent_due : (h : History) (now : ℕ) (e : HeldValue) → first_due now h.held ≡ Some e → PongsFollow h → PongsFollow (after_sent h now e)
+sent_due : (h : History) (now : ℕ) (e : PendingEntryValue) → first_due now h.held ≡ Some e → PongsFollow h → PongsFollow (after_sent h now e)
 sent_due h now (Answer token moment) due is =
     let first = due_answer now h.held token moment due in
     let n : Tally = held_back (Answer token moment ∷ []) in
     let k : History = with_effect h (stay (standing_due now (standing_now h))) in
-    let left : OwesStill n n k = subst (λ (es : List HeldValue). FollowsBut n n h.handled (h.queued ++ []) es h.phase) (sym first.without)
+    let left : OwesStill n n k = subst (λ (es : List PendingEntryValue). FollowsBut n n h.handled (h.queued ++ []) es h.phase) (sym first.without)
     (same_follows (let_go h is first.before (Answer token moment) first.after first.there) [] tt (omega arith) (omega arith)) in
     subst (λ (g : History). PongsFollow (after g (call.Reply (held_message token)))) (sym (due_is h now (Some (Answer token moment)) due))
     (owed_follows n n k left token false held_response (held_on h is first.before (Answer token moment) first.after first.there) refl

@@ -5,7 +5,7 @@ use Rattle.std.proofs.Common.{arith, ◌≢◌}
 use Rattle.std.proofs.lemmas.Bool.{both_ways}
 use Rattle.std.proofs.lemmas.List.{append-nil}
 use Rattle.coap_model.specs.Prelude.{Message, StreamFault, Stream, Phase, Reject, Reason, takes_messages, answers}
-use Rattle.coap_model.specs.Prelude.{is_open, fit, pong_with, HeldValue, without_due, due_index, reject_of}
+use Rattle.coap_model.specs.Prelude.{is_open, fit, pong_with, PendingEntryValue, without_due, due_index, reject_of}
 use Rattle.coap_model.specs.Prelude.{reject_reason, History, standing_now, limit_now, StoreValue, ConfigValues}
 use Rattle.coap_model.specs.Prelude.{Side, handles, side_after, side_faulted, settled, new_side, settled_once, World}
 use Rattle.coap_model.specs.Prelude.{Step, side_of, Event, Took, stream_on, steps_by, world_after, spelled_on}
@@ -21,7 +21,7 @@ use Rattle.coap_model.proofs.world.AcrossLaws.{handled_there, faulted_there, Hol
 use Rattle.coap_model.proofs.world.PlaceLaws.{nobody}
 use Rattle.coap_conn.specs.declared.phase.Phase.TheVariants as phase
 use Rattle.coap_model.specs.world.World as world
-use Rattle.coap_conn.proofs.HeldLaws.{due_pong}
+use Rattle.coap_conn.proofs.PendingLaws.{due_pong}
 use Rattle.coap_wire.proofs.NumberLaws.{none_or_some}
 use Rattle.coap_model.proofs.world.CustodyLaws.{HasHeard, handled_hears}
 use Rattle.coap_model.proofs.world.SideLaws.{handles_parts}
@@ -33,7 +33,7 @@ abbrev pub HasStopped : History → Reason → Type 0
 HasStopped h why = (h.phase ≡ phase.Stopped why) × (h.held ≡ [])
 
 -- No message was handled since this history, and a stop is final.
-pub record HandlesNothing (before : History) (heard : List Message) (now : Phase) (held : List HeldValue) : Type 0 where
+pub record HandlesNothing (before : History) (heard : List Message) (now : Phase) (held : List PendingEntryValue) : Type 0 where
   pub handled : heard ≡ before.handled
   pub stopped : (why : Reason) → HasStopped before why → (now ≡ phase.Stopped why) × (held ≡ [])
   pub stops : StopsAtMost before.phase → StopsAtMost now
@@ -52,7 +52,7 @@ rests_then h k g p q = record {
 }
 
 -- A message is sent on a connection that has not stopped.
-sent_rests : (h : History) (held : List HeldValue) (m less : Message) → ((why : Reason) → HasStopped h why → ⊥) → HandlesNone h (sent (holding h held) m less)
+sent_rests : (h : History) (held : List PendingEntryValue) (m less : Message) → ((why : Reason) → HasStopped h why → ⊥) → HandlesNone h (sent (holding h held) m less)
 sent_rests h held m less live = record {
   handled = refl;
   stopped = λ why is. absurd (live why is);

@@ -2,8 +2,8 @@
 -- from before its Ping is pending.
 use Rattle.std.proofs.Common.{◌≡◌, ℕ, zero, suc, Bool, true, false, cond, ◌&&◌, ◌==◌, List, [], ◌∷◌, ◌++◌, length, Option, Some, None, refl, sym, ap, subst, ◌∙◌, inl, inr, ◌⊎◌, arith, append_assoc}
 use Rattle.coap_model.specs.Prelude.{AllByRecursion, list_any, remove, Message, Phase, LimitValues, takes_messages}
-use Rattle.coap_model.specs.Prelude.{answers, is_open, fit, bare_response, HeldValue, Answer, Pong, without_due}
-use Rattle.coap_model.specs.Prelude.{Standing, send, is_custody_pong, pong_with, History, limit_now, standing_now}
+use Rattle.coap_model.specs.Prelude.{answers, is_open, fit, bare_response, PendingEntryValue, Answer, Pong, without_due}
+use Rattle.coap_model.specs.Prelude.{ConnectionState, send, is_custody_pong, pong_with, History, limit_now, standing_now}
 use Rattle.coap_model.specs.Prelude.{after, may_hold, StoreValue, Response, answer_of, prompt_answer, each_at}
 use Rattle.coap_model.specs.Prelude.{response_with_observe, Observer, without_token, notification}
 use Rattle.coap_model.specs.Prelude.{notification_message, Side, handles, with_history, held_for, moment_after}
@@ -14,7 +14,7 @@ use Rattle.coap_model.specs.Prelude.{PeerTooSmall, standing_due}
 use Rattle.std.proofs.lemmas.Bool.{and_from, both_ways, cond-true, cond_both, or_from}
 use Rattle.std.proofs.lemmas.List.{append_cancel_left, append-nil}
 use lib.Pointwise.{bytes_decides}
-use Rattle.coap_conn.proofs.HeldLaws.{custody_at_once, due_pong}
+use Rattle.coap_conn.proofs.PendingLaws.{custody_at_once, due_pong}
 use Rattle.coap_conn.proofs.RequestLemmas.{react_asks}
 use Rattle.coap_store.proofs.HoldLaws.{held_of}
 use Rattle.coap_model.proofs.world.EntryLemmas.{all_to}
@@ -87,7 +87,7 @@ plain_queues_no_custody s t queues =
 
 -- The first pending entry is a Pong.
 abbrev IsPongFirst : History → Type 0
-IsPongFirst h = (token : List ℕ) × (rest : List HeldValue) × (h.held ≡ Pong token ∷ rest)
+IsPongFirst h = (token : List ℕ) × (rest : List PendingEntryValue) × (h.held ≡ Pong token ∷ rest)
 
 pub custody_comes_first : (store : StoreValue) (now : ℕ) (s : Side) → QueuesCustody s (settled_once store now s) → (token : List ℕ) × IsFirstHeld s token
 custody_comes_first store now s custody =
@@ -100,13 +100,13 @@ custody_comes_first store now s custody =
 -- ---- the order of pending entries
 
 -- One more message.
-stand_skip : (m : Message) (ms : List Message) (es : List HeldValue) → StandFor ms es → StandFor (m ∷ ms) es
+stand_skip : (m : Message) (ms : List Message) (es : List PendingEntryValue) → StandFor ms es → StandFor (m ∷ ms) es
 unfolding StandFor
 stand_skip m ms [] stand = tt
 stand_skip m ms (e ∷ es) stand = inr stand
 
 -- More messages, with the entries that they ask for.
-stand_append : (ms ns : List Message) (es fs : List HeldValue) → StandFor ms es → StandFor ns fs → StandFor (ms ++ ns) (es ++ fs)
+stand_append : (ms ns : List Message) (es fs : List PendingEntryValue) → StandFor ms es → StandFor ns fs → StandFor (ms ++ ns) (es ++ fs)
 unfolding StandFor
 stand_append [] ns [] fs stand more = more
 stand_append [] ns (e ∷ es) fs stand more = absurd stand
@@ -115,20 +115,20 @@ stand_append (m ∷ ms) ns (e ∷ es) fs (inl here) more = inl (here.0, stand_ap
 stand_append (m ∷ ms) ns (e ∷ es) fs (inr later) more = inr (stand_append ms ns (e ∷ es) fs later more)
 
 -- A message asks for the entry that it adds.
-stand_added : (m : Message) (es : List HeldValue) → AddsAsked m es → StandFor (m ∷ []) es
+stand_added : (m : Message) (es : List PendingEntryValue) → AddsAsked m es → StandFor (m ∷ []) es
 unfolding StandFor
 stand_added m [] adds = tt
 stand_added m (e ∷ []) adds = inl (adds.asked.0, tt)
 stand_added m (e ∷ d ∷ es) adds = absurd (omega (arith, adds.few))
 
 -- The same without the first entry, and without any entry.
-stand_tail : (ms : List Message) (e : HeldValue) (es : List HeldValue) → StandFor ms (e ∷ es) → StandFor ms es
+stand_tail : (ms : List Message) (e : PendingEntryValue) (es : List PendingEntryValue) → StandFor ms (e ∷ es) → StandFor ms es
 unfolding StandFor
 stand_tail [] e es stand = absurd stand
 stand_tail (m ∷ ms) e es (inl here) = stand_skip m ms es here.1
 stand_tail (m ∷ ms) e es (inr later) = stand_skip m ms es (stand_tail ms e es later)
 
-stand_removed : (ms : List Message) (es : List HeldValue) (i : ℕ) → StandFor ms es → StandFor ms (remove es i)
+stand_removed : (ms : List Message) (es : List PendingEntryValue) (i : ℕ) → StandFor ms es → StandFor ms (remove es i)
 unfolding StandFor
 stand_removed ms [] zero stand = stand
 stand_removed ms [] (suc i) stand = stand
@@ -137,12 +137,12 @@ stand_removed [] (e ∷ es) (suc i) stand = absurd stand
 stand_removed (m ∷ ms) (e ∷ es) (suc i) (inl here) = inl (here.0, stand_removed ms es i here.1)
 stand_removed (m ∷ ms) (e ∷ es) (suc i) (inr later) = inr (stand_removed ms (e ∷ es) (suc i) later)
 
-stand_due : (ms : List Message) (now : ℕ) (es : List HeldValue) → StandFor ms es → StandFor ms (without_due now es)
+stand_due : (ms : List Message) (now : ℕ) (es : List PendingEntryValue) → StandFor ms es → StandFor ms (without_due now es)
 unfolding without_due
 stand_due ms now es stand = grind (arith, stand_removed)
 
 -- Each entry was asked for.
-pub stand_asked : (ms : List Message) (before : List HeldValue) (e : HeldValue) (after : List HeldValue) → StandFor ms (before ++ e ∷ after) → list_any (λ m. asks_held m e) ms ≡ true
+pub stand_asked : (ms : List Message) (before : List PendingEntryValue) (e : PendingEntryValue) (after : List PendingEntryValue) → StandFor ms (before ++ e ∷ after) → list_any (λ m. asks_held m e) ms ≡ true
 unfolding StandFor
 stand_asked [] [] e after stand = absurd stand
 stand_asked [] (b ∷ before) e after stand = absurd stand
@@ -180,17 +180,17 @@ handled_cases store now s m P other late prompt =
 -- ---- the entries that a message adds
 
 -- More entries are pending, and the message asks for each new one; or the connection has stopped and has none.
-abbrev Over : Message → List HeldValue → List HeldValue → Phase → Type 0
-Over m before after now = ((more : List HeldValue) × (after ≡ before ++ more) × AddsAsked m more) ⊎ ((why : Reason) × (now ≡ phase.Stopped why) × (after ≡ []))
+abbrev Over : Message → List PendingEntryValue → List PendingEntryValue → Phase → Type 0
+Over m before after now = ((more : List PendingEntryValue) × (after ≡ before ++ more) × AddsAsked m more) ⊎ ((why : Reason) × (now ≡ phase.Stopped why) × (after ≡ []))
 
-adds_none : (m : Message) (es : List HeldValue) (now : Phase) → Over m es es now
+adds_none : (m : Message) (es : List PendingEntryValue) (now : Phase) → Over m es es now
 adds_none m es now = inl ([], sym (append-nil es), record { few = omega arith; asked = tt })
 
-adds_one : (m : Message) (before : List HeldValue) (e : HeldValue) (now : Phase) → asks_held m e ≡ true → Over m before (before ++ e ∷ []) now
+adds_one : (m : Message) (before : List PendingEntryValue) (e : PendingEntryValue) (now : Phase) → asks_held m e ≡ true → Over m before (before ++ e ∷ []) now
 adds_one m before e now asks = inl (e ∷ [], refl, record { few = omega arith; asked = (asks, tt) })
 
 -- A message was handled while messages were accepted, and it may have stopped the connection.
-pub record HandlesOne (m : Message) (before : History) (handled : List Message) (held : List HeldValue) (now : Phase) : Type 0 where
+pub record HandlesOne (m : Message) (before : History) (handled : List Message) (held : List PendingEntryValue) (now : Phase) : Type 0 where
   pub handled_more : takes_messages before.phase ≡ true → handled ≡ before.handled ++ m ∷ []
   pub stops : StopsAtMost before.phase → StopsAtMost now
   pub adds : Over m before.held held now
@@ -200,7 +200,7 @@ HasHeard m h k = HandlesOne m h k.handled k.held k.phase
 
 message_hears : (h : History) (m : Message) → HasHeard m h (after h (call.Handle m))
 message_hears h m =
-    let s : Standing = standing_now h in
+    let s : ConnectionState = standing_now h in
     let does = react_so s m (λ e. (StopsAtMost s.phase → StopsAtMost e.phase) × Over m s.held e.held e.phase) (record {
       stays = (λ is. is, adds_none m s.held s.phase);
       stands = λ now outstanding stands. (stands, adds_none m s.held now);
@@ -296,7 +296,7 @@ pub sent_when_due : (store : StoreValue) (now : ℕ) (s : Side) (token : List �
 unfolding settled_once
 sent_when_due store now s token moment is = rw is refl
 
-pub taken_out : (store : StoreValue) (now : ℕ) (s : Side) (e : HeldValue) → next_held now s ≡ Some e → answers s.history.phase ≡ true → (settled_once store now s).history.phase ≡ s.history.phase → (settled_once store now s).history.held ≡ without_due now s.history.held
+pub taken_out : (store : StoreValue) (now : ℕ) (s : Side) (e : PendingEntryValue) → next_held now s ≡ Some e → answers s.history.phase ≡ true → (settled_once store now s).history.phase ≡ s.history.phase → (settled_once store now s).history.held ≡ without_due now s.history.held
 unfolding settled_once
 taken_out store now s e is answering same = grind arith
 

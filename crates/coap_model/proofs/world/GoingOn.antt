@@ -4,15 +4,15 @@ use Rattle.std.proofs.Common.{◌≡◌, ℕ, ◌≤◌, Bool, true, false, List
 use Rattle.std.proofs.lemmas.Bool.{both_ways, and_parts, true_from_ne_false}
 use Rattle.std.proofs.lemmas.List.{length-drop}
 use Rattle.coap_model.specs.Prelude.{Message, StreamFault, Reply, Server, LimitValues, takes_messages, answers}
-use Rattle.coap_model.specs.Prelude.{is_open, fit, bare_response, HeldValue, first_due, Standing, Effect, send_as}
+use Rattle.coap_model.specs.Prelude.{is_open, fit, bare_response, PendingEntryValue, first_due, ConnectionState, ReactionResult, send_as}
 use Rattle.coap_model.specs.Prelude.{pong_with, due_effect, History, IsHistory, standing_now, with_effect, after}
-use Rattle.coap_model.specs.Prelude.{link_of, may_hold, bytes_of, own_csm, Call, doing, standing_due}
+use Rattle.coap_model.specs.Prelude.{link_of, may_hold, bytes_of, own_csm, Call, call_effect, standing_due}
 use Rattle.coap_model.specs.Prelude.{StoreValue, ConfigValues, Side, new_side, handles, has_room}
 use Rattle.coap_model.specs.Prelude.{side_after, side_faulted, side_written, side_ended, side_released}
 use Rattle.coap_model.specs.Prelude.{side_announced, held_message, after_sent, settled_once, settled, World, Step}
 use Rattle.coap_model.specs.Prelude.{side_of, Event, world_after}
 use Rattle.coap_conn.specs.declared.phase.Reply.TheVariants as reply
-use Rattle.coap_conn.specs.Held as held
+use Rattle.coap_conn.specs.PendingEntries as held
 use Rattle.coap_conn.specs.Calls.{IsWithin}
 use Rattle.coap_conn.specs.Calls as call
 use Rattle.coap_conn.proofs.LinkLemmas.{new_shown, history_more}
@@ -46,17 +46,17 @@ was_live h k goes takes = true_from_ne_false (takes_messages h.phase) (λ e. bot
 -- ---- each part of an effect
 
 -- More messages are queued.
-pub effect_goes_on : (h : History) (e : Effect) → (takes_messages h.phase ≡ false → takes_messages e.phase ≡ false) → GoesOn h (with_effect h e)
+pub effect_goes_on : (h : History) (e : ReactionResult) → (takes_messages h.phase ≡ false → takes_messages e.phase ≡ false) → GoesOn h (with_effect h e)
 effect_goes_on h e over = record { role = refl; limits = refl; history = history_more h e.queued; over = over }
 
-sent_over : (s : Standing) (m less : Message) (r : Reply) → takes_messages s.phase ≡ false → takes_messages (send_as s m less r).phase ≡ false
+sent_over : (s : ConnectionState) (m less : Message) (r : Reply) → takes_messages s.phase ≡ false → takes_messages (send_as s m less r).phase ≡ false
 sent_over s m less reply.Stopped e = refl
 sent_over s m less other e = e
 
 pub sent_goes_so : (h : History) (m less : Message) → GoesOn h (sent h m less)
 sent_goes_so h m less = effect_goes_on h _ (sent_over (standing_now h) m less (fit (standing_now h).limit m less))
 
-pub holding_so : (h : History) (held : List HeldValue) → GoesOn h (holding h held)
+pub holding_so : (h : History) (held : List PendingEntryValue) → GoesOn h (holding h held)
 holding_so h held = record { role = refl; limits = refl; history = λ is. is; over = λ e. e }
 
 pub written_goes_on : (h : History) (n : ℕ) → n ≤ length (link_of h).waiting → GoesOn h (after h (call.Written n))
@@ -79,13 +79,13 @@ all_go_on = record {
 
 -- ---- each call
 
-due_over : (s : Standing) (first : Option HeldValue) → takes_messages s.phase ≡ false → takes_messages (due_effect s first).phase ≡ false
+due_over : (s : ConnectionState) (first : Option PendingEntryValue) → takes_messages s.phase ≡ false → takes_messages (due_effect s first).phase ≡ false
 due_over s (Some (held.Pong token)) e =
     sent_over s (pong_with true token) (pong_with false token) (fit s.limit (pong_with true token) (pong_with false token)) e
 due_over s other e = e
 
 -- No call changes the fixed values of a connection, or makes it accept messages again.
-pub call_goes_on : (h : History) (c : Call) → IsWithin (link_of h) (doing (link_of h) c).deed → GoesOn h (after h c)
+pub call_goes_on : (h : History) (c : Call) → IsWithin (link_of h) (call_effect (link_of h) c).deed → GoesOn h (after h c)
 call_goes_on h (call.Reply m) within = if_between GoesOn (answers h.phase) h _ (as_before h) (λ does. sent_goes_so h m (bare_response m))
 call_goes_on h (call.Hold token moment) within = if_between GoesOn (is_open h.phase && may_hold h) h _ (as_before h) (λ may. holding_so h _)
 call_goes_on h (call.Due now) within = effect_goes_on h _ (due_over (standing_due now (standing_now h)) (first_due now h.held))
@@ -93,7 +93,7 @@ call_goes_on h (call.Written n) within = written_goes_on h n within
 call_goes_on h other within = if_between GoesOn _ h _ (as_before h) (λ so. record { role = refl; limits = refl; history = history_more h _; over = λ e. cc })
 
 -- The first due entry is removed, and its message is sent.
-pub sent_goes_on : (h : History) (now : ℕ) (e : HeldValue) → GoesOn h (after_sent h now e)
+pub sent_goes_on : (h : History) (now : ℕ) (e : PendingEntryValue) → GoesOn h (after_sent h now e)
 sent_goes_on h now (held.Answer token moment) =
     let k : History = after h (call.Due now) in further h k _ (call_goes_on h (call.Due now) tt) (call_goes_on k (call.Reply (held_message token)) tt)
 sent_goes_on h now (held.Pong token) = call_goes_on h (call.Due now) tt

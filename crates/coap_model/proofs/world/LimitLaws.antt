@@ -6,8 +6,8 @@ use Rattle.std.proofs.lemmas.List.{length-append, length-drop, append-nil}
 use Rattle.std.proofs.lemmas.List.Sums.{length-filter, count_by-le-length}
 use Rattle.coap_model.specs.Prelude.{same_bytes, not, Message, spelling, Reply, Whole, LimitValues, AreInRange}
 use Rattle.coap_model.specs.Prelude.{takes_messages, stop_of, announced, bad_csm_option, size_unless, csm_size}
-use Rattle.coap_model.specs.Prelude.{announcement, size_limit, AllFit, fit, bare_response, HeldValue, Answer}
-use Rattle.coap_model.specs.Prelude.{first_due, Standing, send_as, send, react, pong_with, Effect, stop}
+use Rattle.coap_model.specs.Prelude.{announcement, size_limit, AllFit, fit, bare_response, PendingEntryValue, Answer}
+use Rattle.coap_model.specs.Prelude.{first_due, ConnectionState, send_as, send, react, pong_with, ReactionResult, stop}
 use Rattle.coap_model.specs.Prelude.{reaction_unless, live_reaction, reject_reason, History, IsHistory, limit_now}
 use Rattle.coap_model.specs.Prelude.{standing_now, after, link_of, with_effect, bytes_of, own_csm, free_in, release}
 use Rattle.coap_model.specs.Prelude.{end_reason, StoreValue, response_with_observe, ConfigValues, Observer, is_due}
@@ -19,7 +19,7 @@ use Rattle.coap_wire.proofs.StreamSteps.{unfinished_below}
 use Rattle.coap_conn.proofs.LinkLemmas.{announced_more}
 use Rattle.coap_conn.proofs.WaitingLaws.{wait, one_small, limit_within, queued_waits, kept_small_by}
 use Rattle.coap_conn.proofs.SmallLemmas.{first_csm_bytes_small, release_bytes_small}
-use Rattle.coap_conn.proofs.HeldLaws.{due_nothing, due_fewer, held_few}
+use Rattle.coap_conn.proofs.PendingLaws.{due_nothing, due_fewer, held_few}
 use Rattle.coap_conn.proofs.HistoryLaws.{reaction_fits, sent_fits, stopped_fits, new_fits, released_fits}
 use Rattle.coap_model.proofs.world.WalkLaws.{there_or_not, there_where, settled_keeps, observers_kept, release_fits, room_in, sent, without_first, Hears, Replies, Between, once_between, after_between, faulted_between, written_between, ended_between, released_between, announced_between}
 use Rattle.coap_model.proofs.world.AcrossLaws.{KeepsAll, keeping_composes, kept_history, HoldsOf, step_across, opened_there}
@@ -88,7 +88,7 @@ sent_few h m less few = omega (arith, few, send_held (standing_now h) m less (fi
 -- The due entry is removed.
 taken_few : (h : History) (now : ℕ) → HoldsFew h → HoldsFew (without_first h now)
 taken_few h now few = there_or_not (first_due now h.held) (λ due. HoldsFew (without_first h now))
-    (λ none. omega (arith, few, ap (λ (es : List HeldValue). length es) (due_nothing now h.held none).1)) (λ e is. omega (arith, few, due_fewer now h.held e is))
+    (λ none. omega (arith, few, ap (λ (es : List PendingEntryValue). length es) (due_nothing now h.held none).1)) (λ e is. omega (arith, few, due_fewer now h.held e is))
 
 -- An entry is added only if the list has room, and a stop removes all.
 all_hold_few : KeepsAll (λ h k. HoldsFew h → HoldsFew k)
@@ -114,12 +114,12 @@ held_within c es id s there =
 
 -- ---- queued bytes
 
-sent_one : (s : Standing) (m less : Message) (r : Reply) → length (send_as s m less r).queued ≤ 1
+sent_one : (s : ConnectionState) (m less : Message) (r : Reply) → length (send_as s m less r).queued ≤ 1
 sent_one s m less Whole = omega arith
 sent_one s m less other = omega arith
 
 -- A message queues at most one message.
-message_one : (s : Standing) (m : Message) → length (react s m).effect.queued ≤ 1
+message_one : (s : ConnectionState) (m : Message) → length (react s m).effect.queued ≤ 1
 message_one s m = react_so s m (λ e. length e.queued ≤ 1) (record {
   stays = omega arith;
   stands = λ now outstanding stands. omega arith;
@@ -195,7 +195,7 @@ announces m n e =
     let no_bad = there_or_not (bad_csm_option m) (λ bad. size_unless bad m ≡ Some n → bad_csm_option m ≡ None) (λ none said. none) (λ number bad said. absurd cc) in
     (eqb-true m.code code.csm is.0, no_bad is.1)
 
-announcing_quiet : (s : Standing) (m : Message) (n : ℕ) → announcement m ≡ Some n → (react s m).effect.queued ≡ []
+announcing_quiet : (s : ConnectionState) (m : Message) (n : ℕ) → announcement m ≡ Some n → (react s m).effect.queued ≡ []
 unfolding react live_reaction
 announcing_quiet s m n e =
     let is = announces m n e in
@@ -231,7 +231,7 @@ grows_fitting_then h k g p q = record {
 evenly_then : (h k g : History) → GrowsEvenly h k → GrowsEvenly k g → GrowsEvenly h g
 evenly_then h k g p q = record { grows = grows_fitting_then h k g p.grows q; same = q.same ∙ p.same }
 
-effect_evenly : (h : History) (e : Effect) → AllFit (limit_now h) e.queued → GrowsEvenly h (with_effect h e)
+effect_evenly : (h : History) (e : ReactionResult) → AllFit (limit_now h) e.queued → GrowsEvenly h (with_effect h e)
 effect_evenly h e fit = record { grows = record { more = e.queued; queued = refl; fit = fit }; same = refl }
 
 reply_evenly : Replies GrowsEvenly

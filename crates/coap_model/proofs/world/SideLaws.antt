@@ -1,9 +1,9 @@
 -- A connection of the world: facts on it, its observers after a message, and how it settles.
 use Rattle.std.proofs.Common.{◌≡◌, ℕ, ◌+◌, ◌<◌, ◌≤◌, Bool, true, false, cond, List, [], length, Option, Some, None, refl, sym, ap, ◌∙◌, arith, ◌&&◌, nat_lt, not, zero, suc, ◌∷◌, ◌++◌, subst, ◌⊎◌, inl, inr, find, min}
 use Rattle.coap_model.specs.Prelude.{AllByRecursion, filter_map, reduce, Message, takes_messages}
-use Rattle.coap_model.specs.Prelude.{answers, is_open, fit, bare_response, HeldValue}
-use Rattle.coap_model.specs.Prelude.{first_due, without_due, come, answer_index, pong_index, else_index, held_at}
-use Rattle.coap_model.specs.Prelude.{due_index, HoldsNothingDue, History, IsHistory, limit_now, standing_now}
+use Rattle.coap_model.specs.Prelude.{answers, is_open, fit, bare_response, PendingEntryValue}
+use Rattle.coap_model.specs.Prelude.{first_due, without_due, due_moment, answer_index, pong_index, else_index, held_at}
+use Rattle.coap_model.specs.Prelude.{due_index, NothingIsDue, History, IsHistory, limit_now, standing_now}
 use Rattle.coap_model.specs.Prelude.{after, standing_due}
 use Rattle.coap_model.specs.Prelude.{StoreValue, path_of, answer_of, prompt_answer}
 use Rattle.coap_model.specs.Prelude.{Change, changed, response_with_observe}
@@ -17,15 +17,15 @@ use Rattle.coap_model.specs.Prelude.{is_whole, with_entry, is_due, goes_on, noti
 use Rattle.coap_model.specs.Prelude.{left_of, first_becomes}
 use Rattle.coap_model.specs.Prelude.{same_bytes, state_of, Watch}
 use Rattle.std.proofs.lemmas.Bool.{and_parts, cond_both, ltb-true}
-use Rattle.coap_conn.proofs.HeldLaws.{due_fewer, due_nothing}
-use Rattle.coap_model.specs.Prelude.{Reply, Whole, Standing, send_as, due_effect, pong_with}
+use Rattle.coap_conn.proofs.PendingLaws.{due_fewer, due_nothing}
+use Rattle.coap_model.specs.Prelude.{Reply, Whole, ConnectionState, send_as, due_effect, pong_with}
 use Rattle.coap_model.proofs.world.KnownLaws.{entry_watchable, IsKnown, IsVersioned, still_known, told_known, told_now, not_due, left_watchable}
 use Rattle.coap_model.proofs.world.EntryLemmas.{asks_to_enter, all_to, all_append, all_filter, all_become, found_all, none_due, count_due, count_within, count_less}
 use Rattle.coap_model.proofs.world.EntryLemmas.{none_found}
 use Rattle.coap_model.proofs.world.GoingOn.{as_before, further, GoesOn, all_go_on, written_goes_on}
 use Rattle.coap_model.proofs.world.WalkLaws.{there_or_not, there_where, kept_open_has, once_between, HoldsOfCalls, observers_kept, settled_keeps, written_between, ended_between, released_between, announced_between}
 use Rattle.coap_model.proofs.world.AcrossLaws.{faulted_all, after_all}
-use Rattle.coap_conn.specs.Held as held
+use Rattle.coap_conn.specs.PendingEntries as held
 use Rattle.coap_conn.specs.Calls as call
 use Rattle.coap_store.specs.declared.plan.Watch.TheVariants as watch
 
@@ -55,22 +55,22 @@ replied_cases store now h others m hold P held prompt =
 
 -- A due pending entry is sent first; if there is none, an observer is notified.
 pub settled_cases : (store : StoreValue) (now : ℕ) (s : Side) (P : Side → Type 0)
-    → ((e : HeldValue) → next_held now s ≡ Some e → P (with_history s (after_sent s.history now e)))
+    → ((e : PendingEntryValue) → next_held now s ≡ Some e → P (with_history s (after_sent s.history now e)))
     → (next_held now s ≡ None → P (notified store now s (next_due store now s)))
     → P (settled_once store now s)
 unfolding settled_once
 settled_cases store now s P sends tells = there_or_not (next_held now s) (λ found. P (settled_so store now s found)) tells sends
 
-pub held_room : (now : ℕ) (s : Side) (e : HeldValue) → next_held now s ≡ Some e → (has_room s ≡ true) × (first_due now s.history.held ≡ Some e)
+pub held_room : (now : ℕ) (s : Side) (e : PendingEntryValue) → next_held now s ≡ Some e → (has_room s ≡ true) × (first_due now s.history.held ≡ Some e)
 held_room now s e is = there_where (has_room s) (first_due now s.history.held) e is
 
 -- Sending a message adds no pending entry.
-pub send_held : (s : Standing) (m less : Message) (r : Reply) → length (send_as s m less r).held ≤ length s.held
+pub send_held : (s : ConnectionState) (m less : Message) (r : Reply) → length (send_as s m less r).held ≤ length s.held
 send_held s m less Whole = omega arith
 send_held s m less other = omega arith
 
 -- Sending the entry that was due first adds none either.
-pub due_held : (s : Standing) (e : Option HeldValue) → length (due_effect s e).held ≤ length s.held
+pub due_held : (s : ConnectionState) (e : Option PendingEntryValue) → length (due_effect s e).held ≤ length s.held
 due_held s None = omega arith
 due_held s (Some (held.Answer token moment)) = omega arith
 due_held s (Some (held.Pong token)) = send_held s (pong_with true token) (pong_with false token) (fit s.limit (pong_with true token) (pong_with false token))
@@ -80,7 +80,7 @@ reply_leaves h m =
     cond_both (answers h.phase) _ h (λ (k : History). length k.held ≤ length h.held)
     (λ does. send_held (standing_now h) m (bare_response m) (fit (limit_now h) m (bare_response m))) (λ none. omega arith)
 
-sent_leaves : (h : History) (now : ℕ) (e : HeldValue) → length (after_sent h now e).held ≤ length (without_due now h.held)
+sent_leaves : (h : History) (now : ℕ) (e : PendingEntryValue) → length (after_sent h now e).held ≤ length (without_due now h.held)
 sent_leaves h now (held.Answer token moment) =
     omega (arith, reply_leaves (after h (call.Due now)) (held_message token), due_held (standing_due now (standing_now h)) (first_due now h.held))
 sent_leaves h now (held.Pong token) = due_held (standing_due now (standing_now h)) (first_due now h.held)
@@ -247,11 +247,11 @@ hears_at_rest store now s rests = record {
 }
 
 -- If no entry of a list is due, the list of due times is empty.
-none_come_listed : (now : ℕ) (held : List HeldValue) → AllByRecursion (λ e. come now e ≡ None) held → filter_map (come now) held ≡ []
+none_come_listed : (now : ℕ) (held : List PendingEntryValue) → AllByRecursion (λ e. due_moment now e ≡ None) held → filter_map (due_moment now) held ≡ []
 none_come_listed now [] none = refl
 none_come_listed now (e ∷ held) none = rw none.0 (none_come_listed now held none.1)
 
-pub nothing_due_first : (now : ℕ) (held : List HeldValue) → HoldsNothingDue now held → first_due now held ≡ None
+pub nothing_due_first : (now : ℕ) (held : List PendingEntryValue) → NothingIsDue now held → first_due now held ≡ None
 unfolding first_due due_index
 nothing_due_first now held none =
     ap (λ moments. held_at held (else_index (answer_index (reduce min moments) held) (pong_index held))) (none_come_listed now held none.0) ∙ ap (held_at held) none.1

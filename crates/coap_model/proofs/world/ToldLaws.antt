@@ -1,7 +1,7 @@
 -- After any events, the last response with an observer's token reports the state that its entry records. This holds if
 -- no request for a delayed response had that token.
 use Rattle.std.proofs.Common.{◌≡◌, ◌≢◌, ℕ, Bool, true, false, List, [], ◌∷◌, ◌++◌, length, Option, Some, None, refl, sym, ap, subst, ◌∙◌, filter, find, not, nat_lt, ◌&&◌, if◌then◌else◌, arith}
-use Rattle.coap_model.specs.Prelude.{AllByRecursion, Message, LimitValues, is_open, fit, bare_response, HeldValue}
+use Rattle.coap_model.specs.Prelude.{AllByRecursion, Message, LimitValues, is_open, fit, bare_response, PendingEntryValue}
 use Rattle.coap_model.specs.Prelude.{Answer, Pong, first_due, History, limit_now, after, same_bytes, StoreValue}
 use Rattle.coap_model.specs.Prelude.{state_of, prompt_answer, response_with_observe, ConfigValues, Observer, is_due}
 use Rattle.coap_model.specs.Prelude.{without_token, has_place, asks_entry, entry_for, is_whole, with_entry, goes_on}
@@ -14,7 +14,7 @@ use Rattle.std.proofs.lemmas.Bool.{cond_both, and_parts, and_left}
 use Rattle.std.proofs.lemmas.List.Folds.{list_any-append}
 use lib.Pointwise.{bytes_decides}
 use Rattle.coap_conn.specs.Calls as call
-use Rattle.coap_conn.proofs.HeldLaws.{due_answer}
+use Rattle.coap_conn.proofs.PendingLaws.{due_answer}
 use Rattle.coap_store.specs.Answer as answer
 use Rattle.coap_model.proofs.world.EntryLemmas.{asks_to_enter, all_to, all_append, all_filter, all_become, found_all}
 use Rattle.coap_model.proofs.world.SideLaws.{settled_cases, held_room, next_due_found}
@@ -207,7 +207,7 @@ notified_told store now s (Some o) there are =
 -- ---- pending entries
 
 -- The token of a delayed response is that of a request for one.
-sent_told : (s : Side) (now : ℕ) (e : HeldValue) → first_due now s.history.held ≡ Some e → Stands s.history → AllTold s → AllTold (with_history s (after_sent s.history now e))
+sent_told : (s : Side) (now : ℕ) (e : PendingEntryValue) → first_due now s.history.held ≡ Some e → Stands s.history → AllTold s → AllTold (with_history s (after_sent s.history now e))
 sent_told s now (Answer token moment) found stand are =
     let h : History = after s.history (call.Due now) in
     let k : History = after h (call.Reply (held_message token)) in

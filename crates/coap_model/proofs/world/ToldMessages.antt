@@ -3,8 +3,8 @@
 use Rattle.std.proofs.Common.{◌≡◌, ℕ, true, false, cond, List, [], ◌∷◌, ◌++◌, Some, refl, sym, ap, ◌∙◌, arith, find}
 use Rattle.coap_model.specs.Prelude.{AllByRecursion, Message, Phase, Reply, Server}
 use Rattle.coap_model.specs.Prelude.{takes_messages, answers, is_open}
-use Rattle.coap_model.specs.Prelude.{fit, bare_response, HeldValue}
-use Rattle.coap_model.specs.Prelude.{first_due, Standing}
+use Rattle.coap_model.specs.Prelude.{fit, bare_response, PendingEntryValue}
+use Rattle.coap_model.specs.Prelude.{first_due, ConnectionState}
 use Rattle.coap_model.specs.Prelude.{send_as, react}
 use Rattle.coap_model.specs.Prelude.{due_effect}
 use Rattle.coap_model.specs.Prelude.{reject_reason, History}
@@ -50,14 +50,14 @@ pub queues_none : (P : Message → Type 0) (h : History) → Queues P h h
 queues_none P h = queues_these P h h [] (sym (append-nil h.queued)) refl tt
 
 -- The messages queued for a message or its reduced form.
-pub sent_all : (P : Message → Type 0) (s : Standing) (m less : Message) (r : Reply) → P m → P less → AllByRecursion P (send_as s m less r).queued
+pub sent_all : (P : Message → Type 0) (s : ConnectionState) (m less : Message) (r : Reply) → P m → P less → AllByRecursion P (send_as s m less r).queued
 sent_all P s m less r is bare = grind arith
 
 -- The pending entries and the phase afterwards.
-pub sent_either : (s : Standing) (m less : Message) (r : Reply) (P : List HeldValue → Phase → Type 0) → P s.held s.phase → P [] (phase.Stopped reason.PeerTooSmall) → P (send_as s m less r).held (send_as s m less r).phase
+pub sent_either : (s : ConnectionState) (m less : Message) (r : Reply) (P : List PendingEntryValue → Phase → Type 0) → P s.held s.phase → P [] (phase.Stopped reason.PeerTooSmall) → P (send_as s m less r).held (send_as s m less r).phase
 sent_either s m less r P is over = grind arith
 
-pub reply_either : (h : History) (m : Message) (P : List Message → List HeldValue → Phase → Type 0) → P h.handled h.held h.phase → P h.handled [] (phase.Stopped reason.PeerTooSmall) → P (after h (call.Reply m)).handled (after h (call.Reply m)).held (after h (call.Reply m)).phase
+pub reply_either : (h : History) (m : Message) (P : List Message → List PendingEntryValue → Phase → Type 0) → P h.handled h.held h.phase → P h.handled [] (phase.Stopped reason.PeerTooSmall) → P (after h (call.Reply m)).handled (after h (call.Reply m)).held (after h (call.Reply m)).phase
 reply_either h m P is over = grind arith
 
 -- ---- effects on a history

@@ -6,7 +6,7 @@ use Rattle.std.proofs.lemmas.Bool.{cond_both, and_parts, leb-true}
 use Rattle.std.proofs.lemmas.Bool.Decides.{nat_tests}
 use Rattle.std.proofs.lemmas.List.{append-nil}
 use Rattle.coap_model.specs.Prelude.{Message, StreamFault, LARGEST_MESSAGE, Reject, ReleasedHere, takes_messages}
-use Rattle.coap_model.specs.Prelude.{answers, is_open, fits, bare_response, VerdictValue, is_request, HeldValue}
+use Rattle.coap_model.specs.Prelude.{answers, is_open, fits, bare_response, VerdictValue, is_request, PendingEntryValue}
 use Rattle.coap_model.specs.Prelude.{Answer, Pong, first_due, without_due, stop, abort, send, react, pong_with}
 use Rattle.coap_model.specs.Prelude.{due_effect, reject_of, reject_reason, release_refusal, History, standing_now}
 use Rattle.coap_model.specs.Prelude.{limit_now, with_effect, after, may_hold, link_of, standing_due, end_reason}
@@ -36,7 +36,7 @@ abbrev pub sent : History → Message → Message → History
 sent h m less = with_effect h (send (standing_now h) m less)
 
 -- The pending entries are these.
-abbrev pub holding : History → List HeldValue → History
+abbrev pub holding : History → List PendingEntryValue → History
 holding h held = record h { held = held }
 
 -- The first due entry is removed.
@@ -112,8 +112,8 @@ asked_room h m asks room =
     cond_both (takes_messages h.phase) (heard h m) h (λ (k : History). room_in k ≡ true) (λ takes. rw (none, append-nil) room) (λ over. room)
 
 -- The effect of the entry that was found to be due first.
-pub due_is : (h : History) (now : ℕ) (found : Option HeldValue) → first_due now h.held ≡ found → after h (call.Due now) ≡ with_effect h (due_effect (standing_due now (standing_now h)) found)
-due_is h now found is = ap (λ (o : Option HeldValue). with_effect h (due_effect (standing_due now (standing_now h)) o)) is
+pub due_is : (h : History) (now : ℕ) (found : Option PendingEntryValue) → first_due now h.held ≡ found → after h (call.Due now) ≡ with_effect h (due_effect (standing_due now (standing_now h)) found)
+due_is h now found is = ap (λ (o : Option PendingEntryValue). with_effect h (due_effect (standing_due now (standing_now h)) o)) is
 
 -- The first due entry is removed, and nothing else changes if it is no Pong.
 answer_goes : (h : History) (now : ℕ) (token : List ℕ) (moment : ℕ) → first_due now h.held ≡ Some (Answer token moment) → after h (call.Due now) ≡ without_first h now
@@ -142,7 +142,7 @@ module _ (R E : History → History → Type 0) (same : (h : History) → R h h)
   reply_between h k token observe r before room =
       cond_both (answers k.phase) _ k (R h) (λ does. then h k _ before (replies k token observe r does room)) (λ none. before)
 
-  sent_between : (h : History) (now : ℕ) (e : HeldValue) → first_due now h.held ≡ Some e → room_in h ≡ true → R h (after_sent h now e)
+  sent_between : (h : History) (now : ℕ) (e : PendingEntryValue) → first_due now h.held ≡ Some e → room_in h ≡ true → R h (after_sent h now e)
   sent_between h now (Answer token moment) is room =
       subst (λ (g : History). R h (after g (call.Reply (held_message token)))) (sym (answer_goes h now token moment is))
       (reply_between h (without_first h now) token false held_response (lets_go h now) room)
@@ -159,7 +159,7 @@ module _ (R E : History → History → Type 0) (same : (h : History) → R h h)
     pub once_between : R s.history (settled_once store now s).history
     unfolding settled_once
     once_between =
-        let So : Option HeldValue → Type 0 = λ found. R s.history (settled_so store now s found).history in
+        let So : Option PendingEntryValue → Type 0 = λ found. R s.history (settled_so store now s found).history in
         cond_both (has_room s) (first_due now s.history.held) None So
         (λ room. there_or_not (first_due now s.history.held) So (λ none. told_between) (λ e is. sent_between s.history now e is room)) (λ none. told_between)
 

@@ -1,6 +1,6 @@
 -- Worked examples of the definitions in `specs/world`: the messages that ask for pending entries, and their order.
 use Rattle.std.proofs.Common.{◌≡◌, ℕ, true, false, List, [], ◌∷◌, map, refl, sym, codes, inl, inr, true≢false}
-use Rattle.coap_model.specs.Prelude.{CoapOption, Message, HeldValue, Answer, Pong, is_custody_pong, asked_late}
+use Rattle.coap_model.specs.Prelude.{CoapOption, Message, PendingEntryValue, Answer, Pong, is_custody_pong, asked_late}
 use Rattle.coap_model.specs.Prelude.{asks_held, StandFor}
 use Rattle.coap_wire.specs.Codes as code
 use Rattle.coap_wire.specs.OptionNumbers as numbers
@@ -27,7 +27,7 @@ custody = record { number = option.custody; value = [] } ∷ []
 
 -- A request for a delayed response asks for the entry with its token alone; other requests ask for none. A Ping with
 -- Custody asks for its Pong; one without asks for nothing.
-what_is_asked : map (λ (r : Message × HeldValue). asks_held r.0 r.1) (
+what_is_asked : map (λ (r : Message × PendingEntryValue). asks_held r.0 r.1) (
     (late_get 5, Answer (5 ∷ []) 3)
     ∷ (late_get 5, Answer (6 ∷ []) 3)
     ∷ (late_get 5, Pong (5 ∷ []))

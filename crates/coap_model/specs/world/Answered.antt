@@ -2,7 +2,7 @@
 -- all messages handled and queued on a connection.
 use Rattle.std.specs.Prelude.{◌≡◌, ℕ, Bool, true, false, List, [], ◌∷◌, ◌++◌}
 use Rattle.coap_wire.specs.Message.{Message}
-use Rattle.coap_conn.specs.Held.{Pong}
+use Rattle.coap_conn.specs.PendingEntries.{Pong}
 use Rattle.coap_conn.specs.Reaction.{is_asking}
 use Rattle.coap_model.specs.world.Told.{responds}
 use Rattle.coap_model.specs.world.Custody.{asks_held}

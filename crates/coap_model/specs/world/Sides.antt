@@ -14,8 +14,8 @@ use Rattle.coap_conn.specs.Rejects.{reject_of}
 use Rattle.coap_conn.specs.Release.{release_refusal}
 use Rattle.coap_conn.specs.History.{History, link_of, new_history, limit_now, standing_now, after, may_hold}
 use Rattle.coap_conn.specs.LinkValue.{free_in}
-use Rattle.coap_conn.specs.Held.{HeldValue, HoldsNothingDue, first_due}
-use Rattle.coap_conn.specs.Held as held
+use Rattle.coap_conn.specs.PendingEntries.{PendingEntryValue, NothingIsDue, first_due}
+use Rattle.coap_conn.specs.PendingEntries as held
 use Rattle.coap_conn.specs.Calls.{may_announce}
 use Rattle.coap_conn.specs.Calls as call
 use Rattle.coap_store.specs.Store.{StoreValue}
@@ -179,7 +179,7 @@ notified store now s None = s
 notified store now s (Some o) = notified_so store now s o (notification_message o.token (notification store now o)) (goes_on (notification store now o))
 
 -- The pending entry that is due first, if the connection has room.
-abbrev pub next_held : ℕ → Side → Option HeldValue
+abbrev pub next_held : ℕ → Side → Option PendingEntryValue
 next_held now s = if has_room s then first_due now s.history.held else None
 
 -- The delayed response to the request with this token.
@@ -187,12 +187,12 @@ abbrev pub held_message : List ℕ → Message
 held_message token = response_message token held_response
 
 -- The history after the first due entry was removed and its message queued: a delayed response, or a Pong with Custody.
-abbrev pub after_sent : History → ℕ → HeldValue → History
+abbrev pub after_sent : History → ℕ → PendingEntryValue → History
 after_sent h now (held.Answer token moment) = after (after h (call.Due now)) (call.Reply (held_message token))
 after_sent h now (held.Pong token) = after h (call.Due now)
 
 -- The connection after one round of settling with this due entry. An observer is notified only if no entry is due.
-abbrev pub settled_so : StoreValue → ℕ → Side → Option HeldValue → Side
+abbrev pub settled_so : StoreValue → ℕ → Side → Option PendingEntryValue → Side
 settled_so store now s None = notified store now s (next_due store now s)
 settled_so store now s (Some e) = with_history s (after_sent s.history now e)
 
@@ -217,4 +217,4 @@ settled store now s = settled_within (length s.history.held + length s.observers
 -- - `sent`: no pending entry is due. Each response is due at a later time, and no Pong is first in the list.
 pub record HearsAll (store : StoreValue) (now : ℕ) (s : Side) : Type 0 where
   pub told : has_room s ≡ true → AllByRecursion (λ o. o.told ≡ state_of store now o.path) s.observers
-  pub sent : has_room s ≡ true → HoldsNothingDue now s.history.held
+  pub sent : has_room s ≡ true → NothingIsDue now s.history.held

@@ -11,7 +11,7 @@ use Rattle.std.proofs.lemmas.List.{append-nil}
 use Rattle.std.proofs.lemmas.Bool.{and_left, both_ways, false_from_ne_true}
 use Rattle.coap_wire.specs.Codes as code
 use Rattle.coap_conn.specs.Calls as call
-use Rattle.coap_conn.proofs.HeldLaws.{due_nothing}
+use Rattle.coap_conn.proofs.PendingLaws.{due_nothing}
 use Rattle.coap_store.specs.Answer as answer
 use Rattle.coap_store.specs.Answer.{Answer}
 use Rattle.coap_store.proofs.HoldLaws.{held_of, held_unwatched, same_change, same_at_once}

@@ -1,13 +1,13 @@
 -- On a settled connection, nothing becomes due before its next deadline.
 use Rattle.std.proofs.Common.{◌≡◌, ℕ, ◌+◌, ◌<◌, ◌≤◌, ◌^◌, true, false, List, [], ◌∷◌, Option, Some, None, min, refl, sym, ap, subst, ◌∙◌, arith, find, fold, if◌then◌else◌}
-use Rattle.coap_server_session.specs.Prelude.{AllByRecursion, list_any, filter_map, reduce, HeldValue, Answer, Pong, come}
-use Rattle.coap_server_session.specs.Prelude.{to_come, next_moment, first_due, Path, Representation, StoreValue, place_of}
+use Rattle.coap_server_session.specs.Prelude.{AllByRecursion, list_any, filter_map, reduce, PendingEntryValue, Answer, Pong, due_moment}
+use Rattle.coap_server_session.specs.Prelude.{future_moment, next_moment, first_due, Path, Representation, StoreValue, place_of}
 use Rattle.coap_server_session.specs.Prelude.{key_for, stored_at, state_at, is_dynamic, Root, Time, Async, Listing, Dynamic}
 use Rattle.coap_server_session.specs.Prelude.{IsStore, Host, ObserverValue, SessionValue, is_marked, is_stale, IsSettled}
 use Rattle.coap_server_session.specs.Prelude.{mark_of, state_on, changed_mark, sooner, tells_time, next_told, due_on}
 use Rattle.coap_server_session.specs.Prelude.{IsBefore}
 use Rattle.std.proofs.lemmas.Bool.{not-false, false_from_ne_true, or_parts, ne_eqb}
-use Rattle.coap_conn.proofs.HeldLaws.{due_nothing, cons_parts}
+use Rattle.coap_conn.proofs.PendingLaws.{due_nothing, cons_parts}
 use Rattle.coap_store.specs.declared.place.Place.{Place}
 use Rattle.coap_store.proofs.StoreLemmas.{found_kept}
 use Rattle.coap_server_session.proofs.values.SettleLemmas.{settled_still}
@@ -36,20 +36,20 @@ before_each later (x ∷ xs) h = before_fold later x xs h
 -- ---- pending entries
 
 -- A response that is not due yet is not due later either, if the later time is before its deadline.
-not_come : (now later : ℕ) (e : HeldValue) → come now e ≡ None → ((m : ℕ) → to_come now e ≡ Some m → later < m) → come later e ≡ None
+not_come : (now later : ℕ) (e : PendingEntryValue) → due_moment now e ≡ None → ((m : ℕ) → future_moment now e ≡ Some m → later < m) → due_moment later e ≡ None
 not_come now later (Pong token) none after = refl
 not_come now later (Answer token moment) none after = grind (arith, after moment)
 
-none_come_later : (now later : ℕ) (held : List HeldValue) → AllByRecursion (λ e. come now e ≡ None) held → AllByRecursion (λ x. later < x) (filter_map (to_come now) held) → AllByRecursion (λ e. come later e ≡ None) held
+none_come_later : (now later : ℕ) (held : List PendingEntryValue) → AllByRecursion (λ e. due_moment now e ≡ None) held → AllByRecursion (λ x. later < x) (filter_map (future_moment now) held) → AllByRecursion (λ e. due_moment later e ≡ None) held
 none_come_later now later [] none after = tt
 none_come_later now later (e ∷ held) none after =
-    let parts = cons_parts (λ x. later < x) (to_come now e) (filter_map (to_come now) held) after in
+    let parts = cons_parts (λ x. later < x) (future_moment now e) (filter_map (future_moment now) held) after in
     (not_come now later e none.0 parts.0, none_come_later now later held none.1 parts.1)
 
-not_due_later : (now later : ℕ) (held : List HeldValue) → first_due now held ≡ None → IsBefore later (next_moment now held) → first_due later held ≡ None
+not_due_later : (now later : ℕ) (held : List PendingEntryValue) → first_due now held ≡ None → IsBefore later (next_moment now held) → first_due later held ≡ None
 not_due_later now later held none before =
     let nothing = (due_nothing now held none).0 in
-    nothing_due_first later held (none_come_later now later held nothing.0 (before_each later (filter_map (to_come now) held) before), nothing.1)
+    nothing_due_first later held (none_come_later now later held nothing.0 (before_each later (filter_map (future_moment now) held) before), nothing.1)
 
 -- ---- observers
 

@@ -4,7 +4,7 @@ use Rattle.std.proofs.lemmas.Bool.{le-leb, leb-true, cond_both, false≢true, fa
 use Rattle.std.proofs.lemmas.List.{length-take, length-take-le, take-take}
 use Rattle.coap_server_session.specs.Prelude.{Message, message_of, FramerValue, IsFramer, Framing, AFrame, framing}
 use Rattle.coap_server_session.specs.Prelude.{framing_of, framer_after, without_last, taken_of, unread_after, raise_refusal}
-use Rattle.coap_server_session.specs.Prelude.{with_size, Verdict, LimitValues, AreInRange, verdict_value, HeldValue, Answer}
+use Rattle.coap_server_session.specs.Prelude.{with_size, Verdict, LimitValues, AreInRange, verdict_value, PendingEntryValue, Answer}
 use Rattle.coap_server_session.specs.Prelude.{Pong, first_due, fits, LinkValue, IsReady, free_in, limit_in, own_csm}
 use Rattle.coap_server_session.specs.Prelude.{link_after, is_open, takes_messages, answers, is_request, IsPut, Host, Inside}
 use Rattle.coap_server_session.specs.Prelude.{ObserverValue, ObserversValue, SessionValue, is_stale, session_ready}
@@ -163,14 +163,14 @@ module _ (host : Host) (s : Inside) (index : ℕ) (l : LinkValue) (o : Observers
 
 -- ---- pending entries
 
-sent_sizes : (l : LinkValue) (now : ℕ) (e : HeldValue) → sizes_of (link_sent l now e) ≡ sizes_of l
+sent_sizes : (l : LinkValue) (now : ℕ) (e : PendingEntryValue) → sizes_of (link_sent l now e) ≡ sizes_of l
 sent_sizes l now (Answer token moment) = let due : LinkValue = link_after l (call.Due now) in stays_so sizes_of (answers due.phase) due _ refl
 sent_sizes l now (Pong token) = refl
 
 -- A session whose first due entry was sent.
 module _ (host : Host) (s : Inside) (l : LinkValue) (ready : session_ready (session_value s) ≡ true) (some : is_some (first_due host.now s.link.held) ≡ true)
-    (link : (e : HeldValue) → first_due host.now s.link.held ≡ Some e → l ≡ link_sent s.link host.now e) where
-  abbrev due : (e : HeldValue) × (first_due host.now s.link.held ≡ Some e)
+    (link : (e : PendingEntryValue) → first_due host.now s.link.held ≡ Some e → l ≡ link_sent s.link host.now e) where
+  abbrev due : (e : PendingEntryValue) × (first_due host.now s.link.held ≡ Some e)
   due = there_is (first_due host.now s.link.held) some
 
   held_is : next_held_in host.now (session_value s) ≡ Some due.0

@@ -1,7 +1,7 @@
 -- After settling, no pending entry is due and no observer is stale, or the queue has no room.
 use Rattle.std.proofs.Common.{◌≡◌, ℕ, zero, suc, ◌+◌, ◌≤◌, Bool, true, false, ◌&&◌, List, [], length, Some, None, refl, sym, ap, ◌∙◌, arith, ◌||◌, find, is_some, if◌then◌else◌}
 use Rattle.std.proofs.lemmas.Bool.{eq-eqb, eqb-true, and_parts, or_parts, cond_both, false_from_ne_true}
-use Rattle.coap_server_session.specs.Prelude.{Message, answers, is_open, fit, bare_response, HeldValue, Answer}
+use Rattle.coap_server_session.specs.Prelude.{Message, answers, is_open, fit, bare_response, PendingEntryValue, Answer}
 use Rattle.coap_server_session.specs.Prelude.{Pong, first_due, without_due, send}
 use Rattle.coap_server_session.specs.Prelude.{standing_due, link_after, LinkValue, limit_in, standing_in, link_with}
 use Rattle.coap_server_session.specs.Prelude.{Representation, Response, notification_of, Host, held_message, goes_on}
@@ -12,7 +12,7 @@ use Rattle.coap_server_session.specs.Prelude.{session_settled_so, session_settle
 use Rattle.coap_server_session.specs.Prelude.{session_settled, session_written, IsSettled}
 use Rattle.coap_wire.specs.Codes as code
 use Rattle.coap_conn.specs.Calls as call
-use Rattle.coap_conn.proofs.HeldLaws.{due_fewer}
+use Rattle.coap_conn.proofs.PendingLaws.{due_fewer}
 use Rattle.coap_store.proofs.NotificationLaws.{notification_tells}
 use Rattle.coap_model.proofs.OptionLemmas.{there_is_none, none_made_where, some_where, there_is}
 use Rattle.coap_model.proofs.world.SideLaws.{send_held, due_held}
@@ -25,12 +25,12 @@ reply_held l m =
     cond_both (answers l.phase) (link_with l (send (standing_in l) m (bare_response m))) l (λ k. length k.held ≤ length l.held)
     (λ _. send_held (standing_in l) m (bare_response m) (fit (limit_in l) m (bare_response m))) (λ _. omega arith)
 
-held_where_sent : (l : LinkValue) (now : ℕ) (e : HeldValue) → length (link_sent l now e).held ≤ length (link_after l (call.Due now)).held
+held_where_sent : (l : LinkValue) (now : ℕ) (e : PendingEntryValue) → length (link_sent l now e).held ≤ length (link_after l (call.Due now)).held
 held_where_sent l now (Answer token moment) = reply_held (link_after l (call.Due now)) (held_message token)
 held_where_sent l now (Pong token) = omega arith
 
 -- An iteration that finds a due entry leaves fewer entries.
-pub fewer_held : (l : LinkValue) (now : ℕ) (e : HeldValue) → first_due now l.held ≡ Some e → length (link_sent l now e).held + 1 ≤ length l.held
+pub fewer_held : (l : LinkValue) (now : ℕ) (e : PendingEntryValue) → first_due now l.held ≡ Some e → length (link_sent l now e).held + 1 ≤ length l.held
 fewer_held l now e found =
     let out : length (link_after l (call.Due now)).held ≤ length (without_due now l.held) = due_held (standing_due now (standing_in l)) (first_due now l.held) in
     omega (arith, held_where_sent l now e, out, due_fewer now l.held e found)
@@ -113,7 +113,7 @@ settled_where_room host v n ready settled =
     settled_quiet host (session_written v n) (sym (found_ready host v ready).0 ∙ settled.0) (sym (found_ready host v ready).1 ∙ settled.1)
 
 -- If no entry is pending, none is due.
-pub none_held : (now : ℕ) (held : List HeldValue) → length held ≤ 0 → first_due now held ≡ None
+pub none_held : (now : ℕ) (held : List PendingEntryValue) → length held ≤ 0 → first_due now held ≡ None
 none_held now held few =
     let fewer = λ (some : is_some (first_due now held) ≡ true). due_fewer now held _ (there_is (first_due now held) some).1 in
     there_is_none (first_due now held) (false_from_ne_true (is_some (first_due now held)) (λ some. omega (arith, few, fewer some)))

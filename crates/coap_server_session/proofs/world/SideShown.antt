@@ -17,7 +17,7 @@ use Rattle.coap_server_session.specs.Prelude.{session_notified, next_held_in, se
 use Rattle.coap_server_session.specs.Prelude.{session_settled_within, session_settled, Observer, without_token, has_place}
 use Rattle.coap_server_session.specs.Prelude.{entry_for, is_whole, with_entry, is_due, goes_on, notification}
 use Rattle.coap_server_session.specs.Prelude.{notification_message, left_of, first_becomes, format_of, observer_shown, kept_on}
-use Rattle.coap_server_session.specs.Prelude.{session_shown, HeldValue, link_sent, held_message, after_sent}
+use Rattle.coap_server_session.specs.Prelude.{session_shown, PendingEntryValue, link_sent, held_message, after_sent}
 use Rattle.std.proofs.lemmas.Bool.{and_parts, cond_both, le-leb}
 use Rattle.std.proofs.lemmas.List.{length-map}
 use Rattle.coap_model.proofs.world.KnownLaws.{IsWatchable, entry_watchable, IsKnown, IsVersioned}
@@ -30,7 +30,7 @@ use Rattle.coap_conn.proofs.LinkLemmas.{after_link}
 use Rattle.coap_model.proofs.world.WalkLaws.{there_or_not}
 use Rattle.coap_conn.specs.Calls as call
 use Rattle.coap_model.proofs.world.SideLaws.{next_known, once_known, AreKnown, IsKnownSide, handles_parts}
-use Rattle.coap_conn.specs.Held as held
+use Rattle.coap_conn.specs.PendingEntries as held
 
 -- The server state of a store and a time.
 abbrev pub host_of : StoreValue → ℕ → Host
@@ -130,7 +130,7 @@ change_shown store now s m e = ap (λ b. cond (b && asks_answer s m) (prompt_ans
 
 -- ---- the link after a pending entry was sent
 
-pub sent_link : (h : History) (now : ℕ) (e : HeldValue) → IsHistory h → link_of (after_sent h now e) ≡ link_sent (link_of h) now e
+pub sent_link : (h : History) (now : ℕ) (e : PendingEntryValue) → IsHistory h → link_of (after_sent h now e) ≡ link_sent (link_of h) now e
 sent_link h now (held.Answer token moment) is =
     after_link (after h (call.Due now)) (call.Reply (held_message token)) tt ((call_goes_on h (call.Due now) tt).history is)
     ∙ ap (λ l. link_after l (call.Reply (held_message token))) (after_link h (call.Due now) tt is)

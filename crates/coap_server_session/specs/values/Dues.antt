@@ -1,7 +1,7 @@
 -- Defined by this project: the times at which time alone may make something due on a connection.
 use Rattle.std.specs.Prelude.{◌<◌, ℕ, ◌+◌, Bool, not, List, Option, Some, None, min, ◌==◌, if◌then◌else◌}
 use Rattle.std.specs.List.{list_any}
-use Rattle.coap_conn.specs.Held.{next_moment}
+use Rattle.coap_conn.specs.PendingEntries.{next_moment}
 use Rattle.coap_store.specs.State.{place_of, is_dynamic}
 use Rattle.coap_server_session.specs.values.Sessions.{ObserverValue, SessionValue}
 

@@ -14,8 +14,8 @@ use Rattle.coap_conn.specs.Verdicts.{is_request}
 use Rattle.coap_conn.specs.Reaction.{react}
 use Rattle.coap_conn.specs.Fit.{fit, bare_response}
 use Rattle.coap_conn.specs.Rejects.{reject_of}
-use Rattle.coap_conn.specs.Held.{HeldValue, first_due}
-use Rattle.coap_conn.specs.Held as held
+use Rattle.coap_conn.specs.PendingEntries.{PendingEntryValue, first_due}
+use Rattle.coap_conn.specs.PendingEntries as held
 use Rattle.coap_conn.specs.LinkValue.{LinkValue, new_link, free_in, limit_in, standing_in, can_hold}
 use Rattle.coap_conn.specs.Calls.{link_after, may_announce}
 use Rattle.coap_conn.specs.Calls as call
@@ -297,17 +297,17 @@ session_notified host v (Some o) =
     session_notified_so host v o (notification_on host o) (goes_on (notification_of host.store host.now o.path o.format))
 
 -- The pending entry that is due first, if the queue has room to send it.
-unfoldable pub next_held_in : ℕ → SessionValue → Option HeldValue
+unfoldable pub next_held_in : ℕ → SessionValue → Option PendingEntryValue
 next_held_in now v = if session_ready v then first_due now v.link.held else None
 
 -- The link after the pending entry that is due first was removed: its response was sent, or its Pong was queued with
 -- Custody.
-abbrev pub link_sent : LinkValue → ℕ → HeldValue → LinkValue
+abbrev pub link_sent : LinkValue → ℕ → PendingEntryValue → LinkValue
 link_sent l now (held.Answer token moment) = link_after (link_after l (call.Due now)) (call.Reply (held_message token))
 link_sent l now (held.Pong token) = link_after l (call.Due now)
 
 -- The connection after one iteration of settling: a pending entry is sent before any observer is notified.
-abbrev pub session_settled_so : Host → SessionValue → Option HeldValue → SessionValue
+abbrev pub session_settled_so : Host → SessionValue → Option PendingEntryValue → SessionValue
 session_settled_so host v None = session_notified host v (next_stale host v)
 session_settled_so host v (Some e) = session_with v.frame (link_sent v.link host.now e) v.observers
 

@@ -1,4 +1,4 @@
-use Rattle.coap_conn.proofs.HeldLaws.{custody_at_once, held_few, held_more, held_released, held_given_up}
+use Rattle.coap_conn.proofs.PendingLaws.{custody_at_once, held_few, held_more, held_released, held_given_up}
 use Rattle.coap_conn.proofs.laws.custody_waits_for_what_is_held.Goals as goal
 
 pub returns-clause-at_once : goal.returns-clause-at_once

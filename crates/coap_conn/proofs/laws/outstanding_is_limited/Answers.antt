@@ -1,4 +1,4 @@
-use Rattle.coap_conn.proofs.AskedLaws.{asked_no_more, call_few, asked_given_up}
+use Rattle.coap_conn.proofs.OutstandingLaws.{asked_no_more, call_few, asked_given_up}
 use Rattle.coap_conn.proofs.laws.outstanding_is_limited.Goals as goal
 
 pub returns-clause-message : goal.returns-clause-message

@@ -1,6 +1,6 @@
 use Rattle.std.proofs.Common.{◌+◌, cond, [], ◌∷◌, ◌++◌, Option, ap}
 use Rattle.coap_conn.specs.Prelude.{is_none, RequestFault}
-use Rattle.coap_conn.proofs.AskedLaws.{tokens_differ, token_left, tokens_stay}
+use Rattle.coap_conn.proofs.OutstandingLaws.{tokens_differ, token_left, tokens_stay}
 use Rattle.coap_conn.proofs.laws.tokens_are_new.Goals as goal
 
 pub returns-clause-different : goal.returns-clause-different

@@ -4,7 +4,7 @@ use Rattle.coap_conn.specs.Prelude.{is_open, OutstandingValue, with_cancelled, h
 use Rattle.coap_conn.specs.Prelude.{link_value}
 use Rattle.coap_conn.specs.Calls as call
 use Rattle.coap_conn.proofs.LinkLemmas.{shows}
-use Rattle.coap_conn.proofs.AskedLemmas.{size_decides_cancel, cancel_after}
+use Rattle.coap_conn.proofs.OutstandingLemmas.{size_decides_cancel, cancel_after}
 use Rattle.coap_conn.proofs.link.Link.cancel.Goals as goal
 
 pub returns-in_err-queue_asked-clause-answer : goal.returns-in_err-queue_asked-clause-answer

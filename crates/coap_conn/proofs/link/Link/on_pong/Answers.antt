@@ -1,15 +1,15 @@
 use Rattle.std.proofs.Common.{ℕ, not, length, map, ◌≤◌, ap, sym, subst, ◌∙◌, arith}
 use Rattle.std.proofs.lemmas.List.{length-map}
-use Rattle.coap_conn.specs.Prelude.{is_pinged, link_value, outstanding_value}
-use Rattle.coap_conn.proofs.AskedLemmas.{count_left, link_left}
+use Rattle.coap_conn.specs.Prelude.{matches_pong, link_value, outstanding_value}
+use Rattle.coap_conn.proofs.OutstandingLemmas.{count_left, link_left}
 use Rattle.coap_conn.proofs.link.Link.on_pong.Goals as goal
 
 pub invariant_of-self : goal.invariant_of-self
 invariant_of-self c =
-    let fewer : length (map outstanding_value c.forget_pinged_in.new.entries.items) ≤ length (map outstanding_value c.self.inside.asked.items) =
-    omega (arith, length-map c.forget_pinged_in.new.entries.items outstanding_value, length-map c.self.inside.asked.items outstanding_value, c.forget_pinged_in.ensures.fewer) in (
-      link_left (link_value c.self.inside) (map outstanding_value c.forget_pinged_in.new.entries.items) fewer c.self.invariant.0,
+    let fewer : length (map outstanding_value c.remove_ping_in.new.entries.items) ≤ length (map outstanding_value c.self.inside.asked.items) =
+    omega (arith, length-map c.remove_ping_in.new.entries.items outstanding_value, length-map c.self.inside.asked.items outstanding_value, c.remove_ping_in.ensures.fewer) in (
+      link_left (link_value c.self.inside) (map outstanding_value c.remove_ping_in.new.entries.items) fewer c.self.invariant.0,
       c.self.invariant.1,
       c.self.invariant.2,
-      subst (λ (n : ℕ). c.self.inside.limits.outstanding ≤ n) (sym c.forget_pinged_in.ensures.capacity) c.self.invariant.3,
+      subst (λ (n : ℕ). c.self.inside.limits.outstanding ≤ n) (sym c.remove_ping_in.ensures.capacity) c.self.invariant.3,
     )

@@ -3,7 +3,7 @@ use Rattle.std.proofs.lemmas.Result.{err_from_is_err_and}
 use Rattle.coap_conn.specs.Prelude.{Ping, next_token, ping_with, LinkValue, asking_in}
 use Rattle.coap_conn.specs.Calls as call
 use Rattle.coap_conn.proofs.LinkLemmas.{shows}
-use Rattle.coap_conn.proofs.AskedLemmas.{new_room, new_number, refused_new, refused_size, asked_after}
+use Rattle.coap_conn.proofs.OutstandingLemmas.{new_room, new_number, refused_new, refused_size, asked_after}
 use Rattle.coap_conn.proofs.link.Link.ping.Goals as goal
 
 pub returns-in_err-token-clause-answer : goal.returns-in_err-token-clause-answer

@@ -4,7 +4,7 @@ use Rattle.coap_conn.specs.Outstanding as value
 use Rattle.coap_conn.specs.Prelude.{outstanding_value, next_token, with_token, entry_of, LinkValue, asking_in}
 use Rattle.coap_conn.specs.Calls as call
 use Rattle.coap_conn.proofs.LinkLemmas.{shows}
-use Rattle.coap_conn.proofs.AskedLemmas.{new_room, new_number, refused_new, refused_size, asked_after}
+use Rattle.coap_conn.proofs.OutstandingLemmas.{new_room, new_number, refused_new, refused_size, asked_after}
 use Rattle.coap_conn.proofs.link.Link.request.Goals as goal
 use Rattle.coap_conn.proofs.link.Link.request.Goals.{then-observe, else-observe}
 

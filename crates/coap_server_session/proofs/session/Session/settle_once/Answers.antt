@@ -1,5 +1,5 @@
 use Rattle.std.proofs.Common.{◌≡◌, sym, ap, subst, ◌∙◌, ◌||◌, Option, is_some}
-use Rattle.coap_server_session.specs.Prelude.{HeldValue, first_due, ObserverValue, SessionValue, MarkedSession, LinkValue}
+use Rattle.coap_server_session.specs.Prelude.{PendingEntryValue, first_due, ObserverValue, SessionValue, MarkedSession, LinkValue}
 use Rattle.coap_server_session.specs.Prelude.{next_held_in, next_stale, IsMarked}
 use Rattle.coap_server_session.specs.Prelude.{session_ready, session_settled_once, session_settled_so, session_notified}
 use Rattle.coap_server_session.specs.Prelude.{session_value}
@@ -17,7 +17,7 @@ returns-then-not-ready c =
     let settled = settled_unready host v unready in
     record {
       after = sym (stays_once host v settled);
-      found = ap (λ (o : Option ObserverValue). is_some o) (sym settled.1) ∙ ap (λ (e : Option HeldValue). is_some e || is_some (next_stale host v)) (sym settled.0);
+      found = ap (λ (o : Option ObserverValue). is_some o) (sym settled.1) ∙ ap (λ (e : Option PendingEntryValue). is_some e || is_some (next_stale host v)) (sym settled.0);
       marked = c.requires;
     }
 

@@ -1,0 +1,107 @@
+-- RFC 8323 section 5.4.1: Pongs with Custody, which are sent after everything that precedes them in the pending list.
+-- Defined by this project: delayed responses, which are sent when they are due. The list is in the order of arrival.
+use Rattle.std.specs.Prelude.{◌≡◌, ℕ, ◌≤◌, ◌++◌, Bool, false, List, [], ◌∷◌, Option, Some, None, min, slice_get, nat_le, nat_lt, ◌==◌, if◌then◌else◌}
+use Rattle.std.specs.List.{AllByRecursion, filter_map, reduce, position, remove}
+
+-- An entry of the pending list: a response, due at `moment`, or a Pong. The token is that of the request or of the
+-- Ping.
+pub data PendingEntryValue : Type 0 where
+  Answer : (token : List ℕ) (moment : ℕ) → PendingEntryValue
+  Pong : (token : List ℕ) → PendingEntryValue
+
+-- ---- the entry that is due first
+
+-- The time of a response, if it is due at `now` or earlier.
+abbrev pub due_moment : ℕ → PendingEntryValue → Option ℕ
+due_moment now (Answer token moment) = if nat_le moment now then Some moment else None
+due_moment now (Pong token) = None
+
+-- The earliest time of the responses that are due at `now` or earlier.
+abbrev pub earliest_due : ℕ → List PendingEntryValue → Option ℕ
+earliest_due now held = reduce min (filter_map (due_moment now) held)
+
+-- True if an entry is a response that is due at exactly this time.
+abbrev pub is_answer_at : ℕ → PendingEntryValue → Bool
+is_answer_at moment (Answer token due) = due == moment
+is_answer_at moment (Pong token) = false
+
+-- The index of the first response that is due at exactly this time, if there is a time.
+abbrev pub answer_index : Option ℕ → List PendingEntryValue → Option ℕ
+answer_index None held = None
+answer_index (Some moment) held = position (is_answer_at moment) held
+
+-- The index of a Pong that no entry precedes.
+abbrev pub pong_index : List PendingEntryValue → Option ℕ
+pong_index [] = None
+pong_index (Answer token moment ∷ later) = None
+pong_index (Pong token ∷ later) = Some 0
+
+-- The first index if there is one, otherwise the second.
+abbrev pub else_index : Option ℕ → Option ℕ → Option ℕ
+else_index None other = other
+else_index (Some i) other = Some i
+
+-- The index of the entry that is due first at `now`. Responses whose time has come precede Pongs: the earliest time
+-- first, and of equal times the first entry. Otherwise a Pong is due if no entry precedes it.
+unfoldable pub due_index : ℕ → List PendingEntryValue → Option ℕ
+due_index now held = else_index (answer_index (earliest_due now held) held) (pong_index held)
+
+-- ---- the next time
+
+-- The time of a response, if it is due after `now`.
+abbrev pub future_moment : ℕ → PendingEntryValue → Option ℕ
+future_moment now (Answer token moment) = if nat_lt now moment then Some moment else None
+future_moment now (Pong token) = None
+
+-- The earliest time after `now` at which a response is due.
+abbrev pub next_moment : ℕ → List PendingEntryValue → Option ℕ
+next_moment now held = reduce min (filter_map (future_moment now) held)
+
+-- ---- removal
+
+-- The entry at an index, if there is an index.
+abbrev pub held_at : List PendingEntryValue → Option ℕ → Option PendingEntryValue
+held_at held None = None
+held_at held (Some i) = slice_get held i
+
+-- The entries without that at an index, or all of them if there is no index.
+abbrev pub without_at : List PendingEntryValue → Option ℕ → List PendingEntryValue
+without_at held None = held
+without_at held (Some i) = remove held i
+
+-- The entry that is due first at `now`, if any is due.
+unfoldable pub first_due : ℕ → List PendingEntryValue → Option PendingEntryValue
+first_due now held = held_at held (due_index now held)
+
+-- The entries without that which is due first at `now`.
+unfoldable pub without_due : ℕ → List PendingEntryValue → List PendingEntryValue
+without_due now held = without_at held (due_index now held)
+
+-- Holds if no entry is due at `now`: each response is due later, and no Pong is the first entry.
+abbrev pub NothingIsDue : ℕ → List PendingEntryValue → Type 0
+NothingIsDue now held = AllByRecursion (λ e. due_moment now e ≡ None) held × (pong_index held ≡ None)
+
+-- Holds if this response is due first at `now`, and `rest` are the entries without it. Its time has come, no time that
+-- has come is earlier, and all responses before it have other times.
+pub record IsDueFirst (now : ℕ) (held : List PendingEntryValue) (token : List ℕ) (moment : ℕ) (rest : List PendingEntryValue) : Type 0 where
+  pub before : List PendingEntryValue
+  pub after : List PendingEntryValue
+  pub there : held ≡ before ++ Answer token moment ∷ after
+  pub without : rest ≡ before ++ after
+  pub has_come : moment ≤ now
+  pub least : AllByRecursion (λ e. (other : ℕ) → due_moment now e ≡ Some other → moment ≤ other) held
+  pub earliest : AllByRecursion (λ e. is_answer_at moment e ≡ false) before
+
+-- ---- results
+
+-- The result of `Link::due`, with the token as a list of bytes: a response, which the caller sends, a Pong, or nothing.
+pub data DueValue : Type 0 where
+  AnAnswer : (token : List ℕ) → DueValue
+  APong : DueValue
+  Nothing : DueValue
+
+-- The result of `Link::due`, by the entry that is due first.
+abbrev pub due_told : Option PendingEntryValue → DueValue
+due_told None = Nothing
+due_told (Some (Answer token moment)) = AnAnswer token
+due_told (Some (Pong token)) = APong
