@@ -55,9 +55,9 @@ pub use Rattle.coap_conn.specs.declared.reason.Reason.{Reason}
 pub use Rattle.coap_conn.specs.declared.reason.Reason.TheVariants.{PeerTooSmall, ReleasedHere}
 -- ---- coap_store
 pub use Rattle.coap_store.specs.Answer.{changed, Change, Delete, Nothing, Put, Response, content, deletion, etag_at}
-pub use Rattle.coap_store.specs.Answer.{finally, held_response, is_among, only, read_answer, removes_watch}
+pub use Rattle.coap_store.specs.Answer.{with_observe_rule, delayed_response, is_among, only, read_answer, removes_watch}
 pub use Rattle.coap_store.specs.Answer.{stored_under, unheld_by, valid}
-unfoldable pub use Rattle.coap_store.specs.Answer.{answer_of, answer_at, get_answer, method_answer, prompt_answer}
+unfoldable pub use Rattle.coap_store.specs.Answer.{answer_of, answer_at, get_answer, method_answer, immediate_answer}
 unfoldable pub use Rattle.coap_store.specs.Answer.{resource_answer, store_answer}
 pub use Rattle.coap_store.specs.Invariant.{AreDistinct}
 unfoldable pub use Rattle.coap_store.specs.Listing.{encoded_byte, entry_bytes, listing, path_bytes}
@@ -68,11 +68,11 @@ unfoldable pub use Rattle.coap_store.specs.Paths.{is_path}
 unfoldable pub use Rattle.coap_store.specs.Refusals.{put_refusal, remove_refusal}
 pub use Rattle.coap_store.specs.Requests.{path_of}
 unfoldable pub use Rattle.coap_store.specs.Requests.{has_option, is_seconds, match_holds, number_of, value_of}
-pub use Rattle.coap_store.specs.State.{Target, built, is_dynamic, is_observable, state_of, target_of, text_plain}
-unfoldable pub use Rattle.coap_store.specs.State.{key_for, place_of, state_at}
+pub use Rattle.coap_store.specs.State.{RequestTarget, built, is_dynamic, is_observable, state_of, target_of, text_plain}
+unfoldable pub use Rattle.coap_store.specs.State.{key_for, kind_of_path, state_at}
 pub use Rattle.coap_store.specs.Store.{StoreValue, Representation, put_in, removed_in}
 unfoldable pub use Rattle.coap_store.specs.Store.{found_in, put_at, removed_at}
-pub use Rattle.coap_store.specs.declared.place.Place.TheVariants.{Dynamic, Time}
+pub use Rattle.coap_store.specs.declared.resource_kind.ResourceKind.TheVariants.{Dynamic, Time}
 pub use Rattle.coap_store.specs.declared.plan.Watch.{Watch}
 -- ---- coap_model
 pub use Rattle.coap_model.specs.Configs.{config_of, config_refusal, ConfigValues, default_config}
@@ -106,7 +106,7 @@ pub use Rattle.coap_model.specs.world.Sides.{side_handled, side_replied, side_wi
 unfoldable pub use Rattle.coap_model.specs.world.Sides.{side_after, side_faulted, side_written, side_ended}
 unfoldable pub use Rattle.coap_model.specs.world.Sides.{side_released, side_announced, settled_once, change_after}
 unfoldable pub use Rattle.coap_model.specs.world.Sides.{settled, settled_within}
-pub use Rattle.coap_model.specs.world.Told.{WasToldLast, HaveOwnTokens, asked_late, TellsState, etag_of_state}
+pub use Rattle.coap_model.specs.world.Told.{WasToldLast, HaveOwnTokens, asked_late, ReportsState, etag_of_state}
 pub use Rattle.coap_model.specs.world.Told.{responds}
 unfoldable pub use Rattle.coap_model.specs.world.Told.{last_response}
 pub use Rattle.coap_model.specs.world.View.{after_view, AreSeen, change_on, change_steps}

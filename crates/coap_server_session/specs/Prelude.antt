@@ -46,8 +46,8 @@ pub use Rattle.coap_conn.specs.Verdicts.{is_request}
 pub use Rattle.coap_conn.specs.declared.phase.Reply.{Reply}
 pub use Rattle.coap_conn.specs.declared.phase.Verdict.{Verdict}
 -- ---- coap_store
-pub use Rattle.coap_store.specs.Answer.{changed, unheld, Change, Delete, Nothing, Put, Response, says}
-unfoldable pub use Rattle.coap_store.specs.Answer.{answer_of, prompt_answer}
+pub use Rattle.coap_store.specs.Answer.{changed, without_hold, Change, Delete, Nothing, Put, Response, says}
+unfoldable pub use Rattle.coap_store.specs.Answer.{answer_of, immediate_answer}
 pub use Rattle.coap_store.specs.Changes.{IsPut, TakesChange, changes}
 pub use Rattle.coap_store.specs.Invariant.{IsStore}
 pub use Rattle.coap_store.specs.Messages.{response_message, response_with_observe, option_at, empty_at, number_at}
@@ -58,11 +58,11 @@ unfoldable pub use Rattle.coap_store.specs.Paths.{is_path}
 pub use Rattle.coap_store.specs.PlanViews.{change_value, path_or_root}
 pub use Rattle.coap_store.specs.Requests.{path_of}
 pub use Rattle.coap_store.specs.State.{is_dynamic, state_of, stored_at}
-unfoldable pub use Rattle.coap_store.specs.State.{key_for, place_of, state_at}
+unfoldable pub use Rattle.coap_store.specs.State.{key_for, kind_of_path, state_at}
 pub use Rattle.coap_store.specs.Store.{StoreValue, Representation}
 unfoldable pub use Rattle.coap_store.specs.Store.{found_in}
-pub use Rattle.coap_store.specs.Watching.{MayWatch}
-pub use Rattle.coap_store.specs.declared.place.Place.TheVariants.{Async, Dynamic, Listing, Root, Time}
+pub use Rattle.coap_store.specs.Observing.{MayObserve}
+pub use Rattle.coap_store.specs.declared.resource_kind.ResourceKind.TheVariants.{Async, Dynamic, Listing, Root, Time}
 -- ---- coap_model
 pub use Rattle.coap_model.specs.world.Observers.{asks_entry, is_whole, Observer, entry_for, format_of, goes_on}
 pub use Rattle.coap_model.specs.world.Observers.{has_place, left_of, notification, notification_message, same_state}

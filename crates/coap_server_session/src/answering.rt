@@ -3,9 +3,9 @@
 ghost use Rattle.std.specs.Prelude.{◌≡◌, ◌<◌, ◌≤◌, ◌++◌, ◌∷◌, [], ℕ, Option, map, true, Some, None, is_some, length};
 ghost use Rattle.std.specs.Prelude.{slice_get, if◌then◌else◌, IfOk, OnOk, OnErr};
 ghost use Rattle.coap_server_session.specs.Prelude.{IsAnswering, AreMarked, IsTagged, marks_after, is_open, PendingEntryValue};
-ghost use Rattle.coap_server_session.specs.Prelude.{first_due, IsReady, can_hold, link_after, changed, unheld};
+ghost use Rattle.coap_server_session.specs.Prelude.{first_due, IsReady, can_hold, link_after, changed, without_hold};
 ghost use Rattle.coap_server_session.specs.Prelude.{response_message, change_value, path_of, IsPut, TakesChange};
-ghost use Rattle.coap_server_session.specs.Prelude.{change_hash, MayWatch, asks_entry as asks};
+ghost use Rattle.coap_server_session.specs.Prelude.{change_hash, MayObserve, asks_entry as asks};
 ghost use Rattle.coap_server_session.specs.Prelude.{is_whole as is_sent_whole, ObserverValue, answer_on, hold_on};
 ghost use Rattle.coap_server_session.specs.Prelude.{held_in, host_changed, link_sent, new_entry, notification_on};
 ghost use Rattle.coap_server_session.specs.Prelude.{without_entry, IsFirstStale, link_replied, entries_replied};
@@ -19,7 +19,7 @@ use crate::observers::{Observers, Stale};
 use crate::path_hash::hash_of;
 use crate::response::respond;
 use coap_conn::{Due, Link, Reply};
-use coap_store::{Change, Plan, State, Store, Watch, held_response, request_path};
+use coap_store::{Change, Plan, State, Store, Watch, delayed_response, request_path};
 use coap_wire::{Code, MessageRef, TokenRef};
 use std::alloc::AllocError;
 
@@ -144,7 +144,7 @@ fn answer_late(
     requires short { length plan.response.payload ≤ LARGEST_MESSAGE }
     ensures link { link.new
         ≡ (if can_hold link.old then link_after link.old (call.Hold request.now.token moment) else link_after link.old
-        (call.Reply (response_message request.now.token (unheld plan.entry).response))) }
+        (call.Reply (response_message request.now.token (without_hold plan.entry).response))) }
     ensures entries { observers.new.entries ≡ without_entry request.now.token observers.old.entries }
     ensures marks { (mark : ObserverValue → Option ℕ) → observers.old.marks ≡ map mark observers.old.entries →
         observers.new.marks ≡ map mark observers.new.entries }
@@ -152,7 +152,7 @@ fn answer_late(
 {
     observers.forget(request.token());
     if link.hold(request.token().to_token(), moment).is_err() {
-        respond(link, request.token(), &plan.unheld(), false);
+        respond(link, request.token(), &plan.without_hold(), false);
     }
 }
 
@@ -169,7 +169,7 @@ pub(crate) fn send_due(link: &mut Link, now: u64) -> bool
         Due::Nothing => false,
         Due::Pong => true,
         Due::Answer(token) => {
-            respond(link, &TokenRef::of(&token), &held_response(), false);
+            respond(link, &TokenRef::of(&token), &delayed_response(), false);
             true
         }
     }
@@ -200,7 +200,7 @@ fn is_whole(reply: Reply) -> bool
 /// Adds the observer that a request asks for. The list must not be full.
 fn enter(observers: &mut Observers, host: &Host, request: &MessageRef)
     requires room { length observers.old.entries < observers.old.room }
-    requires watched { MayWatch host.now.store host.now.now (path_of request.now) (answer_on host.now request.now) }
+    requires watched { MayObserve host.now.store host.now.now (path_of request.now) (answer_on host.now request.now) }
     ensures value { observers.new ≡ record observers.old {
       entries = observers.old.entries ++ new_entry host.entry.now request.now ∷ [];
       marks = observers.old.marks ++ None ∷ [];
@@ -213,7 +213,7 @@ fn enter(observers: &mut Observers, host: &Host, request: &MessageRef)
 
 /// Returns the observer entry of a request: its path must be present, and its current state counts as sent.
 fn entry_for(host: &Host, request: &MessageRef) -> Observer
-    requires { MayWatch host.now.store host.now.now (path_of request.now) (answer_on host.now request.now) }
+    requires { MayObserve host.now.store host.now.now (path_of request.now) (answer_on host.now request.now) }
     ensures entry { observer_value result ≡ new_entry host.entry.now request.now }
     ensures tagged { IsTagged result }
     ensures unmarked { result.changed ≡ None }
@@ -229,7 +229,7 @@ fn entry_for(host: &Host, request: &MessageRef) -> Observer
         format: there.format(),
         mark: mark_at(host.now, &there),
         hash: hash_of(&path),
-        built_in: !path.place().is_dynamic(),
+        built_in: !path.kind().is_dynamic(),
         changed: None,
         previous: None,
         previous_built_in: None,

@@ -2,14 +2,14 @@
 use Rattle.std.proofs.Common.{◌≡◌, ℕ, ◌+◌, ◌<◌, ◌≤◌, ◌^◌, Bool, true, false, ◌&&◌, ◌||◌, List, [], ◌∷◌, length, Option, Some, None, refl, sym, ap, subst, ◌∙◌, arith}
 use Rattle.coap_store.specs.Prelude.{codes, is_some, is_none, nat_le, nat_lt, ◌==◌, not, if◌then◌else◌, decimal}
 use Rattle.coap_store.specs.Prelude.{Message, first_critical, Path, is_path, Representation, StoreValue, found_in}
-use Rattle.coap_store.specs.Prelude.{is_dynamic, is_async, place_of, key_for, stored_at, state_at, Target, target_of}
+use Rattle.coap_store.specs.Prelude.{is_dynamic, is_async, kind_of_path, key_for, stored_at, state_at, RequestTarget, target_of}
 use Rattle.coap_store.specs.Prelude.{listing, values_of, value_of, number_of, has_option, is_get, is_delete}
 use Rattle.coap_store.specs.Prelude.{is_method, path_of, preconditions_hold, is_good_query, Answer, only, says, when}
 use Rattle.coap_store.specs.Prelude.{refuse, first_of, is_accepted, etag_at, is_among, valid, content, watched, late}
 use Rattle.coap_store.specs.Prelude.{get_answer, greatest_version, stored_under, too_large, store_answer, deletion}
 use Rattle.coap_store.specs.Prelude.{delete_answer, needs_resource, read_answer, method_answer, resource_answer}
-use Rattle.coap_store.specs.Prelude.{answer_at, removes_watch, finally, answer_of, unheld_by, unheld, TakesPut}
-use Rattle.coap_store.specs.Prelude.{TakesChange, changes, Place, Root, Time, Async, Listing, Dynamic}
+use Rattle.coap_store.specs.Prelude.{answer_at, removes_watch, with_observe_rule, answer_of, unheld_by, without_hold, TakesPut}
+use Rattle.coap_store.specs.Prelude.{TakesChange, changes, ResourceKind, Root, Time, Async, Listing, Dynamic}
 use Rattle.std.proofs.lemmas.Bool.{leb-false, ltb-false, eqb-false, lt-ltb}
 use Rattle.std.proofs.lemmas.Fmt.{length-decimal-le}
 use Rattle.coap_wire.specs.Codes as code
@@ -35,7 +35,7 @@ abbrev pub OfErrors : (Answer → Type 0) → Type 0
 OfErrors P = (c : ℕ) → is_error c ≡ true → P (says (only c))
 
 -- The property holds for each answer to a GET of a representation, after the earlier checks.
-pub record OfKnownContents (P : Answer → Type 0) (place : Place) (r : Representation) (m : Message) : Type 0 where
+pub record OfKnownContents (P : Answer → Type 0) (place : ResourceKind) (r : Representation) (m : Message) : Type 0 where
   pub valid : is_among (etag_at place r) (values_of numbers.etag m) ≡ true → P (watched place m (valid place r))
   pub late : is_async place ≡ true → is_good_query (value_of numbers.uri_query m) ≡ true → P (late place r m)
   pub content : P (watched place m (content place r))
@@ -46,7 +46,7 @@ good_query true true e is = refl
 good_query true false e is = sym e
 good_query false good e is = absurd cc
 
-pub known_get_cases : (P : Answer → Type 0) (place : Place) (r : Representation) (m : Message) → OfErrors P → OfKnownContents P place r m → P (get_answer place r m)
+pub known_get_cases : (P : Answer → Type 0) (place : ResourceKind) (r : Representation) (m : Message) → OfErrors P → OfKnownContents P place r m → P (get_answer place r m)
 unfolding get_answer
 known_get_cases P place r m errors contents =
     let last = watched place m (content place r) in
@@ -62,21 +62,21 @@ known_get_cases P place r m errors contents =
     checked P (is_async place) (late place r m) [] last (λ waits. contents.late waits (good_query _ _ good waits)) (λ _. contents.content))))
 
 -- The property holds for each answer to a GET of a representation.
-pub record OfContents (P : Answer → Type 0) (place : Place) (r : Representation) (m : Message) : Type 0 where
+pub record OfContents (P : Answer → Type 0) (place : ResourceKind) (r : Representation) (m : Message) : Type 0 where
   pub valid : is_among (etag_at place r) (values_of numbers.etag m) ≡ true → P (watched place m (valid place r))
   pub late : P (late place r m)
   pub content : P (watched place m (content place r))
 
-pub get_cases : (P : Answer → Type 0) (place : Place) (r : Representation) (m : Message) → OfErrors P → OfContents P place r m → P (get_answer place r m)
+pub get_cases : (P : Answer → Type 0) (place : ResourceKind) (r : Representation) (m : Message) → OfErrors P → OfContents P place r m → P (get_answer place r m)
 get_cases P place r m errors contents = known_get_cases P place r m errors (record { valid = contents.valid; late = λ waits good. contents.late; content = contents.content })
 
 -- No check rejects the representation.
-pub record CanStore (s : StoreValue) (t : Target) (m : Message) : Type 0 where
+pub record CanStore (s : StoreValue) (t : RequestTarget) (m : Message) : Type 0 where
   pub small : nat_lt s.rep_max (length m.payload) ≡ false
   pub room : (is_none t.state && nat_le s.dynamic_max (length s.resources)) ≡ false
   pub version_left : (s.versions == greatest_version) ≡ false
 
-pub store_cases : (P : Answer → Type 0) (s : StoreValue) (t : Target) (m : Message) → OfErrors P → P (too_large s) → (CanStore s t m → P (stored_under t.key t.state m)) → P (store_answer s t m)
+pub store_cases : (P : Answer → Type 0) (s : StoreValue) (t : RequestTarget) (m : Message) → OfErrors P → P (too_large s) → (CanStore s t m → P (stored_under t.key t.state m)) → P (store_answer s t m)
 unfolding store_answer
 store_cases P s t m errors large can =
     let last = stored_under t.key t.state m in
@@ -92,18 +92,18 @@ store_cases P s t m errors large can =
     can (record { small = small; room = room; version_left = version_left })))))
 
 -- The property holds for each answer of a method that is allowed.
-pub record OfMethods (P : Answer → Type 0) (s : StoreValue) (t : Target) (m : Message) : Type 0 where
+pub record OfMethods (P : Answer → Type 0) (s : StoreValue) (t : RequestTarget) (m : Message) : Type 0 where
   pub read : (r : Representation) → t.state ≡ Some r → P (get_answer t.place r m)
   pub deleted : is_dynamic t.place ≡ true → is_get m ≡ false → P (delete_answer t)
   pub stored : is_dynamic t.place ≡ true → is_get m ≡ false → P (store_answer s t m)
 
 -- The same, if the method is known to be GET or not.
-pub record OfKnownMethods (P : Answer → Type 0) (s : StoreValue) (t : Target) (m : Message) : Type 0 where
+pub record OfKnownMethods (P : Answer → Type 0) (s : StoreValue) (t : RequestTarget) (m : Message) : Type 0 where
   pub read : is_get m ≡ true → (r : Representation) → t.state ≡ Some r → P (get_answer t.place r m)
   pub deleted : is_dynamic t.place ≡ true → is_get m ≡ false → P (delete_answer t)
   pub stored : is_dynamic t.place ≡ true → is_get m ≡ false → P (store_answer s t m)
 
-read_cases : (P : Answer → Type 0) (place : Place) (state : Option Representation) (m : Message) → OfErrors P → ((r : Representation) → state ≡ Some r → P (get_answer place r m)) → P (read_answer place state m)
+read_cases : (P : Answer → Type 0) (place : ResourceKind) (state : Option Representation) (m : Message) → OfErrors P → ((r : Representation) → state ≡ Some r → P (get_answer place r m)) → P (read_answer place state m)
 read_cases P place None m errors read = errors code.not_found refl
 read_cases P place (Some r) m errors read = read r refl
 
@@ -113,14 +113,14 @@ not_get true g e f = refl
 not_get false true e f = sym f
 not_get false false e f = sym e
 
-method_cases : (P : Answer → Type 0) (s : StoreValue) (t : Target) (m : Message) → OfErrors P → OfKnownMethods P s t m → (not (is_dynamic t.place) && not (is_get m)) ≡ false → P (method_answer s t m)
+method_cases : (P : Answer → Type 0) (s : StoreValue) (t : RequestTarget) (m : Message) → OfErrors P → OfKnownMethods P s t m → (not (is_dynamic t.place) && not (is_get m)) ≡ false → P (method_answer s t m)
 unfolding method_answer
 method_cases P s t m errors methods allowed =
     chosen P (is_get m) _ _ (λ get. read_cases P t.place t.state m errors (methods.read get)) (λ other.
     let dynamic : is_dynamic t.place ≡ true = not_get _ _ allowed other in
     chosen P (is_delete m) _ _ (λ _. methods.deleted dynamic other) (λ _. methods.stored dynamic other))
 
-resource_cases : (P : Answer → Type 0) (s : StoreValue) (t : Target) (m : Message) → OfErrors P → OfKnownMethods P s t m → P (resource_answer s t m)
+resource_cases : (P : Answer → Type 0) (s : StoreValue) (t : RequestTarget) (m : Message) → OfErrors P → OfKnownMethods P s t m → P (resource_answer s t m)
 unfolding resource_answer
 resource_cases P s t m errors methods =
     let last = method_answer s t m in
@@ -134,7 +134,7 @@ resource_cases P s t m errors methods =
     checked P fails (says (only code.precondition_failed)) [] last (λ _. errors code.precondition_failed refl) (λ _.
     method_cases P s t m errors methods allowed)))
 
-pub known_answer_cases : (P : Answer → Type 0) (s : StoreValue) (t : Target) (m : Message) → OfErrors P → OfKnownMethods P s t m → P (answer_at s t m)
+pub known_answer_cases : (P : Answer → Type 0) (s : StoreValue) (t : RequestTarget) (m : Message) → OfErrors P → OfKnownMethods P s t m → P (answer_at s t m)
 unfolding answer_at
 known_answer_cases P s t m errors methods =
     let last = resource_answer s t m in
@@ -147,36 +147,36 @@ known_answer_cases P s t m errors methods =
     checked P (not (is_method m)) (says (only code.method_not_allowed)) [] last (λ _. errors code.method_not_allowed refl) (λ _.
     resource_cases P s t m errors methods)))
 
-pub answer_cases : (P : Answer → Type 0) (s : StoreValue) (t : Target) (m : Message) → OfErrors P → OfMethods P s t m → P (answer_at s t m)
+pub answer_cases : (P : Answer → Type 0) (s : StoreValue) (t : RequestTarget) (m : Message) → OfErrors P → OfMethods P s t m → P (answer_at s t m)
 answer_cases P s t m errors methods = known_answer_cases P s t m errors (record { read = λ get. methods.read; deleted = methods.deleted; stored = methods.stored })
 
 -- ---- changes of an answer
 
-pub unheld_by_finally : (b : Bool) (hold : Option ℕ) (a : Answer) → unheld_by hold (finally b a) ≡ finally b (unheld_by hold a)
+pub unheld_by_finally : (b : Bool) (hold : Option ℕ) (a : Answer) → unheld_by hold (with_observe_rule b a) ≡ with_observe_rule b (unheld_by hold a)
 unheld_by_finally b None a = refl
 unheld_by_finally true (Some seconds) a = refl
 unheld_by_finally false (Some seconds) a = refl
 
-hold_finally : (b : Bool) (a : Answer) → (finally b a).hold ≡ a.hold
+hold_finally : (b : Bool) (a : Answer) → (with_observe_rule b a).hold ≡ a.hold
 hold_finally true a = refl
 hold_finally false a = refl
 
 -- Removing an observer and rejecting a delayed response do not affect each other.
-pub unheld_finally : (b : Bool) (a : Answer) → unheld (finally b a) ≡ finally b (unheld a)
-unheld_finally b a = ap (λ (h : Option ℕ). unheld_by h (finally b a)) (hold_finally b a) ∙ unheld_by_finally b a.hold a
+pub unheld_finally : (b : Bool) (a : Answer) → without_hold (with_observe_rule b a) ≡ with_observe_rule b (without_hold a)
+unheld_finally b a = ap (λ (h : Option ℕ). unheld_by h (with_observe_rule b a)) (hold_finally b a) ∙ unheld_by_finally b a.hold a
 
 -- The change stays the same.
 pub change_unheld : (hold : Option ℕ) (a : Answer) → (unheld_by hold a).change ≡ a.change
 change_unheld None a = refl
 change_unheld (Some seconds) a = refl
 
-pub change_finally : (b : Bool) (a : Answer) → (finally b a).change ≡ a.change
+pub change_finally : (b : Bool) (a : Answer) → (with_observe_rule b a).change ≡ a.change
 change_finally true a = refl
 change_finally false a = refl
 
 -- ---- the store accepts the change of an answer
 
-pub place_dynamic : (place : Place) → is_dynamic place ≡ true → place ≡ Dynamic
+pub place_dynamic : (place : ResourceKind) → is_dynamic place ≡ true → place ≡ Dynamic
 place_dynamic Root e = absurd cc
 place_dynamic Time e = absurd cc
 place_dynamic Async e = absurd cc
@@ -204,21 +204,21 @@ has_room None most n e = lt-ltb n most (leb-false most n e)
 has_room (Some r) most n e = refl
 
 -- The state of a created resource is its stored representation.
-pub state_dynamic : (s : StoreValue) (now : ℕ) (key : Option Path) (place : Place) → is_dynamic place ≡ true → state_at s now key place ≡ stored_at s key
+pub state_dynamic : (s : StoreValue) (now : ℕ) (key : Option Path) (place : ResourceKind) → is_dynamic place ≡ true → state_at s now key place ≡ stored_at s key
 unfolding state_at
 state_dynamic s now key place dynamic = rw (place_dynamic place dynamic) refl
 
 -- The store accepts a representation that passed the checks.
-put_taken : (s : StoreValue) (now : ℕ) (path q : Path) (m : Message) → s.versions < 2 ^ 64 → is_dynamic (place_of path) ≡ true → CanStore s (target_of s now path) m → key_for path ≡ Some q → TakesPut s q m.payload
+put_taken : (s : StoreValue) (now : ℕ) (path q : Path) (m : Message) → s.versions < 2 ^ 64 → is_dynamic (kind_of_path path) ≡ true → CanStore s (target_of s now path) m → key_for path ≡ Some q → TakesPut s q m.payload
 put_taken s now path q m small dynamic can key =
     let is = key_is path q key in
-    let state : state_at s now (key_for path) (place_of path) ≡ found_in s.resources q =
-    state_dynamic s now (key_for path) (place_of path) dynamic ∙ ap (stored_at s) key in
+    let state : state_at s now (key_for path) (kind_of_path path) ≡ found_in s.resources q =
+    state_dynamic s now (key_for path) (kind_of_path path) dynamic ∙ ap (stored_at s) key in
     let room : (is_none (found_in s.resources q) && nat_le s.dynamic_max (length s.resources)) ≡ false =
     sym (ap (λ (r : Option Representation). is_none r && nat_le s.dynamic_max (length s.resources)) state) ∙ can.room in
     record {
       path_ok = is.0;
-      place = sym (ap place_of is.1) ∙ place_dynamic (place_of path) dynamic;
+      place = sym (ap kind_of_path is.1) ∙ place_dynamic (kind_of_path path) dynamic;
       small = ltb-false s.rep_max (length m.payload) can.small;
       room = has_room (found_in s.resources q) s.dynamic_max (length s.resources) room;
       version_left = version_fits s.versions can.version_left small;
@@ -262,7 +262,7 @@ stored_bare None state m e = refl
 stored_bare (Some path) None m e = refl
 stored_bare (Some path) (Some r) m e = refl
 
-bare_at : (s : StoreValue) (t : Target) (m : Message) → IsBare (answer_at s t m)
+bare_at : (s : StoreValue) (t : RequestTarget) (m : Message) → IsBare (answer_at s t m)
 bare_at s t m =
     answer_cases IsBare s t m (λ c e h. refl) (record {
       read = λ r is. get_cases IsBare t.place r m (λ c e h. refl) (record { valid = λ among h. refl; late = λ h. absurd cc; content = λ h. absurd cc });
@@ -270,7 +270,7 @@ bare_at s t m =
       stored = λ dynamic other. store_cases IsBare s t m (λ c e h. refl) (λ h. refl) (λ can. stored_bare t.key t.state m);
     })
 
-bare_finally : (b : Bool) (a : Answer) → IsBare a → IsBare (finally b a)
+bare_finally : (b : Bool) (a : Answer) → IsBare a → IsBare (with_observe_rule b a)
 bare_finally true a is = is
 bare_finally false a is = is
 
@@ -291,7 +291,7 @@ pub record AreShort (s : StoreValue) : Type 0 where
   pub listing : length (listing s.resources) ≤ 1048576
   pub stored : (path : Path) (r : Representation) → found_in s.resources path ≡ Some r → length r.bytes ≤ 1048576
 
-pub state_short : (s : StoreValue) (now : ℕ) (key : Option Path) (place : Place) (r : Representation) → AreShort s → now < 2 ^ 64 → state_at s now key place ≡ Some r → length r.bytes ≤ 1048576
+pub state_short : (s : StoreValue) (now : ℕ) (key : Option Path) (place : ResourceKind) (r : Representation) → AreShort s → now < 2 ^ 64 → state_at s now key place ≡ Some r → length r.bytes ≤ 1048576
 unfolding state_at
 state_short s now key Root r short small is = let bytes : codes "coap+tcp" ≡ r.bytes = cc in omega (arith, sym (ap length bytes))
 state_short s now key Time r short small is =
@@ -318,7 +318,7 @@ short_at s now path m short small =
       stored = λ dynamic other. store_cases IsSmall s t m (λ c e. none) none (λ can. stored_short t.key t.state m);
     })
 
-short_finally : (b : Bool) (a : Answer) → IsSmall a → IsSmall (finally b a)
+short_finally : (b : Bool) (a : Answer) → IsSmall a → IsSmall (with_observe_rule b a)
 short_finally true a is = is
 short_finally false a is = is
 

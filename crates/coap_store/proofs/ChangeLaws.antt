@@ -3,8 +3,8 @@ use Rattle.std.proofs.Common.{◌≡◌, ◌≢◌, ℕ, ◌+◌, ◌≤◌, Boo
 use Rattle.coap_store.specs.Prelude.{is_some, ◌==◌, if◌then◌else◌, Message, Path, same_path, Representation}
 use Rattle.coap_store.specs.Prelude.{StoreValue, found_in, put_at, removed_at, stored_at, state_of, target_of}
 use Rattle.coap_store.specs.Prelude.{path_of, Answer, Change, Nothing, Put, Delete, only, says, stored_under}
-use Rattle.coap_store.specs.Prelude.{deletion, answer_at, removes_watch, finally, answer_of, changed, unheld}
-use Rattle.coap_store.specs.Prelude.{prompt_answer, changes, says_change, AreDistinct}
+use Rattle.coap_store.specs.Prelude.{deletion, answer_at, removes_watch, with_observe_rule, answer_of, changed, without_hold}
+use Rattle.coap_store.specs.Prelude.{immediate_answer, changes, says_change, AreDistinct}
 use Rattle.std.proofs.lemmas.Bool.{leb-true, ne_eqb}
 use lib.Pointwise.{pointwise_decides, bytes_decides}
 use Rattle.coap_wire.specs.Codes as code
@@ -147,7 +147,7 @@ Tells state a = changes a.change ≡ says_change a.response state
 
 -- The same for the answer and for the answer with a full pending list.
 abbrev TellsBoth : Option Representation → Answer → Type 0
-TellsBoth state a = Tells state a × Tells state (unheld a)
+TellsBoth state a = Tells state a × Tells state (without_hold a)
 
 stored_tells : (key : Option Path) (state now : Option Representation) (m : Message) → TellsBoth now (stored_under key state m)
 stored_tells None state now m = (refl, refl)
@@ -193,7 +193,7 @@ deletes_stored_at s now path m =
       stored = λ dynamic other. store_cases P s t m (λ c e. tt) tt (λ can. stored_found s t.key t.state m);
     })
 
-tells_finally : (b : Bool) (state : Option Representation) (a : Answer) → Tells state a → Tells state (finally b a)
+tells_finally : (b : Bool) (state : Option Representation) (a : Answer) → Tells state a → Tells state (with_observe_rule b a)
 tells_finally true state a is = is
 tells_finally false state a is = is
 
@@ -203,11 +203,11 @@ changes_where s now m =
     let a = answer_at s (target_of s now (path_of m)) m in
     tells_finally (removes_watch m) (state_of s now (path_of m)) a (tells_at s now (path_of m) m).0
 
-pub prompt_changes_where : (s : StoreValue) (now : ℕ) (m : Message) → changes (prompt_answer s now m).change ≡ says_change (prompt_answer s now m).response (state_of s now (path_of m))
-unfolding prompt_answer answer_of
+pub prompt_changes_where : (s : StoreValue) (now : ℕ) (m : Message) → changes (immediate_answer s now m).change ≡ says_change (immediate_answer s now m).response (state_of s now (path_of m))
+unfolding immediate_answer answer_of
 prompt_changes_where s now m =
     let a = answer_at s (target_of s now (path_of m)) m in
-    subst (Tells (state_of s now (path_of m))) (sym (unheld_finally (removes_watch m) a)) (tells_finally (removes_watch m) (state_of s now (path_of m)) (unheld a) (tells_at s now (path_of m) m).1)
+    subst (Tells (state_of s now (path_of m))) (sym (unheld_finally (removes_watch m) a)) (tells_finally (removes_watch m) (state_of s now (path_of m)) (without_hold a) (tells_at s now (path_of m) m).1)
 
 deletes_stored : (s : StoreValue) (now : ℕ) (m : Message) → DeletesStored s (answer_of s now m).change
 unfolding answer_of
@@ -215,8 +215,8 @@ deletes_stored s now m =
     let a = answer_at s (target_of s now (path_of m)) m in
     subst (DeletesStored s) (sym (change_finally (removes_watch m) a)) (deletes_stored_at s now (path_of m) m)
 
-found_promptly : (s : StoreValue) (now : ℕ) (m : Message) → DeletesStored s (prompt_answer s now m).change
-unfolding prompt_answer
+found_promptly : (s : StoreValue) (now : ℕ) (m : Message) → DeletesStored s (immediate_answer s now m).change
+unfolding immediate_answer
 found_promptly s now m =
     let a = answer_of s now m in
     subst (DeletesStored s) (sym (change_unheld a.hold a)) (deletes_stored s now m)
@@ -229,8 +229,8 @@ said s now m says = other_store s (answer_of s now m).change (deletes_stored s n
 pub not_said : (s : StoreValue) (now : ℕ) (m : Message) → says_change (answer_of s now m).response (state_of s now (path_of m)) ≡ false → changed s (answer_of s now m).change ≡ s
 not_said s now m says = unchanged s (answer_of s now m).change (changes_where s now m ∙ says)
 
-pub said_promptly : (s : StoreValue) (now : ℕ) (m : Message) → says_change (prompt_answer s now m).response (state_of s now (path_of m)) ≡ true → changed s (prompt_answer s now m).change ≢ s
-said_promptly s now m says = other_store s (prompt_answer s now m).change (found_promptly s now m) (prompt_changes_where s now m ∙ says)
+pub said_promptly : (s : StoreValue) (now : ℕ) (m : Message) → says_change (immediate_answer s now m).response (state_of s now (path_of m)) ≡ true → changed s (immediate_answer s now m).change ≢ s
+said_promptly s now m says = other_store s (immediate_answer s now m).change (found_promptly s now m) (prompt_changes_where s now m ∙ says)
 
-pub not_said_promptly : (s : StoreValue) (now : ℕ) (m : Message) → says_change (prompt_answer s now m).response (state_of s now (path_of m)) ≡ false → changed s (prompt_answer s now m).change ≡ s
-not_said_promptly s now m says = unchanged s (prompt_answer s now m).change (prompt_changes_where s now m ∙ says)
+pub not_said_promptly : (s : StoreValue) (now : ℕ) (m : Message) → says_change (immediate_answer s now m).response (state_of s now (path_of m)) ≡ false → changed s (immediate_answer s now m).change ≡ s
+not_said_promptly s now m says = unchanged s (immediate_answer s now m).change (prompt_changes_where s now m ∙ says)

@@ -2,19 +2,19 @@
 use Rattle.std.proofs.Common.{◌≡◌, ℕ, true, false, Option, Some, None, refl}
 use Rattle.coap_store.specs.Prelude.{Bor, ArrayVec, Message, Representation, number_of, values_of, value_of}
 use Rattle.coap_store.specs.Prelude.{is_good_query, is_async, get_answer, is_accepted, etag_at, is_among, watched}
-use Rattle.coap_store.specs.Prelude.{valid, late, content, Place}
+use Rattle.coap_store.specs.Prelude.{valid, late, content, ResourceKind}
 use Rattle.std.specs.Option.{option_map, option_copied}
 use Rattle.coap_wire.specs.OptionNumbers as numbers
 
-pub get_valid : (place : Place) (r : Representation) (m : Message) → is_accepted (number_of numbers.accept m) r.format ≡ true → is_among (etag_at place r) (values_of numbers.etag m) ≡ true → get_answer place r m ≡ watched place m (valid place r)
+pub get_valid : (place : ResourceKind) (r : Representation) (m : Message) → is_accepted (number_of numbers.accept m) r.format ≡ true → is_among (etag_at place r) (values_of numbers.etag m) ≡ true → get_answer place r m ≡ watched place m (valid place r)
 unfolding get_answer
 get_valid place r m accepted among = rw (accepted, among) refl
 
-pub get_late : (place : Place) (r : Representation) (m : Message) → is_accepted (number_of numbers.accept m) r.format ≡ true → is_among (etag_at place r) (values_of numbers.etag m) ≡ false → is_async place ≡ true → is_good_query (value_of numbers.uri_query m) ≡ true → get_answer place r m ≡ late place r m
+pub get_late : (place : ResourceKind) (r : Representation) (m : Message) → is_accepted (number_of numbers.accept m) r.format ≡ true → is_among (etag_at place r) (values_of numbers.etag m) ≡ false → is_async place ≡ true → is_good_query (value_of numbers.uri_query m) ≡ true → get_answer place r m ≡ late place r m
 unfolding get_answer
 get_late place r m accepted among waits good = rw (accepted, among, waits, good) refl
 
-pub get_content : (place : Place) (r : Representation) (m : Message) → is_accepted (number_of numbers.accept m) r.format ≡ true → is_among (etag_at place r) (values_of numbers.etag m) ≡ false → is_async place ≡ false → get_answer place r m ≡ watched place m (content place r)
+pub get_content : (place : ResourceKind) (r : Representation) (m : Message) → is_accepted (number_of numbers.accept m) r.format ≡ true → is_among (etag_at place r) (values_of numbers.etag m) ≡ false → is_async place ≡ false → get_answer place r m ≡ watched place m (content place r)
 unfolding get_answer
 get_content place r m accepted among prompt = rw (accepted, among, prompt) refl
 

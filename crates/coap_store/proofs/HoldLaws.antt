@@ -1,11 +1,11 @@
 -- Properties of a delayed response, and of an answer with a full pending list.
 use Rattle.std.proofs.Common.{◌≡◌, ◌≢◌, ℕ, ◌≤◌, Bool, true, false, List, Option, Some, None, refl, ap, subst, arith}
 use Rattle.std.proofs.lemmas.Bool.{and_parts, leb-true}
-use Rattle.coap_store.specs.Prelude.{Message, Path, Representation, StoreValue, is_async, place_of, state_at}
+use Rattle.coap_store.specs.Prelude.{Message, Path, Representation, StoreValue, is_async, kind_of_path, state_at}
 use Rattle.coap_store.specs.Prelude.{target_of, is_get, path_of, value_of, digits_mean, is_seconds, is_good_query}
-use Rattle.coap_store.specs.Prelude.{seconds_of, Answer, Nothing, only, content, late, held_response, asks_late}
-use Rattle.coap_store.specs.Prelude.{stored_under, answer_at, removes_watch, finally, answer_of, unheld_by, unheld}
-use Rattle.coap_store.specs.Prelude.{prompt_answer, Place, Root, Time, Async, Listing, Dynamic, Add}
+use Rattle.coap_store.specs.Prelude.{seconds_of, Answer, Nothing, only, content, late, delayed_response, is_delayed}
+use Rattle.coap_store.specs.Prelude.{stored_under, answer_at, removes_watch, with_observe_rule, answer_of, unheld_by, without_hold}
+use Rattle.coap_store.specs.Prelude.{immediate_answer, ResourceKind, Root, Time, Async, Listing, Dynamic, Add}
 use Rattle.coap_wire.specs.Codes as code
 use Rattle.coap_wire.specs.OptionNumbers as numbers
 use Rattle.coap_store.proofs.AnswerLaws.{known_get_cases, known_answer_cases, store_cases, change_unheld}
@@ -23,7 +23,7 @@ seconds_fit None good = omega arith
 seconds_fit (Some bytes) good = hour bytes good
 
 -- The state of `/async` is always the same.
-late_content : (s : StoreValue) (now : ℕ) (key : Option Path) (place : Place) (r : Representation) → is_async place ≡ true → state_at s now key place ≡ Some r → content place r ≡ held_response
+late_content : (s : StoreValue) (now : ℕ) (key : Option Path) (place : ResourceKind) (r : Representation) → is_async place ≡ true → state_at s now key place ≡ Some r → content place r ≡ delayed_response
 unfolding state_at
 late_content s now key Root r waits is = absurd cc
 late_content s now key Time r waits is = absurd cc
@@ -32,8 +32,8 @@ late_content s now key Listing r waits is = absurd cc
 late_content s now key Dynamic r waits is = absurd cc
 
 pub record IsHeld (m : Message) (a : Answer) (seconds : ℕ) : Type 0 where
-  pub asked : asks_late m ≡ true
-  pub response : a.response ≡ held_response
+  pub asked : is_delayed m ≡ true
+  pub response : a.response ≡ delayed_response
   pub change : a.change ≡ Nothing
   pub short : seconds ≤ 3600
 
@@ -48,12 +48,12 @@ stored_at_once None state m = refl
 stored_at_once (Some path) None m = refl
 stored_at_once (Some path) (Some r) m = refl
 
-late_holds : (s : StoreValue) (now : ℕ) (m : Message) (r : Representation) → is_get m ≡ true → (target_of s now (path_of m)).state ≡ Some r → is_async (place_of (path_of m)) ≡ true → is_good_query (value_of numbers.uri_query m) ≡ true → HoldsWell m (late (place_of (path_of m)) r m)
+late_holds : (s : StoreValue) (now : ℕ) (m : Message) (r : Representation) → is_get m ≡ true → (target_of s now (path_of m)).state ≡ Some r → is_async (kind_of_path (path_of m)) ≡ true → is_good_query (value_of numbers.uri_query m) ≡ true → HoldsWell m (late (kind_of_path (path_of m)) r m)
 late_holds s now m r get is waits good seconds e =
     let same : seconds_of (value_of numbers.uri_query m) ≡ seconds = cc in
     record {
       asked = rw (get, waits) refl;
-      response = late_content s now (target_of s now (path_of m)).key (place_of (path_of m)) r waits is;
+      response = late_content s now (target_of s now (path_of m)).key (kind_of_path (path_of m)) r waits is;
       change = refl;
       short = subst (λ n. n ≤ 3600) same (seconds_fit (value_of numbers.uri_query m) good);
     }
@@ -73,7 +73,7 @@ held_at s now m =
     })
 
 -- The effect on the observers does not matter.
-held_finally : (m : Message) (b : Bool) (a : Answer) → HoldsWell m a → HoldsWell m (finally b a)
+held_finally : (m : Message) (b : Bool) (a : Answer) → HoldsWell m a → HoldsWell m (with_observe_rule b a)
 held_finally m true a holds seconds e = let is = holds seconds e in record { asked = is.asked; response = is.response; change = is.change; short = is.short }
 held_finally m false a holds seconds e = holds seconds e
 
@@ -87,23 +87,23 @@ held_unwatched s now m seconds e = λ adds. (let none = watched_at_once s now m 
 
 -- ---- a full pending list
 
-pub unheld_held : (a : Answer) (seconds : ℕ) → a.hold ≡ Some seconds → (unheld a).response ≡ only code.service_unavailable
+pub unheld_held : (a : Answer) (seconds : ℕ) → a.hold ≡ Some seconds → (without_hold a).response ≡ only code.service_unavailable
 unheld_held a seconds e = ap (λ hold. (unheld_by hold a).response) e
 
-pub unheld_prompt : (a : Answer) → a.hold ≡ None → unheld a ≡ a
+pub unheld_prompt : (a : Answer) → a.hold ≡ None → without_hold a ≡ a
 unheld_prompt a e = ap (λ hold. unheld_by hold a) e
 
-pub unheld_change : (a : Answer) → (unheld a).change ≡ a.change
+pub unheld_change : (a : Answer) → (without_hold a).change ≡ a.change
 unheld_change a = change_unheld a.hold a
 
-pub refused_for_now : (s : StoreValue) (now : ℕ) (m : Message) (seconds : ℕ) → (answer_of s now m).hold ≡ Some seconds → (prompt_answer s now m).response ≡ only code.service_unavailable
-unfolding prompt_answer
+pub refused_for_now : (s : StoreValue) (now : ℕ) (m : Message) (seconds : ℕ) → (answer_of s now m).hold ≡ Some seconds → (immediate_answer s now m).response ≡ only code.service_unavailable
+unfolding immediate_answer
 refused_for_now s now m seconds e = unheld_held (answer_of s now m) seconds e
 
-pub same_change : (s : StoreValue) (now : ℕ) (m : Message) → (prompt_answer s now m).change ≡ (answer_of s now m).change
-unfolding prompt_answer
+pub same_change : (s : StoreValue) (now : ℕ) (m : Message) → (immediate_answer s now m).change ≡ (answer_of s now m).change
+unfolding immediate_answer
 same_change s now m = unheld_change (answer_of s now m)
 
-pub same_at_once : (s : StoreValue) (now : ℕ) (m : Message) → (answer_of s now m).hold ≡ None → prompt_answer s now m ≡ answer_of s now m
-unfolding prompt_answer
+pub same_at_once : (s : StoreValue) (now : ℕ) (m : Message) → (answer_of s now m).hold ≡ None → immediate_answer s now m ≡ answer_of s now m
+unfolding immediate_answer
 same_at_once s now m e = unheld_prompt (answer_of s now m) e

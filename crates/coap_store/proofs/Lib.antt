@@ -8,7 +8,7 @@ mod GetLemmas
 pub mod RequestLemmas
 pub mod UriPathLemmas
 pub mod CheckedLemmas
-pub mod NotingLemmas
+pub mod OptionScanLemmas
 pub mod CatalogueLemmas
 pub mod EscapeLemmas
 pub mod ListingLemmas

@@ -2,7 +2,7 @@
 use Rattle.std.proofs.Common.{◌≡◌, ℕ, ◌<◌, ◌^◌, Bool, true, false, ◌&&◌, List, [], ◌∷◌, length, Option, Some, None, refl, sym, ap, subst, ◌∙◌}
 use Rattle.coap_store.specs.Prelude.{is_some, is_none, nat_le, nat_lt, ◌==◌, not, option_map, IfSome, if◌then◌else◌}
 use Rattle.coap_store.specs.Prelude.{Bor, AllByRecursion, Path, is_path, Representation, StoreValue, found_in}
-use Rattle.coap_store.specs.Prelude.{put_in, place_of, is_dynamic, greatest_version, representation, TakesPut}
+use Rattle.coap_store.specs.Prelude.{put_in, kind_of_path, is_dynamic, greatest_version, representation, TakesPut}
 use Rattle.coap_store.specs.Prelude.{IsStore, first_fault, refusal_in, put_refusal, remove_refusal, StoreFault}
 use Rattle.coap_store.specs.Prelude.{NoSuch, TooLarge, Limit, BadPath, VersionsSpent}
 use Rattle.std.proofs.lemmas.Bool.{ltb-false}
@@ -31,7 +31,7 @@ first_fault_refuses (check ∷ checks) fault all is =
 pub put_told : (s : StoreValue) (path : Path) (bytes : List ℕ) (fault : StoreFault) → put_refusal s path bytes ≡ Some fault → put_refusal s path bytes ≡ refusal_in fault
 unfolding put_refusal
 put_told s path bytes fault is =
-    is ∙ sym (first_fault_refuses ((nat_lt s.rep_max (length bytes), TooLarge) ∷ (not (is_dynamic (place_of path)), BadPath) ∷ (is_none (found_in s.resources path) && nat_le s.dynamic_max (length s.resources), Limit) ∷ (s.versions == greatest_version, VersionsSpent) ∷ []) fault (refl, (refl, (refl, (refl, tt)))) is)
+    is ∙ sym (first_fault_refuses ((nat_lt s.rep_max (length bytes), TooLarge) ∷ (not (is_dynamic (kind_of_path path)), BadPath) ∷ (is_none (found_in s.resources path) && nat_le s.dynamic_max (length s.resources), Limit) ∷ (s.versions == greatest_version, VersionsSpent) ∷ []) fault (refl, (refl, (refl, (refl, tt)))) is)
 
 is_dynamic_place : (dynamic : Bool) → not dynamic ≡ false → dynamic ≡ true
 is_dynamic_place true is = refl
@@ -42,12 +42,12 @@ pub takes_put : (s : StoreValue) (path : Path) (bytes : List ℕ) → is_path pa
 unfolding put_refusal
 takes_put s path bytes is fits none =
     let small = passed (nat_lt s.rep_max (length bytes)) TooLarge _ none in
-    let dynamic = passed (not (is_dynamic (place_of path))) BadPath _ small.1 in
+    let dynamic = passed (not (is_dynamic (kind_of_path path))) BadPath _ small.1 in
     let room = passed (is_none (found_in s.resources path) && nat_le s.dynamic_max (length s.resources)) Limit _ dynamic.1 in
     let left = passed (s.versions == greatest_version) VersionsSpent _ room.1 in
     record {
       path_ok = is;
-      place = place_dynamic (place_of path) (is_dynamic_place (is_dynamic (place_of path)) dynamic.0);
+      place = place_dynamic (kind_of_path path) (is_dynamic_place (is_dynamic (kind_of_path path)) dynamic.0);
       small = ltb-false s.rep_max (length bytes) small.0;
       room = has_room (found_in s.resources path) s.dynamic_max (length s.resources) room.0;
       version_left = version_fits s.versions left.0 fits;
@@ -67,9 +67,9 @@ pub remove_absent : (s : StoreValue) (path : Path) (lent : Option (Bor lent.Reso
 unfolding remove_refusal
 remove_absent s path lent same none =
     rw (sym (lent_alike lent (found_in s.resources path) same) ∙ none)
-    (elim (not (is_dynamic (place_of path))) as (λ b. (if b then Some NoSuch else Some NoSuch) ≡ Some NoSuch) [ true ↦ refl | false ↦ refl ])
+    (elim (not (is_dynamic (kind_of_path path))) as (λ b. (if b then Some NoSuch else Some NoSuch) ≡ Some NoSuch) [ true ↦ refl | false ↦ refl ])
 
-found_dynamic : (s : StoreValue) (path : Path) (found : Option Representation) → IsStore s → found_in s.resources path ≡ found → is_none found ≡ false → not (is_dynamic (place_of path)) ≡ false
+found_dynamic : (s : StoreValue) (path : Path) (found : Option Representation) → IsStore s → found_in s.resources path ≡ found → is_none found ≡ false → not (is_dynamic (kind_of_path path)) ≡ false
 found_dynamic s path None is same some = absurd cc
 found_dynamic s path (Some r) is same some = ap (λ place. not (is_dynamic place)) (found_kept s path r is same).place
 

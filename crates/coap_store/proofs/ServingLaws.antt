@@ -2,13 +2,13 @@
 use Rattle.std.proofs.Common.{◌≡◌, ◌≢◌, inl, inr, ℕ, ◌+◌, ◌≤◌, Bool, true, false, List, [], ◌∷◌, ◌++◌, length, map, filter, Option, Some, None, refl, sym, ap, subst, ◌∙◌, arith}
 use Rattle.coap_store.specs.Prelude.{◌==◌, AllByRecursion, kind_of, is_recognised, known_behind}
 use Rattle.coap_store.specs.Prelude.{first_critical_behind, Message, CoapOption, Path, is_path, written_length}
-use Rattle.coap_store.specs.Prelude.{Representation, StoreValue, found_in, is_dynamic, place_of, key_for, stored_at}
-use Rattle.coap_store.specs.Prelude.{state_at, state_of, Target, target_of, values_of, value_of, has_option}
+use Rattle.coap_store.specs.Prelude.{Representation, StoreValue, found_in, is_dynamic, kind_of_path, key_for, stored_at}
+use Rattle.coap_store.specs.Prelude.{state_at, state_of, RequestTarget, target_of, values_of, value_of, has_option}
 use Rattle.coap_store.specs.Prelude.{number_of, match_holds, is_get, path_of, etag_of, Response, Answer, Change}
 use Rattle.coap_store.specs.Prelude.{Nothing, Put, Delete, put_of, etag_at, is_among, stored_under, deletion}
-use Rattle.coap_store.specs.Prelude.{get_answer, method_answer, resource_answer, answer_at, removes_watch, finally}
-use Rattle.coap_store.specs.Prelude.{answer_of, changed, plain_get, IsStoredCode, TellsState, TellsEtag, IsElsewhere}
-use Rattle.coap_store.specs.Prelude.{content_of, put_by, each_at, Place, Root, Time, Async, Listing, Dynamic}
+use Rattle.coap_store.specs.Prelude.{get_answer, method_answer, resource_answer, answer_at, removes_watch, with_observe_rule}
+use Rattle.coap_store.specs.Prelude.{answer_of, changed, plain_get, IsStoredCode, ReportsState, ReportsEtag, IsElsewhere}
+use Rattle.coap_store.specs.Prelude.{content_of, put_by, each_at, ResourceKind, Root, Time, Async, Listing, Dynamic}
 use Rattle.std.proofs.lemmas.Bool.{leb-true, le-leb, cond-true}
 use Rattle.coap_wire.specs.Codes as code
 use Rattle.coap_wire.specs.OptionNumbers as numbers
@@ -18,7 +18,7 @@ use Rattle.coap_store.proofs.ChangeLaws.{other_is_kept_on_put, other_is_kept_on_
 
 -- ---- a GET changes nothing
 
-get_keeps_at : (s : StoreValue) (t : Target) (m : Message) → is_get m ≡ true → (answer_at s t m).change ≡ Nothing
+get_keeps_at : (s : StoreValue) (t : RequestTarget) (m : Message) → is_get m ≡ true → (answer_at s t m).change ≡ Nothing
 get_keeps_at s t m get =
     answer_cases (λ a. a.change ≡ Nothing) s t m (λ c e. refl) (record {
       read = λ r is. get_cases (λ a. a.change ≡ Nothing) t.place r m (λ c e. refl) (record { valid = λ among. refl; late = refl; content = refl });
@@ -32,7 +32,7 @@ get_keeps s now m get = change_finally (removes_watch m) (answer_at s (target_of
 
 -- ---- a response has the state
 
-response_finally : (b : Bool) (a : Answer) → (finally b a).response ≡ a.response
+response_finally : (b : Bool) (a : Answer) → (with_observe_rule b a).response ≡ a.response
 response_finally true a = refl
 response_finally false a = refl
 
@@ -40,26 +40,26 @@ response_finally false a = refl
 no_error : (c d : ℕ) → is_error c ≡ true → d ≤ 127 → c ≢ d
 no_error c d e small = λ same. (let large : 128 ≤ c = leb-true 128 c e in omega arith)
 
-abbrev TellsTruly : Target → Answer → Type 0
-TellsTruly t a = (a.response.code ≡ code.content → TellsState t.place t.state a.response) × (a.response.code ≡ code.valid → TellsEtag t.state a.response)
+abbrev TellsTruly : RequestTarget → Answer → Type 0
+TellsTruly t a = (a.response.code ≡ code.content → ReportsState t.place t.state a.response) × (a.response.code ≡ code.valid → ReportsEtag t.state a.response)
 
-told_error : (t : Target) → OfErrors (TellsTruly t)
+told_error : (t : RequestTarget) → OfErrors (TellsTruly t)
 told_error t c e = ((λ same. absurd (no_error c code.content e (omega arith) same)), (λ same. absurd (no_error c code.valid e (omega arith) same)))
 
 -- A representation whose ETag is in the request is that of a created resource.
-stored_by_etag : (place : Place) (r : Representation) (values : List (List ℕ)) → is_among (etag_at place r) values ≡ true → etag_at place r ≡ Some (etag_of r)
+stored_by_etag : (place : ResourceKind) (r : Representation) (values : List (List ℕ)) → is_among (etag_at place r) values ≡ true → etag_at place r ≡ Some (etag_of r)
 stored_by_etag Root r values among = absurd cc
 stored_by_etag Time r values among = absurd cc
 stored_by_etag Async r values among = absurd cc
 stored_by_etag Listing r values among = absurd cc
 stored_by_etag Dynamic r values among = refl
 
-stored_tells_truly : (t : Target) (key : Option Path) (state : Option Representation) (m : Message) → TellsTruly t (stored_under key state m)
+stored_tells_truly : (t : RequestTarget) (key : Option Path) (state : Option Representation) (m : Message) → TellsTruly t (stored_under key state m)
 stored_tells_truly t None state m = ((λ same. absurd (omega arith)), (λ same. absurd (omega arith)))
 stored_tells_truly t (Some path) None m = ((λ same. absurd (omega arith)), (λ same. absurd (omega arith)))
 stored_tells_truly t (Some path) (Some r) m = ((λ same. absurd (omega arith)), (λ same. absurd (omega arith)))
 
-tells_truly_at : (s : StoreValue) (t : Target) (m : Message) → TellsTruly t (answer_at s t m)
+tells_truly_at : (s : StoreValue) (t : RequestTarget) (m : Message) → TellsTruly t (answer_at s t m)
 tells_truly_at s t m =
     answer_cases (TellsTruly t) s t m (told_error t) (record {
       read = λ r is. get_cases (TellsTruly t) t.place r m (told_error t) (record {
@@ -76,12 +76,12 @@ unfolding answer_of
 tells_truly s now m =
     let t = target_of s now (path_of m) in
     let a = answer_at s t m in
-    subst (λ (r : Response). (r.code ≡ code.content → TellsState t.place t.state r) × (r.code ≡ code.valid → TellsEtag t.state r)) (sym (response_finally (removes_watch m) a)) (tells_truly_at s t m)
+    subst (λ (r : Response). (r.code ≡ code.content → ReportsState t.place t.state r) × (r.code ≡ code.valid → ReportsEtag t.state r)) (sym (response_finally (removes_watch m) a)) (tells_truly_at s t m)
 
-pub content_tells : (s : StoreValue) (now : ℕ) (m : Message) → (answer_of s now m).response.code ≡ code.content → TellsState (place_of (path_of m)) (state_of s now (path_of m)) (answer_of s now m).response
+pub content_tells : (s : StoreValue) (now : ℕ) (m : Message) → (answer_of s now m).response.code ≡ code.content → ReportsState (kind_of_path (path_of m)) (state_of s now (path_of m)) (answer_of s now m).response
 content_tells s now m is = (tells_truly s now m).0 is
 
-pub valid_tells : (s : StoreValue) (now : ℕ) (m : Message) → (answer_of s now m).response.code ≡ code.valid → TellsEtag (state_of s now (path_of m)) (answer_of s now m).response
+pub valid_tells : (s : StoreValue) (now : ℕ) (m : Message) → (answer_of s now m).response.code ≡ code.valid → ReportsEtag (state_of s now (path_of m)) (answer_of s now m).response
 valid_tells s now m is = (tells_truly s now m).1 is
 
 -- ---- other paths
@@ -95,7 +95,7 @@ key_elsewhere : (s : StoreValue) (c : Change) (path : Path) (key : Option Path) 
 key_elsewhere s c path None is apart = refl
 key_elsewhere s c path (Some q) is apart = subst (λ (p : Path). found_in (changed s c).resources p ≡ found_in s.resources p) (key_is path q is).1 (stored_elsewhere s c path apart)
 
-place_elsewhere : (s : StoreValue) (c : Change) (now : ℕ) (path : Path) (place : Place) → place ≢ Listing → IsElsewhere path c → state_at (changed s c) now (key_for path) place ≡ state_at s now (key_for path) place
+place_elsewhere : (s : StoreValue) (c : Change) (now : ℕ) (path : Path) (place : ResourceKind) → place ≢ Listing → IsElsewhere path c → state_at (changed s c) now (key_for path) place ≡ state_at s now (key_for path) place
 unfolding state_at
 place_elsewhere s c now path Root other apart = refl
 place_elsewhere s c now path Time other apart = refl
@@ -103,8 +103,8 @@ place_elsewhere s c now path Async other apart = refl
 place_elsewhere s c now path Listing other apart = absurd (other refl)
 place_elsewhere s c now path Dynamic other apart = key_elsewhere s c path (key_for path) refl apart
 
-pub state_elsewhere : (s : StoreValue) (c : Change) (now : ℕ) (path : Path) → place_of path ≢ Listing → IsElsewhere path c → state_of (changed s c) now path ≡ state_of s now path
-state_elsewhere s c now path other apart = place_elsewhere s c now path (place_of path) other apart
+pub state_elsewhere : (s : StoreValue) (c : Change) (now : ℕ) (path : Path) → kind_of_path path ≢ Listing → IsElsewhere path c → state_of (changed s c) now path ≡ state_of s now path
+state_elsewhere s c now path other apart = place_elsewhere s c now path (kind_of_path path) other apart
 
 -- A request changes only its own path.
 stored_own : (key : Option Path) (state : Option Representation) (path other : Path) (m : Message) → key_for path ≡ key → other ≢ path → IsElsewhere other (stored_under key state m).change
@@ -132,7 +132,7 @@ unfolding answer_of
 own s now other m apart =
     subst (IsElsewhere other) (sym (change_finally (removes_watch m) (answer_at s (target_of s now (path_of m)) m))) (own_at s now (path_of m) other m apart)
 
-pub others_stay : (s : StoreValue) (now later : ℕ) (m : Message) (other : Path) → place_of other ≢ Listing → other ≢ path_of m → state_of (changed s (answer_of s now m).change) later other ≡ state_of s later other
+pub others_stay : (s : StoreValue) (now later : ℕ) (m : Message) (other : Path) → kind_of_path other ≢ Listing → other ≢ path_of m → state_of (changed s (answer_of s now m).change) later other ≡ state_of s later other
 others_stay s now later m other place apart = state_elsewhere s (answer_of s now m).change later other place (own s now other m apart)
 
 -- ---- a GET with no option but Uri-Path
@@ -182,14 +182,14 @@ no_number_plain token p number short other = rw (values_plain token p number sho
 
 -- ---- a stored representation is returned
 
-abbrev target_of_stored : Path → Representation → Target
+abbrev target_of_stored : Path → Representation → RequestTarget
 target_of_stored path r = record { key = Some path; place = Dynamic; state = Some r }
 
-target_stored : (s : StoreValue) (now : ℕ) (path : Path) (r : Representation) → is_path path ≡ true → place_of path ≡ Dynamic → found_in s.resources path ≡ Some r → target_of s now path ≡ target_of_stored path r
+target_stored : (s : StoreValue) (now : ℕ) (path : Path) (r : Representation) → is_path path ≡ true → kind_of_path path ≡ Dynamic → found_in s.resources path ≡ Some r → target_of s now path ≡ target_of_stored path r
 unfolding key_for
 target_stored s now path r is place found =
     let key : key_for path ≡ Some path = cond-true (is_path path) (Some path) None is in
-    let state : state_of s now path ≡ Some r = state_dynamic s now (key_for path) (place_of path) (ap is_dynamic place) ∙ ap (stored_at s) key ∙ found in
+    let state : state_of s now path ≡ Some r = state_dynamic s now (key_for path) (kind_of_path path) (ap is_dynamic place) ∙ ap (stored_at s) key ∙ found in
     λ i. record { key = key i; place = place i; state = state i }
 
 get_plain : (token : List ℕ) (path : Path) (r : Representation) → HaveShortSegments path → (get_answer Dynamic r (plain_get token path)).response ≡ content_of r
@@ -202,19 +202,19 @@ unfolding resource_answer method_answer match_holds
 resource_plain s token path r short =
     rw (absent_plain token path numbers.if_match short refl, absent_plain token path numbers.if_none_match short refl) refl
 
-answer_plain : (s : StoreValue) (t : Target) (token : List ℕ) (path : Path) → HaveShortSegments path → answer_at s t (plain_get token path) ≡ resource_answer s t (plain_get token path)
+answer_plain : (s : StoreValue) (t : RequestTarget) (token : List ℕ) (path : Path) → HaveShortSegments path → answer_at s t (plain_get token path) ≡ resource_answer s t (plain_get token path)
 unfolding answer_at
 answer_plain s t token path short =
     rw (critical_plain [] path short, absent_plain token path numbers.proxy_uri short refl, absent_plain token path numbers.proxy_scheme short refl) refl
 
-pub stored_is_served : (s : StoreValue) (now : ℕ) (token : List ℕ) (path : Path) (r : Representation) → is_path path ≡ true → place_of path ≡ Dynamic → found_in s.resources path ≡ Some r → (answer_of s now (plain_get token path)).response ≡ content_of r
+pub stored_is_served : (s : StoreValue) (now : ℕ) (token : List ℕ) (path : Path) (r : Representation) → is_path path ≡ true → kind_of_path path ≡ Dynamic → found_in s.resources path ≡ Some r → (answer_of s now (plain_get token path)).response ≡ content_of r
 unfolding answer_of
 stored_is_served s now token path r is place found =
     let g = plain_get token path in
     let short : HaveShortSegments path = short_within path (path_fits path is) in
     let target : target_of s now (path_of g) ≡ target_of_stored path r = ap (target_of s now) (path_plain token path short) ∙ target_stored s now path r is place found in
     response_finally (removes_watch g) (answer_at s (target_of s now (path_of g)) g)
-    ∙ ap (λ (t : Target). (answer_at s t g).response) target
+    ∙ ap (λ (t : RequestTarget). (answer_at s t g).response) target
     ∙ ap (λ (a : Answer). a.response) (answer_plain s (target_of_stored path r) token path short ∙ resource_plain s token path r short)
     ∙ get_plain token path r short
 
@@ -224,7 +224,7 @@ stored_is_served s now token path r is place found =
 record Stores (path : Path) (m : Message) (a : Answer) : Type 0 where
   change : a.change ≡ put_of path m
   is : is_path path ≡ true
-  place : place_of path ≡ Dynamic
+  place : kind_of_path path ≡ Dynamic
 
 abbrev WhereStored : Path → Message → Answer → Type 0
 WhereStored path m a = IsStoredCode a.response.code → Stores path m a
@@ -237,12 +237,12 @@ not_stored_code : (c : ℕ) → (c == code.created) ≡ false → (c == code.cha
 not_stored_code c first second (inl same) = let is : (code.created == code.created) ≡ false = ap (λ (n : ℕ). n == code.created) (sym same) ∙ first in absurd cc
 not_stored_code c first second (inr same) = let is : (code.changed == code.changed) ≡ false = ap (λ (n : ℕ). n == code.changed) (sym same) ∙ second in absurd cc
 
-under_stores : (path : Path) (key : Option Path) (state : Option Representation) (m : Message) → key_for path ≡ key → is_dynamic (place_of path) ≡ true → WhereStored path m (stored_under key state m)
+under_stores : (path : Path) (key : Option Path) (state : Option Representation) (m : Message) → key_for path ≡ key → is_dynamic (kind_of_path path) ≡ true → WhereStored path m (stored_under key state m)
 under_stores path None state m is dynamic said = absurd (not_stored code.bad_request refl said)
 under_stores path (Some q) None m is dynamic said =
-    let k = key_is path q is in record { change = ap (λ (p : Path). put_of p m) (sym k.1); is = ap is_path k.1 ∙ k.0; place = place_dynamic (place_of path) dynamic }
+    let k = key_is path q is in record { change = ap (λ (p : Path). put_of p m) (sym k.1); is = ap is_path k.1 ∙ k.0; place = place_dynamic (kind_of_path path) dynamic }
 under_stores path (Some q) (Some r) m is dynamic said =
-    let k = key_is path q is in record { change = ap (λ (p : Path). put_of p m) (sym k.1); is = ap is_path k.1 ∙ k.0; place = place_dynamic (place_of path) dynamic }
+    let k = key_is path q is in record { change = ap (λ (p : Path). put_of p m) (sym k.1); is = ap is_path k.1 ∙ k.0; place = place_dynamic (kind_of_path path) dynamic }
 
 stores_at : (s : StoreValue) (now : ℕ) (path : Path) (m : Message) → WhereStored path m (answer_at s (target_of s now path) m)
 stores_at s now path m =

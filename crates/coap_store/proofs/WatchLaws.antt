@@ -1,10 +1,10 @@
 -- Properties of requests that register an observer.
 use Rattle.std.proofs.Common.{◌≡◌, ℕ, Bool, true, false, ◌&&◌, Option, Some, None, refl, sym, ap, ◌∙◌, inl, inr}
 use Rattle.coap_store.specs.Prelude.{◌⊎◌, if◌then◌else◌, Message, Path, same_path, is_path, Representation}
-use Rattle.coap_store.specs.Prelude.{StoreValue, time_path, is_observable, place_of, key_for, stored_at, state_at}
+use Rattle.coap_store.specs.Prelude.{StoreValue, time_path, is_observable, kind_of_path, key_for, stored_at, state_at}
 use Rattle.coap_store.specs.Prelude.{state_of, target_of, path_of, number_of, Answer, Response, is_number, watch_of}
-use Rattle.coap_store.specs.Prelude.{watched, stored_under, answer_at, removes_watch, finally, answer_of, unheld_by}
-use Rattle.coap_store.specs.Prelude.{prompt_answer, MayWatch, Place, Root, Time, Async, Listing, Dynamic}
+use Rattle.coap_store.specs.Prelude.{watched, stored_under, answer_at, removes_watch, with_observe_rule, answer_of, unheld_by}
+use Rattle.coap_store.specs.Prelude.{immediate_answer, MayObserve, ResourceKind, Root, Time, Async, Listing, Dynamic}
 use Rattle.std.proofs.lemmas.Bool.{cond-true}
 use Rattle.coap_wire.specs.Codes as code
 use Rattle.coap_wire.specs.OptionNumbers as numbers
@@ -23,7 +23,7 @@ left_true : (a b : Bool) → (a && b) ≡ true → a ≡ true
 left_true true b e = refl
 left_true false b e = absurd cc
 
-watched_place : (place : Place) (m : Message) → watch_of place m ≡ watch.Add → is_observable place ≡ true
+watched_place : (place : ResourceKind) (m : Message) → watch_of place m ≡ watch.Add → is_observable place ≡ true
 watched_place place m e = left_true (is_observable place) (is_number (number_of numbers.observe m) 0) (adds_if_so _ e)
 
 -- ---- resources can have their paths
@@ -35,11 +35,11 @@ time_test false false true d e = absurd cc
 time_test false false false true e = absurd cc
 time_test false false false false e = absurd cc
 
-time_only : (path : Path) → place_of path ≡ Time → path ≡ time_path
-unfolding place_of
+time_only : (path : Path) → kind_of_path path ≡ Time → path ≡ time_path
+unfolding kind_of_path
 time_only path e = same_path_sound path time_path (time_test _ (same_path path time_path) _ _ e)
 
-time_key : (path : Path) → place_of path ≡ Time → key_for path ≡ Some path
+time_key : (path : Path) → kind_of_path path ≡ Time → key_for path ≡ Some path
 unfolding key_for
 time_key path e = cond-true (is_path path) (Some path) None (ap is_path (time_only path e) ∙ is_time)
 
@@ -48,7 +48,7 @@ stored_key s path None r is e = absurd cc
 stored_key s path (Some q) r is e = is ∙ ap (λ (p : Path). Some p) (sym (key_is path q is).1)
 
 -- An observable resource that exists has a key.
-observed_key : (s : StoreValue) (now : ℕ) (path : Path) (place : Place) (r : Representation) → place_of path ≡ place → is_observable place ≡ true → state_at s now (key_for path) place ≡ Some r → key_for path ≡ Some path
+observed_key : (s : StoreValue) (now : ℕ) (path : Path) (place : ResourceKind) (r : Representation) → kind_of_path path ≡ place → is_observable place ≡ true → state_at s now (key_for path) place ≡ Some r → key_for path ≡ Some path
 unfolding state_at
 observed_key s now path Root r is e there = absurd cc
 observed_key s now path Time r is e there = time_key path is
@@ -61,21 +61,21 @@ observed_key s now path Dynamic r is e there = stored_key s path (key_for path) 
 -- The answer also has no delay.
 record IsWatched (s : StoreValue) (now : ℕ) (path : Path) (a : Answer) : Type 0 where
   at_once : a.hold ≡ None
-  may : MayWatch s now path a
+  may : MayObserve s now path a
 
 abbrev WatchesWell : StoreValue → ℕ → Path → Answer → Type 0
 WatchesWell s now path a = a.watch ≡ watch.Add → IsWatched s now path a
 
 -- The answers with the state of the path.
-watches : (s : StoreValue) (now : ℕ) (path : Path) (m : Message) (representation : Representation) (r : Response) → state_of s now path ≡ Some representation → (r.code ≡ code.content) ⊎ (r.code ≡ code.valid) → WatchesWell s now path (watched (place_of path) m r)
+watches : (s : StoreValue) (now : ℕ) (path : Path) (m : Message) (representation : Representation) (r : Response) → state_of s now path ≡ Some representation → (r.code ≡ code.content) ⊎ (r.code ≡ code.valid) → WatchesWell s now path (watched (kind_of_path path) m r)
 watches s now path m representation r there is e =
-    let seen = watched_place (place_of path) m e in
+    let seen = watched_place (kind_of_path path) m e in
     record {
       at_once = refl;
       may = record {
         representation = representation;
         there = there;
-        key = observed_key s now path (place_of path) representation refl seen there;
+        key = observed_key s now path (kind_of_path path) representation refl seen there;
         observable = seen;
         quiet = refl;
         code = is;
@@ -105,7 +105,7 @@ watched_at s now path m =
       stored = λ dynamic other. store_cases P s t m (λ c e. nothing _ refl) (nothing _ refl) (λ can. nothing _ (stored_unwatched t.key t.state m));
     })
 
-watched_finally : (s : StoreValue) (now : ℕ) (path : Path) (removes : Bool) (a : Answer) → WatchesWell s now path a → WatchesWell s now path (finally removes a)
+watched_finally : (s : StoreValue) (now : ℕ) (path : Path) (removes : Bool) (a : Answer) → WatchesWell s now path a → WatchesWell s now path (with_observe_rule removes a)
 watched_finally s now path true a is e = absurd cc
 watched_finally s now path false a is e = is e
 
@@ -121,9 +121,9 @@ watched_of s now m = watched_finally s now (path_of m) (removes_watch m) (answer
 pub watched_at_once : (s : StoreValue) (now : ℕ) (m : Message) → (answer_of s now m).watch ≡ watch.Add → (answer_of s now m).hold ≡ None
 watched_at_once s now m e = (watched_of s now m e).at_once
 
-pub watched_is_there : (s : StoreValue) (now : ℕ) (m : Message) → (answer_of s now m).watch ≡ watch.Add → MayWatch s now (path_of m) (answer_of s now m)
+pub watched_is_there : (s : StoreValue) (now : ℕ) (m : Message) → (answer_of s now m).watch ≡ watch.Add → MayObserve s now (path_of m) (answer_of s now m)
 watched_is_there s now m e = (watched_of s now m e).may
 
-pub promptly_watched_is_there : (s : StoreValue) (now : ℕ) (m : Message) → (prompt_answer s now m).watch ≡ watch.Add → MayWatch s now (path_of m) (prompt_answer s now m)
-unfolding prompt_answer
+pub promptly_watched_is_there : (s : StoreValue) (now : ℕ) (m : Message) → (immediate_answer s now m).watch ≡ watch.Add → MayObserve s now (path_of m) (immediate_answer s now m)
+unfolding immediate_answer
 promptly_watched_is_there s now m e = (watched_unheld s now (path_of m) (answer_of s now m).hold (answer_of s now m) refl (watched_of s now m) e).may

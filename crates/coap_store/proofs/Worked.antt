@@ -2,7 +2,7 @@
 use Rattle.std.proofs.Common.{◌≡◌, ℕ, List, [], ◌∷◌, refl}
 use Rattle.coap_store.specs.Prelude.{codes, CoapOption, Message, spelling, bytes_of_uint, kind_of, is_recognised}
 use Rattle.coap_store.specs.Prelude.{known_behind, first_critical_behind, is_path, StoreValue, found_in, put_at}
-use Rattle.coap_store.specs.Prelude.{removed_at, encoded_byte, path_bytes, entry_bytes, listing, place_of, key_for}
+use Rattle.coap_store.specs.Prelude.{removed_at, encoded_byte, path_bytes, entry_bytes, listing, kind_of_path, key_for}
 use Rattle.coap_store.specs.Prelude.{state_at, values_of, has_option, value_of, number_of, match_holds, is_seconds}
 use Rattle.coap_store.specs.Prelude.{get_answer, store_answer, method_answer, resource_answer, answer_at, answer_of}
 use Rattle.coap_store.specs.Prelude.{changed, response_message}
@@ -27,7 +27,7 @@ abbrev after : StoreValue → Message → StoreValue
 after s m = changed s (answer_of s 0 m).change
 
 root_answered : text_at (empty_store 0) (asks code.get 1 [] []) ≡ 0xa1 ∷ 0x45 ∷ 0x01 ∷ 0xc0 ∷ 0xff ∷ codes "coap+tcp"
-unfolding spelling answer_of answer_at resource_answer method_answer get_answer store_answer state_at key_for place_of is_path found_in put_at removed_at values_of has_option value_of number_of match_holds is_seconds listing entry_bytes path_bytes encoded_byte bytes_of_uint kind_of is_recognised known_behind first_critical_behind
+unfolding spelling answer_of answer_at resource_answer method_answer get_answer store_answer state_at key_for kind_of_path is_path found_in put_at removed_at values_of has_option value_of number_of match_holds is_seconds listing entry_bytes path_bytes encoded_byte bytes_of_uint kind_of is_recognised known_behind first_critical_behind
 root_answered = refl
 
 -- PUT a, PUT b, DELETE a, DELETE a again, PUT b and GET of the listing, with a limit of one created resource.
@@ -41,17 +41,17 @@ abbrev removal : Message
 removal = asks code.delete 3 (option numbers.uri_path (codes "a") ∷ []) []
 
 created : text_at (empty_store 1) first_put ≡ 0x01 ∷ 0x41 ∷ 0x01 ∷ []
-unfolding spelling answer_of answer_at resource_answer method_answer get_answer store_answer state_at key_for place_of is_path found_in put_at removed_at values_of has_option value_of number_of match_holds is_seconds listing entry_bytes path_bytes encoded_byte bytes_of_uint kind_of is_recognised known_behind first_critical_behind
+unfolding spelling answer_of answer_at resource_answer method_answer get_answer store_answer state_at key_for kind_of_path is_path found_in put_at removed_at values_of has_option value_of number_of match_holds is_seconds listing entry_bytes path_bytes encoded_byte bytes_of_uint kind_of is_recognised known_behind first_critical_behind
 created = refl
 
 full : text_at (after (empty_store 1) first_put) put_of_other ≡ 0x01 ∷ 0x86 ∷ 0x02 ∷ []
-unfolding spelling answer_of answer_at resource_answer method_answer get_answer store_answer state_at key_for place_of is_path found_in put_at removed_at values_of has_option value_of number_of match_holds is_seconds listing entry_bytes path_bytes encoded_byte bytes_of_uint kind_of is_recognised known_behind first_critical_behind
+unfolding spelling answer_of answer_at resource_answer method_answer get_answer store_answer state_at key_for kind_of_path is_path found_in put_at removed_at values_of has_option value_of number_of match_holds is_seconds listing entry_bytes path_bytes encoded_byte bytes_of_uint kind_of is_recognised known_behind first_critical_behind
 full = refl
 
 deleted : text_at (after (empty_store 1) first_put) removal ≡ 0x01 ∷ 0x42 ∷ 0x03 ∷ []
-unfolding spelling answer_of answer_at resource_answer method_answer get_answer store_answer state_at key_for place_of is_path found_in put_at removed_at values_of has_option value_of number_of match_holds is_seconds listing entry_bytes path_bytes encoded_byte bytes_of_uint kind_of is_recognised known_behind first_critical_behind
+unfolding spelling answer_of answer_at resource_answer method_answer get_answer store_answer state_at key_for kind_of_path is_path found_in put_at removed_at values_of has_option value_of number_of match_holds is_seconds listing entry_bytes path_bytes encoded_byte bytes_of_uint kind_of is_recognised known_behind first_critical_behind
 deleted = refl
 
 listed : text_at (after (after (after (empty_store 1) first_put) removal) put_of_other) (asks code.get 6 (option numbers.uri_path (codes ".well-known") ∷ option numbers.uri_path (codes "core") ∷ []) []) ≡ 0xd1 ∷ 0x26 ∷ 0x45 ∷ 0x06 ∷ 0xc1 ∷ 0x28 ∷ 0xff ∷ codes "</>;ct=0,</time>;ct=0;obs,</async>;ct=0,</b>;obs"
-unfolding spelling answer_of answer_at resource_answer method_answer get_answer store_answer state_at key_for place_of is_path found_in put_at removed_at values_of has_option value_of number_of match_holds is_seconds listing entry_bytes path_bytes encoded_byte bytes_of_uint kind_of is_recognised known_behind first_critical_behind
+unfolding spelling answer_of answer_at resource_answer method_answer get_answer store_answer state_at key_for kind_of_path is_path found_in put_at removed_at values_of has_option value_of number_of match_holds is_seconds listing entry_bytes path_bytes encoded_byte bytes_of_uint kind_of is_recognised known_behind first_critical_behind
 listed = refl

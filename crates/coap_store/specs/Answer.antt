@@ -8,8 +8,8 @@ use Rattle.coap_wire.specs.OptionNumbers as numbers
 use Rattle.coap_wire.specs.Recognition.{first_critical}
 use Rattle.coap_store.specs.Paths.{Path, same_bytes}
 use Rattle.coap_store.specs.Store.{Representation, StoreValue, put_in, removed_in}
-use Rattle.coap_store.specs.State.{is_dynamic, is_time, is_async, is_observable, place_of, text_plain, Target, target_of}
-use Rattle.coap_store.specs.declared.place.Place.{Place}
+use Rattle.coap_store.specs.State.{is_dynamic, is_time, is_async, is_observable, kind_of_path, text_plain, RequestTarget, target_of}
+use Rattle.coap_store.specs.declared.resource_kind.ResourceKind.{ResourceKind}
 use Rattle.coap_store.specs.declared.plan.Watch.{Watch}
 use Rattle.coap_store.specs.declared.plan.Watch.TheVariants as watch
 use Rattle.coap_store.specs.Requests.{values_of, value_of, has_option, path_of, number_of, is_get, is_post, is_put, is_delete, is_method, etag_of, preconditions_hold, is_good_query, seconds_of}
@@ -73,7 +73,7 @@ is_accepted (Some wanted) None = false
 is_accepted (Some wanted) (Some format) = format == wanted
 
 -- The ETag of a representation. Only created resources have one.
-abbrev pub etag_at : Place → Representation → Option (List ℕ)
+abbrev pub etag_at : ResourceKind → Representation → Option (List ℕ)
 etag_at place r = if is_dynamic place then Some (etag_of r) else None
 
 -- There is an ETag, and it is one of the values.
@@ -82,15 +82,15 @@ is_among None values = false
 is_among (Some etag) values = list_any (λ value. same_bytes value etag) values
 
 -- The Max-Age of a resource in seconds: 1 for `/time`, none for the others.
-abbrev pub max_age_at : Place → Option ℕ
+abbrev pub max_age_at : ResourceKind → Option ℕ
 max_age_at place = if is_time place then Some 1 else None
 
 -- The 2.03 response for a representation.
-abbrev pub valid : Place → Representation → Response
+abbrev pub valid : ResourceKind → Representation → Response
 valid place r = record (only code.valid) { etag = etag_at place r }
 
 -- The 2.05 response for a representation.
-abbrev pub content : Place → Representation → Response
+abbrev pub content : ResourceKind → Representation → Response
 content place r = record (only code.content) { etag = etag_at place r; format = r.format; max_age = max_age_at place; payload = r.bytes }
 
 -- There is a number, and it is `n`.
@@ -99,27 +99,27 @@ is_number None n = false
 is_number (Some given) n = given == n
 
 -- The effect of a GET on the observers: Observe 0 registers an observer of an observable resource.
-abbrev pub watch_of : Place → Message → Watch
+abbrev pub watch_of : ResourceKind → Message → Watch
 watch_of place m = if is_observable place && is_number (number_of numbers.observe m) 0 then watch.Add else watch.Nothing
 
 -- The answer with this response and the effect of a GET on the observers.
-abbrev pub watched : Place → Message → Response → Answer
+abbrev pub watched : ResourceKind → Message → Response → Answer
 watched place m r = record (says r) { watch = watch_of place m }
 
 -- The answer with a response that is delayed by the seconds in the query.
-abbrev pub late : Place → Representation → Message → Answer
+abbrev pub late : ResourceKind → Representation → Message → Answer
 late place r m = record (says (content place r)) { hold = Some (seconds_of (value_of numbers.uri_query m)) }
 
 -- The response that is sent after every delay.
-abbrev pub held_response : Response
-held_response = record (only code.content) { format = Some text_plain; payload = codes "done" }
+abbrev pub delayed_response : Response
+delayed_response = record (only code.content) { format = Some text_plain; payload = codes "done" }
 
 -- The request is a GET of `/async`.
-abbrev pub asks_late : Message → Bool
-asks_late m = is_get m && is_async (place_of (path_of m))
+abbrev pub is_delayed : Message → Bool
+is_delayed m = is_get m && is_async (kind_of_path (path_of m))
 
 -- The answer to a GET of a resource that exists. The checks, in this order: Accept, ETag, the query of `/async`.
-unfoldable pub get_answer : Place → Representation → Message → Answer
+unfoldable pub get_answer : ResourceKind → Representation → Message → Answer
 get_answer place r m =
     first_of (
     refuse (not (is_accepted (number_of numbers.accept m) r.format)) code.not_acceptable
@@ -160,7 +160,7 @@ too_large s = says (record (only code.request_entity_too_large) { size1 = Some s
 
 -- The answer to PUT and POST. The checks, in this order: the size, the path, the limit of created resources, the
 -- versions.
-unfoldable pub store_answer : StoreValue → Target → Message → Answer
+unfoldable pub store_answer : StoreValue → RequestTarget → Message → Answer
 store_answer s t m =
     first_of (
     when (nat_lt s.rep_max (length m.payload)) (too_large s)
@@ -179,7 +179,7 @@ deletion (Some path) None = Nothing
 deletion (Some path) (Some r) = Delete path
 
 -- The answer to DELETE: 2.02, also if the resource does not exist.
-abbrev pub delete_answer : Target → Answer
+abbrev pub delete_answer : RequestTarget → Answer
 delete_answer t = record (says (only code.deleted)) { change = deletion t.key t.state }
 
 -- ---- any request
@@ -190,18 +190,18 @@ abbrev pub needs_resource : StoreValue → Message → Bool
 needs_resource s m = is_get m || ((is_put m || is_post m) && s.dynamic_max == 0)
 
 -- The answer to GET. An absent path was rejected before, so the first case does not occur.
-abbrev pub read_answer : Place → Option Representation → Message → Answer
+abbrev pub read_answer : ResourceKind → Option Representation → Message → Answer
 read_answer place None m = says (only code.not_found)
 read_answer place (Some r) m = get_answer place r m
 
 -- The answer by the method.
-unfoldable pub method_answer : StoreValue → Target → Message → Answer
+unfoldable pub method_answer : StoreValue → RequestTarget → Message → Answer
 method_answer s t m =
     if is_get m then read_answer t.place t.state m
     else (if is_delete m then delete_answer t else store_answer s t m)
 
 -- The answer by the checks of the resource, followed by those of the method.
-unfoldable pub resource_answer : StoreValue → Target → Message → Answer
+unfoldable pub resource_answer : StoreValue → RequestTarget → Message → Answer
 resource_answer s t m =
     first_of (
     refuse (is_none t.state && needs_resource s m) code.not_found
@@ -211,7 +211,7 @@ resource_answer s t m =
     (method_answer s t m)
 
 -- The answer by the checks of the request itself, followed by those of the resource.
-unfoldable pub answer_at : StoreValue → Target → Message → Answer
+unfoldable pub answer_at : StoreValue → RequestTarget → Message → Answer
 answer_at s t m =
     first_of (
     refuse (is_some (first_critical m.options)) code.bad_option
@@ -225,13 +225,13 @@ abbrev pub removes_watch : Message → Bool
 removes_watch m = is_get m && is_number (number_of numbers.observe m) 1
 
 -- The answer, which also removes an observer if the flag is true.
-abbrev pub finally : Bool → Answer → Answer
-finally true a = record a { watch = watch.Drop }
-finally false a = a
+abbrev pub with_observe_rule : Bool → Answer → Answer
+with_observe_rule true a = record a { watch = watch.Drop }
+with_observe_rule false a = a
 
 -- The answer to a request at the time `now`.
 unfoldable pub answer_of : StoreValue → ℕ → Message → Answer
-answer_of s now m = finally (removes_watch m) (answer_at s (target_of s now (path_of m)) m)
+answer_of s now m = with_observe_rule (removes_watch m) (answer_at s (target_of s now (path_of m)) m)
 
 -- ---- the store afterwards
 
@@ -249,9 +249,9 @@ unheld_by None a = a
 unheld_by (Some seconds) a = record a { response = only code.service_unavailable; hold = None }
 
 -- The answer if the pending list is full.
-abbrev pub unheld : Answer → Answer
-unheld a = unheld_by a.hold a
+abbrev pub without_hold : Answer → Answer
+without_hold a = unheld_by a.hold a
 
 -- The answer to a request at the time `now`, if the pending list is full.
-unfoldable pub prompt_answer : StoreValue → ℕ → Message → Answer
-prompt_answer s now m = unheld (answer_of s now m)
+unfoldable pub immediate_answer : StoreValue → ℕ → Message → Answer
+immediate_answer s now m = without_hold (answer_of s now m)

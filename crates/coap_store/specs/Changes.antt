@@ -3,15 +3,15 @@ use Rattle.std.specs.Prelude.{◌≡◌, ℕ, ◌+◌, ◌<◌, ◌≤◌, ◌^�
 use Rattle.coap_wire.specs.Codes as code
 use Rattle.coap_store.specs.Paths.{Path, is_path}
 use Rattle.coap_store.specs.Store.{Representation, StoreValue, found_in}
-use Rattle.coap_store.specs.State.{place_of}
+use Rattle.coap_store.specs.State.{kind_of_path}
 use Rattle.coap_store.specs.Answer.{Response, Change, Nothing, Put, Delete, changed}
-use Rattle.coap_store.specs.declared.place.Place.TheVariants.{Dynamic}
+use Rattle.coap_store.specs.declared.resource_kind.ResourceKind.TheVariants.{Dynamic}
 
 -- The store accepts a representation. It is not too large, its path is that of a created resource that exists or may be
 -- created, and a version is left.
 pub record TakesPut (s : StoreValue) (path : Path) (bytes : List ℕ) : Type 0 where
   pub path_ok : is_path path ≡ true
-  pub place : place_of path ≡ Dynamic
+  pub place : kind_of_path path ≡ Dynamic
   pub small : length bytes ≤ s.rep_max
   pub room : (is_some (found_in s.resources path) || nat_lt (length s.resources) s.dynamic_max) ≡ true
   pub version_left : s.versions + 1 < 2 ^ 64

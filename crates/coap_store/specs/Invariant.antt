@@ -3,8 +3,8 @@ use Rattle.std.specs.Prelude.{◌≡◌, ◌≢◌, ℕ, ◌<◌, ◌≤◌, ◌
 use Rattle.std.specs.List.{AllByRecursion}
 use Rattle.coap_store.specs.Paths.{is_path}
 use Rattle.coap_store.specs.Store.{Resource, StoreValue, found_in}
-use Rattle.coap_store.specs.State.{place_of}
-use Rattle.coap_store.specs.declared.place.Place.TheVariants.{Dynamic}
+use Rattle.coap_store.specs.State.{kind_of_path}
+use Rattle.coap_store.specs.declared.resource_kind.ResourceKind.TheVariants.{Dynamic}
 use Rattle.coap_wire.specs.declared.sizes.TheConstants.{LARGEST_MESSAGE}
 
 -- No path occurs twice.
@@ -21,7 +21,7 @@ HaveOwnVersions (r ∷ rs) = AllByRecursion (λ other. r.now.version ≢ other.n
 -- is a 16-bit number, and it has at most `rep_max` bytes.
 pub record IsKept (versions rep_max : ℕ) (r : Resource) : Type 0 where
   pub path : is_path r.path ≡ true
-  pub place : place_of r.path ≡ Dynamic
+  pub place : kind_of_path r.path ≡ Dynamic
   pub numbered : 1 ≤ r.now.version
   pub given : r.now.version ≤ versions
   pub format : IfSome r.now.format (λ format. format < 65536)

@@ -3,15 +3,15 @@ use Rattle.std.specs.Prelude.{◌≡◌, ◌≢◌, ℕ, Bool, true, false, List
 use Rattle.coap_store.specs.Paths.{Path, is_path}
 use Rattle.coap_store.specs.UriPaths.{path_told}
 use Rattle.coap_store.specs.Answer as answer
-use Rattle.coap_store.specs.declared.found.Bytes.{Bytes}
-use Rattle.coap_store.specs.declared.found.Bytes.TheVariants.{Stored, Decimal}
+use Rattle.coap_store.specs.declared.found.Payload.{Payload}
+use Rattle.coap_store.specs.declared.found.Payload.TheVariants.{Stored, Decimal}
 use Rattle.coap_store.specs.declared.plan.Change.{Change}
 use Rattle.coap_store.specs.declared.plan.Change.TheVariants as changes
-use Rattle.coap_store.specs.declared.plan.Effect.{Effect}
-use Rattle.coap_store.specs.declared.plan.Effect.TheVariants as effects
+use Rattle.coap_store.specs.declared.plan.PlannedChange.{PlannedChange}
+use Rattle.coap_store.specs.declared.plan.PlannedChange.TheVariants as effects
 
 -- The bytes, which are borrowed or computed.
-abbrev pub bytes_in : Bytes → List ℕ
+abbrev pub bytes_in : Payload → List ℕ
 bytes_in (Stored bytes) = bytes.now
 bytes_in (Decimal text) = text.items
 
@@ -22,19 +22,19 @@ change_value (changes.Put path format bytes) = answer.Put path format bytes.now
 change_value (changes.Delete path) = answer.Delete path
 
 -- The change that a request makes at its path.
-abbrev pub effect_value : Effect → answer.Change
+abbrev pub effect_value : PlannedChange → answer.Change
 effect_value effects.Nothing = answer.Nothing
 effect_value (effects.Put body format) = answer.Put (path_told body) format body.payload
 effect_value (effects.Delete body) = answer.Delete (path_told body)
 
 -- A resource can have that path.
-abbrev pub IsAtPath : Effect → Type 0
+abbrev pub IsAtPath : PlannedChange → Type 0
 IsAtPath effects.Nothing = Unit {0}
 IsAtPath (effects.Put body format) = is_path (path_told body) ≡ true
 IsAtPath (effects.Delete body) = is_path (path_told body) ≡ true
 
 -- With the flag, the path of a stored representation is not the root.
-abbrev pub IsToldNamed : Bool → Effect → Type 0
+abbrev pub IsToldNamed : Bool → PlannedChange → Type 0
 IsToldNamed false effect = Unit {0}
 IsToldNamed true effects.Nothing = Unit {0}
 IsToldNamed true (effects.Put body format) = path_told body ≢ []

@@ -32,13 +32,13 @@ pub use Rattle.coap_wire.specs.declared.option_table.OptionKind.{OptionKind}
 pub use Rattle.coap_wire.specs.declared.sizes.TheConstants.{LARGEST_MESSAGE}
 -- ---- coap_store
 pub use Rattle.coap_store.specs.Answer.{read_answer, etag_at, max_age_at, is_accepted, is_among, watch_of}
-pub use Rattle.coap_store.specs.Answer.{removes_watch, stored, delete_answer, needs_resource, says, held_response}
-pub use Rattle.coap_store.specs.Answer.{Change, Nothing, Put, Delete, only, asks_late, changed, unheld}
-pub use Rattle.coap_store.specs.Answer.{greatest_version, Answer, Response, content, deletion, finally, first_of}
+pub use Rattle.coap_store.specs.Answer.{removes_watch, stored, delete_answer, needs_resource, says, delayed_response}
+pub use Rattle.coap_store.specs.Answer.{Change, Nothing, Put, Delete, only, is_delayed, changed, without_hold}
+pub use Rattle.coap_store.specs.Answer.{greatest_version, Answer, Response, content, deletion, with_observe_rule, first_of}
 pub use Rattle.coap_store.specs.Answer.{is_number, late, put_of, refuse, stored_under, too_large, unheld_by, valid}
 pub use Rattle.coap_store.specs.Answer.{watched, when}
 unfoldable pub use Rattle.coap_store.specs.Answer.{get_answer, answer_of, answer_at, resource_answer, store_answer}
-unfoldable pub use Rattle.coap_store.specs.Answer.{prompt_answer, method_answer}
+unfoldable pub use Rattle.coap_store.specs.Answer.{immediate_answer, method_answer}
 pub use Rattle.coap_store.specs.Changes.{TakesChange, changes, says_change, HasSmallFormat, changed_by, TakesChanges}
 pub use Rattle.coap_store.specs.Changes.{TakesPut, IsPut}
 pub use Rattle.coap_store.specs.Invariant.{IsStore, AreDistinct, HaveOwnVersions, IsKept}
@@ -47,8 +47,8 @@ unfoldable pub use Rattle.coap_store.specs.Listing.{listing, entry_bytes, encode
 pub use Rattle.coap_store.specs.Messages.{each_at, response_message}
 pub use Rattle.coap_store.specs.Notifications.{notification_of}
 unfoldable pub use Rattle.coap_store.specs.Notifications.{notification_at}
-pub use Rattle.coap_store.specs.Noting.{first_given, nothing, notes_value, all_noted, AreNotesOf, Notes, led}
-unfoldable pub use Rattle.coap_store.specs.Noting.{noted}
+pub use Rattle.coap_store.specs.OptionScan.{first_given, nothing, notes_value, all_noted, AreNotesOf, RequestOptions, match_after}
+unfoldable pub use Rattle.coap_store.specs.OptionScan.{options_after}
 pub use Rattle.coap_store.specs.PathViews.{segment_list, IsWritten}
 unfoldable pub use Rattle.coap_store.specs.PathViews.{written, segments_at, segments_by}
 pub use Rattle.coap_store.specs.Paths.{Path, is_dots, is_one_empty, written_length, same_bytes, same_path}
@@ -57,34 +57,34 @@ pub use Rattle.coap_store.specs.PlanViews.{bytes_in, change_value, effect_value,
 pub use Rattle.coap_store.specs.PlanViews.{location_in}
 pub use Rattle.coap_store.specs.Refusals.{RefusedOrMemory, first_fault, refusal_in}
 unfoldable pub use Rattle.coap_store.specs.Refusals.{put_refusal, remove_refusal}
-pub use Rattle.coap_store.specs.Remembering.{WasStored}
+pub use Rattle.coap_store.specs.VersionHistory.{WasStored}
 pub use Rattle.coap_store.specs.Requests.{path_of, is_method, preconditions_hold, is_get, etag_of, digits_mean}
 pub use Rattle.coap_store.specs.Requests.{first_or_none, is_delete, is_digit, is_given, is_good_query, seconds_of}
 unfoldable pub use Rattle.coap_store.specs.Requests.{values_of, has_option, is_seconds, match_holds, number_of}
 unfoldable pub use Rattle.coap_store.specs.Requests.{value_of}
 pub use Rattle.coap_store.specs.ResourceViews.{has_format, AreListed, IsListed, representation, resource_at}
 unfoldable pub use Rattle.coap_store.specs.ResourceViews.{resources_in}
-pub use Rattle.coap_store.specs.Serving.{plain_get, IsStoredCode, TellsState, TellsEtag, IsElsewhere, content_of}
-pub use Rattle.coap_store.specs.Serving.{put_by}
-pub use Rattle.coap_store.specs.State.{target_of, state_of, is_dynamic, is_async, is_observable, built, Target}
+pub use Rattle.coap_store.specs.StateReports.{plain_get, IsStoredCode, ReportsState, ReportsEtag, IsElsewhere, content_of}
+pub use Rattle.coap_store.specs.StateReports.{put_by}
+pub use Rattle.coap_store.specs.State.{target_of, state_of, is_dynamic, is_async, is_observable, built, RequestTarget}
 pub use Rattle.coap_store.specs.State.{async_path, listing_path, root_path, stored_at, time_path}
-unfoldable pub use Rattle.coap_store.specs.State.{place_of, state_at, key_for}
+unfoldable pub use Rattle.coap_store.specs.State.{kind_of_path, state_at, key_for}
 pub use Rattle.coap_store.specs.StateViews.{state_value}
 pub use Rattle.coap_store.specs.Store.{Representation, StoreValue, put_in, removed_in}
 unfoldable pub use Rattle.coap_store.specs.Store.{found_in, put_at, removed_at}
 pub use Rattle.coap_store.specs.StoreViews.{store_value}
-pub use Rattle.coap_store.specs.TargetViews.{found_value, target_value}
-pub use Rattle.coap_store.specs.Trails.{first_trail, trail_with, place_at, trail_behind}
+pub use Rattle.coap_store.specs.RequestTargetViews.{found_value, target_value}
+pub use Rattle.coap_store.specs.PathMatches.{first_trail, trail_with, place_at, trail_behind}
 pub use Rattle.coap_store.specs.UriPaths.{segments_told, path_told}
-pub use Rattle.coap_store.specs.Watching.{MayWatch}
+pub use Rattle.coap_store.specs.Observing.{MayObserve}
 -- ---- coap_store, declared
 pub use Rattle.coap_store.specs.declared.fault.StoreFault.{StoreFault}
 pub use Rattle.coap_store.specs.declared.fault.StoreFault.TheVariants.{BadPath, Limit, NoSuch, TooLarge}
 pub use Rattle.coap_store.specs.declared.fault.StoreFault.TheVariants.{VersionsSpent}
-pub use Rattle.coap_store.specs.declared.place.Place.{Place}
-pub use Rattle.coap_store.specs.declared.place.Place.TheVariants.{Async, Dynamic, Listing, Root, Time}
+pub use Rattle.coap_store.specs.declared.resource_kind.ResourceKind.{ResourceKind}
+pub use Rattle.coap_store.specs.declared.resource_kind.ResourceKind.TheVariants.{Async, Dynamic, Listing, Root, Time}
 pub use Rattle.coap_store.specs.declared.plan.Watch.TheVariants.{Add, Drop}
 pub use Rattle.coap_store.specs.declared.resource.Resource.{Resource}
 pub use Rattle.coap_store.specs.declared.resource.TheConstants.{ESCAPED}
-pub use Rattle.coap_store.specs.declared.trail.Trail.{Trail}
-pub use Rattle.coap_store.specs.declared.trail.Trail.TheVariants.{Elsewhere, WellKnown}
+pub use Rattle.coap_store.specs.declared.path_match.PathMatch.{PathMatch}
+pub use Rattle.coap_store.specs.declared.path_match.PathMatch.TheVariants.{Elsewhere, WellKnown}

@@ -2,7 +2,7 @@
 use Rattle.std.specs.Prelude.{◌≡◌, ℕ, Bool, not, ◌&&◌, List, [], ◌∷◌, length, Option, Some, None, Result, Ok, Err, is_none, nat_le, nat_lt, ◌==◌, if◌then◌else◌}
 use Rattle.coap_store.specs.Paths.{Path}
 use Rattle.coap_store.specs.Store.{StoreValue, found_in}
-use Rattle.coap_store.specs.State.{place_of, is_dynamic}
+use Rattle.coap_store.specs.State.{kind_of_path, is_dynamic}
 use Rattle.coap_store.specs.Answer.{greatest_version}
 use Rattle.coap_store.specs.declared.fault.StoreFault.{StoreFault}
 use Rattle.coap_store.specs.declared.fault.StoreFault.TheVariants.{NoSuch, TooLarge, Limit, BadPath, VersionsSpent, Memory}
@@ -18,14 +18,14 @@ unfoldable pub put_refusal : StoreValue → Path → List ℕ → Option StoreFa
 put_refusal s path bytes =
     first_fault (
     (nat_lt s.rep_max (length bytes), TooLarge)
-    ∷ (not (is_dynamic (place_of path)), BadPath)
+    ∷ (not (is_dynamic (kind_of_path path)), BadPath)
     ∷ (is_none (found_in s.resources path) && nat_le s.dynamic_max (length s.resources), Limit)
     ∷ (s.versions == greatest_version, VersionsSpent)
     ∷ [])
 
 -- The error of `remove`: the path is that of a built-in resource, or absent.
 unfoldable pub remove_refusal : StoreValue → Path → Option StoreFault
-remove_refusal s path = first_fault ((not (is_dynamic (place_of path)), NoSuch) ∷ (is_none (found_in s.resources path), NoSuch) ∷ [])
+remove_refusal s path = first_fault ((not (is_dynamic (kind_of_path path)), NoSuch) ∷ (is_none (found_in s.resources path), NoSuch) ∷ [])
 
 -- The error of the definitions that a failed call returned. `Memory` is none of these.
 abbrev pub refusal_in : StoreFault → Option StoreFault

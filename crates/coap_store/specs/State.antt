@@ -4,8 +4,8 @@ use Rattle.std.specs.Fmt.{decimal}
 use Rattle.coap_store.specs.Paths.{Path, same_path, is_path}
 use Rattle.coap_store.specs.Store.{Representation, StoreValue, found_in}
 use Rattle.coap_store.specs.Listing.{listing}
-use Rattle.coap_store.specs.declared.place.Place.{Place}
-use Rattle.coap_store.specs.declared.place.Place.TheVariants.{Root, Time, Async, Listing, Dynamic}
+use Rattle.coap_store.specs.declared.resource_kind.ResourceKind.{ResourceKind}
+use Rattle.coap_store.specs.declared.resource_kind.ResourceKind.TheVariants.{Root, Time, Async, Listing, Dynamic}
 
 -- The paths of the built-in resources.
 abbrev pub root_path : Path
@@ -21,8 +21,8 @@ abbrev pub listing_path : Path
 listing_path = codes ".well-known" ∷ codes "core" ∷ []
 
 -- The kind of resource that a path names.
-unfoldable pub place_of : Path → Place
-place_of path =
+unfoldable pub kind_of_path : Path → ResourceKind
+kind_of_path path =
     if same_path path root_path then Root
     else (if same_path path time_path then Time
     else (if same_path path async_path then Async
@@ -30,7 +30,7 @@ place_of path =
     else Dynamic)))
 
 -- The resource is not built in.
-abbrev pub is_dynamic : Place → Bool
+abbrev pub is_dynamic : ResourceKind → Bool
 is_dynamic Root = false
 is_dynamic Time = false
 is_dynamic Async = false
@@ -38,7 +38,7 @@ is_dynamic Listing = false
 is_dynamic Dynamic = true
 
 -- The resource is `/time`.
-abbrev pub is_time : Place → Bool
+abbrev pub is_time : ResourceKind → Bool
 is_time Root = false
 is_time Time = true
 is_time Async = false
@@ -46,7 +46,7 @@ is_time Listing = false
 is_time Dynamic = false
 
 -- The resource is `/async`.
-abbrev pub is_async : Place → Bool
+abbrev pub is_async : ResourceKind → Bool
 is_async Root = false
 is_async Time = false
 is_async Async = true
@@ -75,7 +75,7 @@ built format bytes = Some (record { version = 0; format = Some format; bytes = b
 
 -- The representation of a resource at a time: a greeting, the time in seconds, the text `done`, the listing, or the
 -- stored representation, if any.
-unfoldable pub state_at : StoreValue → ℕ → Option Path → Place → Option Representation
+unfoldable pub state_at : StoreValue → ℕ → Option Path → ResourceKind → Option Representation
 state_at s now key Root = built text_plain (codes "coap+tcp")
 state_at s now key Time = built text_plain (decimal now)
 state_at s now key Async = built text_plain (codes "done")
@@ -84,20 +84,20 @@ state_at s now key Dynamic = stored_at s key
 
 -- The representation of a path at the time `now` in seconds, or `None` if the path is absent.
 abbrev pub state_of : StoreValue → ℕ → Path → Option Representation
-state_of s now path = state_at s now (key_for path) (place_of path)
+state_of s now path = state_at s now (key_for path) (kind_of_path path)
 
 -- The target of a request: its path, if a resource can have it, the kind of resource, and the representation, if any.
-pub record Target : Type 0 where
+pub record RequestTarget : Type 0 where
   pub key : Option Path
-  pub place : Place
+  pub place : ResourceKind
   pub state : Option Representation
 
 -- The target of a request for a path at the time `now`.
-abbrev pub target_of : StoreValue → ℕ → Path → Target
-target_of s now path = record { key = key_for path; place = place_of path; state = state_of s now path }
+abbrev pub target_of : StoreValue → ℕ → Path → RequestTarget
+target_of s now path = record { key = key_for path; place = kind_of_path path; state = state_of s now path }
 
 -- The resource can be observed: it is `/time` or a created resource.
-abbrev pub is_observable : Place → Bool
+abbrev pub is_observable : ResourceKind → Bool
 is_observable Root = false
 is_observable Time = true
 is_observable Async = false

@@ -6,18 +6,18 @@ ghost use Rattle.coap_store.specs.Prelude.{values_of, is_method as is_known_meth
 ghost use Rattle.coap_store.specs.Prelude.{get_answer, read_answer, etag_at, max_age_at, is_accepted as accepts};
 ghost use Rattle.coap_store.specs.Prelude.{is_among as is_one_of, watch_of, removes_watch as asks_removal};
 ghost use Rattle.coap_store.specs.Prelude.{stored as stored_there, delete_answer, found_value, target_value, found_in};
-ghost use Rattle.coap_store.specs.Prelude.{place_of, target_of, state_at, answer_of, answer_at, resource_answer};
+ghost use Rattle.coap_store.specs.Prelude.{kind_of_path, target_of, state_at, answer_of, answer_at, resource_answer};
 ghost use Rattle.coap_store.specs.Prelude.{store_answer, needs_resource as needs, TakesChange, changes, IsStore};
 ghost use Rattle.coap_wire.specs.OptionNumbers as numbers;
-ghost use Rattle.coap_store.specs.declared.place.Place.TheVariants.{Dynamic};
+ghost use Rattle.coap_store.specs.declared.resource_kind.ResourceKind.TheVariants.{Dynamic};
 
-use crate::found::{Bytes, Found};
+use crate::found::{Payload, RepresentationRef};
 use crate::path::PathKey;
-use crate::place::Place;
-use crate::plan::{Effect, Plan, Watch};
-use crate::request::Asked;
+use crate::resource_kind::ResourceKind;
+use crate::plan::{PlannedChange, Plan, Watch};
+use crate::request::ParsedRequest;
 use crate::store::Store;
-use crate::target::{LINK_FORMAT, TEXT_PLAIN, Target};
+use crate::target::{LINK_FORMAT, TEXT_PLAIN, RequestTarget};
 use arrayvec::ArrayVec;
 use coap_wire::{Code, MessageRef, uint_bytes};
 
@@ -36,7 +36,7 @@ impl Store {
         ensures store { IsStore self.now }
     {
         self.is_kept();
-        let asked = Asked::by(request);
+        let asked = ParsedRequest::by(request);
         let mut plan = self.checked(&asked, now);
         if removes_watch(&asked) {
             plan.set_watch(Watch::Drop);
@@ -46,7 +46,7 @@ impl Store {
 
     /// Checks the request itself and then its resource, and returns the plan.
     #[tactic(auto, unfolding(crate::specs::Answer::answer_at))]
-    fn checked<'s, 'r>(&'s self, asked: &Asked<'_, 'r>, now: u64) -> Plan<'s, 'r>
+    fn checked<'s, 'r>(&'s self, asked: &ParsedRequest<'_, 'r>, now: u64) -> Plan<'s, 'r>
         ensures { result ≡ answer_at self.now (target_of self.now now (path_of asked.now)) asked.now }
     {
         if asked.has_bad_option() {
@@ -62,16 +62,16 @@ impl Store {
     }
 
     /// Returns the target of a request, with the state of its path at the time `now`.
-    fn target(&self, asked: &Asked, now: u64) -> Target<'_>
+    fn target(&self, asked: &ParsedRequest, now: u64) -> RequestTarget<'_>
         ensures value { target_value asked.now result ≡ target_of self.now now (path_of asked.now) }
         ensures path { result.is_path ≡ is_path (path_of asked.now) }
-        ensures place { result.place ≡ place_of (path_of asked.now) }
+        ensures place { result.place ≡ kind_of_path (path_of asked.now) }
     {
-        let place = asked.place();
+        let place = asked.kind();
         if place.is_dynamic() {
             return self.dynamic_target(asked);
         }
-        Target {
+        RequestTarget {
             is_path: true,
             place,
             state: self.found_at(None, place, now),
@@ -79,23 +79,23 @@ impl Store {
     }
 
     /// Returns the target of a request whose path is not that of a built-in resource.
-    fn dynamic_target(&self, asked: &Asked) -> Target<'_>
-        requires { place_of (path_of asked.now) ≡ Dynamic }
+    fn dynamic_target(&self, asked: &ParsedRequest) -> RequestTarget<'_>
+        requires { kind_of_path (path_of asked.now) ≡ Dynamic }
         ensures value { (now : ℕ) → target_value asked.now result ≡ target_of self.now now (path_of asked.now) }
         ensures path { result.is_path ≡ is_path (path_of asked.now) }
         ensures place { result.place ≡ Dynamic }
     {
         let mut path = PathKey::root();
         if !asked.fill_key(&mut path) {
-            return Target {
+            return RequestTarget {
                 is_path: false,
-                place: Place::Dynamic,
+                place: ResourceKind::Dynamic,
                 state: None,
             };
         }
-        Target {
+        RequestTarget {
             is_path: true,
-            place: Place::Dynamic,
+            place: ResourceKind::Dynamic,
             state: self.stored_at(&path),
         }
     }
@@ -105,37 +105,37 @@ impl Store {
     pub(crate) fn found_at(
         &self,
         key: Option<&PathKey>,
-        place: Place,
+        place: ResourceKind,
         now: u64,
-    ) -> Option<Found<'_>>
+    ) -> Option<RepresentationRef<'_>>
         ensures { option_map found_value result ≡ state_at self.now now (option_map (λ k. k.now) key.entry) place }
     {
         match place {
-            Place::Root => Some(Found::built(TEXT_PLAIN, Bytes::Stored(b"coap+tcp"))),
-            Place::Time => Some(Found::built(TEXT_PLAIN, self.moment_text(now))),
-            Place::Async => Some(Found::built(TEXT_PLAIN, Bytes::Stored(b"done"))),
-            Place::Listing => Some(Found::built(LINK_FORMAT, Bytes::Stored(self.listing()))),
-            Place::Dynamic => self.stored_at(key?),
+            ResourceKind::Root => Some(RepresentationRef::built(TEXT_PLAIN, Payload::Stored(b"coap+tcp"))),
+            ResourceKind::Time => Some(RepresentationRef::built(TEXT_PLAIN, self.moment_text(now))),
+            ResourceKind::Async => Some(RepresentationRef::built(TEXT_PLAIN, Payload::Stored(b"done"))),
+            ResourceKind::Listing => Some(RepresentationRef::built(LINK_FORMAT, Payload::Stored(self.listing()))),
+            ResourceKind::Dynamic => self.stored_at(key?),
         }
     }
 
     /// Returns the representation that is stored at a path.
-    fn stored_at(&self, path: &PathKey) -> Option<Found<'_>>
+    fn stored_at(&self, path: &PathKey) -> Option<RepresentationRef<'_>>
         ensures { option_map found_value result ≡ found_in self.now.resources path.now }
     {
         let resource = self.find(path)?;
-        Some(Found {
+        Some(RepresentationRef {
             version: resource.version,
             format: resource.format,
-            bytes: Bytes::Stored(&resource.bytes),
+            bytes: Payload::Stored(&resource.bytes),
         })
     }
 
     /// Checks the resource and then the method, and returns the plan.
     #[tactic(auto, unfolding(crate::specs::Answer::resource_answer, crate::specs::Answer::method_answer))]
-    fn at_target<'s, 'r>(&'s self, asked: &Asked<'_, 'r>, target: Target<'s>) -> Plan<'s, 'r>
+    fn at_target<'s, 'r>(&'s self, asked: &ParsedRequest<'_, 'r>, target: RequestTarget<'s>) -> Plan<'s, 'r>
         requires path { target.is_path ≡ is_path (path_of asked.now) }
-        requires place { target.place ≡ place_of (path_of asked.now) }
+        requires place { target.place ≡ kind_of_path (path_of asked.now) }
         ensures { result ≡ resource_answer self.now (target_value asked.now target.entry) asked.now }
     {
         let code = asked.code();
@@ -166,9 +166,9 @@ impl Store {
 
     /// Returns the plan for PUT or POST (RFC 7252 sections 5.8.2, 5.8.3).
     #[tactic(auto, using(crate::proofs::TargetLemmas::dynamic_is_named), unfolding(crate::specs::Answer::store_answer))]
-    fn put_or_post<'s, 'r>(&'s self, asked: &Asked<'_, 'r>, target: Target<'s>) -> Plan<'s, 'r>
+    fn put_or_post<'s, 'r>(&'s self, asked: &ParsedRequest<'_, 'r>, target: RequestTarget<'s>) -> Plan<'s, 'r>
         requires path { target.is_path ≡ is_path (path_of asked.now) }
-        requires place { place_of (path_of asked.now) ≡ Dynamic }
+        requires place { kind_of_path (path_of asked.now) ≡ Dynamic }
         ensures { result ≡ store_answer self.now (target_value asked.now target.entry) asked.now }
     {
         let is_new = target.state.is_none();
@@ -200,7 +200,7 @@ fn is_method(code: Code) -> bool
 }
 
 /// Returns `true` if If-Match and If-None-Match hold (RFC 7252 section 5.10.8).
-fn preconditions_hold(asked: &Asked, state: Option<&Found>) -> bool
+fn preconditions_hold(asked: &ParsedRequest, state: Option<&RepresentationRef>) -> bool
     ensures { result ≡ hold (option_map (λ f. found_value f.now) state.entry) asked.now }
 {
     let version = state.map(|found| found.version);
@@ -208,10 +208,10 @@ fn preconditions_hold(asked: &Asked, state: Option<&Found>) -> bool
 }
 
 /// Returns the plan for GET (RFC 7252 section 5.8.1).
-fn read<'s, 'r>(asked: &Asked<'_, 'r>, target: Target<'s>) -> Plan<'s, 'r>
+fn read<'s, 'r>(asked: &ParsedRequest<'_, 'r>, target: RequestTarget<'s>) -> Plan<'s, 'r>
     ensures { result ≡ read_answer target.entry.place (option_map found_value target.entry.state) asked.now }
 {
-    let Target { place, state, .. } = target;
+    let RequestTarget { place, state, .. } = target;
     match state {
         Some(found) => get(asked, place, found),
         None => Plan::only(Code::NOT_FOUND),
@@ -221,7 +221,7 @@ fn read<'s, 'r>(asked: &Asked<'_, 'r>, target: Target<'s>) -> Plan<'s, 'r>
 /// Returns the plan for GET of a resource that exists. For `/async`, the first Uri-Query has the delay of the response
 /// in seconds, and the default is 5.
 #[tactic(auto, unfolding(crate::specs::Answer::get_answer))]
-fn get<'s, 'r>(asked: &Asked<'_, 'r>, place: Place, found: Found<'s>) -> Plan<'s, 'r>
+fn get<'s, 'r>(asked: &ParsedRequest<'_, 'r>, place: ResourceKind, found: RepresentationRef<'s>) -> Plan<'s, 'r>
     ensures { result ≡ get_answer place (found_value found.entry) asked.now }
 {
     if !is_accepted(asked.accept(), found.format) {
@@ -248,7 +248,7 @@ fn is_accepted(wanted: Option<u16>, format: Option<u16>) -> bool
 }
 
 /// Returns the ETag of a representation with this version, or `None` if the resource is built in.
-pub(crate) fn etag_for(place: Place, version: u64) -> Option<ArrayVec<u8, 8>>
+pub(crate) fn etag_for(place: ResourceKind, version: u64) -> Option<ArrayVec<u8, 8>>
     ensures { (r : Representation) → r.version ≡ version → option_map (λ etag. etag.items) result ≡ etag_at place r }
 {
     if place.is_dynamic() {
@@ -259,7 +259,7 @@ pub(crate) fn etag_for(place: Place, version: u64) -> Option<ArrayVec<u8, 8>>
 }
 
 /// Returns `true` if there is an ETag and the request has it (RFC 7252 section 5.10.6.2).
-fn is_valid(asked: &Asked, etag: Option<&ArrayVec<u8, 8>>) -> bool
+fn is_valid(asked: &ParsedRequest, etag: Option<&ArrayVec<u8, 8>>) -> bool
     ensures { result ≡ is_one_of (option_map (λ etag. etag.now.items) etag.entry) (values_of numbers.etag asked.now) }
 {
     match etag {
@@ -269,7 +269,7 @@ fn is_valid(asked: &Asked, etag: Option<&ArrayVec<u8, 8>>) -> bool
 }
 
 /// Returns `Watch::Add` if the request asks to observe an observable resource (RFC 7641 section 2).
-fn watch_for(asked: &Asked, place: Place) -> Watch
+fn watch_for(asked: &ParsedRequest, place: ResourceKind) -> Watch
     ensures { result ≡ watch_of place asked.now }
 {
     if place.is_observable() && asked.observe() == Some(0) {
@@ -280,21 +280,21 @@ fn watch_for(asked: &Asked, place: Place) -> Watch
 }
 
 /// Returns `true` if the request asks to be removed from the observers (RFC 7641 section 3.6).
-fn removes_watch(asked: &Asked) -> bool
+fn removes_watch(asked: &ParsedRequest) -> bool
     ensures { result ≡ asks_removal asked.now }
 {
     asked.code() == Code::GET && asked.observe() == Some(1)
 }
 
 /// Returns the Max-Age of a resource in seconds, if its responses have one.
-pub(crate) fn max_age_of(place: Place) -> Option<u32>
+pub(crate) fn max_age_of(place: ResourceKind) -> Option<u32>
     ensures { result ≡ max_age_at place }
 {
-    if place == Place::Time { Some(1) } else { None }
+    if place == ResourceKind::Time { Some(1) } else { None }
 }
 
 /// Returns the plan that stores the payload of a request at its path.
-fn stored<'s, 'r>(asked: &Asked<'_, 'r>, is_new: bool) -> Plan<'s, 'r>
+fn stored<'s, 'r>(asked: &ParsedRequest<'_, 'r>, is_new: bool) -> Plan<'s, 'r>
     requires path { is_path (path_asked asked.now) ≡ true }
     requires named { path_asked asked.now ≢ [] }
     ensures { (state : Option Representation) → is_none state ≡ is_new →
@@ -302,7 +302,7 @@ fn stored<'s, 'r>(asked: &Asked<'_, 'r>, is_new: bool) -> Plan<'s, 'r>
 {
     let tells_location = is_new && asked.code() == Code::POST;
     let code = if is_new { Code::CREATED } else { Code::CHANGED };
-    let effect = Effect::Put {
+    let effect = PlannedChange::Put {
         body: asked.body(),
         format: asked.content_format(),
     };
@@ -310,13 +310,13 @@ fn stored<'s, 'r>(asked: &Asked<'_, 'r>, is_new: bool) -> Plan<'s, 'r>
 }
 
 /// Returns the plan for DELETE (RFC 7252 section 5.8.4).
-fn delete<'s, 'r>(asked: &Asked<'_, 'r>, target: Target) -> Plan<'s, 'r>
+fn delete<'s, 'r>(asked: &ParsedRequest<'_, 'r>, target: RequestTarget) -> Plan<'s, 'r>
     requires { target.is_path ≡ is_path (path_asked asked.now) }
     ensures { result ≡ delete_answer (target_value asked.now target.entry) }
 {
     if !target.is_path || target.state.is_none() {
         return Plan::only(Code::DELETED);
     }
-    let effect = Effect::Delete { body: asked.body() };
+    let effect = PlannedChange::Delete { body: asked.body() };
     Plan::changing(Code::DELETED, false, effect)
 }

@@ -79,7 +79,7 @@ impl Catalogue {
         ensures err { OnErr result (self.new ≡ self.old) }
     {
         let bytes = Vec::from_slice(self.alloc, bytes)?;
-        let Some(bytes) = replace_alike(&mut self.resources, &path, version, format, bytes) else {
+        let Some(bytes) = replace_same_format(&mut self.resources, &path, version, format, bytes) else {
             return Ok(());
         };
         let resource = Resource {
@@ -131,7 +131,7 @@ fn create(
 
 /// Replaces the version and the bytes of a resource with this format, and so keeps its text. Returns the bytes if there
 /// is no such resource.
-fn replace_alike(
+fn replace_same_format(
     resources: &mut Resources,
     path: &PathKey,
     version: u64,

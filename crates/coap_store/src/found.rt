@@ -7,40 +7,40 @@ use arrayvec::ArrayVec;
 
 /// Bytes of a representation.
 #[derive(Drop)]
-pub enum Bytes<'s> {
+pub enum Payload<'s> {
     /// Bytes of the store or of a constant.
     Stored(&'s [u8]),
     /// Text of a decimal number.
     Decimal(ArrayVec<u8, 20>),
 }
 
-impl<'s> Bytes<'s> {
+impl<'s> Payload<'s> {
     pub(crate) fn as_slice(&self) -> &[u8]
         ensures { result.now ≡ bytes_in self.now }
     {
         match self {
-            Bytes::Stored(bytes) => bytes,
-            Bytes::Decimal(text) => text.as_slice(),
+            Payload::Stored(bytes) => bytes,
+            Payload::Decimal(text) => text.as_slice(),
         }
     }
 }
 
 /// Representation of a resource at a certain time.
 #[derive(Drop)]
-pub(crate) struct Found<'s> {
+pub(crate) struct RepresentationRef<'s> {
     /// Version, which is 0 for a built-in resource.
     pub version: u64,
     /// Content-Format, if there is one.
     pub format: Option<u16>,
-    pub bytes: Bytes<'s>,
+    pub bytes: Payload<'s>,
 }
 
-impl<'s> Found<'s> {
+impl<'s> RepresentationRef<'s> {
     /// Creates the representation of a built-in resource.
-    pub(crate) fn built(format: u16, bytes: Bytes<'s>) -> Found<'s>
+    pub(crate) fn built(format: u16, bytes: Payload<'s>) -> RepresentationRef<'s>
         ensures { Some (found_value result) ≡ built_in format (bytes_in bytes.entry) }
     {
-        Found {
+        RepresentationRef {
             version: 0,
             format: Some(format),
             bytes,

@@ -3,21 +3,21 @@
 ghost use Rattle.std.specs.Prelude.{◌≡◌, ◌≢◌, ◌↔◌, ℕ, ◌+◌, ◌<◌, ◌≤◌, ◌^◌, List, [], Option, Some, None, IsTrue};
 ghost use Rattle.std.specs.Prelude.{IsFalse, IfSome};
 ghost use Rattle.coap_store.specs.Prelude.{LARGEST_MESSAGE, Message, Path, is_path, Representation, StoreValue};
-ghost use Rattle.coap_store.specs.Prelude.{found_in, put_in, removed_in, place_of, state_of, is_get, path_of, etag_of};
-ghost use Rattle.coap_store.specs.Prelude.{Change, Nothing, Put, Delete, only, held_response, asks_late, answer_of};
-ghost use Rattle.coap_store.specs.Prelude.{prompt_answer, changed, says_change, TakesChange, HasSmallFormat};
+ghost use Rattle.coap_store.specs.Prelude.{found_in, put_in, removed_in, kind_of_path, state_of, is_get, path_of, etag_of};
+ghost use Rattle.coap_store.specs.Prelude.{Change, Nothing, Put, Delete, only, delayed_response, is_delayed, answer_of};
+ghost use Rattle.coap_store.specs.Prelude.{immediate_answer, changed, says_change, TakesChange, HasSmallFormat};
 ghost use Rattle.coap_store.specs.Prelude.{changed_by, TakesChanges, AreDistinct, IsStore, put_refusal, WasStored};
-ghost use Rattle.coap_store.specs.Prelude.{notification_of, MayWatch, plain_get, IsStoredCode, TellsState, TellsEtag};
+ghost use Rattle.coap_store.specs.Prelude.{notification_of, MayObserve, plain_get, IsStoredCode, ReportsState, ReportsEtag};
 ghost use Rattle.coap_store.specs.Prelude.{IsElsewhere, content_of, put_by};
 ghost use Rattle.coap_wire.specs.Codes as code;
-ghost use Rattle.coap_store.specs.declared.place.Place.TheVariants.{Listing, Dynamic};
+ghost use Rattle.coap_store.specs.declared.resource_kind.ResourceKind.TheVariants.{Listing, Dynamic};
 ghost use Rattle.coap_store.specs.declared.plan.Watch.TheVariants.{Add};
 
 use crate::path::PathKey;
 
 /// States that a store changes if and only if the response is 2.01, 2.04, or 2.02 for a resource that existed (RFC 7252
 /// section 5.9.1).
-pub fn store_changes_where_said()
+pub fn only_success_changes_store()
     ensures said { (s : StoreValue) (now : ℕ) (m : Message) →
         IsTrue (says_change (answer_of s now m).response (state_of s now (path_of m))) →
         changed s (answer_of s now m).change ≢ s }
@@ -26,14 +26,14 @@ pub fn store_changes_where_said()
         changed s (answer_of s now m).change ≡ s }
 {}
 
-/// States the same as `store_changes_where_said` for a full pending list, which allows no delayed response.
-pub fn store_changes_where_said_promptly()
+/// States the same as `only_success_changes_store` for a full pending list, which allows no delayed response.
+pub fn only_immediate_success_changes_store()
     ensures said { (s : StoreValue) (now : ℕ) (m : Message) →
-        IsTrue (says_change (prompt_answer s now m).response (state_of s now (path_of m))) →
-        changed s (prompt_answer s now m).change ≢ s }
+        IsTrue (says_change (immediate_answer s now m).response (state_of s now (path_of m))) →
+        changed s (immediate_answer s now m).change ≢ s }
     ensures not_said { (s : StoreValue) (now : ℕ) (m : Message) →
-        IsFalse (says_change (prompt_answer s now m).response (state_of s now (path_of m))) →
-        changed s (prompt_answer s now m).change ≡ s }
+        IsFalse (says_change (immediate_answer s now m).response (state_of s now (path_of m))) →
+        changed s (immediate_answer s now m).change ≡ s }
 {}
 
 /// States that a representation put at a path is found there, with the next version.
@@ -66,7 +66,7 @@ pub fn paths_stay_distinct()
 
 /// States that an empty store has the invariant of a store. Each change that the store accepts keeps the invariant, if
 /// a Content-Format in it is a 16-bit number.
-pub fn stores_stay_stores()
+pub fn changes_keep_store_invariant()
     ensures empty { (dynamic_max rep_max versions : ℕ) → dynamic_max ≤ 1000 → rep_max ≤ LARGEST_MESSAGE → versions < 2 ^ 64 →
         IsStore (record { dynamic_max = dynamic_max; rep_max = rep_max; resources = []; versions = versions }) }
     ensures changed { (s : StoreValue) (change : Change) → IsStore s → TakesChange s change → HasSmallFormat change →
@@ -98,16 +98,16 @@ pub fn get_changes_nothing()
 /// 5.10.6). A 2.03 has the ETag (section 5.9.1.3).
 pub fn responses_tell_the_state()
     ensures content { (s : StoreValue) (now : ℕ) (m : Message) → (answer_of s now m).response.code ≡ code.content →
-        TellsState (place_of (path_of m)) (state_of s now (path_of m)) (answer_of s now m).response }
+        ReportsState (kind_of_path (path_of m)) (state_of s now (path_of m)) (answer_of s now m).response }
     ensures valid { (s : StoreValue) (now : ℕ) (m : Message) → (answer_of s now m).response.code ≡ code.valid →
-        TellsEtag (state_of s now (path_of m)) (answer_of s now m).response }
+        ReportsEtag (state_of s now (path_of m)) (answer_of s now m).response }
 {}
 
 /// States that a GET with no option but Uri-Path returns a stored representation with 2.05 (RFC 7252 section 5.8.1).
 /// After a 2.01 or 2.04, this is the payload of that request, with its Content-Format and the ETag of a new version.
 pub fn what_is_stored_is_served()
     ensures stored { (s : StoreValue) (now : ℕ) (token : List ℕ) (path : Path) (r : Representation) →
-        IsTrue (is_path path) → place_of path ≡ Dynamic → found_in s.resources path ≡ Some r →
+        IsTrue (is_path path) → kind_of_path path ≡ Dynamic → found_in s.resources path ≡ Some r →
         (answer_of s now (plain_get token path)).response ≡ content_of r }
     ensures put { (s : StoreValue) (now later : ℕ) (m : Message) (token : List ℕ) →
         IsStoredCode (answer_of s now m).response.code →
@@ -117,9 +117,9 @@ pub fn what_is_stored_is_served()
 
 /// States that a change keeps the state of every other path except the listing. A request changes only its own path.
 pub fn other_states_stay()
-    ensures change { (s : StoreValue) (change : Change) (now : ℕ) (other : Path) → place_of other ≢ Listing →
+    ensures change { (s : StoreValue) (change : Change) (now : ℕ) (other : Path) → kind_of_path other ≢ Listing →
         IsElsewhere other change → state_of (changed s change) now other ≡ state_of s now other }
-    ensures request { (s : StoreValue) (now later : ℕ) (m : Message) (other : Path) → place_of other ≢ Listing →
+    ensures request { (s : StoreValue) (now later : ℕ) (m : Message) (other : Path) → kind_of_path other ≢ Listing →
         other ≢ path_of m → state_of (changed s (answer_of s now m).change) later other ≡ state_of s later other }
 {}
 
@@ -140,15 +140,15 @@ pub fn puts_and_removals_keep_stores()
 /// version. A removed path is absent. All other paths keep their state, except for the listing.
 pub fn what_is_put_is_the_state()
     ensures put { (s : StoreValue) (now : ℕ) (path : Path) (format : Option ℕ) (bytes : List ℕ) →
-        IsTrue (is_path path) → place_of path ≡ Dynamic →
+        IsTrue (is_path path) → kind_of_path path ≡ Dynamic →
         state_of (put_in s path format bytes) now path
         ≡ Some (record { version = s.versions + 1; format = format; bytes = bytes }) }
     ensures removed { (s : StoreValue) (now : ℕ) (path : Path) → IsStore s → IsTrue (is_path path) →
-        place_of path ≡ Dynamic → state_of (removed_in s path) now path ≡ None }
+        kind_of_path path ≡ Dynamic → state_of (removed_in s path) now path ≡ None }
     ensures put_elsewhere { (s : StoreValue) (now : ℕ) (path other : Path) (format : Option ℕ) (bytes : List ℕ) →
-        place_of other ≢ Listing → other ≢ path →
+        kind_of_path other ≢ Listing → other ≢ path →
         state_of (put_in s path format bytes) now other ≡ state_of s now other }
-    ensures removed_elsewhere { (s : StoreValue) (now : ℕ) (path other : Path) → place_of other ≢ Listing →
+    ensures removed_elsewhere { (s : StoreValue) (now : ℕ) (path other : Path) → kind_of_path other ≢ Listing →
         other ≢ path → state_of (removed_in s path) now other ≡ state_of s now other }
 {}
 
@@ -168,11 +168,11 @@ pub fn versions_tell_what_was_stored()
 pub fn notifications_tell_the_state()
     ensures content { (s : StoreValue) (now : ℕ) (path : Path) (format : Option ℕ) →
         (notification_of s now path format).code ≡ code.content →
-        TellsState (place_of path) (state_of s now path) (notification_of s now path format) }
+        ReportsState (kind_of_path path) (state_of s now path) (notification_of s now path format) }
     ensures format { (s : StoreValue) (now : ℕ) (path : Path) (format : Option ℕ) →
         (notification_of s now path format).code ≡ code.content → (notification_of s now path format).format ≡ format }
     ensures get { (s : StoreValue) (now : ℕ) (token : List ℕ) (path : Path) (format : Option ℕ) →
-        IsTrue (is_path path) → place_of path ≡ Dynamic → (notification_of s now path format).code ≡ code.content →
+        IsTrue (is_path path) → kind_of_path path ≡ Dynamic → (notification_of s now path format).code ≡ code.content →
         (answer_of s now (plain_get token path)).response ≡ notification_of s now path format }
 {}
 
@@ -180,23 +180,23 @@ pub fn notifications_tell_the_state()
 /// changes nothing, and its response is 2.05 or 2.03.
 pub fn what_is_watched_is_there()
     ensures watched { (s : StoreValue) (now : ℕ) (m : Message) → (answer_of s now m).watch ≡ Add →
-        MayWatch s now (path_of m) (answer_of s now m) }
-    ensures promptly { (s : StoreValue) (now : ℕ) (m : Message) → (prompt_answer s now m).watch ≡ Add →
-        MayWatch s now (path_of m) (prompt_answer s now m) }
+        MayObserve s now (path_of m) (answer_of s now m) }
+    ensures promptly { (s : StoreValue) (now : ℕ) (m : Message) → (immediate_answer s now m).watch ≡ Add →
+        MayObserve s now (path_of m) (immediate_answer s now m) }
 {}
 
 /// States that only a response to a GET of `/async` is delayed, by at most 3,600 seconds, and is always the same. Such
 /// a GET changes nothing and registers no observer. If the pending list is full, the response is 5.03.
-pub fn what_is_held_is_one_response()
+pub fn delayed_response_is_constant()
     ensures held { (s : StoreValue) (now : ℕ) (m : Message) (seconds : ℕ) → (answer_of s now m).hold ≡ Some seconds →
-        IsTrue (asks_late m) × ((answer_of s now m).response ≡ held_response) × ((answer_of s now m).change ≡ Nothing)
+        IsTrue (is_delayed m) × ((answer_of s now m).response ≡ delayed_response) × ((answer_of s now m).change ≡ Nothing)
         × (seconds ≤ 3600) }
     ensures watch { (s : StoreValue) (now : ℕ) (m : Message) (seconds : ℕ) → (answer_of s now m).hold ≡ Some seconds →
         (answer_of s now m).watch ≢ Add }
     ensures refused { (s : StoreValue) (now : ℕ) (m : Message) (seconds : ℕ) → (answer_of s now m).hold ≡ Some seconds →
-        (prompt_answer s now m).response ≡ only code.service_unavailable }
+        (immediate_answer s now m).response ≡ only code.service_unavailable }
     ensures change { (s : StoreValue) (now : ℕ) (m : Message) →
-        (prompt_answer s now m).change ≡ (answer_of s now m).change }
+        (immediate_answer s now m).change ≡ (answer_of s now m).change }
     ensures prompt { (s : StoreValue) (now : ℕ) (m : Message) → (answer_of s now m).hold ≡ None →
-        prompt_answer s now m ≡ answer_of s now m }
+        immediate_answer s now m ≡ answer_of s now m }
 {}

@@ -28,7 +28,7 @@ impl Store {
     {
         self.is_kept();
         path.is_kept();
-        let place = path.place();
+        let place = path.kind();
         let Some(found) = self.found_at(Some(path), place, now) else {
             return Plan::only(Code::NOT_FOUND);
         };

@@ -1,11 +1,11 @@
 //! The plan for a request.
 
 ghost use Rattle.std.specs.Prelude.{◌≡◌, ◌≢◌, ◌≤◌, true, [], Some, IfSome, length, option_map};
-ghost use Rattle.coap_store.specs.Prelude.{bytes_in, change_value, says, only, unheld, changes as is_change, is_path};
+ghost use Rattle.coap_store.specs.Prelude.{bytes_in, change_value, says, only, without_hold, changes as is_change, is_path};
 ghost use Rattle.coap_store.specs.Prelude.{effect_value, IsAtPath, IsToldNamed, path_or_root, location_in};
 ghost use Rattle.coap_wire.specs.Codes as code;
 
-use crate::found::{Bytes, Found};
+use crate::found::{Payload, RepresentationRef};
 use crate::path::PathKey;
 use crate::request::path_in;
 use crate::uri_path::UriPath;
@@ -54,7 +54,7 @@ impl<'r> Change<'r> {
 
 /// Change that a request makes, with the request's options, which have its path.
 #[derive(Drop)]
-pub(crate) enum Effect<'r> {
+pub(crate) enum PlannedChange<'r> {
     Nothing,
     /// Payload to be stored at the path.
     Put {
@@ -92,8 +92,8 @@ pub enum Watch {
 #[derive(Drop)]
 pub struct Plan<'s, 'r> {
     etag: Option<ArrayVec<u8, 8>>,
-    payload: Bytes<'s>,
-    effect: Effect<'r>,
+    payload: Payload<'s>,
+    effect: PlannedChange<'r>,
     max_age: Option<u32>,
     size1: Option<u32>,
     /// Delay of the response in seconds, if there is one.
@@ -129,8 +129,8 @@ impl<'s, 'r> Plan<'s, 'r> {
             max_age: None,
             tells_location: false,
             size1: None,
-            payload: Bytes::Stored(&[]),
-            effect: Effect::Nothing,
+            payload: Payload::Stored(&[]),
+            effect: PlannedChange::Nothing,
             watch: Watch::Nothing,
             hold: None,
         }
@@ -151,7 +151,7 @@ impl<'s, 'r> Plan<'s, 'r> {
     /// Creates a plan with 2.05 and a representation, and without a change (RFC 7252 section 5.9.1.5).
     pub(crate) fn content(
         etag: Option<ArrayVec<u8, 8>>,
-        found: Found<'s>,
+        found: RepresentationRef<'s>,
         max_age: Option<u32>,
         watch: Watch,
     ) -> Plan<'s, 'r>
@@ -186,7 +186,7 @@ impl<'s, 'r> Plan<'s, 'r> {
 
     /// Creates a plan with a change. If `tells_location` is `true`, the response has the path of a stored
     /// representation.
-    pub(crate) fn changing(code: Code, tells_location: bool, effect: Effect<'r>) -> Plan<'s, 'r>
+    pub(crate) fn changing(code: Code, tells_location: bool, effect: PlannedChange<'r>) -> Plan<'s, 'r>
         requires path { IsAtPath effect }
         requires named { IsToldNamed tells_location effect }
         ensures { result
@@ -257,7 +257,7 @@ impl<'s, 'r> Plan<'s, 'r> {
             return None;
         }
         match &self.effect {
-            Effect::Put { body, .. } => Some(UriPath::of(body)),
+            PlannedChange::Put { body, .. } => Some(UriPath::of(body)),
             _ => None,
         }
     }
@@ -281,13 +281,13 @@ impl<'s, 'r> Plan<'s, 'r> {
         ensures { change_value result ≡ self.now.change }
     {
         match &self.effect {
-            Effect::Nothing => Change::Nothing,
-            Effect::Put { body, format } => Change::Put {
+            PlannedChange::Nothing => Change::Nothing,
+            PlannedChange::Put { body, format } => Change::Put {
                 path: path_in(body),
                 format: *format,
                 bytes: body.payload(),
             },
-            Effect::Delete { body } => Change::Delete(path_in(body)),
+            PlannedChange::Delete { body } => Change::Delete(path_in(body)),
         }
     }
 
@@ -296,7 +296,7 @@ impl<'s, 'r> Plan<'s, 'r> {
         ensures { result ≡ is_change self.now.change }
     {
         match &self.effect {
-            Effect::Nothing => false,
+            PlannedChange::Nothing => false,
             _ => true,
         }
     }
@@ -316,8 +316,8 @@ impl<'s, 'r> Plan<'s, 'r> {
     }
 
     /// Returns the plan for a full pending list: 5.03 in place of a delayed response.
-    pub fn unheld(self) -> Plan<'s, 'r>
-        ensures { result ≡ unheld self.entry }
+    pub fn without_hold(self) -> Plan<'s, 'r>
+        ensures { result ≡ without_hold self.entry }
     {
         match self.hold {
             None => self,
@@ -341,7 +341,7 @@ impl<'s, 'r> Plan<'s, 'r> {
             max_age: self.max_age,
             tells_location: self.tells_location,
             size1: self.size1,
-            payload: Bytes::Stored(&[]),
+            payload: Payload::Stored(&[]),
             effect: self.effect,
             watch: self.watch,
             hold: self.hold,

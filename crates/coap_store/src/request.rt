@@ -4,13 +4,13 @@
 ghost use Rattle.std.specs.Prelude.{◌≡◌, ◌≤◌, true, Option, length, is_some, IfSome, ◌||◌, option_map};
 ghost use Rattle.coap_store.specs.Prelude.{uint_of, known_options, is_path, digits_mean, path_of as path_asked};
 ghost use Rattle.coap_store.specs.Prelude.{path_told, nothing, all_noted, notes_value, first_critical, list_any};
-ghost use Rattle.coap_store.specs.Prelude.{same_bytes, Representation, place_of};
+ghost use Rattle.coap_store.specs.Prelude.{same_bytes, Representation, kind_of_path};
 ghost use Rattle.coap_store.specs.Requests as spec;
 ghost use Rattle.coap_wire.specs.OptionNumbers as numbers;
 
-use crate::notes::Notes;
+use crate::request_options::RequestOptions;
 use crate::path::PathKey;
-use crate::place::Place;
+use crate::resource_kind::ResourceKind;
 use crate::uri_path::UriPath;
 use coap_wire::option_numbers::{ETAG, IF_MATCH};
 use coap_wire::{Body, Code, MessageRef, uint_bytes, uint_value};
@@ -18,19 +18,19 @@ use std::marker::Model;
 
 /// Request whose recognised options were read once. Contracts see its message.
 #[derive(Drop)]
-pub(crate) struct Asked<'q, 'r> {
+pub(crate) struct ParsedRequest<'q, 'r> {
     request: &'q MessageRef<'r>,
-    notes: Notes<'r>,
+    notes: RequestOptions<'r>,
     /// `true` if an option is critical and not recognised.
     has_bad_option: bool,
 }
 
-impl<'q, 'r> Model for Asked<'q, 'r> {
+impl<'q, 'r> Model for ParsedRequest<'q, 'r> {
     ghost use Rattle.coap_wire.specs.Message.{Message};
 
     ghost Value = { Message };
 
-    ghost use Rattle.coap_store.specs.AskedViews.{message_of, IsAsked};
+    ghost use Rattle.coap_store.specs.ParsedRequestViews.{message_of, IsAsked};
 
     ghost view = { message_of };
 
@@ -38,11 +38,11 @@ impl<'q, 'r> Model for Asked<'q, 'r> {
 }
 
 /// Returns the recognised options of a request, and `true` if an option is critical and not recognised, after one pass.
-fn notes_of<'r>(request: &MessageRef<'r>) -> (Notes<'r>, bool)
+fn scan_options<'r>(request: &MessageRef<'r>) -> (RequestOptions<'r>, bool)
     ensures notes { notes_value result.0 ≡ all_noted nothing (known_options request.now.options) }
     ensures bad { result.1 ≡ is_some (first_critical request.now.options) }
 {
-    let mut notes = Notes::nothing();
+    let mut notes = RequestOptions::nothing();
     let mut has_bad_option = false;
     for checked in request.checked_options() {
         if checked.is_recognised {
@@ -77,13 +77,13 @@ fn small_value(bytes: &[u8]) -> u16
     }
 }
 
-impl<'q, 'r> Asked<'q, 'r> {
+impl<'q, 'r> ParsedRequest<'q, 'r> {
     /// Reads the recognised options of a request.
-    pub(crate) fn by(request: &'q MessageRef<'r>) -> Asked<'q, 'r>
+    pub(crate) fn by(request: &'q MessageRef<'r>) -> ParsedRequest<'q, 'r>
         ensures { result ≡ request.now }
     {
-        let (notes, has_bad_option) = notes_of(request);
-        Asked {
+        let (notes, has_bad_option) = scan_options(request);
+        ParsedRequest {
             request,
             notes,
             has_bad_option,
@@ -136,10 +136,10 @@ impl<'q, 'r> Asked<'q, 'r> {
     }
 
     /// Returns the kind of resource that the path names.
-    pub(crate) fn place(&self) -> Place
-        ensures { result ≡ place_of (spec.path_of self.now) }
+    pub(crate) fn kind(&self) -> ResourceKind
+        ensures { result ≡ kind_of_path (spec.path_of self.now) }
     {
-        self.notes.trail.place()
+        self.notes.trail.kind()
     }
 
     /// Returns the Content-Format of the payload (RFC 7252 section 5.10.3).

@@ -3,7 +3,7 @@
 ghost use Rattle.std.specs.Prelude.{◌≡◌};
 ghost use Rattle.coap_store.specs.Prelude.{state_of, state_value};
 
-use crate::found::Found;
+use crate::found::RepresentationRef;
 use crate::path::PathKey;
 use crate::store::Store;
 use std::marker::Model;
@@ -20,7 +20,7 @@ pub enum State<'s> {
 /// Representation of a path at a certain time. Contracts see a `Representation`.
 #[derive(Drop)]
 pub struct Present<'s> {
-    found: Found<'s>,
+    found: RepresentationRef<'s>,
 }
 
 impl<'s> Model for Present<'s> {
@@ -62,7 +62,7 @@ impl Store {
         ensures { state_value result ≡ state_of self.now now path.now }
     {
         path.is_kept();
-        match self.found_at(Some(path), path.place(), now) {
+        match self.found_at(Some(path), path.kind(), now) {
             Some(found) => State::Present(Present { found }),
             None => State::Absent,
         }

@@ -8,7 +8,7 @@ ghost use Rattle.coap_store.specs.Prelude.{IsStore, change_value, bytes_in};
 
 use crate::catalogue::Catalogue;
 use crate::decimal::{Decimal, decimal_digits};
-use crate::found::Bytes;
+use crate::found::Payload;
 use crate::path::PathKey;
 use crate::plan::Change;
 use crate::resource::Resource;
@@ -89,12 +89,12 @@ impl Store {
     }
 
     /// Returns the text of the time `now`.
-    pub(crate) fn moment_text(&self, now: u64) -> Bytes<'_>
+    pub(crate) fn moment_text(&self, now: u64) -> Payload<'_>
         ensures { bytes_in result ≡ decimal now }
     {
         match self.moment.text_of(now) {
-            Some(text) => Bytes::Stored(text),
-            None => Bytes::Decimal(decimal_digits(now)),
+            Some(text) => Payload::Stored(text),
+            None => Payload::Decimal(decimal_digits(now)),
         }
     }
 

@@ -3,9 +3,9 @@
 ghost use Rattle.std.specs.Prelude.{◌≡◌};
 ghost use Rattle.coap_store.specs.Prelude.{path_of as path_asked, key_for};
 
-use crate::found::Found;
+use crate::found::RepresentationRef;
 use crate::path::PathKey;
-use crate::place::Place;
+use crate::resource_kind::ResourceKind;
 use crate::uri_path::UriPath;
 use coap_wire::MessageRef;
 
@@ -17,13 +17,13 @@ pub(crate) const LINK_FORMAT: u16 = 40;
 
 /// Target of a request. Its path is that of the request.
 #[derive(Drop)]
-pub(crate) struct Target<'s> {
+pub(crate) struct RequestTarget<'s> {
     /// `true` if the path is that of a resource, which may be absent.
     pub is_path: bool,
     /// Kind of resource that the path names.
-    pub place: Place,
+    pub place: ResourceKind,
     /// Representation, or `None` if the path is absent.
-    pub state: Option<Found<'s>>,
+    pub state: Option<RepresentationRef<'s>>,
 }
 
 /// Returns the path of a request's Uri-Path options, or `None` if no resource can have it (RFC 7252 section 5.10.1).

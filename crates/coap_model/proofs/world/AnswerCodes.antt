@@ -1,10 +1,10 @@
 -- Each answer to a request has the code of a response: class 2, 4 or 5.
 use Rattle.std.proofs.Common.{◌≡◌, ℕ, Bool, true, ◌||◌, ◌==◌, Option, Some, None, refl, arith}
-use Rattle.coap_model.specs.Prelude.{Message, class_of, bare_code, Path, Representation, StoreValue, Target}
+use Rattle.coap_model.specs.Prelude.{Message, class_of, bare_code, Path, Representation, StoreValue, RequestTarget}
 use Rattle.coap_model.specs.Prelude.{target_of, path_of, get_answer, stored_under, store_answer, read_answer}
-use Rattle.coap_model.specs.Prelude.{method_answer, resource_answer, answer_at, answer_of, prompt_answer}
+use Rattle.coap_model.specs.Prelude.{method_answer, resource_answer, answer_at, answer_of, immediate_answer}
 use Rattle.coap_store.specs.Answer.{Answer}
-use Rattle.coap_store.specs.declared.place.Place.{Place}
+use Rattle.coap_store.specs.declared.resource_kind.ResourceKind.{ResourceKind}
 
 abbrev pub coded : ℕ → Bool
 coded c = class_of c == 2 || (class_of c == 4 || class_of c == 5)
@@ -17,32 +17,32 @@ stored_coded None state m = refl
 stored_coded (Some path) None m = refl
 stored_coded (Some path) (Some r) m = refl
 
-store_coded : (s : StoreValue) (t : Target) (m : Message) → IsCoded (store_answer s t m)
+store_coded : (s : StoreValue) (t : RequestTarget) (m : Message) → IsCoded (store_answer s t m)
 unfolding store_answer
 store_coded s t m = grind (arith, stored_coded t.key t.state m)
 
-get_coded : (place : Place) (r : Representation) (m : Message) → IsCoded (get_answer place r m)
+get_coded : (place : ResourceKind) (r : Representation) (m : Message) → IsCoded (get_answer place r m)
 unfolding get_answer
 get_coded place r m = grind arith
 
-read_coded : (place : Place) (state : Option Representation) (m : Message) → IsCoded (read_answer place state m)
+read_coded : (place : ResourceKind) (state : Option Representation) (m : Message) → IsCoded (read_answer place state m)
 read_coded place None m = refl
 read_coded place (Some r) m = get_coded place r m
 
-method_coded : (s : StoreValue) (t : Target) (m : Message) → IsCoded (method_answer s t m)
+method_coded : (s : StoreValue) (t : RequestTarget) (m : Message) → IsCoded (method_answer s t m)
 unfolding method_answer
 method_coded s t m = grind (arith, read_coded t.place t.state m, store_coded s t m)
 
-resource_coded : (s : StoreValue) (t : Target) (m : Message) → IsCoded (resource_answer s t m)
+resource_coded : (s : StoreValue) (t : RequestTarget) (m : Message) → IsCoded (resource_answer s t m)
 unfolding resource_answer
 resource_coded s t m = grind (arith, method_coded s t m)
 
-answer_coded : (s : StoreValue) (t : Target) (m : Message) → IsCoded (answer_at s t m)
+answer_coded : (s : StoreValue) (t : RequestTarget) (m : Message) → IsCoded (answer_at s t m)
 unfolding answer_at
 answer_coded s t m = grind (arith, resource_coded s t m)
 
-pub prompt_coded : (store : StoreValue) (now : ℕ) (m : Message) → IsCoded (prompt_answer store now m)
-unfolding prompt_answer answer_of
+pub prompt_coded : (store : StoreValue) (now : ℕ) (m : Message) → IsCoded (immediate_answer store now m)
+unfolding immediate_answer answer_of
 prompt_coded store now m = grind (arith, answer_coded store (target_of store now (path_of m)) m)
 
 pub bare_coded : (c : ℕ) → coded c ≡ true → coded (bare_code c) ≡ true

@@ -6,8 +6,8 @@ use Rattle.coap_model.specs.Prelude.{Reason, LimitValues, stop_of, takes_message
 use Rattle.coap_model.specs.Prelude.{PendingEntryValue, Answer, Pong, first_due, without_due, is_request, Reaction, stay}
 use Rattle.coap_model.specs.Prelude.{send_as, react, reaction_unless, asks_custody, is_custody_pong}
 use Rattle.coap_model.specs.Prelude.{pong_with, History, standing_now, with_effect, after, limit_now, own_csm}
-use Rattle.coap_model.specs.Prelude.{standing_due, release, same_bytes, StoreValue, Response, held_response}
-use Rattle.coap_model.specs.Prelude.{prompt_answer, response_with_observe, ConfigValues, Observer, goes_on}
+use Rattle.coap_model.specs.Prelude.{standing_due, release, same_bytes, StoreValue, Response, delayed_response}
+use Rattle.coap_model.specs.Prelude.{immediate_answer, response_with_observe, ConfigValues, Observer, goes_on}
 use Rattle.coap_model.specs.Prelude.{notification, Side, handles, asks_answer, side_handled, side_after, next_due}
 use Rattle.coap_model.specs.Prelude.{held_message, after_sent, notified, side_of, Event, world_after, is_response}
 use Rattle.coap_model.specs.Prelude.{responds, is_asking, FollowsAnswers, reject_reason}
@@ -194,7 +194,7 @@ module _ (store : StoreValue) (now : ℕ) (s : Side) (m : Message) (server : s.h
       handled_cases store now s m (λ t. PongsFollow t.history) (λ other. subst (λ (asks : Bool). OwesStill nothing (owed_so asks) heard_so) other heard)
       (λ asks moment asked. held_follows heard (Answer m.token moment) tt (open_answers heard_so.phase (asked_quiet s m asks).1)
       (λ t. omega (arith, owed_token (asks_answer s m) t)))
-      (λ asks. owed_follows nothing (owed_so (asks_answer s m)) heard_so heard m.token _ (prompt_answer store now m).response
+      (λ asks. owed_follows nothing (owed_so (asks_answer s m)) heard_so heard m.token _ (immediate_answer store now m).response
       (open_answers heard_so.phase (asked_quiet s m asks).1) (prompt_coded store now m) (omega arith) (owed_token (asks_answer s m)))
 
   after_follows : PongsFollow (side_after store now s m).history
@@ -228,7 +228,7 @@ sent_due h now (Answer token moment) due is =
     let left : OwesStill n n k = subst (λ (es : List PendingEntryValue). FollowsBut n n h.handled (h.queued ++ []) es h.phase) (sym first.without)
     (same_follows (let_go h is first.before (Answer token moment) first.after first.there) [] tt (omega arith) (omega arith)) in
     subst (λ (g : History). PongsFollow (after g (call.Reply (held_message token)))) (sym (due_is h now (Some (Answer token moment)) due))
-    (owed_follows n n k left token false held_response (held_on h is first.before (Answer token moment) first.after first.there) refl
+    (owed_follows n n k left token false delayed_response (held_on h is first.before (Answer token moment) first.after first.there) refl
     (omega arith) (omega arith))
 sent_due h now (Pong token) due is =
     subst PongsFollow (sym (due_is h now (Some (Pong token)) due)) (by (fit (standing_now h).limit (pong_with true token) (pong_with false token)))

@@ -4,7 +4,7 @@ use Rattle.std.proofs.Common.{◌≡◌, ℕ, zero, suc, Bool, true, false, cond
 use Rattle.coap_model.specs.Prelude.{AllByRecursion, list_any, remove, Message, Phase, LimitValues, takes_messages}
 use Rattle.coap_model.specs.Prelude.{answers, is_open, fit, bare_response, PendingEntryValue, Answer, Pong, without_due}
 use Rattle.coap_model.specs.Prelude.{ConnectionState, send, is_custody_pong, pong_with, History, limit_now, standing_now}
-use Rattle.coap_model.specs.Prelude.{after, may_hold, StoreValue, Response, answer_of, prompt_answer, each_at}
+use Rattle.coap_model.specs.Prelude.{after, may_hold, StoreValue, Response, answer_of, immediate_answer, each_at}
 use Rattle.coap_model.specs.Prelude.{response_with_observe, Observer, without_token, notification}
 use Rattle.coap_model.specs.Prelude.{notification_message, Side, handles, with_history, held_for, moment_after}
 use Rattle.coap_model.specs.Prelude.{asks_answer, side_handled, side_after, next_held, held_message, settled_once}
@@ -164,7 +164,7 @@ held_when_asked store now s m seconds does asks is = grind (arith, asked_quiet s
 pub handled_cases : (store : StoreValue) (now : ℕ) (s : Side) (m : Message) (P : Side → Type 0)
     → (asks_answer s m ≡ false → P (with_history s (after s.history (call.Handle m))))
     → (asks_answer s m ≡ true → (moment : ℕ) → asks_held m (Answer m.token moment) ≡ true → P (side_with (holding (after s.history (call.Handle m)) ((after s.history (call.Handle m)).held ++ Answer m.token moment ∷ [])) (without_token m.token s.observers)))
-    → (asks_answer s m ≡ true → P (side_answered store now (after s.history (call.Handle m)) (without_token m.token s.observers) m (prompt_answer store now m)))
+    → (asks_answer s m ≡ true → P (side_answered store now (after s.history (call.Handle m)) (without_token m.token s.observers) m (immediate_answer store now m)))
     → P (side_handled store now s m)
 handled_cases store now s m P other late prompt =
     let h : History = after s.history (call.Handle m) in

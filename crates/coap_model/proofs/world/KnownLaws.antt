@@ -1,18 +1,18 @@
 -- Known facts of an observer: the state that it was sent last is a state that its path had.
 use Rattle.std.proofs.Common.{◌≡◌, ℕ, ◌+◌, ◌<◌, ◌≤◌, true, false, List, Option, Some, None, refl, sym, ap, ◌∙◌, arith, ◌==◌, nat_eq, not, ◌&&◌, inl, inr, ◌⊎◌}
 use Rattle.coap_model.specs.Prelude.{decimal, option_eq, Message, Path, same_bytes}
-use Rattle.coap_model.specs.Prelude.{Representation, StoreValue, found_in, place_of, key_for, state_at, state_of}
-use Rattle.coap_model.specs.Prelude.{built, text_plain, is_observable, is_dynamic, Target, target_of, path_of}
-use Rattle.coap_model.specs.Prelude.{Change, Nothing, Put, Delete, changed, prompt_answer, only, content, Response}
-use Rattle.coap_model.specs.Prelude.{etag_at, is_among, valid, answer_at, removes_watch, finally, answer_of}
+use Rattle.coap_model.specs.Prelude.{Representation, StoreValue, found_in, kind_of_path, key_for, state_at, state_of}
+use Rattle.coap_model.specs.Prelude.{built, text_plain, is_observable, is_dynamic, RequestTarget, target_of, path_of}
+use Rattle.coap_model.specs.Prelude.{Change, Nothing, Put, Delete, changed, immediate_answer, only, content, Response}
+use Rattle.coap_model.specs.Prelude.{etag_at, is_among, valid, answer_at, removes_watch, with_observe_rule, answer_of}
 use Rattle.coap_model.specs.Prelude.{unheld_by, AreDistinct, notification_at, Time, Dynamic}
 use Rattle.coap_model.specs.Prelude.{Observer, same_state, is_due, entry_for, format_of}
 use Rattle.coap_model.specs.Prelude.{goes_on, notification, notification_message}
-use Rattle.coap_model.specs.Prelude.{response_with_observe, responds, etag_of_state, TellsState}
+use Rattle.coap_model.specs.Prelude.{response_with_observe, responds, etag_of_state, ReportsState}
 use Rattle.std.proofs.lemmas.Bool.{not-false, eqb-true, eq-eqb, and_parts, cond_both}
 use lib.Pointwise.{bytes_decides}
 use Rattle.coap_store.specs.Answer.{Answer}
-use Rattle.coap_store.specs.declared.place.Place.{Place}
+use Rattle.coap_store.specs.declared.resource_kind.ResourceKind.{ResourceKind}
 use Rattle.coap_store.proofs.CatalogueLemmas.{same_format}
 use Rattle.coap_store.proofs.ChangeLaws.{put_is_stored, other_is_kept_on_put, other_is_kept_on_delete, deleted_is_gone, distinct_stays}
 use Rattle.coap_store.proofs.VersionLaws.{by_path}
@@ -40,14 +40,14 @@ pub record KnowsMoment (o : Observer) : Type 0 where
   pub small : moment ≤ 18446744073709551615
 
 -- Created resources and `/time` can be observed, and no others.
-abbrev pub IsKnownAt : Place → StoreValue → Observer → Type 0
+abbrev pub IsKnownAt : ResourceKind → StoreValue → Observer → Type 0
 IsKnownAt Time store o = KnowsMoment o
 IsKnownAt Dynamic store o = KnowsStored store o
 IsKnownAt other store o = ⊥
 
 pub record IsKnown (store : StoreValue) (o : Observer) : Type 0 where
   pub key : key_for o.path ≡ Some o.path
-  pub state : IsKnownAt (place_of o.path) store o
+  pub state : IsKnownAt (kind_of_path o.path) store o
 
 -- No path occurs twice in the store, and each version was assigned by it.
 pub record IsVersioned (store : StoreValue) : Type 0 where
@@ -119,7 +119,7 @@ still_versioned store change is = record {
   ];
 }
 
-known_at_still : (place : Place) (store : StoreValue) (change : Change) (o : Observer) → IsVersioned store → IsKnownAt place store o → IsKnownAt place (changed store change) o
+known_at_still : (place : ResourceKind) (store : StoreValue) (change : Change) (o : Observer) → IsVersioned store → IsKnownAt place store o → IsKnownAt place (changed store change) o
 known_at_still Dynamic store change o is known = record {
   state = known.state;
   was = known.was;
@@ -134,18 +134,18 @@ known_at_still other store change o is known = known
 
 -- The facts on an observer hold after any change.
 pub still_known : (store : StoreValue) (change : Change) (o : Observer) → IsVersioned store → IsKnown store o → IsKnown (changed store change) o
-still_known store change o is known = record { key = known.key; state = known_at_still (place_of o.path) store change o is known.state }
+still_known store change o is known = record { key = known.key; state = known_at_still (kind_of_path o.path) store change o is known.state }
 
 -- ---- sending the current state
 
 -- The path names an observable resource, and it has a state.
 pub record IsWatchable (store : StoreValue) (now : ℕ) (path : Path) : Type 0 where
   pub key : key_for path ≡ Some path
-  pub observable : is_observable (place_of path) ≡ true
+  pub observable : is_observable (kind_of_path path) ≡ true
   pub representation : Representation
   pub there : state_of store now path ≡ Some representation
 
-told_at : (place : Place) (store : StoreValue) (now : ℕ) (token : List ℕ) (path : Path) (r : Representation) → now ≤ 18446744073709551615 → IsVersioned store → is_observable place ≡ true → state_at store now (Some path) place ≡ Some r → IsKnownAt place store (record { token = token; path = path; told = Some r })
+told_at : (place : ResourceKind) (store : StoreValue) (now : ℕ) (token : List ℕ) (path : Path) (r : Representation) → now ≤ 18446744073709551615 → IsVersioned store → is_observable place ≡ true → state_at store now (Some path) place ≡ Some r → IsKnownAt place store (record { token = token; path = path; told = Some r })
 unfolding state_at
 told_at Time store now token path r small is e there = record { moment = now; was = sym there; small = small }
 told_at Dynamic store now token path r small is e there = record {
@@ -160,54 +160,54 @@ told_at other store now token path r small is e there = absurd cc
 -- An observer that is sent the current state has the facts.
 pub told_known : (store : StoreValue) (now : ℕ) (token : List ℕ) (path : Path) → now ≤ 18446744073709551615 → IsVersioned store → IsWatchable store now path → IsKnown store (record { token = token; path = path; told = state_of store now path })
 told_known store now token path small is can =
-    rw can.there (record { key = can.key; state = told_at (place_of path) store now token path can.representation small is can.observable (rw can.key at can.there) })
+    rw can.there (record { key = can.key; state = told_at (kind_of_path path) store now token path can.representation small is can.observable (rw can.key at can.there) })
 
 -- ---- states that are sent
 
 -- A request that asks for an entry names such a path.
-pub entry_watchable : (store : StoreValue) (now : ℕ) (m : Message) → (prompt_answer store now m).watch ≡ watch.Add → IsWatchable store now (path_of m)
+pub entry_watchable : (store : StoreValue) (now : ℕ) (m : Message) → (immediate_answer store now m).watch ≡ watch.Add → IsWatchable store now (path_of m)
 entry_watchable store now m e = let may = promptly_watched_is_there store now m e in record { key = may.key; observable = may.observable; representation = may.representation; there = may.there }
 
-known_observable : (place : Place) (store : StoreValue) (o : Observer) → IsKnownAt place store o → is_observable place ≡ true
+known_observable : (place : ResourceKind) (store : StoreValue) (o : Observer) → IsKnownAt place store o → is_observable place ≡ true
 known_observable Time store o known = refl
 known_observable Dynamic store o known = refl
 known_observable other store o known = absurd known
 
 -- A notification with Observe is the 2.05 of the state, in the format sent last.
-pub record TellsOn (place : Place) (state : Option Representation) (format : Option ℕ) (a : Response) : Type 0 where
+pub record TellsOn (place : ResourceKind) (state : Option Representation) (format : Option ℕ) (a : Response) : Type 0 where
   pub representation : Representation
   pub there : state ≡ Some representation
   pub same : representation.format ≡ format
   pub says : a ≡ content place representation
 
-tells_on_at : (place : Place) (state : Option Representation) (format : Option ℕ) → goes_on (notification_at place state format) ≡ true → TellsOn place state format (notification_at place state format)
+tells_on_at : (place : ResourceKind) (state : Option Representation) (format : Option ℕ) → goes_on (notification_at place state format) ≡ true → TellsOn place state format (notification_at place state format)
 unfolding notification_at
 tells_on_at place None format e = absurd cc
 tells_on_at place (Some r) format e =
     cond_both (option_eq nat_eq r.format format) (content place r) (only code.not_acceptable) (λ a. goes_on a ≡ true → TellsOn place (Some r) format a)
     (λ same on. record { representation = r; there = refl; same = same_format r.format format (ap not same); says = refl }) (λ other on. absurd cc) e
 
-pub tells_on_to_observer : (store : StoreValue) (now : ℕ) (o : Observer) → goes_on (notification store now o) ≡ true → TellsOn (place_of o.path) (state_of store now o.path) (format_of o.told) (notification store now o)
-tells_on_to_observer store now o e = tells_on_at (place_of o.path) (state_of store now o.path) (format_of o.told) e
+pub tells_on_to_observer : (store : StoreValue) (now : ℕ) (o : Observer) → goes_on (notification store now o) ≡ true → TellsOn (kind_of_path o.path) (state_of store now o.path) (format_of o.told) (notification store now o)
+tells_on_to_observer store now o e = tells_on_at (kind_of_path o.path) (state_of store now o.path) (format_of o.told) e
 
 pub left_watchable : (store : StoreValue) (now : ℕ) (o : Observer) → IsKnown store o → goes_on (notification store now o) ≡ true → IsWatchable store now o.path
 left_watchable store now o known e =
     let tells = tells_on_to_observer store now o e in
-    record { key = known.key; observable = known_observable (place_of o.path) store o known.state; representation = tells.representation; there = tells.there }
+    record { key = known.key; observable = known_observable (kind_of_path o.path) store o known.state; representation = tells.representation; there = tells.there }
 
 -- ---- responses that report a state
 
 -- The 2.05 of a state, or the 2.03 of a stored one.
-abbrev pub SaysState : Place → Representation → Response → Type 0
+abbrev pub SaysState : ResourceKind → Representation → Response → Type 0
 SaysState place r a = (a ≡ content place r) ⊎ ((a ≡ etag_of_state r) × (is_dynamic place ≡ true))
 
 -- Such a response with Observe reports the state.
-pub says_tells : (o : Observer) (state : Option Representation) (r : Representation) (a : Response) → state ≡ Some r → SaysState (place_of o.path) r a → TellsState o state (response_with_observe o.token true a)
+pub says_tells : (o : Observer) (state : Option Representation) (r : Representation) (a : Response) → state ≡ Some r → SaysState (kind_of_path o.path) r a → ReportsState o state (response_with_observe o.token true a)
 says_tells o state r a there (inl e) = rw there (inl (ap (response_with_observe o.token true) e))
 says_tells o state r a there (inr e) = rw there (inr (ap (response_with_observe o.token true) e.0, e.1))
 
 -- A message that reports a state is a response with the observer's token.
-pub tells_responds : (o : Observer) (state : Option Representation) (m : Message) → TellsState o state m → responds o.token m ≡ true
+pub tells_responds : (o : Observer) (state : Option Representation) (m : Message) → ReportsState o state m → responds o.token m ≡ true
 tells_responds o None m tells = absurd tells
 tells_responds o (Some r) m (inl e) = ap (responds o.token) e ∙ bytes_itself o.token
 tells_responds o (Some r) m (inr e) = ap (responds o.token) e.0 ∙ bytes_itself o.token
@@ -215,15 +215,15 @@ tells_responds o (Some r) m (inr e) = ap (responds o.token) e.0 ∙ bytes_itself
 -- ---- answers
 
 -- An answer that adds an observer reports the state of the path.
-abbrev TellsWell : Place → Option Representation → Answer → Type 0
+abbrev TellsWell : ResourceKind → Option Representation → Answer → Type 0
 TellsWell place state a = a.watch ≡ watch.Add → (r : Representation) × (state ≡ Some r) × SaysState place r a.response
 
 -- An ETag matches only if the state is stored.
-valid_says : (place : Place) (r : Representation) (etags : List (List ℕ)) → is_among (etag_at place r) etags ≡ true → SaysState place r (valid place r)
+valid_says : (place : ResourceKind) (r : Representation) (etags : List (List ℕ)) → is_among (etag_at place r) etags ≡ true → SaysState place r (valid place r)
 valid_says Dynamic r etags e = inr (refl, refl)
 valid_says other r etags e = absurd cc
 
-telling_at : (s : StoreValue) (t : Target) (m : Message) → TellsWell t.place t.state (answer_at s t m)
+telling_at : (s : StoreValue) (t : RequestTarget) (m : Message) → TellsWell t.place t.state (answer_at s t m)
 telling_at s t m =
     let P : Answer → Type 0 = TellsWell t.place t.state in
     answer_cases P s t m (λ c error e. absurd cc) (record {
@@ -237,21 +237,21 @@ telling_at s t m =
     })
 
 -- The answer that adds an observer is not delayed, and reports the state that the entry records.
-pub entry_tells : (store : StoreValue) (now : ℕ) (m : Message) → (prompt_answer store now m).watch ≡ watch.Add → TellsState (entry_for store now m) (state_of store now (path_of m)) (response_with_observe m.token true (prompt_answer store now m).response)
-unfolding answer_of prompt_answer
+pub entry_tells : (store : StoreValue) (now : ℕ) (m : Message) → (immediate_answer store now m).watch ≡ watch.Add → ReportsState (entry_for store now m) (state_of store now (path_of m)) (response_with_observe m.token true (immediate_answer store now m).response)
+unfolding answer_of immediate_answer
 entry_tells store now m e =
-    let t : Target = target_of store now (path_of m) in
-    let tells : TellsWell t.place t.state (prompt_answer store now m) =
+    let t : RequestTarget = target_of store now (path_of m) in
+    let tells : TellsWell t.place t.state (immediate_answer store now m) =
     there_or_not (answer_of store now m).hold (λ hold. TellsWell t.place t.state (unheld_by hold (answer_of store now m)))
-    (λ none. elim (removes_watch m) as (λ b. TellsWell t.place t.state (finally b (answer_at store t m))) [ true ↦ λ e. absurd cc | false ↦ telling_at store t m ])
+    (λ none. elim (removes_watch m) as (λ b. TellsWell t.place t.state (with_observe_rule b (answer_at store t m))) [ true ↦ λ e. absurd cc | false ↦ telling_at store t m ])
     (λ seconds held e. (let at_once = watched_at_once store now m e in absurd cc)) in
     let is = tells e in
-    says_tells (entry_for store now m) (state_of store now (path_of m)) is.0 (prompt_answer store now m).response is.1 is.2
+    says_tells (entry_for store now m) (state_of store now (path_of m)) is.0 (immediate_answer store now m).response is.1 is.2
 
 -- ---- notifications
 
 -- A notification with Observe reports the state that the entry records from then on.
-pub notification_tells_observer : (store : StoreValue) (now : ℕ) (o : Observer) → goes_on (notification store now o) ≡ true → TellsState o (state_of store now o.path) (notification_message o.token (notification store now o))
+pub notification_tells_observer : (store : StoreValue) (now : ℕ) (o : Observer) → goes_on (notification store now o) ≡ true → ReportsState o (state_of store now o.path) (notification_message o.token (notification store now o))
 notification_tells_observer store now o on =
     let is = tells_on_to_observer store now o on in
     rw on (says_tells o (state_of store now o.path) is.representation (notification store now o) is.there (inl is.says))

@@ -5,7 +5,7 @@ use Rattle.coap_model.specs.Prelude.{answers, is_open, fit, bare_response, Pendi
 use Rattle.coap_model.specs.Prelude.{first_due, without_due, due_moment, answer_index, pong_index, else_index, held_at}
 use Rattle.coap_model.specs.Prelude.{due_index, NothingIsDue, History, IsHistory, limit_now, standing_now}
 use Rattle.coap_model.specs.Prelude.{after, standing_due}
-use Rattle.coap_model.specs.Prelude.{StoreValue, path_of, answer_of, prompt_answer}
+use Rattle.coap_model.specs.Prelude.{StoreValue, path_of, answer_of, immediate_answer}
 use Rattle.coap_model.specs.Prelude.{Change, changed, response_with_observe}
 use Rattle.coap_model.specs.Prelude.{Side, handles, has_room, side_with, with_history, side_answered}
 use Rattle.coap_model.specs.Prelude.{moment_after, held_for, side_replied, asks_answer, side_handled, side_after}
@@ -46,7 +46,7 @@ handles_parts s e = and_parts (takes_messages s.history.phase) (has_room s) e
 -- A request whose response is delayed, and one whose response is sent at once.
 pub replied_cases : (store : StoreValue) (now : ℕ) (h : History) (others : List Observer) (m : Message) (hold : Option ℕ) (P : Side → Type 0)
     → ((seconds : ℕ) → held_for h hold ≡ Some seconds → P (side_with (after h (call.Hold m.token (moment_after now seconds))) others))
-    → (held_for h hold ≡ None → P (side_answered store now h others m (prompt_answer store now m)))
+    → (held_for h hold ≡ None → P (side_answered store now h others m (immediate_answer store now m)))
     → P (side_replied store now h others m (held_for h hold))
 replied_cases store now h others m hold P held prompt =
     there_or_not (held_for h hold) (λ found. P (side_replied store now h others m found)) prompt held
@@ -108,15 +108,15 @@ calls_known store = let told = observers_kept (AreKnown store) tt in record {
 -- A property of the observers after a message. It must hold of no observers, and of the observers before. It must also
 -- hold of those without the message's token, and of these with its entry if there is a place for it.
 pub observers_after : (P : List Observer → Type 0) (store : StoreValue) (now : ℕ) (s : Side) (m : Message) → P [] → P s.observers → P (without_token m.token s.observers)
-    → ((prompt_answer store now m).watch ≡ watch.Add → length (without_token m.token s.observers) < (after s.history (call.Handle m)).limits.observers → P (without_token m.token s.observers ++ entry_for store now m ∷ []))
+    → ((immediate_answer store now m).watch ≡ watch.Add → length (without_token m.token s.observers) < (after s.history (call.Handle m)).limits.observers → P (without_token m.token s.observers ++ entry_for store now m ∷ []))
     → P (side_after store now s m).observers
 unfolding side_after
 observers_after P store now s m none same others entered =
     let h : History = after s.history (call.Handle m) in
     let os : List Observer = without_token m.token s.observers in
-    let asked : Watch = (prompt_answer store now m).watch in
+    let asked : Watch = (immediate_answer store now m).watch in
     let observes : Bool = has_place h.limits.observers os asked in
-    let response : Message = response_with_observe m.token observes (prompt_answer store now m).response in
+    let response : Message = response_with_observe m.token observes (immediate_answer store now m).response in
     let enters : Bool = observes && is_whole (fit (limit_now h) response (bare_response response)) in
     let HasThem : Side → Type 0 = λ t. P t.observers in
     let with_it : P (with_entry enters os (entry_for store now m)) =

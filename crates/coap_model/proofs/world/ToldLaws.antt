@@ -3,12 +3,12 @@
 use Rattle.std.proofs.Common.{◌≡◌, ◌≢◌, ℕ, Bool, true, false, List, [], ◌∷◌, ◌++◌, length, Option, Some, None, refl, sym, ap, subst, ◌∙◌, filter, find, not, nat_lt, ◌&&◌, if◌then◌else◌, arith}
 use Rattle.coap_model.specs.Prelude.{AllByRecursion, Message, LimitValues, is_open, fit, bare_response, PendingEntryValue}
 use Rattle.coap_model.specs.Prelude.{Answer, Pong, first_due, History, limit_now, after, same_bytes, StoreValue}
-use Rattle.coap_model.specs.Prelude.{state_of, prompt_answer, response_with_observe, ConfigValues, Observer, is_due}
+use Rattle.coap_model.specs.Prelude.{state_of, immediate_answer, response_with_observe, ConfigValues, Observer, is_due}
 use Rattle.coap_model.specs.Prelude.{without_token, has_place, asks_entry, entry_for, is_whole, with_entry, goes_on}
 use Rattle.coap_model.specs.Prelude.{notification, notification_message, left_of, first_becomes, Side, handles}
 use Rattle.coap_model.specs.Prelude.{side_with, with_history, side_answered, side_handled, side_after, next_due}
 use Rattle.coap_model.specs.Prelude.{notified, held_message, after_sent, side_of, Event, world_after, responds}
-use Rattle.coap_model.specs.Prelude.{is_response, TellsState, asked_late, WasToldLast, HaveOwnTokens, last_response}
+use Rattle.coap_model.specs.Prelude.{is_response, ReportsState, asked_late, WasToldLast, HaveOwnTokens, last_response}
 use Rattle.coap_model.specs.Prelude.{StandFor}
 use Rattle.std.proofs.lemmas.Bool.{cond_both, and_parts, and_left}
 use Rattle.std.proofs.lemmas.List.Folds.{list_any-append}
@@ -40,7 +40,7 @@ abbrev AllTold : Side → Type 0
 AllTold s = AreTold s.history s.observers
 
 -- A message that reports the recorded state is queued.
-told_by_last : (o : Observer) (queued : List Message) (m : Message) → TellsState o o.told m → WasToldLast (queued ++ m ∷ []) o
+told_by_last : (o : Observer) (queued : List Message) (m : Message) → ReportsState o o.told m → WasToldLast (queued ++ m ∷ []) o
 told_by_last o queued m tells = (m, grind (arith, last_of_longer o.token queued m, tells_responds o o.told m tells), tells)
 
 -- Queued messages keep this if none of them is a response with the observer's token.
@@ -114,16 +114,16 @@ entered_told h os entry true others are new =
 entered_told h os entry false others are new = are
 
 -- The response to the request reports it.
-told_with_answer : (store : StoreValue) (now : ℕ) (h : History) (os : List Observer) (m : Message) → HaveOtherTokens m.token os → AreTold h os → AllTold (side_answered store now h os m (prompt_answer store now m))
+told_with_answer : (store : StoreValue) (now : ℕ) (h : History) (os : List Observer) (m : Message) → HaveOtherTokens m.token os → AreTold h os → AllTold (side_answered store now h os m (immediate_answer store now m))
 told_with_answer store now h os m others are =
-    let a : answer.Answer = prompt_answer store now m in
+    let a : answer.Answer = immediate_answer store now m in
     let observes : Bool = has_place h.limits.observers os a.watch in
     let response : Message = response_with_observe m.token observes a.response in
     let whole : Bool = is_whole (fit (limit_now h) response (bare_response response)) in
     let entry : Observer = entry_for store now m in
     let k : History = after h (call.Reply response) in
-    let tells : observes ≡ true → TellsState entry entry.told response = λ has.
-    subst (λ (b : Bool). TellsState entry entry.told (response_with_observe m.token b a.response)) (sym has)
+    let tells : observes ≡ true → ReportsState entry entry.told response = λ has.
+    subst (λ (b : Bool). ReportsState entry entry.told (response_with_observe m.token b a.response)) (sym has)
     (entry_tells store now m (asks_to_enter a.watch (and_parts (asks_entry a.watch) (nat_lt (length os) h.limits.observers) has).0)) in
     kept_told k (with_entry (observes && whole) os entry)
     (λ opened. entered_told k os entry (observes && whole) others (record { own = are.own; told = others_told m.token h k os (reply_queues h response) others are.told })

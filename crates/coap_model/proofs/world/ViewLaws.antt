@@ -4,9 +4,9 @@ use Rattle.std.proofs.Common.{◌≡◌, ℕ, ◌+◌, true, false, ◌&&◌, Li
 use Rattle.std.proofs.lemmas.Bool.Decides.{nat_tests}
 use Rattle.std.proofs.lemmas.Bool.{eqb-false, cases_Bool, cond_both}
 use Rattle.coap_model.specs.Prelude.{Message, LimitValues, Path, Representation, StoreValue, put_in, removed_in}
-use Rattle.coap_model.specs.Prelude.{is_dynamic, place_of, key_for, state_at, target_of, path_of, Change, Nothing}
+use Rattle.coap_model.specs.Prelude.{is_dynamic, kind_of_path, key_for, state_at, target_of, path_of, Change, Nothing}
 use Rattle.coap_model.specs.Prelude.{Put, Delete, changed, stored_under, deletion, answer_at, removes_watch}
-use Rattle.coap_model.specs.Prelude.{answer_of, prompt_answer, put_refusal, remove_refusal, ConfigValues, Side}
+use Rattle.coap_model.specs.Prelude.{answer_of, immediate_answer, put_refusal, remove_refusal, ConfigValues, Side}
 use Rattle.coap_model.specs.Prelude.{new_side, handles, asks_answer, side_after, change_after, side_faulted}
 use Rattle.coap_model.specs.Prelude.{side_written, side_ended, side_released, side_announced, settled, World, Step}
 use Rattle.coap_model.specs.Prelude.{new_world, side_of, stored_after, acted, after_steps, Event, steps_of}
@@ -33,20 +33,20 @@ IsNotRefused s (Put path format bytes) = put_refusal s path bytes ≡ None
 IsNotRefused s (Delete path) = remove_refusal s path ≡ None
 
 -- The checks of a put are those of the request that makes it.
-put_passes : (s : StoreValue) (now : ℕ) (path q : Path) (m : Message) → is_dynamic (place_of path) ≡ true → CanStore s (target_of s now path) m → key_for path ≡ Some q → put_refusal s q m.payload ≡ None
+put_passes : (s : StoreValue) (now : ℕ) (path q : Path) (m : Message) → is_dynamic (kind_of_path path) ≡ true → CanStore s (target_of s now path) m → key_for path ≡ Some q → put_refusal s q m.payload ≡ None
 unfolding put_refusal
 put_passes s now path q m dynamic can key =
-    grind (arith, nat_tests, key_is path q key, state_dynamic s now (key_for path) (place_of path) dynamic, can.small, can.room, can.version_left)
+    grind (arith, nat_tests, key_is path q key, state_dynamic s now (key_for path) (kind_of_path path) dynamic, can.small, can.room, can.version_left)
 
 stored_passes : (s : StoreValue) (key : Option Path) (state : Option Representation) (m : Message) → ((q : Path) → key ≡ Some q → put_refusal s q m.payload ≡ None) → IsNotRefused s (stored_under key state m).change
 stored_passes s None state m passes = tt
 stored_passes s (Some path) None m passes = passes path refl
 stored_passes s (Some path) (Some r) m passes = passes path refl
 
-deletion_by : (s : StoreValue) (now : ℕ) (path : Path) (key : Option Path) (state : Option Representation) → is_dynamic (place_of path) ≡ true → key_for path ≡ key → state_at s now (key_for path) (place_of path) ≡ state → IsNotRefused s (deletion key state)
+deletion_by : (s : StoreValue) (now : ℕ) (path : Path) (key : Option Path) (state : Option Representation) → is_dynamic (kind_of_path path) ≡ true → key_for path ≡ key → state_at s now (key_for path) (kind_of_path path) ≡ state → IsNotRefused s (deletion key state)
 unfolding remove_refusal
 deletion_by s now path (Some q) (Some r) dynamic key found =
-    grind (arith, key_is path q key, state_dynamic s now (key_for path) (place_of path) dynamic)
+    grind (arith, key_is path q key, state_dynamic s now (key_for path) (kind_of_path path) dynamic)
 deletion_by s now path key state dynamic is found = tt
 
 answer_passes : (s : StoreValue) (now : ℕ) (path : Path) (m : Message) → IsNotRefused s (answer_at s (target_of s now path) m).change
@@ -55,12 +55,12 @@ answer_passes s now path m =
     let P : Answer → Type 0 = λ a. IsNotRefused s a.change in
     answer_cases P s t m (λ c e. tt) (record {
       read = λ r is. get_cases P t.place r m (λ c e. tt) (record { valid = λ among. tt; late = tt; content = tt });
-      deleted = λ dynamic other. (deletion_by s now path (key_for path) (state_at s now (key_for path) (place_of path)) dynamic refl refl);
+      deleted = λ dynamic other. (deletion_by s now path (key_for path) (state_at s now (key_for path) (kind_of_path path)) dynamic refl refl);
       stored = λ dynamic other. store_cases P s t m (λ c e. tt) tt (λ can. stored_passes s t.key t.state m (λ q key. put_passes s now path q m dynamic can key));
     })
 
-prompt_passes : (s : StoreValue) (now : ℕ) (m : Message) → IsNotRefused s (prompt_answer s now m).change
-unfolding prompt_answer answer_of
+prompt_passes : (s : StoreValue) (now : ℕ) (m : Message) → IsNotRefused s (immediate_answer s now m).change
+unfolding immediate_answer answer_of
 prompt_passes s now m =
     let at = answer_at s (target_of s now (path_of m)) m in
     let a = answer_of s now m in
@@ -70,7 +70,7 @@ on_passes : (w : World) (m : Message) (there : Option Side) → IsNotRefused w.s
 unfolding change_after
 on_passes w m None = tt
 on_passes w m (Some s) =
-    cond_both (handles s && asks_answer s m) (prompt_answer w.store w.now m).change Nothing (IsNotRefused w.store)
+    cond_both (handles s && asks_answer s m) (immediate_answer w.store w.now m).change Nothing (IsNotRefused w.store)
     (λ asks. prompt_passes w.store w.now m) (λ other. tt)
 
 pub by_passes : (w : World) (s : Step) → IsNotRefused w.store (change_by w s)

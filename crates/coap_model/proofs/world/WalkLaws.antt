@@ -11,7 +11,7 @@ use Rattle.coap_model.specs.Prelude.{Answer, Pong, first_due, without_due, stop,
 use Rattle.coap_model.specs.Prelude.{due_effect, reject_of, reject_reason, release_refusal, History, standing_now}
 use Rattle.coap_model.specs.Prelude.{limit_now, with_effect, after, may_hold, link_of, standing_due, end_reason}
 use Rattle.coap_model.specs.Prelude.{release, may_announce, LinkValue, own_csm, free_in, limit_in, StoreValue}
-use Rattle.coap_model.specs.Prelude.{Response, held_response, answer_of, prompt_answer, response_with_observe}
+use Rattle.coap_model.specs.Prelude.{Response, delayed_response, answer_of, immediate_answer, response_with_observe}
 use Rattle.coap_model.specs.Prelude.{Observer, without_token, has_place, goes_on, notification, Side, waiting_on}
 use Rattle.coap_model.specs.Prelude.{has_room, handles, kept_open, with_history, moment_after, held_for}
 use Rattle.coap_model.specs.Prelude.{side_replied, asks_answer, side_handled, side_after, side_faulted, side_written}
@@ -145,7 +145,7 @@ module _ (R E : History → History → Type 0) (same : (h : History) → R h h)
   sent_between : (h : History) (now : ℕ) (e : PendingEntryValue) → first_due now h.held ≡ Some e → room_in h ≡ true → R h (after_sent h now e)
   sent_between h now (Answer token moment) is room =
       subst (λ (g : History). R h (after g (call.Reply (held_message token)))) (sym (answer_goes h now token moment is))
-      (reply_between h (without_first h now) token false held_response (lets_go h now) room)
+      (reply_between h (without_first h now) token false delayed_response (lets_go h now) room)
   sent_between h now (Pong token) is room = rw (due_is h now (Some (Pong token)) is) (pongs h now token is room)
 
   module _ (store : StoreValue) (now : ℕ) (s : Side) where
@@ -175,7 +175,7 @@ settled_between R composes replies lets_go pongs store now s =
 module _ (R E : History → History → Type 0) (same : (h : History) → R h h) (then : (h k g : History) → R h k → E k g → R h g) (hears : Hears R) (stays : (h : History) → E h h) (replies : Replies E) (holds : Holds E) where
   replied_between : (store : StoreValue) (now : ℕ) (h : History) (others : List Observer) (m : Message) (hold : Option ℕ) → room_in h ≡ true → E h (side_replied store now h others m hold).history
   replied_between store now h others m None room =
-      let a = prompt_answer store now m in
+      let a = immediate_answer store now m in
       if_between E (answers h.phase) h _ (stays h) (λ does. replies h m.token (has_place h.limits.observers others a.watch) a.response does room)
   replied_between store now h others m (Some seconds) room =
       if_between E (is_open h.phase && may_hold h) h _ (stays h)

@@ -9,13 +9,13 @@ use Rattle.coap_conn.specs.declared.phase.Phase.TheVariants.{Stopped}
 use Rattle.coap_conn.specs.PendingEntries.{PendingEntryValue, Answer, Pong}
 use Rattle.coap_conn.specs.Reaction.{asks_custody, is_custody_pong}
 use Rattle.coap_store.specs.Paths.{same_bytes}
-use Rattle.coap_store.specs.Answer.{asks_late}
+use Rattle.coap_store.specs.Answer.{is_delayed}
 use Rattle.coap_model.specs.world.Sides.{Side}
 
 -- The message asks for this pending entry. A GET of `/async` asks for a delayed response with its token. A Ping with
 -- Custody asks for a Pong with its token.
 abbrev pub asks_held : Message → PendingEntryValue → Bool
-asks_held m (Answer token moment) = asks_late m && same_bytes m.token token
+asks_held m (Answer token moment) = is_delayed m && same_bytes m.token token
 asks_held m (Pong token) = m.code == code.ping && asks_custody m && same_bytes m.token token
 
 -- These messages asked for the entries: each entry has a message of its own, in the same order.

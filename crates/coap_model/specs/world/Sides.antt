@@ -20,7 +20,7 @@ use Rattle.coap_conn.specs.Calls.{may_announce}
 use Rattle.coap_conn.specs.Calls as call
 use Rattle.coap_store.specs.Store.{StoreValue}
 use Rattle.coap_store.specs.State.{state_of}
-use Rattle.coap_store.specs.Answer.{Answer, Change, Nothing, held_response, answer_of, prompt_answer, changed}
+use Rattle.coap_store.specs.Answer.{Answer, Change, Nothing, delayed_response, answer_of, immediate_answer, changed}
 use Rattle.coap_store.specs.Messages.{response_with_observe, response_message}
 use Rattle.coap_model.specs.world.Observers.{Observer, is_due, without_token, has_place, entry_for, is_whole, with_entry, goes_on, notification, notification_message, left_of, first_becomes}
 use Rattle.coap_wire.specs.declared.sizes.TheConstants.{LARGEST_MESSAGE}
@@ -101,7 +101,7 @@ held_for h (Some seconds) = if may_hold h then Some seconds else None
 -- The connection after it answered a request. For `None` the response is immediate; otherwise a pending entry is
 -- appended that is due after this number of seconds.
 abbrev pub side_replied : StoreValue → ℕ → History → List Observer → Message → Option ℕ → Side
-side_replied store now h others m None = side_answered store now h others m (prompt_answer store now m)
+side_replied store now h others m None = side_answered store now h others m (immediate_answer store now m)
 side_replied store now h others m (Some seconds) = side_with (after h (call.Hold m.token (moment_after now seconds))) others
 
 -- The message is a request that the server must answer, by the reaction of the connection.
@@ -122,7 +122,7 @@ side_after store now s m = if handles s then side_handled store now s m else s
 -- The change that a message makes in the store; none if it is not handled or is no request. The change does not depend
 -- on whether the response could be sent.
 unfoldable pub change_after : StoreValue → ℕ → Side → Message → Change
-change_after store now s m = if handles s && asks_answer s m then (prompt_answer store now m).change else Nothing
+change_after store now s m = if handles s && asks_answer s m then (immediate_answer store now m).change else Nothing
 
 -- The store after this change.
 abbrev pub store_after : StoreValue → ℕ → Side → Message → StoreValue
@@ -184,7 +184,7 @@ next_held now s = if has_room s then first_due now s.history.held else None
 
 -- The delayed response to the request with this token.
 abbrev pub held_message : List ℕ → Message
-held_message token = response_message token held_response
+held_message token = response_message token delayed_response
 
 -- The history after the first due entry was removed and its message queued: a delayed response, or a Pong with Custody.
 abbrev pub after_sent : History → ℕ → PendingEntryValue → History

@@ -7,9 +7,9 @@ use Rattle.coap_wire.specs.Codes as code
 use Rattle.coap_conn.specs.Reaction.{is_response}
 use Rattle.coap_store.specs.Paths.{same_bytes}
 use Rattle.coap_store.specs.Store.{Representation}
-use Rattle.coap_store.specs.State.{place_of, is_dynamic}
+use Rattle.coap_store.specs.State.{kind_of_path, is_dynamic}
 use Rattle.coap_store.specs.Requests.{etag_of}
-use Rattle.coap_store.specs.Answer.{Response, only, content, asks_late}
+use Rattle.coap_store.specs.Answer.{Response, only, content, is_delayed}
 use Rattle.coap_store.specs.Messages.{response_with_observe}
 use Rattle.coap_model.specs.world.Observers.{Observer}
 
@@ -28,7 +28,7 @@ last_response token messages = find (responds token) (reverse messages)
 -- The 2.05 of a state, with Observe and the bytes of the state. It has the format if there is one, the ETag if the
 -- state is stored, and Max-Age if the path is `/time`.
 abbrev pub state_message : Observer → Representation → Message
-state_message o r = response_with_observe o.token true (content (place_of o.path) r)
+state_message o r = response_with_observe o.token true (content (kind_of_path o.path) r)
 
 -- The 2.03 with the ETag of a state and nothing else.
 abbrev pub etag_of_state : Representation → Response
@@ -40,17 +40,17 @@ etag_message o r = response_with_observe o.token true (etag_of_state r)
 
 -- The message reports this state to the observer: as 2.05, or as 2.03 if the state is stored. No message reports an
 -- absent path.
-abbrev pub TellsState : Observer → Option Representation → Message → Type 0
-TellsState o None m = ⊥
-TellsState o (Some r) m = (m ≡ state_message o r) ⊎ ((m ≡ etag_message o r) × (is_dynamic (place_of o.path) ≡ true))
+abbrev pub ReportsState : Observer → Option Representation → Message → Type 0
+ReportsState o None m = ⊥
+ReportsState o (Some r) m = (m ≡ state_message o r) ⊎ ((m ≡ etag_message o r) × (is_dynamic (kind_of_path o.path) ≡ true))
 
 -- One of these messages is a request for a delayed response, with this token.
 abbrev pub asked_late : List ℕ → List Message → Bool
-asked_late token messages = list_any (λ m. asks_late m && same_bytes m.token token) messages
+asked_late token messages = list_any (λ m. is_delayed m && same_bytes m.token token) messages
 
 -- The last response with the observer's token reports the state that the observer's entry records.
 abbrev pub WasToldLast : List Message → Observer → Type 0
-WasToldLast queued o = (m : Message) × (last_response o.token queued ≡ Some m) × TellsState o o.told m
+WasToldLast queued o = (m : Message) × (last_response o.token queued ≡ Some m) × ReportsState o o.told m
 
 -- No two observers have the same token.
 abbrev pub HaveOwnTokens : List Observer → Type 0

@@ -1,8 +1,8 @@
 -- The link and the entries after a request, after a due entry was sent, and after a notification.
 use Rattle.std.proofs.Common.{◌≡◌, ℕ, Bool, true, false, ◌&&◌, List, [], Option, Some, None, refl, sym, ap, ◌∙◌, ◌==◌, slice_get, slice_set, if◌then◌else◌}
 use Rattle.coap_server_session.specs.Prelude.{remove, Message, Reply, fit, bare_response, first_due, link_after, LinkValue}
-use Rattle.coap_server_session.specs.Prelude.{limit_in, can_hold, path_of, says, answer_of, unheld, prompt_answer, changes}
-use Rattle.coap_server_session.specs.Prelude.{response_message, response_with_observe, notification_of, MayWatch, Host}
+use Rattle.coap_server_session.specs.Prelude.{limit_in, can_hold, path_of, says, answer_of, without_hold, immediate_answer, changes}
+use Rattle.coap_server_session.specs.Prelude.{response_message, response_with_observe, notification_of, MayObserve, Host}
 use Rattle.coap_server_session.specs.Prelude.{moment_after, asks_entry, is_whole, with_entry, goes_on, ObserverValue}
 use Rattle.coap_server_session.specs.Prelude.{new_entry, answer_on, hold_on, held_in, is_stale, mark_of, notification_on}
 use Rattle.coap_server_session.specs.Prelude.{state_on, first_index, is_observed, response_on, is_sent, link_replied}
@@ -21,7 +21,7 @@ use Rattle.coap_model.proofs.world.EntryLemmas.{asks_to_enter}
 
 -- ---- a request
 
-pub may_watch : (host : Host) (m : Message) → asks_entry (answer_on host m).watch ≡ true → MayWatch host.store host.now (path_of m) (answer_on host m)
+pub may_watch : (host : Host) (m : Message) → asks_entry (answer_on host m).watch ≡ true → MayObserve host.store host.now (path_of m) (answer_on host m)
 may_watch host m asks = promptly_watched_is_there host.store host.now m (asks_to_enter (answer_on host m).watch asks)
 
 -- A request that changes the store gets no entry.
@@ -43,19 +43,19 @@ module _ (host : Host) (m : Message) (seconds room : ℕ) (others : List Observe
 
   -- It gets no entry.
   late_unobserved : is_observed host room others m ≡ false
-  unfolding prompt_answer
+  unfolding immediate_answer
   late_unobserved =
       let same : (answer_of host.store host.now m).watch ≡ (answer_on host m).watch = cc holds in
       and_left _ _ (false_from_ne_true (asks_entry (answer_on host m).watch) (λ asks. held_unwatched host.store host.now m seconds holds (same ∙ asks_to_enter (answer_on host m).watch asks)))
 
   -- Its response is delayed if the pending list has room, and is 5.03 otherwise.
   pub late_link : (l after : LinkValue) (moment : ℕ) → moment ≡ moment_after host.now seconds
-      → after ≡ (if can_hold l then link_after l (call.Hold m.token moment) else link_after l (call.Reply (response_message m.token (unheld (answer_of host.store host.now m)).response))) → after ≡ link_replied host l room others m (held_in l (hold_on host m))
-  unfolding prompt_answer
+      → after ≡ (if can_hold l then link_after l (call.Hold m.token moment) else link_after l (call.Reply (response_message m.token (without_hold (answer_of host.store host.now m)).response))) → after ≡ link_replied host l room others m (held_in l (hold_on host m))
+  unfolding immediate_answer
   late_link l after moment at is =
-      let refused : response_message m.token (unheld (answer_of host.store host.now m)).response ≡ response_on host room others m = cc late_unobserved in
+      let refused : response_message m.token (without_hold (answer_of host.store host.now m)).response ≡ response_on host room others m = cc late_unobserved in
       is
-      ∙ elim (can_hold l) as (λ b. (if b then link_after l (call.Hold m.token moment) else link_after l (call.Reply (response_message m.token (unheld (answer_of host.store host.now m)).response))) ≡ link_replied host l room others m (if b then Some seconds else None)) [
+      ∙ elim (can_hold l) as (λ b. (if b then link_after l (call.Hold m.token moment) else link_after l (call.Reply (response_message m.token (without_hold (answer_of host.store host.now m)).response))) ≡ link_replied host l room others m (if b then Some seconds else None)) [
         | true ↦ cc at
         | false ↦ cc refused
       ]

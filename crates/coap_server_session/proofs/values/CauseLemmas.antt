@@ -1,7 +1,7 @@
 -- A change of a path or of the time leaves the connections settled that it does not affect. These lemmas also give the
 -- marks that it recomputes.
 use Rattle.std.proofs.Common.{◌≡◌, ◌≢◌, ℕ, false, List, [], ◌∷◌, Option, Some, None, is_some, refl, sym, ap, ◌∙◌, ◌==◌, if◌then◌else◌}
-use Rattle.coap_server_session.specs.Prelude.{find, map, not, AllByRecursion, Path, StoreValue, found_in, place_of, key_for}
+use Rattle.coap_server_session.specs.Prelude.{find, map, not, AllByRecursion, Path, StoreValue, found_in, kind_of_path, key_for}
 use Rattle.coap_server_session.specs.Prelude.{state_at, Root, Time, Async, Listing, Dynamic, Change, Nothing, Put, Delete}
 use Rattle.coap_server_session.specs.Prelude.{changed, changes, IsStore, Host, Cause, ObserverValue, SessionValue}
 use Rattle.coap_server_session.specs.Prelude.{is_marked, is_stale, host_changed, IsSettled, path_hash, change_hash}
@@ -9,7 +9,7 @@ use Rattle.coap_server_session.specs.Prelude.{ObservesNone, mark_of, state_on, c
 use Rattle.coap_server_session.specs.Prelude.{is_concerned, AreMarked, marks_after, ConcernsNone, marks_anew, IsMarkedBut}
 use Rattle.std.proofs.lemmas.Bool.{both_ways, eq-eqb}
 use Rattle.coap_server_session.proofs.values.MarkLemmas.{anew_same, anew_after, anew_unconcerned}
-use Rattle.coap_store.specs.declared.place.Place.{Place}
+use Rattle.coap_store.specs.declared.resource_kind.ResourceKind.{ResourceKind}
 use Rattle.coap_store.proofs.AnswerLaws.{key_is}
 use Rattle.coap_store.proofs.ChangeLaws.{other_is_kept_on_put, other_is_kept_on_delete}
 use Rattle.coap_server_session.specs.declared.cause.Cause.TheVariants as cause
@@ -33,7 +33,7 @@ kept_elsewhere s (Delete path) hash is q other = other_is_kept_on_delete s path 
 -- ---- a state that did not change
 
 -- The mark of a built-in resource is the time, whatever the store has.
-marked_alike : (s t : StoreValue) (now mark : ℕ) (key : Option Path) (p : Place) → ((q : Path) → key ≡ Some q → found_in t.resources q ≡ found_in s.resources q) → is_marked now mark (state_at t now key p) ≡ is_marked now mark (state_at s now key p)
+marked_alike : (s t : StoreValue) (now mark : ℕ) (key : Option Path) (p : ResourceKind) → ((q : Path) → key ≡ Some q → found_in t.resources q ≡ found_in s.resources q) → is_marked now mark (state_at t now key p) ≡ is_marked now mark (state_at s now key p)
 unfolding state_at
 marked_alike s t now mark key Root same = refl
 marked_alike s t now mark key Time same = refl
@@ -45,10 +45,10 @@ marked_alike s t now mark (Some q) Dynamic same = ap (is_marked now mark) (same 
 stale_elsewhere : (host : Host) (c : Change) (hash : ℕ) (o : ObserverValue) → change_hash c ≡ Some hash → path_hash o.path ≢ hash → is_stale host o ≡ is_stale (host_changed host c) o
 unfolding is_stale
 stale_elsewhere host c hash o is other =
-    ap not (sym (marked_alike host.store (changed host.store c) host.now o.mark (key_for o.path) (place_of o.path)
+    ap not (sym (marked_alike host.store (changed host.store c) host.now o.mark (key_for o.path) (kind_of_path o.path)
     (λ q e. kept_elsewhere host.store c hash is q (λ same. other (ap path_hash (key_is o.path q e).1 ∙ same)))))
 
-mark_alike : (s t : StoreValue) (now : ℕ) (key : Option Path) (p : Place) → ((q : Path) → key ≡ Some q → found_in t.resources q ≡ found_in s.resources q) → mark_of now (state_at s now key p) ≡ mark_of now (state_at t now key p)
+mark_alike : (s t : StoreValue) (now : ℕ) (key : Option Path) (p : ResourceKind) → ((q : Path) → key ≡ Some q → found_in t.resources q ≡ found_in s.resources q) → mark_of now (state_at s now key p) ≡ mark_of now (state_at t now key p)
 unfolding state_at
 mark_alike s t now key Root same = refl
 mark_alike s t now key Time same = refl
@@ -62,7 +62,7 @@ mark_elsewhere : (host : Host) (c : Change) (hash : ℕ) (o : ObserverValue) →
 unfolding changed_mark
 mark_elsewhere host c hash o is other =
     let apart : path_hash o.path ≢ hash = λ same. both_ways (path_hash o.path == hash) other (eq-eqb (path_hash o.path) hash same) in
-    let same = mark_alike host.store (changed host.store c) host.now (key_for o.path) (place_of o.path)
+    let same = mark_alike host.store (changed host.store c) host.now (key_for o.path) (kind_of_path o.path)
     (λ q e. kept_elsewhere host.store c hash is q (λ same. apart (ap path_hash (key_is o.path q e).1 ∙ same))) in
     ap (λ b. if b then Some (mark_of host.now (state_on host o.path)) else None) (stale_elsewhere host c hash o is apart)
     ∙ ap (λ (m : ℕ). if is_stale (host_changed host c) o then Some m else None) same

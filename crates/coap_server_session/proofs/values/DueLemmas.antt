@@ -1,14 +1,14 @@
 -- On a settled connection, nothing becomes due before its next deadline.
 use Rattle.std.proofs.Common.{◌≡◌, ℕ, ◌+◌, ◌<◌, ◌≤◌, ◌^◌, true, false, List, [], ◌∷◌, Option, Some, None, min, refl, sym, ap, subst, ◌∙◌, arith, find, fold, if◌then◌else◌}
 use Rattle.coap_server_session.specs.Prelude.{AllByRecursion, list_any, filter_map, reduce, PendingEntryValue, Answer, Pong, due_moment}
-use Rattle.coap_server_session.specs.Prelude.{future_moment, next_moment, first_due, Path, Representation, StoreValue, place_of}
+use Rattle.coap_server_session.specs.Prelude.{future_moment, next_moment, first_due, Path, Representation, StoreValue, kind_of_path}
 use Rattle.coap_server_session.specs.Prelude.{key_for, stored_at, state_at, is_dynamic, Root, Time, Async, Listing, Dynamic}
 use Rattle.coap_server_session.specs.Prelude.{IsStore, Host, ObserverValue, SessionValue, is_marked, is_stale, IsSettled}
 use Rattle.coap_server_session.specs.Prelude.{mark_of, state_on, changed_mark, sooner, tells_time, next_told, due_on}
 use Rattle.coap_server_session.specs.Prelude.{IsBefore}
 use Rattle.std.proofs.lemmas.Bool.{not-false, false_from_ne_true, or_parts, ne_eqb}
 use Rattle.coap_conn.proofs.PendingLaws.{due_nothing, cons_parts}
-use Rattle.coap_store.specs.declared.place.Place.{Place}
+use Rattle.coap_store.specs.declared.resource_kind.ResourceKind.{ResourceKind}
 use Rattle.coap_store.proofs.StoreLemmas.{found_kept}
 use Rattle.coap_server_session.proofs.values.SettleLemmas.{settled_still}
 use Rattle.coap_model.proofs.world.EntryLemmas.{none_due}
@@ -58,7 +58,7 @@ stored_numbered s None r store e = absurd cc
 stored_numbered s (Some path) r store e = (found_kept s path r store e).numbered
 
 -- The state of a path that is not built in is the stored one.
-state_is_stored : (s : StoreValue) (now : ℕ) (key : Option Path) (p : Place) → is_dynamic p ≡ true → state_at s now key p ≡ stored_at s key
+state_is_stored : (s : StoreValue) (now : ℕ) (key : Option Path) (p : ResourceKind) → is_dynamic p ≡ true → state_at s now key p ≡ stored_at s key
 unfolding state_at
 state_is_stored s now key Root is = absurd cc
 state_is_stored s now key Time is = absurd cc
@@ -74,7 +74,7 @@ stale_so : (host : Host) (later : ℕ) (o : ObserverValue) → IsStore host.stor
 unfolding is_stale
 stale_so host later o store stored =
     let key : Option Path = key_for o.path in
-    let there = λ (now : ℕ). state_is_stored host.store now key (place_of o.path) (not-false (is_dynamic (place_of o.path)) stored) in
+    let there = λ (now : ℕ). state_is_stored host.store now key (kind_of_path o.path) (not-false (is_dynamic (kind_of_path o.path)) stored) in
     cc (there host.now, there later, marked_so host.now later o.mark (stored_at host.store key) (λ r. stored_numbered host.store key r store))
 
 -- A stored representation keeps its mark when the time changes, so its observers keep their changed marks.
@@ -86,7 +86,7 @@ pub mark_later : (host : Host) (later : ℕ) (o : ObserverValue) → IsStore hos
 unfolding changed_mark
 mark_later host later o store stored =
     let key : Option Path = key_for o.path in
-    let there = λ (now : ℕ). state_is_stored host.store now key (place_of o.path) (not-false (is_dynamic (place_of o.path)) stored) in
+    let there = λ (now : ℕ). state_is_stored host.store now key (kind_of_path o.path) (not-false (is_dynamic (kind_of_path o.path)) stored) in
     let same : mark_of host.now (state_on host o.path) ≡ mark_of later (state_on (at_moment host later) o.path) =
     ap (mark_of host.now) (there host.now) ∙ mark_so host.now later (stored_at host.store key) (λ r. stored_numbered host.store key r store) ∙ ap (mark_of later) (sym (there later)) in
     ap (λ b. if b then Some (mark_of host.now (state_on host o.path)) else None) (stale_so host later o store stored)

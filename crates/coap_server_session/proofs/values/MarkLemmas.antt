@@ -1,7 +1,7 @@
 -- The changed marks of observers: their values, and which of them a change recomputes or keeps.
 use Rattle.std.proofs.Common.{◌≡◌, ℕ, zero, suc, ◌≤◌, ◌<◌, true, false, List, [], ◌∷◌, ◌++◌, length, map, set, Option, Some, None, is_some, refl, sym, ap, subst, ◌∙◌, arith, ◌==◌, option_map, slice_get, slice_set, not, remove, if◌then◌else◌}
 use Rattle.coap_server_session.specs.Prelude.{list_any, Path, StoreValue}
-use Rattle.coap_server_session.specs.Prelude.{key_for, place_of, state_at, is_dynamic, Root, Time, Async, Listing, Dynamic}
+use Rattle.coap_server_session.specs.Prelude.{key_for, kind_of_path, state_at, is_dynamic, Root, Time, Async, Listing, Dynamic}
 use Rattle.coap_server_session.specs.Prelude.{Host, Stale, Cause, LinkValue, is_open, ObserverValue, ObserversValue}
 use Rattle.coap_server_session.specs.Prelude.{mark_at, mark_of, is_marked, state_on, is_stale, present_mark, untold_by}
 use Rattle.coap_server_session.specs.Prelude.{changed_mark, AreMarked, observers_left, tells_time, path_hash}
@@ -10,7 +10,7 @@ use Rattle.coap_server_session.specs.Prelude.{first_index, IsFirstStale, IsFirst
 use Rattle.coap_wire.specs.Codes as code
 use Rattle.coap_store.proofs.NotificationLaws.{notification_tells}
 use Rattle.coap_server_session.specs.declared.cause.Cause.TheVariants as cause
-use Rattle.coap_store.specs.declared.place.Place.{Place}
+use Rattle.coap_store.specs.declared.resource_kind.ResourceKind.{ResourceKind}
 use Rattle.std.proofs.lemmas.Bool.{ne_eqb, eqb-true, or_parts}
 use Rattle.std.proofs.lemmas.List.{map-set, map_push}
 use Rattle.std.proofs.lemmas.Option.{slice_get-map}
@@ -28,7 +28,7 @@ untold_is_changed host o =
       | Some r ↦ elim (mark_at host.now r == o.mark) as (λ b. (if b then None else Some (mark_at host.now r)) ≡ (if not b then Some (mark_at host.now r) else None)) [ true ↦ refl | false ↦ refl ]
     ]
 
-built_in_at : (s : StoreValue) (now : ℕ) (key : Option Path) (p : Place) → not (is_dynamic p) ≡ true → option_map (mark_at now) (state_at s now key p) ≡ Some now
+built_in_at : (s : StoreValue) (now : ℕ) (key : Option Path) (p : ResourceKind) → not (is_dynamic p) ≡ true → option_map (mark_at now) (state_at s now key p) ≡ Some now
 unfolding state_at
 built_in_at s now key Root is = refl
 built_in_at s now key Time is = refl
@@ -37,8 +37,8 @@ built_in_at s now key Listing is = refl
 built_in_at s now key Dynamic is = absurd cc
 
 -- The mark of a built-in resource is the time.
-pub built_in_mark : (host : Host) (path : Path) → not (is_dynamic (place_of path)) ≡ true → present_mark host path ≡ Some host.now
-built_in_mark host path is = built_in_at host.store host.now (key_for path) (place_of path) is
+pub built_in_mark : (host : Host) (path : Path) → not (is_dynamic (kind_of_path path)) ≡ true → present_mark host path ≡ Some host.now
+built_in_mark host path is = built_in_at host.store host.now (key_for path) (kind_of_path path) is
 
 -- An observer that was sent the current state has no changed mark.
 pub fresh_unmarked : (host : Host) (o : ObserverValue) → is_stale host o ≡ false → changed_mark host o ≡ None

@@ -1,14 +1,14 @@
 -- The mark in an observer's value decides whether the observer was sent the current state.
 use Rattle.std.proofs.Common.{◌≡◌, ℕ, ◌≤◌, true, [], Option, Some, None, refl, sym, ap, ◌∙◌, arith, ◌==◌, not, if◌then◌else◌}
 use Rattle.coap_server_session.specs.Prelude.{decimal, digits_value, both_ways, Path, same_bytes}
-use Rattle.coap_server_session.specs.Prelude.{Representation, StoreValue, found_in, place_of, state_at, state_of}
+use Rattle.coap_server_session.specs.Prelude.{Representation, StoreValue, found_in, kind_of_path, state_at, state_of}
 use Rattle.coap_server_session.specs.Prelude.{Time, Dynamic, mark_of, mark_at}
 use Rattle.coap_server_session.specs.Prelude.{is_marked, is_stale, Observer, same_state, is_due}
 use Rattle.coap_server_session.specs.Prelude.{mark_told, observer_shown}
 use Rattle.std.proofs.lemmas.Bool.{eqb-true, eq-eqb, ne_eqb, cond-false}
 use Rattle.std.proofs.lemmas.Fmt.{decimal_is_IsNumeral}
 use lib.Pointwise.{bytes_decides}
-use Rattle.coap_store.specs.declared.place.Place.{Place}
+use Rattle.coap_store.specs.declared.resource_kind.ResourceKind.{ResourceKind}
 use Rattle.coap_model.proofs.world.KnownLaws.{KnowsStored, IsKnownAt, IsKnown, IsVersioned, state_itself, state_is}
 use Rattle.coap_model.proofs.world.KnownLaws.{IsWatchable, told_known}
 
@@ -40,14 +40,14 @@ stored_same store now o known (Some r) is at =
     (both_ways (same_state (Some t) (Some r)) (r.version == t.version) (λ e. (let one = state_is (Some t) (Some r) e in eq-eqb r.version t.version (cc)))
     (λ e. ap (λ q. same_state (Some t) (Some q)) (known.same r at (eqb-true r.version t.version e)) ∙ state_itself (Some t)))
 
-marked_at : (store : StoreValue) (now : ℕ) (o : Observer) (place : Place) → IsKnownAt place store o → now ≤ 18446744073709551615 → IsVersioned store → same_state o.told (state_at store now (Some o.path) place) ≡ is_marked now (mark_told o.told) (state_at store now (Some o.path) place)
+marked_at : (store : StoreValue) (now : ℕ) (o : Observer) (place : ResourceKind) → IsKnownAt place store o → now ≤ 18446744073709551615 → IsVersioned store → same_state o.told (state_at store now (Some o.path) place) ≡ is_marked now (mark_told o.told) (state_at store now (Some o.path) place)
 unfolding state_at
 marked_at store now o Time known small is = rw known.was (moment_same known.moment now known.small small)
 marked_at store now o Dynamic known small is = rw known.was (stored_same store now o known (found_in store.resources o.path) is refl)
 marked_at store now o other known small is = absurd known
 
 known_marked_now : (store : StoreValue) (now : ℕ) (o : Observer) → IsKnown store o → now ≤ 18446744073709551615 → IsVersioned store → same_state o.told (state_of store now o.path) ≡ is_marked now (mark_told o.told) (state_of store now o.path)
-known_marked_now store now o known small is = rw known.key (marked_at store now o (place_of o.path) known.state small is)
+known_marked_now store now o known small is = rw known.key (marked_at store now o (kind_of_path o.path) known.state small is)
 
 -- The mark decides whether the current state is the one sent last.
 pub due_is_stale : (store : StoreValue) (now : ℕ) (o : Observer) → IsKnown store o → now ≤ 18446744073709551615 → IsVersioned store → is_due store now o ≡ is_stale (record { store = store; now = now }) (observer_shown o)

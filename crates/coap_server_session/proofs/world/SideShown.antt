@@ -5,7 +5,7 @@ use Rattle.std.proofs.Common.{refl, sym, ap, ◌∙◌, ◌&&◌, if◌then◌el
 use Rattle.coap_server_session.specs.Prelude.{Message, StreamFault, takes_messages, is_open, fit, bare_response, reject_of}
 use Rattle.coap_server_session.specs.Prelude.{release_refusal, stop, History, IsHistory, limit_now, after, link_of, Call}
 use Rattle.coap_server_session.specs.Prelude.{end_reason, link_after, LinkValue, link_with, standing_in, StoreValue, path_of}
-use Rattle.coap_server_session.specs.Prelude.{Nothing, answer_of, prompt_answer, response_with_observe, Host, is_cut}
+use Rattle.coap_server_session.specs.Prelude.{Nothing, answer_of, immediate_answer, response_with_observe, Host, is_cut}
 use Rattle.coap_server_session.specs.Prelude.{side_announced, may_raise, Side, handles, waiting_on, has_room, side_with}
 use Rattle.coap_server_session.specs.Prelude.{with_history, moment_after, held_for, side_replied, asks_answer, side_after}
 use Rattle.coap_server_session.specs.Prelude.{change_after, side_faulted, side_written, side_ended, side_released, next_due}
@@ -90,7 +90,7 @@ module _ (store : StoreValue) (now : ℕ) (small : now ≤ 18446744073709551615)
   replied_shown : (h : History) (os : List Observer) (m : Message) (hold : Option ℕ) → IsHistory h
       → session_shown [] (side_replied store now h os m hold) ≡ session_replied (host_of store now) (link_of h) (map observer_shown os) m hold
   replied_shown h os m None history =
-      let a = prompt_answer store now m in
+      let a = immediate_answer store now m in
       let observes = has_place h.limits.observers os a.watch in
       let response = response_with_observe m.token observes a.response in
       let enters = observes && is_whole (fit (limit_now h) response (bare_response response)) in
@@ -126,7 +126,7 @@ module _ (store : StoreValue) (now : ℕ) (small : now ≤ 18446744073709551615)
 
 pub change_shown : (store : StoreValue) (now : ℕ) (s : Side) (m : Message) → handles s ≡ true → change_after store now s m ≡ change_by (host_of store now) (link_of s.history) m
 unfolding change_after
-change_shown store now s m e = ap (λ b. cond (b && asks_answer s m) (prompt_answer store now m).change Nothing) e
+change_shown store now s m e = ap (λ b. cond (b && asks_answer s m) (immediate_answer store now m).change Nothing) e
 
 -- ---- the link after a pending entry was sent
 

@@ -2,7 +2,7 @@
 use Rattle.std.specs.Prelude.{◌<◌, ℕ, ◌+◌, Bool, not, List, Option, Some, None, min, ◌==◌, if◌then◌else◌}
 use Rattle.std.specs.List.{list_any}
 use Rattle.coap_conn.specs.PendingEntries.{next_moment}
-use Rattle.coap_store.specs.State.{place_of, is_dynamic}
+use Rattle.coap_store.specs.State.{kind_of_path, is_dynamic}
 use Rattle.coap_server_session.specs.values.Sessions.{ObserverValue, SessionValue}
 
 -- ---- times, in seconds
@@ -19,7 +19,7 @@ next_second now = if now == 18446744073709551615 then None else Some (now + 1)
 
 -- `true` if an observer's path is built in. It is `/time` then, since no other built-in resource is observable.
 abbrev pub tells_time : ObserverValue → Bool
-tells_time o = not (is_dynamic (place_of o.path))
+tells_time o = not (is_dynamic (kind_of_path o.path))
 
 -- The time of the next notification if an observer observes the time.
 abbrev pub next_told : ℕ → List ObserverValue → Option ℕ

@@ -23,7 +23,7 @@ use Rattle.coap_store.specs.Paths.{Path, same_bytes}
 use Rattle.coap_store.specs.Store.{Representation}
 use Rattle.coap_store.specs.State.{state_of}
 use Rattle.coap_store.specs.Requests.{path_of}
-use Rattle.coap_store.specs.Answer.{Answer, Change, answer_of, prompt_answer, changed}
+use Rattle.coap_store.specs.Answer.{Answer, Change, answer_of, immediate_answer, changed}
 use Rattle.coap_store.specs.Changes.{IsPut}
 use Rattle.coap_store.specs.Messages.{response_with_observe}
 use Rattle.coap_store.specs.Notifications.{notification_of}
@@ -179,7 +179,7 @@ session_answered host l others m a = session_answered_as host l others m a (has_
 
 -- The answer to a request that is answered at once.
 abbrev pub answer_on : Host → Message → Answer
-answer_on host m = prompt_answer host.store host.now m
+answer_on host m = immediate_answer host.store host.now m
 
 -- The number of seconds by which the response to a request is delayed, if it is.
 abbrev pub hold_on : Host → Message → Option ℕ

@@ -2,7 +2,7 @@
 -- the one before it.
 use Rattle.std.specs.Prelude.{◌≡◌, ◌≤◌, ◌<◌, ◌==◌, ℕ, suc, Bool, true, false, not, List, Option, Some, None, slice_get, get_or}
 use Rattle.coap_store.specs.Paths.{Path}
-use Rattle.coap_store.specs.State.{place_of, is_dynamic}
+use Rattle.coap_store.specs.State.{kind_of_path, is_dynamic}
 use Rattle.coap_server_session.specs.values.Causes.{path_hash}
 use Rattle.coap_server_session.specs.declared.cause.Cause.{Cause}
 use Rattle.coap_server_session.specs.declared.cause.Cause.TheVariants as cause
@@ -21,7 +21,7 @@ linked o = record { path = o.path; previous = o.previous; previous_built_in = o.
 -- `true` if a change affects the observers of a path.
 abbrev pub concerns_path : Cause → Path → Bool
 concerns_path (cause.Path hash) path = path_hash path == hash
-concerns_path (cause.Moment before) path = not (is_dynamic (place_of path))
+concerns_path (cause.Moment before) path = not (is_dynamic (kind_of_path path))
 
 -- The index of the last observer in the chain of a change.
 abbrev pub last_in : Cause → Chains → Option ℕ

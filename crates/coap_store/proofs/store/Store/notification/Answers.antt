@@ -6,21 +6,21 @@ use Rattle.coap_store.proofs.store.Store.notification.Goals as goal
 
 pub returns-in_default-clause-told : goal.returns-in_default-clause-told
 returns-in_default-clause-told c =
-    let state = c.in_default.ensures ∙ state_by_key c.args.self.now c.args.now c.args.path.now _ c.is_kept-2.ensures c.place-place.ensures in
+    let state = c.in_default.ensures ∙ state_by_key c.args.self.now c.args.now c.args.path.now _ c.is_kept-2.ensures c.kind-place.ensures in
     c.only.ensures ∙ ap says (told_absent _ c.args.format _ state)
 
 pub returns-then-ne-clause-told : goal.returns-then-ne-clause-told
 returns-then-ne-clause-told c =
-    let state = c.in-Some.ensures ∙ state_by_key c.args.self.now c.args.now c.args.path.now _ c.is_kept-2.ensures c.place-place.ensures in
+    let state = c.in-Some.ensures ∙ state_by_key c.args.self.now c.args.now c.args.path.now _ c.is_kept-2.ensures c.kind-place.ensures in
     c.only-then-ne.ensures ∙ ap says (told_other _ c.args.format (found_value c.in-Some.found) _ state (sym c.ne.ensures ∙ c.if-ne.true))
 
 told : (c : goal.After-content) → c.content.result ≡ says (notification_of c.args.self.now c.args.now c.args.path.now c.args.format)
 told c =
-    let state = c.in-Some.ensures ∙ state_by_key c.args.self.now c.args.now c.args.path.now _ c.is_kept-2.ensures c.place-place.ensures in
+    let state = c.in-Some.ensures ∙ state_by_key c.args.self.now c.args.now c.args.path.now _ c.is_kept-2.ensures c.kind-place.ensures in
     let etag = c.etag_for-etag.ensures (found_value c.in-Some.found) refl in
     c.content.ensures ∙ rw (etag, c.max_age_of.ensures) refl
-    ∙ ap says (told_content c.place-place.result c.args.format (found_value c.in-Some.found) _ state (sym c.ne.ensures ∙ c.if-ne.false))
-    ∙ ap (λ place. says (notification_at place (state_of c.args.self.now c.args.now c.args.path.now) c.args.format)) c.place-place.ensures
+    ∙ ap says (told_content c.kind-place.result c.args.format (found_value c.in-Some.found) _ state (sym c.ne.ensures ∙ c.if-ne.false))
+    ∙ ap (λ place. says (notification_at place (state_of c.args.self.now c.args.now c.args.path.now) c.args.format)) c.kind-place.ensures
 
 pub returns-clause-told : goal.returns-clause-told
 returns-clause-told c = told c
