@@ -5,7 +5,7 @@ use Rattle.coap_conn.specs.LinkValue.{bytes_of}
 use Rattle.coap_io.specs.declared.wire.Got.{Got}
 use Rattle.coap_io.specs.declared.output.WriteFailed.{WriteFailed}
 use Rattle.coap_io.specs.streams.Device.{AddsBytes}
-use Rattle.coap_io.specs.streams.Telling.{TellsMore}
+use Rattle.coap_io.specs.streams.DeviceTraces.{TellsMore}
 use Rattle.coap_client_engine.specs.ClientWorld.{AreAccepted, ClientShows}
 use Rattle.coap_client_engine.specs.RunCourse.{Course, Begins, calls_in, history_in, token_in, moments_in, turns_in, moment_in, started_in, first_in, cancelled_in, answers_in, taken_in, given_in, rest_in, waiting_in, written_in, status_in, output_in, errors_in, has_looked, IsAskedWhereDue, IsTakenUp, IsResting, IsBetween, MayWrite, HasWritten, IsCourse}
 use Rattle.coap_request.specs.declared.plan.ClientPlan.{ClientPlan}

@@ -66,7 +66,7 @@ pub use Rattle.coap_io.specs.declared.output.WriteFailed.{WriteFailed}
 pub use Rattle.coap_io.specs.declared.wire.Got.{Got}
 pub use Rattle.coap_io.specs.declared.wire.Got.TheVariants.{Bytes, End, Failed, Later}
 pub use Rattle.coap_io.specs.streams.Device.{AddsBytes}
-pub use Rattle.coap_io.specs.streams.Telling.{TellsMore}
+pub use Rattle.coap_io.specs.streams.DeviceTraces.{TellsMore}
 pub use Rattle.coap_io.specs.streams.Wires.{bytes_passed, count_passed}
 -- ---- coap_request
 pub use Rattle.coap_request.specs.RequestViews.{extras_value}

@@ -1,4 +1,4 @@
 -- Lemmas on calls one after another, on writes, and on bytes read but not accepted yet.
 pub mod DeviceLemmas
 pub mod WriteLemmas
-pub mod RestLemmas
+pub mod ReadBufferLemmas

@@ -4,10 +4,10 @@
 pub use Rattle.std.specs.Io.KnownBytes.{Consumes, IsAtEnd}
 pub use Rattle.std.specs.List.{concat}
 -- ---- coap_io
-pub use Rattle.coap_io.specs.streams.Device.{Told, HasGiven, pieces_read, AddsBytes, is_failed_write, WritesPart}
+pub use Rattle.coap_io.specs.streams.Device.{DeviceTrace, HasGiven, pieces_read, AddsBytes, is_failed_write, WritesPart}
 pub use Rattle.coap_io.specs.streams.Device.{EndsAt, FoundEnd}
-pub use Rattle.coap_io.specs.streams.Telling.{TellsMore, DoorCall, Asked, Waited}
-pub use Rattle.coap_io.specs.streams.Wires.{IsWithin, bytes_passed, count_passed, IsTold, wait_at_most}
-pub use Rattle.coap_io.specs.declared.rest.TheConstants.{READ_SIZE}
+pub use Rattle.coap_io.specs.streams.DeviceTraces.{TellsMore, DoorCall, Asked, Waited}
+pub use Rattle.coap_io.specs.streams.Wires.{IsWithin, bytes_passed, count_passed, MatchesTrace, wait_at_most}
+pub use Rattle.coap_io.specs.declared.read_buffer.TheConstants.{READ_SIZE}
 -- ---- coap_io, declared
 pub use Rattle.coap_io.specs.declared.wire.Got.{Got}

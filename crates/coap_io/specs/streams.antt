@@ -1,4 +1,4 @@
 -- Defined by this project: the bytes that devices and connections pass on, and the calls that they record.
 pub mod Device
 pub mod Wires
-pub mod Telling
+pub mod DeviceTraces

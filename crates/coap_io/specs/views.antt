@@ -1,2 +1,2 @@
--- Defined by this project: the value of a `Rest` in contracts.
-pub mod RestViews
+-- Defined by this project: the value of a `ReadBuffer` in contracts.
+pub mod ReadBufferViews

@@ -2,7 +2,7 @@
 
 ghost use Rattle.std.specs.Prelude.{◌≡◌, ◌≤◌, ℕ, Bool, List, [], ◌∷◌, length, take, Option, None, is_none, IfSome};
 ghost use Rattle.std.specs.Prelude.{IfNone, ◌||◌, false};
-ghost use Rattle.coap_io.specs.Prelude.{Told, HasGiven, pieces_read, AddsBytes, is_failed_write};
+ghost use Rattle.coap_io.specs.Prelude.{DeviceTrace, HasGiven, pieces_read, AddsBytes, is_failed_write};
 
 use std::io::{Read, Write};
 
@@ -10,7 +10,7 @@ use std::io::{Read, Write};
 pub trait Source {
     /// Chunks that the reads returned so far, in order, and the bytes left to read, each if the source records them. A
     /// read that found the end gives an empty chunk.
-    ghost told: { Self → Told };
+    ghost told: { Self → DeviceTrace };
 
     /// `true` if a read has failed.
     ghost is_failed: { Self → Bool };

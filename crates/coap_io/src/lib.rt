@@ -10,7 +10,7 @@
 //! The ghost members of these traits are the bytes and calls so far, if the implementation records them. The contract
 //! of a run states its input and its output by them.
 //!
-//! `write_all` writes a whole slice to an outlet. `Rest` is the read buffer of one connection.
+//! `write_all` writes a whole slice to an outlet. `ReadBuffer` is the read buffer of one connection.
 //!
 //! This crate contains no CoAP and opens no socket. The crate `coap_sockets` implements `Wire`, `Door` and `Clock` over
 //! TCP. A server runs over these traits by `coap_serve::serve_one` and `coap_serve::serve_door`, a client by
@@ -20,11 +20,11 @@
 mod device;
 mod output;
 mod polled;
-mod rest;
+mod read_buffer;
 mod wire;
 
 pub use device::{Outlet, ReadSource, Source, WriteOutlet};
 pub use output::{WriteFailed, write_all, write_parts};
 pub use polled::{Polled, Tried, Wires};
-pub use rest::{READ_SIZE, Rest};
+pub use read_buffer::{READ_SIZE, ReadBuffer};
 pub use wire::{Clock, Door, Got, Ready, Wait, Wire};

@@ -1,7 +1,7 @@
 //! Transport connections, the listener that hands them out, and the clock.
 
 ghost use Rattle.std.specs.Prelude.{◌≡◌, ℕ, Bool, List, [], ◌∷◌, length, Option, None};
-ghost use Rattle.coap_io.specs.Prelude.{AddsBytes, TellsMore, DoorCall, Asked, Waited, IsWithin, IsTold, bytes_passed};
+ghost use Rattle.coap_io.specs.Prelude.{AddsBytes, TellsMore, DoorCall, Asked, Waited, IsWithin, MatchesTrace, bytes_passed};
 ghost use Rattle.coap_io.specs.Prelude.{Got, wait_at_most};
 
 /// Result of a read or a write of a wire.
@@ -61,11 +61,11 @@ pub trait Ready {
 
     /// Returns `true` if a read may return something other than `Later`. Otherwise no read is tried.
     fn may_read(&self) -> bool
-        ensures { IsTold (readable self.now) result };
+        ensures { MatchesTrace (readable self.now) result };
 
     /// Returns `true` if a write may return something other than `Later`. Otherwise no write is tried.
     fn may_write(&self) -> bool
-        ensures { IsTold (writable self.now) result };
+        ensures { MatchesTrace (writable self.now) result };
 }
 
 /// Longest time that a door may wait.

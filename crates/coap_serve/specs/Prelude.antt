@@ -21,8 +21,8 @@ pub use Rattle.coap_io.specs.declared.wire.Got.{Got}
 pub use Rattle.coap_io.specs.declared.wire.Got.TheVariants.{Bytes, End, Failed, Later}
 pub use Rattle.coap_io.specs.declared.wire.Wait.{Wait}
 pub use Rattle.coap_io.specs.declared.wire.Wait.TheVariants.{No}
-pub use Rattle.coap_io.specs.streams.Device.{Told, HasGiven, pieces_read, AddsBytes, WritesPart}
-pub use Rattle.coap_io.specs.streams.Telling.{TellsMore, DoorCall}
+pub use Rattle.coap_io.specs.streams.Device.{DeviceTrace, HasGiven, pieces_read, AddsBytes, WritesPart}
+pub use Rattle.coap_io.specs.streams.DeviceTraces.{TellsMore, DoorCall}
 pub use Rattle.coap_io.specs.streams.Wires.{IsWithin, IsOneWrite, bytes_passed, Answered, WireTrace, trace_by}
 -- ---- coap_store
 pub use Rattle.coap_store.specs.Answer.{Change, Delete, Nothing, Put}

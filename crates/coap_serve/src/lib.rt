@@ -21,7 +21,7 @@ mod serve;
 
 pub use coap_conn::{LimitFault, Limits, LimitsBuilder, Phase, Reason};
 pub use coap_io::{
-    Clock, Door, Got, Outlet, Polled, ReadSource, Ready, Rest, Source, Tried, Wait, Wire, Wires,
+    Clock, Door, Got, Outlet, Polled, ReadSource, Ready, ReadBuffer, Source, Tried, Wait, Wire, Wires,
     WriteFailed, WriteOutlet, write_all,
 };
 pub use coap_model::{

@@ -9,7 +9,7 @@ ghost use Rattle.coap_sockets.specs.declared.answers.Hindrance.TheVariants as hi
 ghost use Rattle.coap_sockets.specs.declared.line.ConnectFault.TheVariants as fault;
 ghost use Rattle.coap_sockets.specs.Answers.{hindrance_of};
 ghost use Rattle.coap_io.specs.streams.Device.{AddsBytes};
-ghost use Rattle.coap_io.specs.streams.Telling.{TellsMore};
+ghost use Rattle.coap_io.specs.streams.DeviceTraces.{TellsMore};
 
 use crate::answers::{Hindrance, hindrance_of, read_got, write_got};
 use crate::clock::RunClock;

@@ -7,7 +7,7 @@ ghost use Rattle.coap_client_engine.specs.declared.run.state.ClientFault.TheVari
 
 use crate::client::Client;
 use coap_conn::Limits;
-use coap_io::{Rest, WriteFailed};
+use coap_io::{ReadBuffer, WriteFailed};
 use coap_wire::Token;
 use std::alloc::{AllocError, Global};
 use thiserror::Error;
@@ -65,7 +65,7 @@ pub(super) enum Heard {
 pub(super) struct Run {
     pub(super) client: Client,
     /// Bytes that were read and that the client has not accepted yet.
-    pub(super) rest: Rest,
+    pub(super) rest: ReadBuffer,
     /// Token of the request, after it was sent.
     pub(super) token: Option<Token>,
     /// Time at which the run began, in seconds.
@@ -93,7 +93,7 @@ impl Run {
         };
         Ok(Run {
             client: Client::open(alloc, limits, 0)?,
-            rest: Rest::new(alloc)?,
+            rest: ReadBuffer::new(alloc)?,
             token: None,
             started,
             moment: started,

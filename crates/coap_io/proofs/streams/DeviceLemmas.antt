@@ -3,7 +3,7 @@ use Rattle.std.proofs.Common.{◌≡◌, ◌≢◌, ℕ, Bool, false, ◌||◌, 
 use Rattle.std.proofs.KnownBytes.{Consumes-nil, Consumes-trans}
 use Rattle.std.proofs.lemmas.List.{append-nil, take-take}
 use Rattle.std.proofs.lemmas.List.Folds.{concat-append}
-use Rattle.coap_io.specs.Prelude.{concat, Consumes, IsAtEnd, AddsBytes, Told, FoundEnd, EndsAt, HasGiven}
+use Rattle.coap_io.specs.Prelude.{concat, Consumes, IsAtEnd, AddsBytes, DeviceTrace, FoundEnd, EndsAt, HasGiven}
 use Rattle.coap_io.specs.Prelude.{is_failed_write, TellsMore, IsWithin, bytes_passed, Got}
 use Rattle.coap_io.specs.declared.wire.Got.TheVariants.{Bytes}
 
@@ -32,10 +32,10 @@ end_then None b c xs ys fewer first rest second found = tt
 end_then (Some x) None c xs ys fewer first rest second found = absurd fewer
 end_then (Some x) (Some y) c xs ys fewer first rest second found = end_found y c xs ys first rest second found
 
-pub given_none : (a : Told) → HasGiven a a []
+pub given_none : (a : DeviceTrace) → HasGiven a a []
 given_none a = record { more = told_none a.pieces; fewer = Consumes-nil a.remaining; end = λ e. absurd e }
 
-pub given_then : (a b c : Told) (xs ys : List (List ℕ)) → HasGiven a b xs → HasGiven b c ys → HasGiven a c (xs ++ ys)
+pub given_then : (a b c : DeviceTrace) (xs ys : List (List ℕ)) → HasGiven a b xs → HasGiven b c ys → HasGiven a c (xs ++ ys)
 given_then a b c xs ys p q = record {
   more = told_then a.pieces b.pieces c.pieces xs ys p.more q.more;
   fewer = rw concat-append (Consumes-trans a.remaining b.remaining c.remaining (concat xs) (concat ys) p.fewer q.fewer);

@@ -23,7 +23,7 @@ is_failed_write (Some (suc n)) bytes = false
 
 -- The record of a source: the chunk that each read returned so far, and the bytes left to read. A part that the source
 -- does not record is `None`.
-pub record Told : Type 0 where
+pub record DeviceTrace : Type 0 where
   pub pieces : Option (List (List ℕ))
   pub remaining : Option (List ℕ)
 
@@ -40,7 +40,7 @@ EndsAt (Some before) new = IsAtEnd new
 
 -- Holds if a source returned these chunks between the records `old` and `new`. After a read that found the end, no
 -- bytes are left.
-pub record HasGiven (old new : Told) (pieces : List (List ℕ)) : Type 0 where
+pub record HasGiven (old new : DeviceTrace) (pieces : List (List ℕ)) : Type 0 where
   pub more : AddsPieces old.pieces new.pieces pieces
   pub fewer : Consumes old.remaining new.remaining (concat pieces)
   pub end : FoundEnd pieces → EndsAt old.remaining new.remaining

@@ -5,7 +5,7 @@ use Rattle.coap_io.specs.declared.wire.Got.TheVariants.{Bytes, Later, End, Faile
 use Rattle.coap_io.specs.declared.wire.Wait.{Wait}
 use Rattle.coap_io.specs.declared.wire.Wait.TheVariants.{No, Until, Forever}
 use Rattle.coap_io.specs.streams.Device.{AddsBytes}
-use Rattle.coap_io.specs.streams.Telling.{TellsMore}
+use Rattle.coap_io.specs.streams.DeviceTraces.{TellsMore}
 
 -- Holds if a result passes on no bytes, or at least one and at most `room`.
 abbrev pub IsWithin : ℕ → Got → Type 0
@@ -76,6 +76,6 @@ pub record IsWrittenOnce (bytes : List ℕ) (before after : WireTrace) (wrote : 
   pub no_read : TellsMore before.rooms after.rooms []
 
 -- Holds if the readiness that a wire reports agrees with that which it records, if it records any.
-abbrev pub IsTold : (told : Option Bool) (answer : Bool) → Type 0
-IsTold None answer = Unit {0}
-IsTold (Some told) answer = answer ≡ told
+abbrev pub MatchesTrace : (told : Option Bool) (answer : Bool) → Type 0
+MatchesTrace None answer = Unit {0}
+MatchesTrace (Some told) answer = answer ≡ told

@@ -5,7 +5,7 @@ use Rattle.std.proofs.lemmas.List.Folds.{concat-append}
 use Rattle.coap_serve.specs.Prelude.{concat, AllByRecursion, Reason, end_reason, AreInRange, stop_of, Stream}
 use Rattle.coap_serve.specs.Prelude.{ConfigValues, IoFault, Read, Write, Memory, Turns, Report, Turn, IsFlushed}
 use Rattle.coap_serve.specs.Prelude.{IsPartFlushed, ServerValue, session_of, new_server, server_opened, is_there}
-use Rattle.coap_serve.specs.Prelude.{stop_on, Told, HasGiven, pieces_read, AddsBytes, WritesPart, only_id, outcome}
+use Rattle.coap_serve.specs.Prelude.{stop_on, DeviceTrace, HasGiven, pieces_read, AddsBytes, WritesPart, only_id, outcome}
 use Rattle.coap_serve.specs.Prelude.{stream_of, stdio_output, IsGoing, IsWhole, Says, HasRead, IsTurn, AreNotEmpty}
 use Rattle.coap_serve.specs.Prelude.{GoesOn, EndsRun, IsStdioRun, Event, Opened, steps_by, world_after, Ended}
 use Rattle.coap_serve.specs.Prelude.{stream_on, Shows, is_cut, new_side, Side, side_ended, settled, World, side_of}
@@ -24,7 +24,7 @@ use Rattle.coap_serve.proofs.streams.TakeLemmas.{part_flush_leads, stop_told, se
 
 -- ---- a turn
 
-pub has_read : (a b : Told) (buffer : List ℕ) (n : ℕ) → length buffer ≡ 4096 → n ≤ length buffer → n ≢ 0 → HasGiven a b (pieces_read buffer n) → HasRead (HasGiven a b) (take n buffer)
+pub has_read : (a b : DeviceTrace) (buffer : List ℕ) (n : ℕ) → length buffer ≡ 4096 → n ≤ length buffer → n ≢ 0 → HasGiven a b (pieces_read buffer n) → HasRead (HasGiven a b) (take n buffer)
 has_read a b buffer n room within some gave = record {
   given = rw room at gave;
   some = λ none. some (sym (length-take-le n buffer within) ∙ ap (λ (bytes : List ℕ). length bytes) none);
@@ -50,7 +50,7 @@ not_empty-push (q ∷ ps) p each some = (each.0, not_empty-push ps p each.1 some
 
 -- After `turns` turns, `read` bytes were read and `messages` messages were processed. `a` and `b` are the records of
 -- the source before the run and now; `x` and `y` are those of the outlet.
-pub record RunsOn (c : ConfigValues) (id turns read messages : ℕ) (v : ServerValue) (a b : Told) (x y : Option (List ℕ)) : Type 0 where
+pub record RunsOn (c : ConfigValues) (id turns read messages : ℕ) (v : ServerValue) (a b : DeviceTrace) (x y : Option (List ℕ)) : Type 0 where
   pub pieces : List (List ℕ)
   pub output : List ℕ
   pub told : HasGiven a b pieces
@@ -64,10 +64,10 @@ pub record RunsOn (c : ConfigValues) (id turns read messages : ℕ) (v : ServerV
   pub text : stdio_output c [] ++ output ≡ stdio_output c (concat pieces)
 
 -- The rest of a run that ended, after the output `front` was written.
-abbrev pub Ran : ConfigValues → List ℕ → Told → Told → Option (List ℕ) → Option (List ℕ) → Result Report IoFault → Type 0
+abbrev pub Ran : ConfigValues → List ℕ → DeviceTrace → DeviceTrace → Option (List ℕ) → Option (List ℕ) → Result Report IoFault → Type 0
 Ran c front a b x y result = (pieces : List (List ℕ)) × (output : List ℕ) × HasGiven a b pieces × AllByRecursion (λ p. length p ≤ 4096) pieces × AddsBytes x y output × IsStdioRun c pieces (front ++ output) result
 
-pub run_begins : (c : ConfigValues) (id : ℕ) (v : ServerValue) (a : Told) (x : Option (List ℕ)) → IsGoing c v id [] → RunsOn c id 0 0 0 v a a x x
+pub run_begins : (c : ConfigValues) (id : ℕ) (v : ServerValue) (a : DeviceTrace) (x : Option (List ℕ)) → IsGoing c v id [] → RunsOn c id 0 0 0 v a a x x
 run_begins c id v a x goes = record {
   pieces = [];
   output = [];
@@ -83,7 +83,7 @@ run_begins c id v a x goes = record {
 }
 
 -- One more turn. `b` and `y` are the records of the devices before it; `d` and `z` are those after it.
-module _ (c : ConfigValues) (id turns read messages : ℕ) (v after : ServerValue) (a b d : Told) (x y z : Option (List ℕ)) (so_far : RunsOn c id turns read messages v a b x y) where
+module _ (c : ConfigValues) (id turns read messages : ℕ) (v after : ServerValue) (a b d : DeviceTrace) (x y z : Option (List ℕ)) (so_far : RunsOn c id turns read messages v a b x y) where
   abbrev bytes : List ℕ
   bytes = concat so_far.pieces
 
@@ -203,11 +203,11 @@ module _ (c : ConfigValues) (id turns read messages : ℕ) (v after : ServerValu
   faulted Turns lt t = absurd t
 
 -- A run after the server's CSM was written.
-pub greeted : (c : ConfigValues) (a d : Told) (x y z : Option (List ℕ)) (result : Result Report IoFault) → AddsBytes x y (stdio_output c []) → Ran c (stdio_output c []) a d y z result → Ran c [] a d x z result
+pub greeted : (c : ConfigValues) (a d : DeviceTrace) (x y z : Option (List ℕ)) (result : Result Report IoFault) → AddsBytes x y (stdio_output c []) → Ran c (stdio_output c []) a d y z result → Ran c [] a d x z result
 greeted c a d x y z result wrote ran = (ran.0, stdio_output c [] ++ ran.1, ran.2, ran.3, bytes_then x y z (stdio_output c []) ran.1 wrote ran.4, ran.5)
 
 -- A run that did not begin.
-pub not_begun : (c : ConfigValues) (a : Told) (x : Option (List ℕ)) → Ran c [] a a x x (Err Memory)
+pub not_begun : (c : ConfigValues) (a : DeviceTrace) (x : Option (List ℕ)) → Ran c [] a a x x (Err Memory)
 not_begun c a x = ([], [], given_none a, tt, bytes_none x, inl (refl, refl))
 
 -- ---- the beginning of a run: a connection is opened, and the server's CSM is written
@@ -246,7 +246,7 @@ module _ (c : ConfigValues) (new v : ServerValue) (id : ℕ) (opens : Opens c ne
       (record { number = number; ranges = rw opens.new_is at opens.ranges; stands = now.stands; going = (outcome_at_first c).1 }, rw now.says now.written)
 
   -- The bytes queued on a new connection were not written in full.
-  pub cut_at_first : (a : Told) (x z : Option (List ℕ)) → IsPartFlushed id v (WritesPart x z) → Ran c [] a a x z (Err Write)
+  pub cut_at_first : (a : DeviceTrace) (x z : Option (List ℕ)) → IsPartFlushed id v (WritesPart x z) → Ran c [] a a x z (Err Write)
   cut_at_first a x z did =
       let cut = part_flush_leads c v (new_side c.limits) [] opening_leads x z (rw number at did) in
       ([], cut.0, given_none a, tt, cut.4, (omega arith, inl refl, record { missing = cut.1; some = cut.2; written = sym cut.3 }))

@@ -10,7 +10,7 @@ use Rattle.coap_io.specs.declared.wire.Wait.TheVariants.{No}
 use Rattle.coap_server_engine.specs.values.ServerAnswers.{open_refusal}
 use Rattle.coap_server_engine.specs.values.Servers.{ServerValue, new_server, server_ticked}
 use Rattle.coap_serve.specs.streams.Serving.{asked_by, IsTurnOf}
-use Rattle.coap_io.specs.streams.Telling.{DoorCall, Waited}
+use Rattle.coap_io.specs.streams.DeviceTraces.{DoorCall, Waited}
 use Rattle.coap_io.specs.streams.Wires.{WireTrace}
 
 -- The server after its clock returned this time. An earlier time changes nothing.

@@ -8,7 +8,7 @@ use Rattle.coap_server_session.specs.values.Dues.{sooner}
 use Rattle.coap_server_engine.specs.values.Fed.{fed}
 use Rattle.coap_server_engine.specs.values.ServerDues.{outlook_of, stamp_of, same_stamp}
 use Rattle.coap_server_engine.specs.values.Flushes.{waiting_at}
-use Rattle.coap_io.specs.streams.Wires.{IsTold, WireTrace, IsReadOnce, IsWrittenOnce}
+use Rattle.coap_io.specs.streams.Wires.{MatchesTrace, WireTrace, IsReadOnce, IsWrittenOnce}
 use Rattle.coap_serve.specs.declared.door.peer.Course.{Course}
 use Rattle.coap_serve.specs.declared.door.peer.Course.TheVariants.{Open, Over}
 use Rattle.coap_serve.specs.declared.door.wants.Wants.{Wants}
@@ -20,7 +20,7 @@ use Rattle.coap_server_engine.specs.declared.server.Outlook.{Outlook}
 use Rattle.coap_server_engine.specs.declared.server.Stamp.{Stamp}
 use Rattle.coap_io.specs.declared.wire.Got.{Got}
 use Rattle.coap_io.specs.declared.wire.Got.TheVariants.{Bytes, Later, End, Failed}
-use Rattle.coap_io.specs.declared.rest.TheConstants.{READ_SIZE}
+use Rattle.coap_io.specs.declared.read_buffer.TheConstants.{READ_SIZE}
 
 -- A read is due: the wire may be read, no bytes are left from earlier reads, and the connection accepts bytes.
 abbrev pub is_heard : (may_read : Bool) → ServerValue → ℕ → List ℕ → Bool
@@ -119,8 +119,8 @@ pub record ComesToNothing (may_read may_write : Bool) (v : ServerValue) (id : �
 pub record IsServed (readable writable : Option Bool) (v : ServerValue) (id : ℕ) (rest : List ℕ) (wire : WireTrace) (after : ServerValue) (left : List ℕ) (told : WireTrace) (course : Course) : Type 0 where
   pub may_read : Bool
   pub may_write : Bool
-  pub read : IsTold readable may_read
-  pub write : IsTold writable may_write
+  pub read : MatchesTrace readable may_read
+  pub write : MatchesTrace writable may_write
   pub part : IsServedOnce may_read may_write v id rest wire after left told course
 
 -- ---- remaining work
@@ -157,7 +157,7 @@ end_of readable writable p = record { readable = readable p.wire; writable = wri
 
 -- `answer` is the readiness of a wire if that is wanted, and otherwise `false`.
 abbrev pub IsAsked : (wanted : Bool) (told : Option Bool) (answer : Bool) → Type 0
-IsAsked true told answer = IsTold told answer
+IsAsked true told answer = MatchesTrace told answer
 IsAsked false told answer = answer ≡ false
 
 -- `result` is `true` if something can be done at once. The connection has bytes to accept or to discard, its wire must

@@ -11,7 +11,7 @@ ghost use Rattle.coap_io.specs.declared.wire.Got.TheVariants.{Later, End};
 use super::wants::{Wants, wants_by};
 use crate::serve::IoFault;
 use coap_conn::first_part;
-use coap_io::{Got, Ready, Rest, Wire};
+use coap_io::{Got, Ready, ReadBuffer, Wire};
 use coap_model::ConnId;
 use coap_server_engine::{Outlook, Server, Stamp};
 use indexmap::IndexMap;
@@ -22,7 +22,7 @@ pub(super) struct Peer<W> {
     /// Transport connection to the peer.
     pub(super) wire: W,
     /// Bytes that were read and that the server has not accepted yet.
-    pub(super) rest: Rest,
+    pub(super) rest: ReadBuffer,
     /// I/O interest, recorded when the connection was last served.
     pub(super) wants: Wants,
 }
@@ -163,7 +163,7 @@ fn hear<W: Wire>(server: &mut Server, id: ConnId, peer: &mut Peer<W>, may_read: 
 ///
 /// - `Memory`: an allocation failed for a representation that a message stores.
 #[tactic(auto, using(crate::proofs::streams::ServingLemmas::part_served))]
-fn take_rest(server: &mut Server, id: ConnId, rest: &mut Rest) -> Result<(), IoFault>
+fn take_rest(server: &mut Server, id: ConnId, rest: &mut ReadBuffer) -> Result<(), IoFault>
     ensures server { OnOk result (server.new ≡ (fed server.old id rest.old).server) }
     ensures shows { HasServed server.old server.new }
     ensures rest { OnOk result (rest.new ≡ rest_left server.old id rest.old) }

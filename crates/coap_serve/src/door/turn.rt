@@ -12,7 +12,7 @@ use super::agenda::{Agenda, Seen, concerns_others, pass_over};
 use super::peer::{Course, Peer, Peers, serve_peer};
 use super::wants::wants_on;
 use crate::serve::IoFault;
-use coap_io::{Door, Ready, Rest, Wait, Wire};
+use coap_io::{Door, Ready, ReadBuffer, Wait, Wire};
 use coap_server_engine::Server;
 use std::alloc::Global;
 
@@ -77,7 +77,7 @@ fn accept<D: Door>(
     let Some(wire) = door.next() else {
         return Ok(false);
     };
-    let Ok(rest) = Rest::new(alloc) else {
+    let Ok(rest) = ReadBuffer::new(alloc) else {
         return Err(IoFault::Memory);
     };
     let Ok(id) = server.open() else {

@@ -3,7 +3,7 @@
 ghost use Rattle.std.specs.Prelude.{◌≡◌};
 ghost use Rattle.coap_serve.specs.Prelude.{wants_in, wants_of};
 
-use coap_io::Rest;
+use coap_io::ReadBuffer;
 use coap_model::ConnId;
 use coap_server_engine::{Outlook, Server, Stamp};
 
@@ -23,7 +23,7 @@ pub(super) struct Wants {
 }
 
 /// Returns the I/O interest of a connection with these bytes left from its reads.
-pub(super) fn wants_on(server: &Server, id: ConnId, rest: &Rest) -> Wants
+pub(super) fn wants_on(server: &Server, id: ConnId, rest: &ReadBuffer) -> Wants
     ensures { result ≡ wants_of server.now id rest.now }
 {
     wants_by(server.outlook(id), rest.is_empty(), server.stamp())

@@ -1,6 +1,6 @@
 use Rattle.std.proofs.Common.{drop, ap, ◌∙◌}
-use Rattle.coap_io.proofs.streams.RestLemmas.{rest_advanced}
-use Rattle.coap_io.proofs.rest.Rest.advance.Goals as goal
+use Rattle.coap_io.proofs.streams.ReadBufferLemmas.{rest_advanced}
+use Rattle.coap_io.proofs.read_buffer.ReadBuffer.advance.Goals as goal
 
 pub returns : goal.returns
 returns c =

@@ -12,34 +12,34 @@ pub const READ_SIZE: usize = 16_384;
 
 /// Read buffer of a connection. In contracts its value is the list of bytes that were read and are not accepted yet.
 #[derive(Drop)]
-pub struct Rest {
+pub struct ReadBuffer {
     buffer: Vec<u8>,
     from: usize,
     to: usize,
 }
 
-impl Model for Rest {
+impl Model for ReadBuffer {
     ghost use Rattle.std.specs.Prelude.{ℕ, List};
 
     ghost Value = { List ℕ };
 
-    ghost use Rattle.coap_io.specs.views.RestViews.{rest_value, is_rest};
+    ghost use Rattle.coap_io.specs.views.ReadBufferViews.{rest_value, is_rest};
 
     ghost view = { rest_value };
 
     ghost invariant = { is_rest };
 }
 
-impl Rest {
+impl ReadBuffer {
     /// Creates an empty buffer. The memory of 16,384 bytes is reserved once.
     ///
     /// # Errors
     ///
     /// Returns `AllocError` if allocation fails.
-    pub fn new(alloc: Global) -> Result<Rest, AllocError>
+    pub fn new(alloc: Global) -> Result<ReadBuffer, AllocError>
         ensures { IfOk result (λ r. r ≡ []) }
     {
-        Ok(Rest {
+        Ok(ReadBuffer {
             buffer: vec![in alloc; 0; READ_SIZE]?,
             from: 0,
             to: 0,
