@@ -17,7 +17,7 @@ pub use Rattle.coap_text.specs.Words.{is_hyphen, parts}
 unfoldable pub use Rattle.coap_text.specs.Words.{decimal_value, hex_value}
 -- ---- coap_script
 pub use Rattle.coap_script.specs.script.EventViews.{event_value, IsScript, fault_number, TakesLine}
-pub use Rattle.coap_script.specs.script.Events.{EventValue}
+pub use Rattle.coap_script.specs.script.Events.{ScriptEventValue}
 unfoldable pub use Rattle.coap_script.specs.script.Events.{drain_event, event_alone, event_of, event_with_one}
 unfoldable pub use Rattle.coap_script.specs.script.Events.{event_with_two, in_event, number_event, put_event}
 unfoldable pub use Rattle.coap_script.specs.script.Events.{remove_event}

@@ -51,7 +51,7 @@ pub use Rattle.coap_store.specs.declared.fault.StoreFault.{StoreFault}
 pub use Rattle.coap_store.specs.declared.fault.StoreFault.TheVariants.{NoSuch}
 -- ---- coap_script
 pub use Rattle.coap_script.specs.script.EventViews.{event_value}
-pub use Rattle.coap_script.specs.script.Events.{EventValue, Drain, Drop, In, Open, Release, Remove, Status, Tick}
+pub use Rattle.coap_script.specs.script.Events.{ScriptEventValue, Drain, Drop, In, Open, Release, Remove, Status, Tick}
 pub use Rattle.coap_script.specs.script.Lines.{open_line, put_line, remove_line, tick_line, word_line}
 -- ---- coap_model
 pub use Rattle.coap_model.specs.Answers.{release_fault}

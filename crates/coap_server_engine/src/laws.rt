@@ -6,7 +6,7 @@ ghost use Rattle.coap_server_engine.specs.Prelude.{IsStore, ConfigValues, IsNotT
 ghost use Rattle.coap_server_engine.specs.Prelude.{WrittenFault, ReleaseFault, WaitsForWhatIsDue, Side, HearsAll};
 ghost use Rattle.coap_server_engine.specs.Prelude.{World, new_world, side_of, after_steps, Event, Took, stream_on};
 ghost use Rattle.coap_server_engine.specs.Prelude.{steps_of, world_after, AreAccepted, Shows, server_of, heard_step};
-ghost use Rattle.coap_server_engine.specs.Prelude.{steps_heard, kept_at, IsRefusedStored, StoresNothing, EventValue};
+ghost use Rattle.coap_server_engine.specs.Prelude.{steps_heard, kept_at, IsRefusedStored, StoresNothing, ScriptEventValue};
 ghost use Rattle.coap_server_engine.specs.Prelude.{fed, replayed, DifferInCuts, AreInTime, lines_of, other_lines};
 ghost use Rattle.coap_conn.specs.declared.phase.Phase.TheVariants.{Stopped};
 ghost use Rattle.coap_model.specs.declared.answers.TakeFault.TheVariants.{Memory};
@@ -72,12 +72,12 @@ pub fn where_a_script_cuts_does_not_matter()
         (fed v id (xs ++ ys)).count ≡ (fed v id xs).count + (fed (fed v id xs).server id ys).count }
     ensures after { (v : ServerValue) (before : List Event) (id : ℕ) (xs ys : List ℕ) → Shows v before →
         (fed v id (xs ++ ys)).server ≡ (fed (fed v id xs).server id ys).server }
-    ensures servers { (v : ServerValue) (before : List Event) (events others : List EventValue) → Shows v before →
+    ensures servers { (v : ServerValue) (before : List Event) (events others : List ScriptEventValue) → Shows v before →
         v.ids < 2 ^ 64 → AreInTime events → AreInTime others → DifferInCuts events others →
         (replayed v events).server ≡ (replayed v others).server }
-    ensures text { (v : ServerValue) (events : List EventValue) →
+    ensures text { (v : ServerValue) (events : List ScriptEventValue) →
         concat (map (λ l. l.1) (lines_of v events)) ≡ (replayed v events).text }
-    ensures lines { (v : ServerValue) (before : List Event) (events others : List EventValue) → Shows v before →
+    ensures lines { (v : ServerValue) (before : List Event) (events others : List ScriptEventValue) → Shows v before →
         v.ids < 2 ^ 64 → AreInTime events → AreInTime others → DifferInCuts events others →
         other_lines v events ≡ other_lines v others }
 {}

@@ -1,6 +1,6 @@
 -- The meaning of a script's lines in sequence.
 use Rattle.std.proofs.Common.{◌≡◌, ℕ, ◌+◌, ◌<◌, ◌≤◌, true, false, ◌==◌, List, [], ◌∷◌, ◌++◌, length, Option, None, Result, Ok, Err, refl, arith, append_assoc, nat_lt, cond, length-append, count_by, add-one}
-use Rattle.coap_script.specs.Prelude.{list_all, onto_first, newline, parts, words_of, EventValue, event_of, event_in}
+use Rattle.coap_script.specs.Prelude.{list_all, onto_first, newline, parts, words_of, ScriptEventValue, event_of, event_in}
 use Rattle.coap_script.specs.Prelude.{events_in, said_behind, said_by_line, said_by_parts, said_on, script_of}
 use Rattle.coap_script.specs.Prelude.{TakesLine}
 use Rattle.std.proofs.lemmas.Bool.{ne_eqb}
@@ -28,19 +28,19 @@ pub line_and_rest : (line rest : List ℕ) → said_by_parts (line ∷ parts new
 line_and_rest line rest = line_and_others line (parts newline rest) (omega (arith, length-slice_split (λ b. b == newline) rest))
 
 -- The text that was left consists of a line and a rest.
-pub line_taken : (lines : ℕ) (old new : List EventValue) (left line rest : List ℕ) (all : Result (List EventValue) ℕ) → all ≡ said_behind lines old (said_by_parts (parts newline left)) → parts newline left ≡ line ∷ parts newline rest → TakesLine true old new (events_in line) → all ≡ said_behind (lines + 1) new (said_by_parts (parts newline rest))
+pub line_taken : (lines : ℕ) (old new : List ScriptEventValue) (left line rest : List ℕ) (all : Result (List ScriptEventValue) ℕ) → all ≡ said_behind lines old (said_by_parts (parts newline left)) → parts newline left ≡ line ∷ parts newline rest → TakesLine true old new (events_in line) → all ≡ said_behind (lines + 1) new (said_by_parts (parts newline rest))
 line_taken lines old new left line rest all said cut takes = rw (said, cut, line_and_rest line rest) (grind (arith, append_assoc))
 
-pub line_refused : (lines : ℕ) (old new : List EventValue) (left line rest : List ℕ) (all : Result (List EventValue) ℕ) → all ≡ said_behind lines old (said_by_parts (parts newline left)) → parts newline left ≡ line ∷ parts newline rest → TakesLine false old new (events_in line) → all ≡ Err (lines + 1)
+pub line_refused : (lines : ℕ) (old new : List ScriptEventValue) (left line rest : List ℕ) (all : Result (List ScriptEventValue) ℕ) → all ≡ said_behind lines old (said_by_parts (parts newline left)) → parts newline left ≡ line ∷ parts newline rest → TakesLine false old new (events_in line) → all ≡ Err (lines + 1)
 line_refused lines old new left line rest all said cut takes = rw (said, cut, line_and_rest line rest) (grind arith)
 
 -- ---- after the last newline
 
-pub all_taken : (lines : ℕ) (old : List EventValue) (left : List ℕ) (all : Result (List EventValue) ℕ) → all ≡ said_behind lines old (said_by_parts (parts newline left)) → parts newline left ≡ left ∷ [] → length left ≡ 0 → all ≡ Ok old
+pub all_taken : (lines : ℕ) (old : List ScriptEventValue) (left : List ℕ) (all : Result (List ScriptEventValue) ℕ) → all ≡ said_behind lines old (said_by_parts (parts newline left)) → parts newline left ≡ left ∷ [] → length left ≡ 0 → all ≡ Ok old
 unfolding said_by_parts
 all_taken lines old left all said cut none = rw (said, cut, none, append-nil)
 
-pub rest_refused : (lines : ℕ) (old : List EventValue) (left : List ℕ) (all : Result (List EventValue) ℕ) → all ≡ said_behind lines old (said_by_parts (parts newline left)) → parts newline left ≡ left ∷ [] → (length left ≡ 0 → ⊥) → all ≡ Err (lines + 1)
+pub rest_refused : (lines : ℕ) (old : List ScriptEventValue) (left : List ℕ) (all : Result (List ScriptEventValue) ℕ) → all ≡ said_behind lines old (said_by_parts (parts newline left)) → parts newline left ≡ left ∷ [] → (length left ≡ 0 → ⊥) → all ≡ Err (lines + 1)
 unfolding said_by_parts
 rest_refused lines old left all said cut some = rw (said, cut, ne_eqb (length left) 0 some)
 
@@ -58,7 +58,7 @@ parts_of_both (x ∷ xs) more =
 
 -- ---- the meaning of lines followed by others
 
-line_then_on : (n : ℕ) (events : Option (List EventValue)) (s r : Result (List EventValue) ℕ) → said_by_line events (said_on n s r) ≡ said_on (n + 1) (said_by_line events s) r
+line_then_on : (n : ℕ) (events : Option (List ScriptEventValue)) (s r : Result (List ScriptEventValue) ℕ) → said_by_line events (said_on n s r) ≡ said_on (n + 1) (said_by_line events s) r
 line_then_on n events s r = grind (arith, append_assoc)
 
 lines_then_others : (ps qs : List (List ℕ)) → 1 ≤ length qs → said_by_parts (ps ++ qs) ≡ said_on (length ps) (said_by_parts (ps ++ [] ∷ [])) (said_by_parts qs)

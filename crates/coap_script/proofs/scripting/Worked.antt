@@ -8,7 +8,7 @@ use Rattle.coap_script.specs.Prelude.{said_by_parts, script_of}
 use Rattle.coap_script.specs.script.Events as event
 
 -- Each text has the meaning next to it.
-abbrev Say : List (List ℕ × Result (List event.EventValue) ℕ) → Type 0
+abbrev Say : List (List ℕ × Result (List event.ScriptEventValue) ℕ) → Type 0
 Say rows = map (λ r. script_of r.0) rows ≡ map (λ r. r.1) rows
 
 texts : Say (

@@ -2,7 +2,7 @@
 use Rattle.std.specs.Prelude.{◌≡◌, ℕ, Bool, true, false, Vec, List, ◌++◌, map, Option, Some, None, Result, Ok, Err, ⊤}
 use Rattle.std.specs.declared.alloc.Global.{Global}
 use Rattle.coap_script.specs.script.Events as event
-use Rattle.coap_script.specs.script.Events.{EventValue}
+use Rattle.coap_script.specs.script.Events.{ScriptEventValue}
 use Rattle.coap_script.specs.script.Script.{script_of}
 use Rattle.coap_script.specs.declared.event.Event.{Event}
 use Rattle.coap_script.specs.declared.event.Event.TheVariants as events
@@ -10,7 +10,7 @@ use Rattle.coap_script.specs.declared.scripts.ScriptFault.{ScriptFault}
 use Rattle.coap_script.specs.declared.scripts.ScriptFault.TheVariants.{Line, Memory}
 
 -- The value of an `Event`.
-abbrev pub event_value : Event → EventValue
+abbrev pub event_value : Event → ScriptEventValue
 event_value events.Open = event.Open
 event_value (events.In connection bytes) = event.In connection bytes.items
 event_value (events.Drain connection most) = event.Drain connection most
@@ -34,6 +34,6 @@ IsScript text (Err (Line number)) = script_of text ≡ Err number
 IsScript text (Err Memory) = ⊤
 
 -- The event of a line, if any, was appended to the earlier events. If the line is malformed, `is_right` is false.
-abbrev pub TakesLine : Bool → List EventValue → List EventValue → Option (List EventValue) → Type 0
+abbrev pub TakesLine : Bool → List ScriptEventValue → List ScriptEventValue → Option (List ScriptEventValue) → Type 0
 TakesLine is_right old new None = is_right ≡ false
 TakesLine is_right old new (Some events) = (is_right ≡ true) × (new ≡ old ++ events)

@@ -4,10 +4,10 @@ use Rattle.std.specs.Prelude.{ℕ, Bool, true, ◌+◌, ◌==◌, List, [], ◌�
 use Rattle.std.specs.List.{list_all}
 use Rattle.coap_text.specs.Words.{parts}
 use Rattle.coap_script.specs.script.Words.{newline, words_of}
-use Rattle.coap_script.specs.script.Events.{EventValue, event_of}
+use Rattle.coap_script.specs.script.Events.{ScriptEventValue, event_of}
 
 -- The event that a line names, if it names one. The line must be ASCII.
-unfoldable pub event_in : List ℕ → Option EventValue
+unfoldable pub event_in : List ℕ → Option ScriptEventValue
 event_in line = if list_all (λ b. nat_lt b 128) line then event_of (words_of line) else None
 
 -- The byte `#`, with which a comment begins.
@@ -20,31 +20,31 @@ says_nothing [] = true
 says_nothing (byte ∷ bytes) = byte == number_sign
 
 -- The events of a line: one or none. `None` if the line is malformed.
-unfoldable pub events_in : List ℕ → Option (List EventValue)
+unfoldable pub events_in : List ℕ → Option (List ScriptEventValue)
 events_in line = if says_nothing line then Some [] else option_map (λ event. event ∷ []) (event_in line)
 
 -- The meaning of a text after this number of lines with these events.
-abbrev pub said_behind : ℕ → List EventValue → Result (List EventValue) ℕ → Result (List EventValue) ℕ
+abbrev pub said_behind : ℕ → List ScriptEventValue → Result (List ScriptEventValue) ℕ → Result (List ScriptEventValue) ℕ
 said_behind lines before (Ok events) = Ok (before ++ events)
 said_behind lines before (Err line) = Err (lines + line)
 
 -- The meaning of a line and of the text after it.
-abbrev pub said_by_line : Option (List EventValue) → Result (List EventValue) ℕ → Result (List EventValue) ℕ
+abbrev pub said_by_line : Option (List ScriptEventValue) → Result (List ScriptEventValue) ℕ → Result (List ScriptEventValue) ℕ
 said_by_line None behind = Err 1
 said_by_line (Some events) behind = said_behind 1 events behind
 
 -- The meaning of the parts of a text between its newlines. Each part is a line, except for the last. The last part
 -- follows the last newline and must be empty.
-unfoldable pub said_by_parts : List (List ℕ) → Result (List EventValue) ℕ
+unfoldable pub said_by_parts : List (List ℕ) → Result (List ScriptEventValue) ℕ
 said_by_parts [] = Ok []
 said_by_parts (rest ∷ []) = if length rest == 0 then Ok [] else Err 1
 said_by_parts (line ∷ next ∷ others) = said_by_line (events_in line) (said_by_parts (next ∷ others))
 
 -- The events of a script, or the number of the first malformed line, from 1.
-abbrev pub script_of : List ℕ → Result (List EventValue) ℕ
+abbrev pub script_of : List ℕ → Result (List ScriptEventValue) ℕ
 script_of text = said_by_parts (parts newline text)
 
 -- The meaning of this number of whole lines and of the text after them.
-abbrev pub said_on : ℕ → Result (List EventValue) ℕ → Result (List EventValue) ℕ → Result (List EventValue) ℕ
+abbrev pub said_on : ℕ → Result (List ScriptEventValue) ℕ → Result (List ScriptEventValue) ℕ → Result (List ScriptEventValue) ℕ
 said_on lines (Ok events) behind = said_behind lines events behind
 said_on lines (Err line) behind = Err line

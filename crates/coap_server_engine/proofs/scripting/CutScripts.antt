@@ -1,7 +1,7 @@
 -- Scripts that divide the bytes of their `in`s differently leave the same server, and write the same lines apart from
 -- those of the `in`s.
 use Rattle.std.proofs.Common.{◌≡◌, ℕ, ◌+◌, ◌<◌, ◌≤◌, ◌^◌, ◌==◌, nat_le, map, List, [], ◌∷◌, ◌++◌, length, drop, Option, Some, None, option_map, codes, refl, sym, ◌∙◌, arith}
-use Rattle.coap_server_engine.specs.Prelude.{concat, release_refusal, put_refusal, remove_refusal, EventValue, Open, In}
+use Rattle.coap_server_engine.specs.Prelude.{concat, release_refusal, put_refusal, remove_refusal, ScriptEventValue, Open, In}
 use Rattle.coap_server_engine.specs.Prelude.{Drain, Tick, Remove, Release, Drop, Status, Ran, comes_to, open_number}
 use Rattle.coap_server_engine.specs.Prelude.{store_number, release_number, tick_refusal, unless_refused, on_connection, fed}
 use Rattle.coap_server_engine.specs.Prelude.{in_ran, drained, drain_ran, status_ran, event_ran, replayed, open_line}
@@ -57,7 +57,7 @@ release_finds : (v : ServerValue) (id : ℕ) (found : Option SessionValue) → s
 release_finds v id None at none = absurd cc
 release_finds v id (Some s) at none = (s, at, not_refused (release_refusal s.link) none)
 
-event_shown : (v : ServerValue) (e : EventValue) → IsInTime e → IsShown v → IsShown (event_ran v e).server
+event_shown : (v : ServerValue) (e : ScriptEventValue) → IsInTime e → IsShown v → IsShown (event_ran v e).server
 unfolding event_ran
 event_shown v Open in_time shown =
     unless_shown v (codes "open") None (comes_to (server_opened v) (open_line (v.ids + 1))) (option_map open_number (open_refusal v)) shown
@@ -115,25 +115,25 @@ in_parts v id xs ys shown = cc (
 
 -- ---- scripts
 
-record RunAlike (v : ServerValue) (es fs : List EventValue) : Type 0 where
+record RunAlike (v : ServerValue) (es fs : List ScriptEventValue) : Type 0 where
   pub server : (replayed v es).server ≡ (replayed v fs).server
   pub lines : other_lines v es ≡ other_lines v fs
 
-run_same : (v : ServerValue) (es : List EventValue) → RunAlike v es es
+run_same : (v : ServerValue) (es : List ScriptEventValue) → RunAlike v es es
 run_same v es = record { server = refl; lines = refl }
 
 -- One event, followed by events that run alike.
-run_behind : (v : ServerValue) (e : EventValue) (es fs : List EventValue) → RunAlike (event_ran v e).server es fs → RunAlike v (e ∷ es) (e ∷ fs)
+run_behind : (v : ServerValue) (e : ScriptEventValue) (es fs : List ScriptEventValue) → RunAlike (event_ran v e).server es fs → RunAlike v (e ∷ es) (e ∷ fs)
 unfolding replayed lines_of
 run_behind v e es fs alike = record { server = alike.server; lines = rw alike.lines }
 
-run_joined : (v : ServerValue) (id : ℕ) (bytes more : List ℕ) (es : List EventValue) → IsShown v → RunAlike v (In id bytes ∷ In id more ∷ es) (In id (bytes ++ more) ∷ es)
+run_joined : (v : ServerValue) (id : ℕ) (bytes more : List ℕ) (es : List ScriptEventValue) → IsShown v → RunAlike v (In id bytes ∷ In id more ∷ es) (In id (bytes ++ more) ∷ es)
 unfolding replayed lines_of
 run_joined v id bytes more es shown =
     let same = in_parts v id bytes more shown in
     record { server = rw same; lines = rw same }
 
-run_before : (v : ServerValue) (id : ℕ) (bytes : List ℕ) (es : List EventValue) → IsShown v → RunAlike v (In id bytes ∷ es) (in_before id bytes es)
+run_before : (v : ServerValue) (id : ℕ) (bytes : List ℕ) (es : List ScriptEventValue) → IsShown v → RunAlike v (In id bytes ∷ es) (in_before id bytes es)
 unfolding in_before
 run_before v id bytes (In other more ∷ es) shown =
     cond_both (other == id) (In id (bytes ++ more) ∷ es) (In id bytes ∷ In other more ∷ es) (RunAlike v (In id bytes ∷ In other more ∷ es))
@@ -142,7 +142,7 @@ run_before v id bytes (In other more ∷ es) shown =
 run_before v id bytes es shown = run_same v (In id bytes ∷ es)
 
 -- A script runs as the one with joined `in`s.
-joined_alike : (v : ServerValue) (es : List EventValue) → IsShown v → AreInTime es → RunAlike v es (joined es)
+joined_alike : (v : ServerValue) (es : List ScriptEventValue) → IsShown v → AreInTime es → RunAlike v es (joined es)
 unfolding joined
 joined_alike v [] shown in_time = run_same v []
 joined_alike v (In id bytes ∷ es) shown in_time =
@@ -154,14 +154,14 @@ joined_alike v (e ∷ es) shown in_time = run_behind v e es (joined es) (joined_
 
 -- ---- the written text
 
-pub text_of_lines : (v : ServerValue) (es : List EventValue) → concat (map (λ l. l.1) (lines_of v es)) ≡ (replayed v es).text
+pub text_of_lines : (v : ServerValue) (es : List ScriptEventValue) → concat (map (λ l. l.1) (lines_of v es)) ≡ (replayed v es).text
 unfolding replayed lines_of
 text_of_lines v [] = refl
 text_of_lines v (e ∷ es) = rw (text_of_lines (event_ran v e).server es)
 
 -- ---- the theorem
 
-module _ (v : ServerValue) (before : List Event) (es fs : List EventValue) (shows : Shows v before) (ids : v.ids < 2 ^ 64) (one : AreInTime es) (other : AreInTime fs) (alike : DifferInCuts es fs) where
+module _ (v : ServerValue) (before : List Event) (es fs : List ScriptEventValue) (shows : Shows v before) (ids : v.ids < 2 ^ 64) (one : AreInTime es) (other : AreInTime fs) (alike : DifferInCuts es fs) where
   runs_alike : RunAlike v es fs
   runs_alike =
       let shown : IsShown v = record { events = before; shows = shows; ids = ids } in

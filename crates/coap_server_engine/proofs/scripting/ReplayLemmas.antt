@@ -5,7 +5,7 @@ use Rattle.std.proofs.lemmas.List.{append-nil, take-append-drop, length-drop, le
 use Rattle.std.proofs.Math.Seq.{take-suc, drop-cons}
 use Rattle.std.proofs.Math.ListN.{get_or-map}
 use Rattle.std.proofs.Math.Bool.{and-false}
-use Rattle.coap_server_engine.specs.Prelude.{IsErr, AllocError, Path, StoreValue, remove_refusal, NoSuch, EventValue}
+use Rattle.coap_server_engine.specs.Prelude.{IsErr, AllocError, Path, StoreValue, remove_refusal, NoSuch, ScriptEventValue}
 use Rattle.coap_server_engine.specs.Prelude.{event_value, Ran, fed_turns, fed, event_ran, replayed, IsPartlyFed, IsUnrun}
 use Rattle.coap_server_engine.specs.Prelude.{IsRefusedAt, IsCutAt, where_there, took_turns, took, events_ran, ShowsMore}
 use Rattle.coap_server_engine.specs.Prelude.{ShowsPart, ShowsPartlyFed, events_made, ShowsRefusedAt, AddsBytes, WritesPart, SessionValue}
@@ -26,7 +26,7 @@ abbrev pub IsWhat : Ran → ServerValue → List ℕ → Type 0
 IsWhat r after line = (after ≡ r.server) × (line ≡ r.text)
 
 -- Allocation failed for an event.
-pub unrun : (v : ServerValue) (e : EventValue) (after : ServerValue) (r : Result Line AllocError) → IsErr r → IsUnrun v e after → IsRun v e after r
+pub unrun : (v : ServerValue) (e : ScriptEventValue) (after : ServerValue) (r : Result Line AllocError) → IsErr r → IsUnrun v e after → IsRun v e after r
 unrun v e after (Ok line) is so = absurd cc
 unrun v e after (Err fault) is so = so
 
@@ -176,18 +176,18 @@ module _ (v : ServerValue) (id : ℕ) (none : session_of id v.sessions ≡ None)
 -- ---- several events
 
 -- Events after others are replayed on the server after these.
-pub replayed_on : (v : ServerValue) (es fs : List EventValue) → replayed v (es ++ fs) ≡ behind (replayed v es).text (replayed (replayed v es).server fs)
+pub replayed_on : (v : ServerValue) (es fs : List ScriptEventValue) → replayed v (es ++ fs) ≡ behind (replayed v es).text (replayed (replayed v es).server fs)
 unfolding replayed
 replayed_on v [] fs = refl
 replayed_on v (e ∷ es) fs = rw (replayed_on (event_ran v e).server es fs, append_assoc)
 
 -- The first events ran, and their lines were written.
-pub record Replays (v : ServerValue) (all : List EventValue) (index : ℕ) (now : ServerValue) (x y : Option (List ℕ)) : Type 0 where
+pub record Replays (v : ServerValue) (all : List ScriptEventValue) (index : ℕ) (now : ServerValue) (x y : Option (List ℕ)) : Type 0 where
   pub server_is : now ≡ (replayed v (take index all)).server
   pub written : AddsBytes x y (replayed v (take index all)).text
 
 -- One event at its index in a list.
-pub record StandsAt (all : List EventValue) (index : ℕ) (e : EventValue) : Type 0 where
+pub record StandsAt (all : List ScriptEventValue) (index : ℕ) (e : ScriptEventValue) : Type 0 where
   pub within : index < length all
   pub all_is : all ≡ take index all ++ e ∷ drop (index + 1) all
   pub more : take (index + 1) all ≡ take index all ++ e ∷ []
@@ -195,7 +195,7 @@ pub record StandsAt (all : List EventValue) (index : ℕ) (e : EventValue) : Typ
 
 pub stands : (events : List Event) (index : ℕ) (x : Event) → index < length events → x ≡ get_or events index x → StandsAt (map event_value events) index (event_value x)
 stands events index x lt is =
-    let all : List EventValue = map event_value events in
+    let all : List ScriptEventValue = map event_value events in
     let within : index < length all = omega (arith, lt, length-map events event_value) in
     let found : get_or all index (event_value x) ≡ event_value x = get_or-map event_value events index x ∙ ap event_value (sym is) in
     let next = add-one index in
@@ -206,7 +206,7 @@ stands events index x lt is =
       counted = length-take-le index all (omega (arith, within));
     }
 
-module _ (v : ServerValue) (all : List EventValue) (index : ℕ) (now : ServerValue) (x y : Option (List ℕ)) (so_far : Replays v all index now x y) (e : EventValue) (stands : StandsAt all index e) where
+module _ (v : ServerValue) (all : List ScriptEventValue) (index : ℕ) (now : ServerValue) (x y : Option (List ℕ)) (so_far : Replays v all index now x y) (e : ScriptEventValue) (stands : StandsAt all index e) where
   -- Allocation failed for the event.
   pub refused_at : (number : ℕ) (after : ServerValue) → number ≡ index + 1 → IsUnrun now e after → IsRefusedAt v all number after (AddsBytes x y)
   refused_at number after counted unrun = record {
@@ -249,10 +249,10 @@ module _ (v : ServerValue) (all : List EventValue) (index : ℕ) (now : ServerVa
 -- ---- the history that a server shows after the first events of a replay
 
 -- After the first events, the server shows their calls.
-abbrev pub ShowsFirst : ServerValue → List EventValue → ℕ → ServerValue → Type 0
+abbrev pub ShowsFirst : ServerValue → List ScriptEventValue → ℕ → ServerValue → Type 0
 ShowsFirst v all index now = ShowsMore v now (events_ran v (take index all))
 
-module _ (v : ServerValue) (all : List EventValue) (index : ℕ) (now : ServerValue) (x y : Option (List ℕ)) (so_far : Replays v all index now x y) (shown : ShowsFirst v all index now) (e : EventValue) (stands : StandsAt all index e) where
+module _ (v : ServerValue) (all : List ScriptEventValue) (index : ℕ) (now : ServerValue) (x y : Option (List ℕ)) (so_far : Replays v all index now x y) (shown : ShowsFirst v all index now) (e : ScriptEventValue) (stands : StandsAt all index e) where
   next_ran : events_ran v (take index all) ++ events_made now e ≡ events_ran v (take (index + 1) all)
   unfolding events_ran
   next_ran = rw (stands.more, events_ran_on v (take index all) (e ∷ []), append-nil, so_far.server_is)

@@ -5,7 +5,7 @@ use Rattle.coap_conn.specs.Reasons.{reason_number}
 use Rattle.coap_store.specs.Refusals.{put_refusal, remove_refusal}
 use Rattle.coap_store.specs.declared.fault.StoreFault.{StoreFault}
 use Rattle.coap_store.specs.declared.fault.StoreFault.TheVariants as storing
-use Rattle.coap_script.specs.script.Events.{EventValue, Open, In, Drain, Tick, Put, Remove, End, Release, Drop, Status}
+use Rattle.coap_script.specs.script.Events.{ScriptEventValue, Open, In, Drain, Tick, Put, Remove, End, Release, Drop, Status}
 use Rattle.coap_script.specs.script.Lines.{open_line, in_line, out_line, tick_line, put_line, remove_line, word_line, status_line, fault_line}
 use Rattle.coap_server_engine.specs.values.Fed.{Fed, fed}
 use Rattle.coap_server_session.specs.values.Sessions.{SessionValue}
@@ -95,7 +95,7 @@ status_ran v id s = comes_to v (status_line id s.link.phase (length s.frame) (le
 -- ---- events
 
 -- The result of an event: the server after it, and its line.
-unfoldable pub event_ran : ServerValue → EventValue → Ran
+unfoldable pub event_ran : ServerValue → ScriptEventValue → Ran
 event_ran v Open = unless_refused v (codes "open") None (comes_to (server_opened v) (open_line (v.ids + 1))) (option_map open_number (open_refusal v))
 event_ran v (In id bytes) = on_connection v (codes "in") id (λ s. in_ran id (fed v id bytes)) (session_of id v.sessions)
 event_ran v (Drain id most) = on_connection v (codes "drain") id (λ s. drain_ran v id (drained most s.link.waiting)) (session_of id v.sessions)
@@ -113,6 +113,6 @@ abbrev pub behind : List ℕ → Ran → Ran
 behind before r = comes_to r.server (before ++ r.text)
 
 -- The server after all events in order, and all their lines.
-unfoldable pub replayed : ServerValue → List EventValue → Ran
+unfoldable pub replayed : ServerValue → List ScriptEventValue → Ran
 replayed v [] = comes_to v []
 replayed v (e ∷ es) = behind (event_ran v e).text (replayed (event_ran v e).server es)

@@ -1,7 +1,7 @@
 -- The values that contracts see for an event that was run, and for its line.
 use Rattle.std.specs.Prelude.{◌≡◌, ℕ, List, length, Option, Some, None, Result, Ok, Err}
 use Rattle.std.specs.declared.alloc.AllocError.{AllocError}
-use Rattle.coap_script.specs.script.Events.{EventValue}
+use Rattle.coap_script.specs.script.Events.{ScriptEventValue}
 use Rattle.coap_script.specs.script.Lines.{out_line}
 use Rattle.coap_server_engine.specs.script.Replay.{event_ran, drained}
 use Rattle.coap_server_engine.specs.script.Replayed.{IsUnrun}
@@ -16,7 +16,7 @@ line_bytes (Short line) = line.items
 line_bytes (Long line) = line.items
 
 -- States the results that the run of an event may have: its line, or the failure of an allocation.
-abbrev pub IsRun : ServerValue → EventValue → ServerValue → Result Line AllocError → Type 0
+abbrev pub IsRun : ServerValue → ScriptEventValue → ServerValue → Result Line AllocError → Type 0
 IsRun v e after (Ok line) = (after ≡ (event_ran v e).server) × (line_bytes line ≡ (event_ran v e).text)
 IsRun v e after (Err fault) = IsUnrun v e after
 

@@ -1,7 +1,7 @@
 use Rattle.std.proofs.Common.{◌≡◌, Option, subst, sym, ap, ◌∙◌, map, rules, tests, nat_lt, IfOk, option_map}
 use Rattle.std.proofs.lemmas.Iterator.{YieldsList-from_slice}
 use Rattle.std.proofs.lemmas.Iterator.Search.{all_from_yields_List}
-use Rattle.coap_script.specs.Prelude.{EventValue, event_of, event_value, words_of}
+use Rattle.coap_script.specs.Prelude.{ScriptEventValue, event_of, event_value, words_of}
 use Rattle.coap_script.proofs.scripting.ScriptLemmas.{event_of_words, too_many_words}
 use Rattle.coap_script.proofs.scripts.events.event_in.Goals as goal
 
@@ -14,4 +14,4 @@ pub returns : goal.returns
 returns c =
     let all = all_from_yields_List (λ b. nat_lt b 128) _ _ c.all.result c.all.ensures.ran (YieldsList-from_slice c.args.line.now cc) (λ x b q k. search (rules, tests)) in
     let words = ap (map (λ w. w.now)) c.as_slice.ensures.value ∙ c.in-Some.ensures.few in
-    subst (λ (event : Option EventValue). IfOk c.event_of.result (λ found. option_map event_value found ≡ event)) (ap event_of words ∙ event_of_words c.args.line.now (sym all ∙ c.if-not-all.false)) c.event_of.ensures
+    subst (λ (event : Option ScriptEventValue). IfOk c.event_of.result (λ found. option_map event_value found ≡ event)) (ap event_of words ∙ event_of_words c.args.line.now (sym all ∙ c.if-not-all.false)) c.event_of.ensures
