@@ -83,36 +83,36 @@ unfoldable pub use Rattle.coap_model.specs.streams.Output.{flushed, flushed_afte
 -- ---- coap_model, views
 pub use Rattle.coap_model.specs.views.ConfigViews.{start_values}
 -- ---- coap_model, world
-pub use Rattle.coap_model.specs.world.Answered.{FollowsAnswers, HasResponse}
-unfoldable pub use Rattle.coap_model.specs.world.Answered.{HaveOwnAnswers}
-pub use Rattle.coap_model.specs.world.Custody.{QueuesCustody, IsFirstHeld, KeepsHeld, KeepsHeldOver, AddsAsked}
-pub use Rattle.coap_model.specs.world.Custody.{asks_held}
-unfoldable pub use Rattle.coap_model.specs.world.Custody.{StandFor}
-pub use Rattle.coap_model.specs.world.Events.{Event, Ticked, Stored, Removed, Opened, Ended, Took, stream_on}
+pub use Rattle.coap_model.specs.world.PongOrder.{FollowsAnswers, HasResponse}
+unfoldable pub use Rattle.coap_model.specs.world.PongOrder.{HaveDistinctAnswers}
+pub use Rattle.coap_model.specs.world.Custody.{QueuesCustody, IsFirstHeld, KeepsPending, KeepsPendingOver, AddsAsked}
+pub use Rattle.coap_model.specs.world.Custody.{asks_pending}
+unfoldable pub use Rattle.coap_model.specs.world.Custody.{CorrespondTo}
+pub use Rattle.coap_model.specs.world.Events.{AcceptedCall, Ticked, Stored, Removed, Opened, Ended, Took, stream_on}
 pub use Rattle.coap_model.specs.world.Events.{AreAccepted, Wrote, Released, Announced, Dropped, IfSide, OnSide}
 pub use Rattle.coap_model.specs.world.Events.{beyond, new_fault, size_by, spelled_on, taken_in, takes_of}
 unfoldable pub use Rattle.coap_model.specs.world.Events.{size_on, steps_of, world_after, takes, AreAcceptedBehind}
 unfoldable pub use Rattle.coap_model.specs.world.Events.{IsAccepted, sizes_on, steps_behind, steps_by, taken_on}
-pub use Rattle.coap_model.specs.world.Heard.{heard_step, hears}
-unfoldable pub use Rattle.coap_model.specs.world.Heard.{steps_heard, heard_steps}
+pub use Rattle.coap_model.specs.world.EndOfInput.{normalised_step, takes_input}
+unfoldable pub use Rattle.coap_model.specs.world.EndOfInput.{normalised_steps, heard_steps}
 pub use Rattle.coap_model.specs.world.Observers.{asks_entry, is_whole, Observer, entry_for, format_of, goes_on}
 pub use Rattle.coap_model.specs.world.Observers.{has_place, left_of, notification, notification_message, same_state}
 pub use Rattle.coap_model.specs.world.Observers.{with_entry}
 unfoldable pub use Rattle.coap_model.specs.world.Observers.{first_becomes, is_due, without_token}
-pub use Rattle.coap_model.specs.world.Sides.{Side, waiting_on, HearsAll, handles, asks_answer, held_for, moment_after}
-pub use Rattle.coap_model.specs.world.Sides.{held_message, next_held, is_cut, after_sent, has_room, kept_open}
-pub use Rattle.coap_model.specs.world.Sides.{may_raise, new_side, next_due, notified, settled_so, side_answered}
-pub use Rattle.coap_model.specs.world.Sides.{side_handled, side_replied, side_with, with_history, kept_on}
-unfoldable pub use Rattle.coap_model.specs.world.Sides.{side_after, side_faulted, side_written, side_ended}
-unfoldable pub use Rattle.coap_model.specs.world.Sides.{side_released, side_announced, settled_once, change_after}
-unfoldable pub use Rattle.coap_model.specs.world.Sides.{settled, settled_within}
-pub use Rattle.coap_model.specs.world.Told.{WasToldLast, HaveOwnTokens, asked_late, ReportsState, etag_of_state}
-pub use Rattle.coap_model.specs.world.Told.{responds}
-unfoldable pub use Rattle.coap_model.specs.world.Told.{last_response}
+pub use Rattle.coap_model.specs.world.Connections.{Connection, waiting_on, IsUpToDate, handles, asks_answer, held_for, moment_after}
+pub use Rattle.coap_model.specs.world.Connections.{held_message, next_held, is_cut, after_sent, has_room, kept_open}
+pub use Rattle.coap_model.specs.world.Connections.{may_raise, new_side, next_due, notified, settled_so, side_answered}
+pub use Rattle.coap_model.specs.world.Connections.{side_handled, side_replied, side_with, with_history, kept_on}
+unfoldable pub use Rattle.coap_model.specs.world.Connections.{side_after, side_faulted, side_written, side_ended}
+unfoldable pub use Rattle.coap_model.specs.world.Connections.{side_released, side_announced, settled_once, change_after}
+unfoldable pub use Rattle.coap_model.specs.world.Connections.{settled, settled_within}
+pub use Rattle.coap_model.specs.world.LastNotification.{IsLastNotification, TokensAreDistinct, asked_late, ReportsState, etag_of_state}
+pub use Rattle.coap_model.specs.world.LastNotification.{responds}
+unfoldable pub use Rattle.coap_model.specs.world.LastNotification.{last_response}
 pub use Rattle.coap_model.specs.world.View.{after_view, AreSeen, change_on, change_steps}
 unfoldable pub use Rattle.coap_model.specs.world.View.{view_of, concerns, view_step}
 pub use Rattle.coap_model.specs.world.ViewEvents.{first_number, change_events}
 unfoldable pub use Rattle.coap_model.specs.world.ViewEvents.{view_events, changes_of, view_behind, view_event}
-pub use Rattle.coap_model.specs.world.World.{World, Step, new_world, Faulted, Handled, Place, Written, all_settled}
+pub use Rattle.coap_model.specs.world.World.{World, Step, new_world, Faulted, Handled, ConnectionEntry, Written, all_settled}
 pub use Rattle.coap_model.specs.world.World.{on_side, settled_place, stored_after, ticks}
 unfoldable pub use Rattle.coap_model.specs.world.World.{side_of, step, after_steps, acted}

@@ -1,18 +1,18 @@
-//! Theorems on the events of a server. Each is the contract of a function that does nothing. `World` and `Side` are the
+//! Theorems on the events of a server. Each is the contract of a function that does nothing. `World` and `Connection` are the
 //! server and one connection in the model (`specs/world`).
 
 ghost use Rattle.std.specs.Prelude.{◌≡◌, ℕ, Bool, ◌<◌, ◌≤◌, List, [], ◌∷◌, ◌++◌, length, true, false, Some, None};
 ghost use Rattle.coap_model.specs.Prelude.{AllByRecursion, Message, StreamFault, LimitValues, AreInRange, AllFit};
 ghost use Rattle.coap_model.specs.Prelude.{bare_response, PendingEntryValue, Answer, Pong, without_due, answers, send};
 ghost use Rattle.coap_model.specs.Prelude.{pong_with, is_custody_pong, limit_now, standing_now, after, standing_due};
-ghost use Rattle.coap_model.specs.Prelude.{StoreValue, answer_of, ConfigValues, Side, waiting_on, handles};
+ghost use Rattle.coap_model.specs.Prelude.{StoreValue, answer_of, ConfigValues, Connection, waiting_on, handles};
 ghost use Rattle.coap_model.specs.Prelude.{asks_answer, held_for, moment_after, held_message, next_held, side_after};
 ghost use Rattle.coap_model.specs.Prelude.{side_faulted, side_written, side_ended, side_released, side_announced};
-ghost use Rattle.coap_model.specs.Prelude.{settled_once, StandFor, QueuesCustody, IsFirstHeld, KeepsHeld};
-ghost use Rattle.coap_model.specs.Prelude.{KeepsHeldOver, World, Step, new_world, side_of, step, after_steps, Event};
+ghost use Rattle.coap_model.specs.Prelude.{settled_once, CorrespondTo, QueuesCustody, IsFirstHeld, KeepsPending};
+ghost use Rattle.coap_model.specs.Prelude.{KeepsPendingOver, World, Step, new_world, side_of, step, after_steps, AcceptedCall};
 ghost use Rattle.coap_model.specs.Prelude.{size_on, stream_on, steps_of, world_after, AreAccepted, kept_on};
 ghost use Rattle.coap_model.specs.Prelude.{FollowsAnswers, view_of, after_view, AreSeen, first_number, view_events};
-ghost use Rattle.coap_model.specs.Prelude.{WasToldLast, HaveOwnTokens, asked_late};
+ghost use Rattle.coap_model.specs.Prelude.{IsLastNotification, TokensAreDistinct, asked_late};
 ghost use Rattle.coap_conn.specs.Calls as call;
 ghost use Rattle.coap_model.specs.world.World.{Opened};
 
@@ -22,10 +22,10 @@ ghost use Rattle.coap_model.specs.world.World.{Opened};
 /// that a connection has queued and changes no other. If the step opens the connection and the limits are in range, all
 /// its queued messages fit.
 pub fn queued_messages_fit_limit()
-    ensures more { (limits : LimitValues) (w : World) (st : Step) (id : ℕ) (s t : Side) → side_of id w.sides ≡ Some s →
+    ensures more { (limits : LimitValues) (w : World) (st : Step) (id : ℕ) (s t : Connection) → side_of id w.sides ≡ Some s →
         side_of id (step limits w st).sides ≡ Some t →
         (more : List Message) × (t.history.queued ≡ s.history.queued ++ more) × AllFit (limit_now t.history) more }
-    ensures opened { (limits : LimitValues) (w : World) (id : ℕ) (t : Side) → AreInRange limits →
+    ensures opened { (limits : LimitValues) (w : World) (id : ℕ) (t : Connection) → AreInRange limits →
         side_of id w.sides ≡ None → side_of id (step limits w (Opened id)).sides ≡ Some t →
         AllFit (limit_now t.history) t.history.queued }
 {}
@@ -38,7 +38,7 @@ pub fn queued_messages_fit_limit()
 ///
 /// The view of accepted events (`view_events`) is itself a list of accepted events. There the connection is the first
 /// that is opened, so it may have another id. Everything else is the same.
-pub fn a_connection_sees_others_through_the_store_alone()
+pub fn connections_interact_only_through_store()
     ensures seen { (limits : LimitValues) (id : ℕ) (w : World) (ss : List Step) → AreSeen id (view_of limits id w ss) }
     ensures side { (c : ConfigValues) (id : ℕ) (ss : List Step) →
         side_of id (after_steps c.limits (new_world c) ss).sides ≡ side_of id (after_view c id ss).sides }
@@ -46,27 +46,27 @@ pub fn a_connection_sees_others_through_the_store_alone()
         (after_steps c.limits (new_world c) ss).store ≡ (after_view c id ss).store }
     ensures now { (c : ConfigValues) (id : ℕ) (ss : List Step) →
         (after_steps c.limits (new_world c) ss).now ≡ (after_view c id ss).now }
-    ensures events_side { (c : ConfigValues) (id : ℕ) (events : List Event) →
+    ensures events_side { (c : ConfigValues) (id : ℕ) (events : List AcceptedCall) →
         side_of id (world_after c events).sides
         ≡ side_of id (after_view c id (steps_of c.limits.max_message events)).sides }
-    ensures events_store { (c : ConfigValues) (id : ℕ) (events : List Event) →
+    ensures events_store { (c : ConfigValues) (id : ℕ) (events : List AcceptedCall) →
         (world_after c events).store ≡ (after_view c id (steps_of c.limits.max_message events)).store }
-    ensures events_now { (c : ConfigValues) (id : ℕ) (events : List Event) →
+    ensures events_now { (c : ConfigValues) (id : ℕ) (events : List AcceptedCall) →
         (world_after c events).now ≡ (after_view c id (steps_of c.limits.max_message events)).now }
-    ensures view_side { (c : ConfigValues) (id : ℕ) (events : List Event) →
+    ensures view_side { (c : ConfigValues) (id : ℕ) (events : List AcceptedCall) →
         AreAccepted c events →
         side_of id (world_after c events).sides
         ≡ side_of (first_number c) (world_after c (view_events c id events)).sides }
-    ensures view_store { (c : ConfigValues) (id : ℕ) (events : List Event) →
+    ensures view_store { (c : ConfigValues) (id : ℕ) (events : List AcceptedCall) →
         AreAccepted c events →
         (world_after c events).store ≡ (world_after c (view_events c id events)).store }
-    ensures view_now { (c : ConfigValues) (id : ℕ) (events : List Event) →
+    ensures view_now { (c : ConfigValues) (id : ℕ) (events : List AcceptedCall) →
         AreAccepted c events →
         (world_after c events).now ≡ (world_after c (view_events c id events)).now }
-    ensures view_accepted { (c : ConfigValues) (id : ℕ) (events : List Event) →
+    ensures view_accepted { (c : ConfigValues) (id : ℕ) (events : List AcceptedCall) →
         AreAccepted c events →
         AreAccepted c (view_events c id events) }
-    ensures alike { (c : ConfigValues) (id : ℕ) (events others : List Event) →
+    ensures alike { (c : ConfigValues) (id : ℕ) (events others : List AcceptedCall) →
         view_of c.limits id (new_world c) (steps_of c.limits.max_message events)
         ≡ view_of c.limits id (new_world c) (steps_of c.limits.max_message others) →
         side_of id (world_after c events).sides ≡ side_of id (world_after c others).sides }
@@ -79,13 +79,13 @@ pub fn a_connection_sees_others_through_the_store_alone()
 /// - `kept`: after accepted events, an unfinished message has fewer bytes than the largest message that the connection
 ///   accepts.
 pub fn limits_are_kept()
-    ensures waiting { (c : ConfigValues) (events : List Event) (id : ℕ) (s : Side) → AreInRange c.limits →
+    ensures waiting { (c : ConfigValues) (events : List AcceptedCall) (id : ℕ) (s : Connection) → AreInRange c.limits →
         side_of id (world_after c events).sides ≡ Some s → length (waiting_on s) ≤ c.limits.queue }
-    ensures observers { (c : ConfigValues) (events : List Event) (id : ℕ) (s : Side) →
+    ensures observers { (c : ConfigValues) (events : List AcceptedCall) (id : ℕ) (s : Connection) →
         side_of id (world_after c events).sides ≡ Some s → length s.observers ≤ c.limits.observers }
-    ensures held { (c : ConfigValues) (events : List Event) (id : ℕ) (s : Side) →
+    ensures held { (c : ConfigValues) (events : List AcceptedCall) (id : ℕ) (s : Connection) →
         side_of id (world_after c events).sides ≡ Some s → length s.history.held ≤ c.limits.pending }
-    ensures kept { (c : ConfigValues) (events : List Event) (id : ℕ) (s : Side) → AreInRange c.limits →
+    ensures kept { (c : ConfigValues) (events : List AcceptedCall) (id : ℕ) (s : Connection) → AreInRange c.limits →
         AreAccepted c events → side_of id (world_after c events).sides ≡ Some s →
         length (kept_on s (stream_on c.limits.max_message id events).rest) < s.history.own_max }
 {}
@@ -94,8 +94,8 @@ pub fn limits_are_kept()
 ///
 /// Before any announcement, the limits of the configuration apply (RFC 8323 section 5.3.1). The events must be accepted
 /// ones.
-pub fn the_size_announced_last_is_in_force()
-    ensures { (c : ConfigValues) (events : List Event) (id : ℕ) (s : Side) → AreAccepted c events →
+pub fn last_announced_size_applies()
+    ensures { (c : ConfigValues) (events : List AcceptedCall) (id : ℕ) (s : Connection) → AreAccepted c events →
         side_of id (world_after c events).sides ≡ Some s →
         s.history.own_max ≡ size_on c.limits.max_message id events }
 {}
@@ -106,13 +106,13 @@ pub fn the_size_announced_last_is_in_force()
 ///   Observe. It is the 2.05 with the recorded state, or the 2.03 with the ETag of that state. Observers whose token a
 ///   request for a delayed response has also used are exempt.
 /// - `tokens`: no two observers of a connection have the same token.
-pub fn observers_were_told_last()
-    ensures told { (c : ConfigValues) (events : List Event) (id : ℕ) (s : Side) →
+pub fn last_notification_matches_state()
+    ensures told { (c : ConfigValues) (events : List AcceptedCall) (id : ℕ) (s : Connection) →
         side_of id (world_after c events).sides ≡ Some s →
         AllByRecursion (λ o. asked_late o.token s.history.handled ≡ false →
-        WasToldLast s.history.queued o) s.observers }
-    ensures tokens { (c : ConfigValues) (events : List Event) (id : ℕ) (s : Side) →
-        side_of id (world_after c events).sides ≡ Some s → HaveOwnTokens s.observers }
+        IsLastNotification s.history.queued o) s.observers }
+    ensures tokens { (c : ConfigValues) (events : List AcceptedCall) (id : ℕ) (s : Connection) →
+        side_of id (world_after c events).sides ≡ Some s → TokensAreDistinct s.observers }
 {}
 
 /// States when delayed responses and Pongs with Custody are queued.
@@ -127,24 +127,24 @@ pub fn observers_were_told_last()
 /// - `sent`: settling sends a delayed response that is due first.
 /// - `faulted`, `ended`, `released`, `announced`, `written`: nothing else queues such a Pong.
 pub fn custody_comes_last()
-    ensures order { (c : ConfigValues) (events : List Event) (id : ℕ) (s : Side) →
-        side_of id (world_after c events).sides ≡ Some s → StandFor s.history.handled s.history.held }
-    ensures at_once { (store : StoreValue) (now : ℕ) (s : Side) (m : Message) →
+    ensures order { (c : ConfigValues) (events : List AcceptedCall) (id : ℕ) (s : Connection) →
+        side_of id (world_after c events).sides ≡ Some s → CorrespondTo s.history.handled s.history.held }
+    ensures at_once { (store : StoreValue) (now : ℕ) (s : Connection) (m : Message) →
         QueuesCustody s (side_after store now s m) → s.history.held ≡ [] }
-    ensures later { (store : StoreValue) (now : ℕ) (s : Side) → QueuesCustody s (settled_once store now s) →
+    ensures later { (store : StoreValue) (now : ℕ) (s : Connection) → QueuesCustody s (settled_once store now s) →
         (token : List ℕ) × IsFirstHeld s token }
-    ensures held { (store : StoreValue) (now : ℕ) (s : Side) (m : Message) (seconds : ℕ) → handles s ≡ true →
+    ensures held { (store : StoreValue) (now : ℕ) (s : Connection) (m : Message) (seconds : ℕ) → handles s ≡ true →
         asks_answer s m ≡ true →
         held_for (after s.history (call.Handle m)) (answer_of store now m).hold ≡ Some seconds →
         (side_after store now s m).history.held ≡ s.history.held ++ Answer m.token (moment_after now seconds) ∷ [] }
-    ensures sent { (store : StoreValue) (now : ℕ) (s : Side) (token : List ℕ) (moment : ℕ) →
+    ensures sent { (store : StoreValue) (now : ℕ) (s : Connection) (token : List ℕ) (moment : ℕ) →
         next_held now s ≡ Some (Answer token moment) →
         (settled_once store now s).history ≡ after (after s.history (call.Due now)) (call.Reply (held_message token)) }
-    ensures faulted { (s : Side) (fault : StreamFault) → QueuesCustody s (side_faulted s fault) → ⊥ }
-    ensures ended { (s : Side) (cut : Bool) → QueuesCustody s (side_ended s cut) → ⊥ }
-    ensures released { (s : Side) → QueuesCustody s (side_released s) → ⊥ }
-    ensures announced { (s : Side) (size : ℕ) → QueuesCustody s (side_announced s size) → ⊥ }
-    ensures written { (s : Side) (n : ℕ) → QueuesCustody s (side_written s n) → ⊥ }
+    ensures faulted { (s : Connection) (fault : StreamFault) → QueuesCustody s (side_faulted s fault) → ⊥ }
+    ensures ended { (s : Connection) (cut : Bool) → QueuesCustody s (side_ended s cut) → ⊥ }
+    ensures released { (s : Connection) → QueuesCustody s (side_released s) → ⊥ }
+    ensures announced { (s : Connection) (size : ℕ) → QueuesCustody s (side_announced s size) → ⊥ }
+    ensures written { (s : Connection) (n : ℕ) → QueuesCustody s (side_written s n) → ⊥ }
 {}
 
 /// States that a Pong with Custody follows the responses to all requests before its Ping (RFC 8323 section 5.4.1).
@@ -156,7 +156,7 @@ pub fn custody_comes_last()
 /// A response counts if it has the token of the request, even if it is bare or a 5.03. No two requests share one
 /// response. Responses with the same token are not distinguished, so a notification may count as one.
 pub fn a_pong_with_custody_follows_all_answers()
-    ensures { (c : ConfigValues) (events : List Event) (id : ℕ) (s : Side) (before : List Message) (pong : Message)
+    ensures { (c : ConfigValues) (events : List AcceptedCall) (id : ℕ) (s : Connection) (before : List Message) (pong : Message)
         (behind : List Message) →
         side_of id (world_after c events).sides ≡ Some s →
         s.history.queued ≡ before ++ pong ∷ behind →
@@ -174,25 +174,25 @@ pub fn a_pong_with_custody_follows_all_answers()
 ///
 /// By `custody_comes_last`, a delayed response pending before a Pong with Custody is therefore queued before it, unless
 /// the connection stops.
-pub fn what_is_held_is_sent()
-    ensures message { (store : StoreValue) (now : ℕ) (s : Side) (m : Message) →
-        KeepsHeldOver m s (side_after store now s m) }
-    ensures faulted { (s : Side) (fault : StreamFault) → KeepsHeld s (side_faulted s fault) }
-    ensures ended { (s : Side) (cut : Bool) → KeepsHeld s (side_ended s cut) }
-    ensures released { (s : Side) → KeepsHeld s (side_released s) }
-    ensures announced { (s : Side) (size : ℕ) → KeepsHeld s (side_announced s size) }
-    ensures written { (s : Side) (n : ℕ) → (side_written s n).history.held ≡ s.history.held }
-    ensures told { (store : StoreValue) (now : ℕ) (s : Side) → next_held now s ≡ None →
-        KeepsHeld s (settled_once store now s) }
-    ensures taken { (store : StoreValue) (now : ℕ) (s : Side) (e : PendingEntryValue) → next_held now s ≡ Some e →
+pub fn pending_entries_are_sent()
+    ensures message { (store : StoreValue) (now : ℕ) (s : Connection) (m : Message) →
+        KeepsPendingOver m s (side_after store now s m) }
+    ensures faulted { (s : Connection) (fault : StreamFault) → KeepsPending s (side_faulted s fault) }
+    ensures ended { (s : Connection) (cut : Bool) → KeepsPending s (side_ended s cut) }
+    ensures released { (s : Connection) → KeepsPending s (side_released s) }
+    ensures announced { (s : Connection) (size : ℕ) → KeepsPending s (side_announced s size) }
+    ensures written { (s : Connection) (n : ℕ) → (side_written s n).history.held ≡ s.history.held }
+    ensures told { (store : StoreValue) (now : ℕ) (s : Connection) → next_held now s ≡ None →
+        KeepsPending s (settled_once store now s) }
+    ensures taken { (store : StoreValue) (now : ℕ) (s : Connection) (e : PendingEntryValue) → next_held now s ≡ Some e →
         answers s.history.phase ≡ true → (settled_once store now s).history.phase ≡ s.history.phase →
         (settled_once store now s).history.held ≡ without_due now s.history.held }
-    ensures answer { (store : StoreValue) (now : ℕ) (s : Side) (token : List ℕ) (moment : ℕ) →
+    ensures answer { (store : StoreValue) (now : ℕ) (s : Connection) (token : List ℕ) (moment : ℕ) →
         next_held now s ≡ Some (Answer token moment) → answers s.history.phase ≡ true →
         (settled_once store now s).history.queued
         ≡ s.history.queued ++ (send (standing_due now (standing_now s.history)) (held_message token)
         (bare_response (held_message token))).queued }
-    ensures pong { (store : StoreValue) (now : ℕ) (s : Side) (token : List ℕ) → next_held now s ≡ Some (Pong token) →
+    ensures pong { (store : StoreValue) (now : ℕ) (s : Connection) (token : List ℕ) → next_held now s ≡ Some (Pong token) →
         (settled_once store now s).history.queued
         ≡ s.history.queued ++ (send (standing_due now (standing_now s.history)) (pong_with true token)
         (pong_with false token)).queued }

@@ -38,17 +38,17 @@ pub use Rattle.coap_model.specs.declared.answers.Taken.{Taken}
 pub use Rattle.coap_model.specs.declared.answers.WrittenFault.{WrittenFault}
 pub use Rattle.coap_model.specs.streams.Output.{only_id, stream_of, stdio_output, Outcome, more_of, outcome_on}
 unfoldable pub use Rattle.coap_model.specs.streams.Output.{flushed, flushed_after, outcome, world_for, written_times}
-pub use Rattle.coap_model.specs.world.Events.{Event, Ticked, Stored, Removed, Opened, Ended, Took, stream_on}
+pub use Rattle.coap_model.specs.world.Events.{AcceptedCall, Ticked, Stored, Removed, Opened, Ended, Took, stream_on}
 pub use Rattle.coap_model.specs.world.Events.{Wrote, Dropped}
 pub use Rattle.coap_model.specs.world.Events.{beyond, spelled_on}
 unfoldable pub use Rattle.coap_model.specs.world.Events.{size_on, world_after, takes}
 unfoldable pub use Rattle.coap_model.specs.world.Events.{steps_by}
 pub use Rattle.coap_model.specs.world.Handling.{count_of, handled_in}
-pub use Rattle.coap_model.specs.world.Sides.{Side, waiting_on, handles}
-pub use Rattle.coap_model.specs.world.Sides.{is_cut, has_room}
-pub use Rattle.coap_model.specs.world.Sides.{new_side}
-unfoldable pub use Rattle.coap_model.specs.world.Sides.{side_written, side_ended}
-unfoldable pub use Rattle.coap_model.specs.world.Sides.{settled}
+pub use Rattle.coap_model.specs.world.Connections.{Connection, waiting_on, handles}
+pub use Rattle.coap_model.specs.world.Connections.{is_cut, has_room}
+pub use Rattle.coap_model.specs.world.Connections.{new_side}
+unfoldable pub use Rattle.coap_model.specs.world.Connections.{side_written, side_ended}
+unfoldable pub use Rattle.coap_model.specs.world.Connections.{settled}
 pub use Rattle.coap_model.specs.world.World.{World, Step}
 unfoldable pub use Rattle.coap_model.specs.world.World.{side_of, step}
 -- ---- coap_serve, declared

@@ -3,9 +3,9 @@
 mod runs;
 
 pub use coap_model::laws::{
-    a_connection_sees_others_through_the_store_alone, a_pong_with_custody_follows_all_answers,
-    custody_comes_last, limits_are_kept, observers_were_told_last,
-    the_size_announced_last_is_in_force, what_is_held_is_sent, queued_messages_fit_limit,
+    connections_interact_only_through_store, a_pong_with_custody_follows_all_answers,
+    custody_comes_last, limits_are_kept, last_notification_matches_state,
+    last_announced_size_applies, pending_entries_are_sent, queued_messages_fit_limit,
 };
 pub use coap_server_engine::laws::{
     segmentation_is_irrelevant, each_message_taken_is_handled_once, no_change_is_lost,

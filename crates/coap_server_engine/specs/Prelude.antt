@@ -62,23 +62,23 @@ pub use Rattle.coap_model.specs.declared.answers.ReleaseFault.{ReleaseFault}
 pub use Rattle.coap_model.specs.declared.answers.TakeFault.{TakeFault}
 pub use Rattle.coap_model.specs.declared.answers.Taken.{Taken}
 pub use Rattle.coap_model.specs.declared.answers.WrittenFault.{WrittenFault}
-pub use Rattle.coap_model.specs.world.Events.{Event, Ticked, Stored, Removed, Opened, Ended, Took, stream_on}
+pub use Rattle.coap_model.specs.world.Events.{AcceptedCall, Ticked, Stored, Removed, Opened, Ended, Took, stream_on}
 pub use Rattle.coap_model.specs.world.Events.{AreAccepted, Wrote, Released, Announced, Dropped, IfSide, OnSide}
 pub use Rattle.coap_model.specs.world.Events.{beyond, taken_in, takes_of}
 unfoldable pub use Rattle.coap_model.specs.world.Events.{size_on, steps_of, world_after, takes, AreAcceptedBehind}
 unfoldable pub use Rattle.coap_model.specs.world.Events.{IsAccepted, steps_by}
 pub use Rattle.coap_model.specs.world.Handling.{count_of, handled_in, handled_between}
-pub use Rattle.coap_model.specs.world.Heard.{heard_step, kept_at}
-unfoldable pub use Rattle.coap_model.specs.world.Heard.{steps_heard}
-pub use Rattle.coap_model.specs.world.Memory.{IsRefusedStored, StoresNothing, IsRefusedFor}
-pub use Rattle.coap_model.specs.world.Sides.{Side, HearsAll, handles}
-pub use Rattle.coap_model.specs.world.Sides.{is_cut}
-pub use Rattle.coap_model.specs.world.Sides.{new_side}
-pub use Rattle.coap_model.specs.world.Sides.{kept_on}
-unfoldable pub use Rattle.coap_model.specs.world.Sides.{side_after, side_faulted, side_written, side_ended}
-unfoldable pub use Rattle.coap_model.specs.world.Sides.{side_released, side_announced}
+pub use Rattle.coap_model.specs.world.EndOfInput.{normalised_step, kept_at}
+unfoldable pub use Rattle.coap_model.specs.world.EndOfInput.{normalised_steps}
+pub use Rattle.coap_model.specs.world.RefusedTake.{IsRefusedStored, StoresNothing, IsRefusedFor}
+pub use Rattle.coap_model.specs.world.Connections.{Connection, IsUpToDate, handles}
+pub use Rattle.coap_model.specs.world.Connections.{is_cut}
+pub use Rattle.coap_model.specs.world.Connections.{new_side}
+pub use Rattle.coap_model.specs.world.Connections.{kept_on}
+unfoldable pub use Rattle.coap_model.specs.world.Connections.{side_after, side_faulted, side_written, side_ended}
+unfoldable pub use Rattle.coap_model.specs.world.Connections.{side_released, side_announced}
 pub use Rattle.coap_model.specs.world.View.{change_made}
-pub use Rattle.coap_model.specs.world.World.{World, Step, new_world, Handled, Place, all_settled, on_side}
+pub use Rattle.coap_model.specs.world.World.{World, Step, new_world, Handled, ConnectionEntry, all_settled, on_side}
 pub use Rattle.coap_model.specs.world.World.{settled_place, stored_after, ticks}
 unfoldable pub use Rattle.coap_model.specs.world.World.{side_of, after_steps, acted}
 -- ---- this crate: declared types

@@ -3,10 +3,10 @@
 ghost use Rattle.std.specs.Prelude.{◌≡◌, ◌⊎◌, ℕ, Bool, ◌+◌, ◌<◌, ◌^◌, ◌≤◌, List, ◌∷◌, ◌++◌, map, false, Some};
 ghost use Rattle.coap_server_engine.specs.Prelude.{concat, StreamFault, reject_of, reject_reason, takes_messages};
 ghost use Rattle.coap_server_engine.specs.Prelude.{IsStore, ConfigValues, IsNotTaken, ServerValue, AreSettled};
-ghost use Rattle.coap_server_engine.specs.Prelude.{WrittenFault, ReleaseFault, WaitsForWhatIsDue, Side, HearsAll};
-ghost use Rattle.coap_server_engine.specs.Prelude.{World, new_world, side_of, after_steps, Event, Took, stream_on};
-ghost use Rattle.coap_server_engine.specs.Prelude.{steps_of, world_after, AreAccepted, Shows, server_of, heard_step};
-ghost use Rattle.coap_server_engine.specs.Prelude.{steps_heard, kept_at, IsRefusedStored, StoresNothing, ScriptEventValue};
+ghost use Rattle.coap_server_engine.specs.Prelude.{WrittenFault, ReleaseFault, WaitsForWhatIsDue, Connection, IsUpToDate};
+ghost use Rattle.coap_server_engine.specs.Prelude.{World, new_world, side_of, after_steps, AcceptedCall, Took, stream_on};
+ghost use Rattle.coap_server_engine.specs.Prelude.{steps_of, world_after, AreAccepted, Shows, server_of, normalised_step};
+ghost use Rattle.coap_server_engine.specs.Prelude.{normalised_steps, kept_at, IsRefusedStored, StoresNothing, ScriptEventValue};
 ghost use Rattle.coap_server_engine.specs.Prelude.{fed, replayed, DifferInCuts, AreInTime, lines_of, other_lines};
 ghost use Rattle.coap_conn.specs.declared.phase.Phase.TheVariants.{Stopped};
 ghost use Rattle.coap_model.specs.declared.answers.TakeFault.TheVariants.{Memory};
@@ -21,39 +21,39 @@ ghost use Rattle.coap_model.specs.world.World.{Ended};
 /// - Every delayed response that is due was sent.
 /// - No pending Pong is first in the pending list.
 pub fn no_change_is_lost()
-    ensures { (v : ServerValue) (events : List Event) (id : ℕ) (s : Side) → Shows v events →
-        side_of id (world_after v.config events).sides ≡ Some s → HearsAll v.host.store v.host.now s }
+    ensures { (v : ServerValue) (events : List AcceptedCall) (id : ℕ) (s : Connection) → Shows v events →
+        side_of id (world_after v.config events).sides ≡ Some s → IsUpToDate v.host.store v.host.now s }
 {}
 
 /// States that the division of a stream into slices does not matter.
 ///
 /// - A slice and its two parts, one after the other, make the same steps and leave the same world. This holds whatever
 ///   events come before and after them (`steps`, `worlds`).
-/// - Normalised steps (`steps_heard`) never say of the end of input after a stop that it truncated a message (`quiet`).
+/// - Normalised steps (`normalised_steps`) never say of the end of input after a stop that it truncated a message (`quiet`).
 ///   They lead to the same world (`heard`), and equal steps have equal normalised steps (`alike`).
 /// - Equal normalised steps leave equal worlds (`same_steps`). If the bytes kept of unfinished messages are equal too,
 ///   they leave equal servers (`servers`). So bytes that no connection processes make no difference.
 pub fn segmentation_is_irrelevant()
-    ensures steps { (max : ℕ) (before behind : List Event) (id : ℕ) (xs ys : List ℕ) →
+    ensures steps { (max : ℕ) (before behind : List AcceptedCall) (id : ℕ) (xs ys : List ℕ) →
         steps_of max (before ++ Took id (xs ++ ys) ∷ behind)
         ≡ steps_of max (before ++ Took id xs ∷ Took id ys ∷ behind) }
-    ensures worlds { (c : ConfigValues) (before behind : List Event) (id : ℕ) (xs ys : List ℕ) →
+    ensures worlds { (c : ConfigValues) (before behind : List AcceptedCall) (id : ℕ) (xs ys : List ℕ) →
         world_after c (before ++ Took id (xs ++ ys) ∷ behind)
         ≡ world_after c (before ++ Took id xs ∷ Took id ys ∷ behind) }
-    ensures heard { (c : ConfigValues) (events : List Event) →
-        after_steps c.limits (new_world c) (steps_heard c events) ≡ world_after c events }
-    ensures alike { (c : ConfigValues) (events others : List Event) →
+    ensures heard { (c : ConfigValues) (events : List AcceptedCall) →
+        after_steps c.limits (new_world c) (normalised_steps c events) ≡ world_after c events }
+    ensures alike { (c : ConfigValues) (events others : List AcceptedCall) →
         steps_of c.limits.max_message events ≡ steps_of c.limits.max_message others →
-        steps_heard c events ≡ steps_heard c others }
-    ensures quiet { (w : World) (id : ℕ) (s : Side) (cut : Bool) →
+        normalised_steps c events ≡ normalised_steps c others }
+    ensures quiet { (w : World) (id : ℕ) (s : Connection) (cut : Bool) →
         side_of id w.sides ≡ Some s →
         takes_messages s.history.phase ≡ false →
-        heard_step w (Ended id cut) ≡ Ended id false }
-    ensures same_steps { (c : ConfigValues) (events others : List Event) →
-        steps_heard c events ≡ steps_heard c others →
+        normalised_step w (Ended id cut) ≡ Ended id false }
+    ensures same_steps { (c : ConfigValues) (events others : List AcceptedCall) →
+        normalised_steps c events ≡ normalised_steps c others →
         world_after c events ≡ world_after c others }
-    ensures servers { (c : ConfigValues) (events others : List Event) →
-        steps_heard c events ≡ steps_heard c others →
+    ensures servers { (c : ConfigValues) (events others : List AcceptedCall) →
+        normalised_steps c events ≡ normalised_steps c others →
         ((id : ℕ) → kept_at c events id ≡ kept_at c others id) →
         server_of c events ≡ server_of c others }
 {}
@@ -68,16 +68,16 @@ pub fn segmentation_is_irrelevant()
 ///
 /// Moving an `in` past an `in` of another connection is not covered.
 pub fn where_a_script_cuts_does_not_matter()
-    ensures taken { (v : ServerValue) (before : List Event) (id : ℕ) (xs ys : List ℕ) → Shows v before →
+    ensures taken { (v : ServerValue) (before : List AcceptedCall) (id : ℕ) (xs ys : List ℕ) → Shows v before →
         (fed v id (xs ++ ys)).count ≡ (fed v id xs).count + (fed (fed v id xs).server id ys).count }
-    ensures after { (v : ServerValue) (before : List Event) (id : ℕ) (xs ys : List ℕ) → Shows v before →
+    ensures after { (v : ServerValue) (before : List AcceptedCall) (id : ℕ) (xs ys : List ℕ) → Shows v before →
         (fed v id (xs ++ ys)).server ≡ (fed (fed v id xs).server id ys).server }
-    ensures servers { (v : ServerValue) (before : List Event) (events others : List ScriptEventValue) → Shows v before →
+    ensures servers { (v : ServerValue) (before : List AcceptedCall) (events others : List ScriptEventValue) → Shows v before →
         v.ids < 2 ^ 64 → AreInTime events → AreInTime others → DifferInCuts events others →
         (replayed v events).server ≡ (replayed v others).server }
     ensures text { (v : ServerValue) (events : List ScriptEventValue) →
         concat (map (λ l. l.1) (lines_of v events)) ≡ (replayed v events).text }
-    ensures lines { (v : ServerValue) (before : List Event) (events others : List ScriptEventValue) → Shows v before →
+    ensures lines { (v : ServerValue) (before : List AcceptedCall) (events others : List ScriptEventValue) → Shows v before →
         v.ids < 2 ^ 64 → AreInTime events → AreInTime others → DifferInCuts events others →
         other_lines v events ≡ other_lines v others }
 {}
@@ -90,11 +90,11 @@ pub fn where_a_script_cuts_does_not_matter()
 /// - `written` and `release` have other errors (`written`, `released`). `ended` and `drop_conn` have `NoSuch` alone;
 ///   `front` and `status` have none.
 pub fn only_what_is_stored_wants_memory()
-    ensures stored { (v after : ServerValue) (events : List Event) (id : ℕ) (piece : List ℕ) (bytes : ℕ) →
+    ensures stored { (v after : ServerValue) (events : List AcceptedCall) (id : ℕ) (piece : List ℕ) (bytes : ℕ) →
         Shows v events →
         IsNotTaken v id piece (Memory bytes) after →
         IsRefusedStored v.config events id piece bytes }
-    ensures other { (v after : ServerValue) (events : List Event) (id : ℕ) (piece : List ℕ) (bytes : ℕ) →
+    ensures other { (v after : ServerValue) (events : List AcceptedCall) (id : ℕ) (piece : List ℕ) (bytes : ℕ) →
         Shows v events →
         StoresNothing v.config events id piece →
         IsNotTaken v id piece (Memory bytes) after →
@@ -118,10 +118,10 @@ pub fn what_is_not_due_stays()
 /// After accepted events, a connection has processed the messages that its accepted bytes encode up to the first error,
 /// each once and in order. If there is an error, it is the reason for which the connection stopped.
 pub fn each_message_taken_is_handled_once()
-    ensures messages { (c : ConfigValues) (events : List Event) (id : ℕ) (s : Side) → AreAccepted c events →
+    ensures messages { (c : ConfigValues) (events : List AcceptedCall) (id : ℕ) (s : Connection) → AreAccepted c events →
         side_of id (world_after c events).sides ≡ Some s →
         s.history.handled ≡ (stream_on c.limits.max_message id events).messages }
-    ensures fault { (c : ConfigValues) (events : List Event) (id : ℕ) (s : Side) (fault : StreamFault) →
+    ensures fault { (c : ConfigValues) (events : List AcceptedCall) (id : ℕ) (s : Connection) (fault : StreamFault) →
         AreAccepted c events → side_of id (world_after c events).sides ≡ Some s →
         (stream_on c.limits.max_message id events).fault ≡ Some fault →
         s.history.phase ≡ Stopped (reject_reason (reject_of fault)) }

@@ -68,13 +68,13 @@ pub use Rattle.coap_model.specs.world.Observers.{asks_entry, is_whole, Observer,
 pub use Rattle.coap_model.specs.world.Observers.{has_place, left_of, notification, notification_message, same_state}
 pub use Rattle.coap_model.specs.world.Observers.{with_entry, mark_told}
 unfoldable pub use Rattle.coap_model.specs.world.Observers.{first_becomes, is_due, without_token}
-pub use Rattle.coap_model.specs.world.Sides.{Side, waiting_on, handles, asks_answer, held_for, moment_after}
-pub use Rattle.coap_model.specs.world.Sides.{held_message, next_held, is_cut, after_sent, has_room, may_raise}
-pub use Rattle.coap_model.specs.world.Sides.{next_due, notified, settled_so, side_replied, side_with}
-pub use Rattle.coap_model.specs.world.Sides.{with_history, kept_on}
-unfoldable pub use Rattle.coap_model.specs.world.Sides.{side_after, side_faulted, side_written, side_ended}
-unfoldable pub use Rattle.coap_model.specs.world.Sides.{side_released, side_announced, settled_once, change_after}
-unfoldable pub use Rattle.coap_model.specs.world.Sides.{settled, settled_within}
+pub use Rattle.coap_model.specs.world.Connections.{Connection, waiting_on, handles, asks_answer, held_for, moment_after}
+pub use Rattle.coap_model.specs.world.Connections.{held_message, next_held, is_cut, after_sent, has_room, may_raise}
+pub use Rattle.coap_model.specs.world.Connections.{next_due, notified, settled_so, side_replied, side_with}
+pub use Rattle.coap_model.specs.world.Connections.{with_history, kept_on}
+unfoldable pub use Rattle.coap_model.specs.world.Connections.{side_after, side_faulted, side_written, side_ended}
+unfoldable pub use Rattle.coap_model.specs.world.Connections.{side_released, side_announced, settled_once, change_after}
+unfoldable pub use Rattle.coap_model.specs.world.Connections.{settled, settled_within}
 -- ---- this crate: declared types
 pub use Rattle.coap_server_session.specs.declared.cause.Cause.{Cause}
 pub use Rattle.coap_server_session.specs.declared.host.Host.{Host}

@@ -12,5 +12,5 @@ fn calls_laws(_rt: HostRuntime) {
     server_laws::segmentation_is_irrelevant();
     server_laws::only_what_is_stored_wants_memory();
     server_laws::a_pong_with_custody_follows_all_answers();
-    server_laws::a_connection_sees_others_through_the_store_alone();
+    server_laws::connections_interact_only_through_store();
 }

@@ -2,9 +2,9 @@
 -- output only grows, and a stopped connection does not change.
 use Rattle.std.proofs.Common.{◌≡◌, ℕ, false, List, [], ◌∷◌, ◌++◌, map, Some, None, refl, sym, ap, subst, ◌∙◌, ◌==◌, append_assoc, length, is_none}
 use Rattle.coap_model.specs.Prelude.{AllByRecursion, Message, StreamFault, Stream, split_on, Reason, takes_messages}
-use Rattle.coap_model.specs.Prelude.{stop_of, LimitValues, bytes_of, ConfigValues, Side, side_after, change_after}
-use Rattle.coap_model.specs.Prelude.{side_faulted, settled, new_side, waiting_on, settled_within, Place, World}
-use Rattle.coap_model.specs.Prelude.{side_of, acted, step, Step, new_world, Event, Opened, Took, spelled_on}
+use Rattle.coap_model.specs.Prelude.{stop_of, LimitValues, bytes_of, ConfigValues, Connection, side_after, change_after}
+use Rattle.coap_model.specs.Prelude.{side_faulted, settled, new_side, waiting_on, settled_within, ConnectionEntry, World}
+use Rattle.coap_model.specs.Prelude.{side_of, acted, step, Step, new_world, AcceptedCall, Opened, Took, spelled_on}
 use Rattle.coap_model.specs.Prelude.{taken_in, size_by, beyond, steps_by, steps_behind, steps_of, written_times}
 use Rattle.coap_model.specs.Prelude.{flushed, flushed_after, only_id, stream_of, steps_for, world_for, side_for}
 use Rattle.coap_model.specs.Prelude.{Outcome, outcome_on, outcome, stdio_output}
@@ -31,21 +31,21 @@ pub data IsOfBytes (id : ℕ) : Step → Type 0 where
   OfFault : (fault : StreamFault) → IsOfBytes id (world.Faulted id fault)
 
 -- The connection exists after such a step.
-stays_there : (limits : LimitValues) (id : ℕ) (w : World) (st : Step) (s : Side) → IsOfBytes id st → side_of id w.sides ≡ Some s → (t : Side) × (side_of id (step limits w st).sides ≡ Some t)
+stays_there : (limits : LimitValues) (id : ℕ) (w : World) (st : Step) (s : Connection) → IsOfBytes id st → side_of id w.sides ≡ Some s → (t : Connection) × (side_of id (step limits w st).sides ≡ Some t)
 stays_there limits id w st s (OfMessage m) there = let then = handled_there limits w id m s there in (settled then.0 w.now (side_after w.store w.now s m), then.1)
 stays_there limits id w st s (OfFault fault) there = (settled w.store w.now (side_faulted s fault), faulted_there limits w id fault s there)
 
 -- ---- a connection that has stopped
 
 -- Ids are distinct, so it is enough that this connection does not change.
-one_stays : (id : ℕ) (f : Side → Side) (s : Side) (ps : List Place) → AreDistinct ps → side_of id ps ≡ Some s → f s ≡ s → map (changed_at id f) ps ≡ ps
+one_stays : (id : ℕ) (f : Connection → Connection) (s : Connection) (ps : List ConnectionEntry) → AreDistinct ps → side_of id ps ≡ Some s → f s ≡ s → map (changed_at id f) ps ≡ ps
 one_stays id f s ps distinct there stays =
     map_stays (changed_at id f) ps
     (of_each (λ n t. changed_at id f (record { id = n; side = t }) ≡ record { id = n; side = t }) ps distinct
-    (λ n t at. cond_both (n == id) _ _ (λ (p : Place). p ≡ record { id = n; side = t }) (λ same. let here = eqb-true n id same in cc) (λ apart. refl)))
+    (λ n t at. cond_both (n == id) _ _ (λ (p : ConnectionEntry). p ≡ record { id = n; side = t }) (λ same. let here = eqb-true n id same in cc) (λ apart. refl)))
 
 -- If the connection no longer accepts messages, nothing changes.
-nothing_acted : (limits : LimitValues) (id : ℕ) (w : World) (st : Step) (s : Side) → AreDistinct w.sides → side_of id w.sides ≡ Some s → takes_messages s.history.phase ≡ false → IsOfBytes id st → acted limits w st ≡ w
+nothing_acted : (limits : LimitValues) (id : ℕ) (w : World) (st : Step) (s : Connection) → AreDistinct w.sides → side_of id w.sides ≡ Some s → takes_messages s.history.phase ≡ false → IsOfBytes id st → acted limits w st ≡ w
 unfolding acted side_after change_after side_faulted
 nothing_acted limits id w st s distinct there over (OfMessage m) = rw (one_stays id (λ t. side_after w.store w.now t m) s w.sides distinct there (rw over), there, over) refl
 nothing_acted limits id w st s distinct there over (OfFault fault) = rw (one_stays id (λ t. side_faulted t fault) s w.sides distinct there (rw over)) refl
@@ -54,17 +54,17 @@ nothing_acted limits id w st s distinct there over (OfFault fault) = rw (one_sta
 
 -- The connection exists and continues the earlier one: more was queued on it. No bytes are queued, ids are distinct,
 -- and no change is lost.
-pub record IsWrittenOut (id : ℕ) (s : Side) (w : World) : Type 0 where
-  pub side : Side
+pub record IsWrittenOut (id : ℕ) (s : Connection) (w : World) : Type 0 where
+  pub side : Connection
   pub there : side_of id w.sides ≡ Some side
   pub waits : waiting_on side ≡ []
   pub more : List Message
   pub queued : side.history.queued ≡ s.history.queued ++ more
   pub distinct : AreDistinct w.sides
-  pub hears : AllHear w
+  pub takes_input : AllHear w
 
 -- This holds after a flush.
-written_out : (limits : LimitValues) (id : ℕ) (w : World) (s t : Side) (more : List Message) → side_of id w.sides ≡ Some t → AreDistinct w.sides → t.history.queued ≡ s.history.queued ++ more → IsWrittenOut id s (flushed limits id w)
+written_out : (limits : LimitValues) (id : ℕ) (w : World) (s t : Connection) (more : List Message) → side_of id w.sides ≡ Some t → AreDistinct w.sides → t.history.queued ≡ s.history.queued ++ more → IsWrittenOut id s (flushed limits id w)
 unfolding flushed written_times
 written_out limits id w s t more there distinct queued =
     let left = flush_leaves limits id w t there in
@@ -75,10 +75,10 @@ written_out limits id w s t more there distinct queued =
       more = more ++ left.0.more;
       queued = left.0.queued ∙ ap (λ (ms : List Message). ms ++ left.0.more) queued ∙ append_assoc s.history.queued more left.0.more;
       distinct = left.0.distinct distinct;
-      hears = step_hears limits _ _;
+      takes_input = step_hears limits _ _;
     }
 
-after_bytes : (limits : LimitValues) (id : ℕ) (w : World) (ss : List Step) (s : Side) → AllByRecursion (IsOfBytes id) ss → IsWrittenOut id s w → IsWrittenOut id s (flushed_after limits id w ss)
+after_bytes : (limits : LimitValues) (id : ℕ) (w : World) (ss : List Step) (s : Connection) → AllByRecursion (IsOfBytes id) ss → IsWrittenOut id s w → IsWrittenOut id s (flushed_after limits id w ss)
 unfolding flushed_after
 after_bytes limits id w [] s all one = one
 after_bytes limits id w (st ∷ ss) s all one =
@@ -88,12 +88,12 @@ after_bytes limits id w (st ∷ ss) s all one =
     (written_out limits id (step limits w st) s now.0 (one.more ++ fits.0) now.1 (step_distinct limits w st one.distinct)
     (fits.1 ∙ ap (λ (ms : List Message). ms ++ fits.0) one.queued ∙ append_assoc s.history.queued one.more fits.0))
 
-after_stopped : (c : ConfigValues) (id : ℕ) (w : World) (ss : List Step) (s : Side) (one : IsWrittenOut id s w) → AllByRecursion (IsOfBytes id) ss → takes_messages one.side.history.phase ≡ false → flushed_after c.limits id w ss ≡ w
+after_stopped : (c : ConfigValues) (id : ℕ) (w : World) (ss : List Step) (s : Connection) (one : IsWrittenOut id s w) → AllByRecursion (IsOfBytes id) ss → takes_messages one.side.history.phase ≡ false → flushed_after c.limits id w ss ≡ w
 unfolding flushed_after
 after_stopped c id w [] s one all over = refl
 after_stopped c id w (st ∷ ss) s one all over =
-    ap (λ (v : World). flushed_after c.limits id (flushed c.limits id v) ss) (idle_step c.limits w st one.hears (nothing_acted c.limits id w st one.side one.distinct one.there over all.0))
-    ∙ ap (λ (v : World). flushed_after c.limits id v ss) (quiet_flush c.limits id w one.side one.hears one.there one.waits)
+    ap (λ (v : World). flushed_after c.limits id (flushed c.limits id v) ss) (idle_step c.limits w st one.takes_input (nothing_acted c.limits id w st one.side one.distinct one.there over all.0))
+    ∙ ap (λ (v : World). flushed_after c.limits id v ss) (quiet_flush c.limits id w one.side one.takes_input one.there one.waits)
     ∙ after_stopped c id w ss s one all.1 over
 
 after_then : (limits : LimitValues) (id : ℕ) (w : World) (ss ts : List Step) → flushed_after limits id w (ss ++ ts) ≡ flushed_after limits id (flushed_after limits id w ss) ts
@@ -111,7 +111,7 @@ module _ (c : ConfigValues) where
   id = only_id c
 
   -- The connection is opened.
-  abbrev opening : List Event
+  abbrev opening : List AcceptedCall
   opening = Opened id ∷ []
 
   no_bytes_spell : stream_of c [] ≡ record { messages = []; rest = []; fault = None }
@@ -121,7 +121,7 @@ module _ (c : ConfigValues) where
   nothing_yet = spelled_same M id [] (Opened id) refl (λ N. refl) ∙ first_spelled M id ∙ ap (λ (s : Stream). (s, M)) (sym no_bytes_spell)
 
   -- Events after which the stream has these bytes, and more bytes after them.
-  module _ (es : List Event) (bytes more : List ℕ) (spelled : spelled_on M id es ≡ (stream_of c bytes, M)) where
+  module _ (es : List AcceptedCall) (bytes more : List ℕ) (spelled : spelled_on M id es ≡ (stream_of c bytes, M)) where
     pub spelled_more : spelled_on M id (es ++ Took id more ∷ []) ≡ (stream_of c (bytes ++ more), M)
     spelled_more =
         spelled_then M id es (Took id more)
@@ -138,7 +138,7 @@ module _ (c : ConfigValues) where
   pub world_goes_on : (xs ys : List ℕ) → world_for c (xs ++ ys) ≡ flushed_after c.limits id (world_for c xs) (beyond id (stream_of c xs) (stream_of c (xs ++ ys)))
   unfolding world_for
   world_goes_on xs ys =
-      let fed : List Event = opening ++ Took id xs ∷ [] in
+      let fed : List AcceptedCall = opening ++ Took id xs ∷ [] in
       ap (flushed_after c.limits id (new_world c))
       (cut_steps M opening [] id xs ys ∙ steps_of_more M fed (Took id ys) ∙ ap (λ (ss : List Step). steps_for c xs ++ ss) (steps_taken fed xs ys (spelled_more opening [] xs nothing_yet)))
       ∙ after_then c.limits id (new_world c) (steps_for c xs) (beyond id (stream_of c xs) (stream_of c (xs ++ ys)))
@@ -147,7 +147,7 @@ module _ (c : ConfigValues) where
   beyond_are : (xs ys : List ℕ) → AllByRecursion (IsOfBytes id) (beyond id (stream_of c xs) (stream_of c (xs ++ ys)))
   beyond_are xs ys = each_beyond (IsOfBytes id) id (stream_of c xs) (stream_of c (xs ++ ys)) OfMessage OfFault
 
-  more_written_out : (xs ys : List ℕ) (s : Side) → IsWrittenOut id s (world_for c xs) → IsWrittenOut id s (world_for c (xs ++ ys))
+  more_written_out : (xs ys : List ℕ) (s : Connection) → IsWrittenOut id s (world_for c xs) → IsWrittenOut id s (world_for c (xs ++ ys))
   more_written_out xs ys s before = subst (IsWrittenOut id s) (sym (world_goes_on xs ys)) (after_bytes c.limits id (world_for c xs) _ s (beyond_are xs ys) before)
 
   -- The world in which the connection was opened: its CSM is queued.
@@ -168,13 +168,13 @@ module _ (c : ConfigValues) where
   -- The connection exists, and no bytes are queued on it.
   pub world_for_written : (bytes : List ℕ) → IsWrittenOut id (new_side c.limits) (world_for c bytes)
   world_for_written bytes =
-      let new : Side = new_side c.limits in
+      let new : Connection = new_side c.limits in
       more_written_out [] bytes new
       (subst (IsWrittenOut id new) (sym world_for_none) (written_out c.limits id world_opened new new [] opened_alone (step_distinct c.limits (new_world c) (world.Opened id) tt) (sym (append-nil new.history.queued))))
 
   -- ---- the outcome
 
-  pub outcome_there : (bytes : List ℕ) (s : Side) → side_for c bytes ≡ Some s → outcome c bytes ≡ outcome_on (Some s)
+  pub outcome_there : (bytes : List ℕ) (s : Connection) → side_for c bytes ≡ Some s → outcome c bytes ≡ outcome_on (Some s)
   unfolding outcome
   outcome_there bytes s there = ap outcome_on there
 
@@ -193,8 +193,8 @@ module _ (c : ConfigValues) where
   pub output_grows : (xs ys : List ℕ) → (more : List ℕ) × (stdio_output c (xs ++ ys) ≡ stdio_output c xs ++ more)
   output_grows xs ys =
       let all = world_for_written xs in
-      let s : Side = all.side in
-      let before : IsWrittenOut id s (world_for c xs) = record { side = s; there = all.there; waits = all.waits; more = []; queued = sym (append-nil s.history.queued); distinct = all.distinct; hears = all.hears } in
+      let s : Connection = all.side in
+      let before : IsWrittenOut id s (world_for c xs) = record { side = s; there = all.there; waits = all.waits; more = []; queued = sym (append-nil s.history.queued); distinct = all.distinct; takes_input = all.takes_input } in
       let now = more_written_out xs ys s before in
       (bytes_of now.more, cc (outcome_there xs s all.there, outcome_there (xs ++ ys) now.side now.there, now.queued, bytes_more s.history.queued now.more))
 

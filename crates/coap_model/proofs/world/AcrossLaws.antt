@@ -3,10 +3,10 @@
 use Rattle.std.proofs.Common.{◌≡◌, ℕ, List, Bool, cond, ◌++◌, [], ◌∷◌, map, Option, Some, None, refl, sym, subst, ◌∙◌, ◌⊎◌, inl, inr, is_none}
 use Rattle.std.proofs.lemmas.Bool.{cases_eq, cond_both}
 use Rattle.coap_model.specs.Prelude.{Message, StreamFault, Server, LimitValues, History, new_history, StoreValue}
-use Rattle.coap_model.specs.Prelude.{put_refusal, ConfigValues, Side, new_side, side_after, side_faulted}
+use Rattle.coap_model.specs.Prelude.{put_refusal, ConfigValues, Connection, new_side, side_after, side_faulted}
 use Rattle.coap_model.specs.Prelude.{side_written, side_ended, side_released, side_announced, settled_once, settled}
-use Rattle.coap_model.specs.Prelude.{Place, World, Step, new_world, side_of, stored_after, ticks, acted}
-use Rattle.coap_model.specs.Prelude.{settled_place, Event, steps_of, world_after}
+use Rattle.coap_model.specs.Prelude.{ConnectionEntry, World, Step, new_world, side_of, stored_after, ticks, acted}
+use Rattle.coap_model.specs.Prelude.{settled_place, AcceptedCall, steps_of, world_after}
 use Rattle.coap_model.specs.world.World.{changed_at}
 use Rattle.coap_model.specs.world.World as world
 use Rattle.coap_model.proofs.world.StepLaws.{steps_keep}
@@ -18,31 +18,31 @@ use Rattle.coap_wire.proofs.NumberLaws.{none_or_some}
 -- ---- a step
 
 -- The relation holds across every effect that a step has on the connection with this id.
-pub record HoldsOf (R : Side → Side → Type 0) (w : World) (st : Step) (id : ℕ) : Type 0 where
-  pub same : (s : Side) → R s s
-  pub handled : (m : Message) → st ≡ world.Handled id m → (s : Side) → R s (side_after w.store w.now s m)
-  pub faulted : (fault : StreamFault) → st ≡ world.Faulted id fault → (s : Side) → R s (side_faulted s fault)
-  pub written : (s : Side) (n : ℕ) → R s (side_written s n)
-  pub ended : (s : Side) (cut : Bool) → R s (side_ended s cut)
-  pub released : (s : Side) → R s (side_released s)
-  pub announced : (size : ℕ) → st ≡ world.Announced id size → (s : Side) → R s (side_announced s size)
+pub record HoldsOf (R : Connection → Connection → Type 0) (w : World) (st : Step) (id : ℕ) : Type 0 where
+  pub same : (s : Connection) → R s s
+  pub handled : (m : Message) → st ≡ world.Handled id m → (s : Connection) → R s (side_after w.store w.now s m)
+  pub faulted : (fault : StreamFault) → st ≡ world.Faulted id fault → (s : Connection) → R s (side_faulted s fault)
+  pub written : (s : Connection) (n : ℕ) → R s (side_written s n)
+  pub ended : (s : Connection) (cut : Bool) → R s (side_ended s cut)
+  pub released : (s : Connection) → R s (side_released s)
+  pub announced : (size : ℕ) → st ≡ world.Announced id size → (s : Connection) → R s (side_announced s size)
   -- It also holds if settling follows.
-  pub told : (store : StoreValue) (now : ℕ) (s t : Side) → R s t → R s (settled_once store now t)
+  pub told : (store : StoreValue) (now : ℕ) (s t : Connection) → R s t → R s (settled_once store now t)
 
 -- The relation holds between the connection before a step and after it, or from a new connection if the step opened it.
-abbrev pub HoldsFrom : (Side → Side → Type 0) → LimitValues → World → Step → ℕ → Side → Type 0
-HoldsFrom R limits w st id t = ((s : Side) × (side_of id w.sides ≡ Some s) × R s t) ⊎ ((side_of id w.sides ≡ None) × (st ≡ world.Opened id) × R (new_side limits) t)
+abbrev pub HoldsFrom : (Connection → Connection → Type 0) → LimitValues → World → Step → ℕ → Connection → Type 0
+HoldsFrom R limits w st id t = ((s : Connection) × (side_of id w.sides ≡ Some s) × R s t) ⊎ ((side_of id w.sides ≡ None) × (st ≡ world.Opened id) × R (new_side limits) t)
 
 -- The world with a new connection.
 abbrev pub opened_world : LimitValues → World → ℕ → World
 opened_world limits w id = record w { sides = w.sides ++ record { id = id; side = new_side limits } ∷ []; ids = id }
 
-module _ (R : Side → Side → Type 0) (limits : LimitValues) (w : World) (st : Step) (id : ℕ) (holds : HoldsOf R w st id) where
-  same_across : (t : Side) → side_of id w.sides ≡ Some t → HoldsFrom R limits w st id t
+module _ (R : Connection → Connection → Type 0) (limits : LimitValues) (w : World) (st : Step) (id : ℕ) (holds : HoldsOf R w st id) where
+  same_across : (t : Connection) → side_of id w.sides ≡ Some t → HoldsFrom R limits w st id t
   same_across t e = inl (t, e, holds.same t)
 
   -- If the step changes only the connection with one id, the relation is known only of that one.
-  changed_across : (at : ℕ) (f : Side → Side) (t : Side) → (at ≡ id → (s : Side) → R s (f s)) → side_of id (map (changed_at at f) w.sides) ≡ Some t → HoldsFrom R limits w st id t
+  changed_across : (at : ℕ) (f : Connection → Connection) (t : Connection) → (at ≡ id → (s : Connection) → R s (f s)) → side_of id (map (changed_at at f) w.sides) ≡ Some t → HoldsFrom R limits w st id t
   changed_across at f t go e =
       elim (cases_eq at id) [
         | inl here ↦
@@ -51,7 +51,7 @@ module _ (R : Side → Side → Type 0) (limits : LimitValues) (w : World) (st :
         | inr apart ↦ same_across t (sym (changed_elsewhere at id f w.sides apart) ∙ e)
       ]
 
-  opened_across : (at : ℕ) (t : Side) (there : Option Side) → st ≡ world.Opened at → side_of id w.sides ≡ there → side_of id (w.sides ++ record { id = at; side = new_side limits } ∷ []) ≡ Some t → HoldsFrom R limits w st id t
+  opened_across : (at : ℕ) (t : Connection) (there : Option Connection) → st ≡ world.Opened at → side_of id w.sides ≡ there → side_of id (w.sides ++ record { id = at; side = new_side limits } ∷ []) ≡ Some t → HoldsFrom R limits w st id t
   opened_across at t None is none e =
       elim (found id t (record { id = at; side = new_side limits }) [] (sym (new_there id w.sides _ none) ∙ e)) [
         | inl here ↦ inr (none, cc (here.0), subst (R (new_side limits)) here.1 (holds.same (new_side limits)))
@@ -59,10 +59,10 @@ module _ (R : Side → Side → Type 0) (limits : LimitValues) (w : World) (st :
       ]
   opened_across at t (Some s) is there e = same_across t (there ∙ sym (still_there id s w.sides _ there) ∙ e)
 
-  if_across : (v : World) (t : Side) (does : Bool) → (side_of id v.sides ≡ Some t → HoldsFrom R limits w st id t) → side_of id (cond does v w).sides ≡ Some t → HoldsFrom R limits w st id t
+  if_across : (v : World) (t : Connection) (does : Bool) → (side_of id v.sides ≡ Some t → HoldsFrom R limits w st id t) → side_of id (cond does v w).sides ≡ Some t → HoldsFrom R limits w st id t
   if_across v t does go = cond_both does v w (λ u. side_of id u.sides ≡ Some t → HoldsFrom R limits w st id t) (λ so. go) (λ not_so. same_across t)
 
-  acted_across : (did : Step) → st ≡ did → (t : Side) → side_of id (acted limits w did).sides ≡ Some t → HoldsFrom R limits w st id t
+  acted_across : (did : Step) → st ≡ did → (t : Connection) → side_of id (acted limits w did).sides ≡ Some t → HoldsFrom R limits w st id t
   unfolding acted
   acted_across (world.Opened at) is t = if_across (opened_world limits w at) t (is_none (side_of at w.sides)) (opened_across at t (side_of id w.sides) is refl)
   acted_across (world.Handled at m) is t = changed_across at (λ s. side_after w.store w.now s m) t (λ here s. holds.handled m (cc) s)
@@ -79,43 +79,43 @@ module _ (R : Side → Side → Type 0) (limits : LimitValues) (w : World) (st :
     | inr apart ↦ same_across t (sym (dropped_elsewhere at id w.sides apart) ∙ e)
   ]
 
-  once_across : (store : StoreValue) (now : ℕ) (t : Side) → HoldsFrom R limits w st id t → HoldsFrom R limits w st id (settled_once store now t)
+  once_across : (store : StoreValue) (now : ℕ) (t : Connection) → HoldsFrom R limits w st id t → HoldsFrom R limits w st id (settled_once store now t)
   once_across store now t (inl old) = inl (old.0, old.1, holds.told store now old.0 t old.2)
   once_across store now t (inr new) = inr (new.0, new.1, holds.told store now (new_side limits) t new.2)
 
-  pub step_across : (t : Side) → side_of id (world.step limits w st).sides ≡ Some t → HoldsFrom R limits w st id t
+  pub step_across : (t : Connection) → side_of id (world.step limits w st).sides ≡ Some t → HoldsFrom R limits w st id t
   unfolding world.step
   step_across t e =
       let did : World = acted limits w st in
       let made = one_made (settled did.store did.now) (side_of id did.sides) t (sym (all_there id (settled did.store did.now) did.sides) ∙ e) in
-      let From : Side → Type 0 = HoldsFrom R limits w st id in
+      let From : Connection → Type 0 = HoldsFrom R limits w st id in
       subst From made.2 (settled_keeps From did.store did.now (once_across did.store did.now) made.0 (acted_across st refl made.0 made.1))
 
 -- ---- the effect of a step on an existing connection
 
-pub settles_there : (id : ℕ) (store : StoreValue) (now : ℕ) (f : Side → Side) (ps : List Place) (s : Side) → side_of id ps ≡ Some s → side_of id (map (settled_place store now) (map (changed_at id f) ps)) ≡ Some (settled store now (f s))
+pub settles_there : (id : ℕ) (store : StoreValue) (now : ℕ) (f : Connection → Connection) (ps : List ConnectionEntry) (s : Connection) → side_of id ps ≡ Some s → side_of id (map (settled_place store now) (map (changed_at id f) ps)) ≡ Some (settled store now (f s))
 settles_there id store now f ps s there = rw (all_there id (settled store now) (map (changed_at id f) ps), changed_here id f ps, there) refl
 
 module _ (limits : LimitValues) (w : World) (id : ℕ) where
   pub opened_there : side_of id w.sides ≡ None → side_of id (world.step limits w (world.Opened id)).sides ≡ Some (settled w.store w.now (new_side limits))
   unfolding world.step acted
   opened_there none =
-      let place : Place = record { id = id; side = new_side limits } in
+      let place : ConnectionEntry = record { id = id; side = new_side limits } in
       rw (none, all_there id (settled w.store w.now) (w.sides ++ place ∷ []), new_there id w.sides (place ∷ []) none, first_there id place [] refl) refl
 
-  pub handled_there : (m : Message) (s : Side) → side_of id w.sides ≡ Some s → (store : StoreValue) × (side_of id (world.step limits w (world.Handled id m)).sides ≡ Some (settled store w.now (side_after w.store w.now s m)))
+  pub handled_there : (m : Message) (s : Connection) → side_of id w.sides ≡ Some s → (store : StoreValue) × (side_of id (world.step limits w (world.Handled id m)).sides ≡ Some (settled store w.now (side_after w.store w.now s m)))
   unfolding world.step acted
   handled_there m s there = (stored_after w m (side_of id w.sides), settles_there id _ w.now (λ u. side_after w.store w.now u m) w.sides s there)
 
-  pub faulted_there : (fault : StreamFault) (s : Side) → side_of id w.sides ≡ Some s → side_of id (world.step limits w (world.Faulted id fault)).sides ≡ Some (settled w.store w.now (side_faulted s fault))
+  pub faulted_there : (fault : StreamFault) (s : Connection) → side_of id w.sides ≡ Some s → side_of id (world.step limits w (world.Faulted id fault)).sides ≡ Some (settled w.store w.now (side_faulted s fault))
   unfolding world.step acted
   faulted_there fault s there = settles_there id w.store w.now (λ u. side_faulted u fault) w.sides s there
 
-  pub written_there : (n : ℕ) (s : Side) → side_of id w.sides ≡ Some s → side_of id (world.step limits w (world.Written id n)).sides ≡ Some (settled w.store w.now (side_written s n))
+  pub written_there : (n : ℕ) (s : Connection) → side_of id w.sides ≡ Some s → side_of id (world.step limits w (world.Written id n)).sides ≡ Some (settled w.store w.now (side_written s n))
   unfolding world.step acted
   written_there n s there = settles_there id w.store w.now (λ u. side_written u n) w.sides s there
 
-  pub ended_there : (cut : Bool) (s : Side) → side_of id w.sides ≡ Some s → side_of id (world.step limits w (world.Ended id cut)).sides ≡ Some (settled w.store w.now (side_ended s cut))
+  pub ended_there : (cut : Bool) (s : Connection) → side_of id w.sides ≡ Some s → side_of id (world.step limits w (world.Ended id cut)).sides ≡ Some (settled w.store w.now (side_ended s cut))
   unfolding world.step acted
   ended_there cut s there = settles_there id w.store w.now (λ u. side_ended u cut) w.sides s there
 
@@ -124,7 +124,7 @@ module _ (limits : LimitValues) (w : World) (id : ℕ) where
 -- Every part of an effect keeps the relation.
 pub record KeepsAll (R : History → History → Type 0) : Type 0 where
   pub composes : Composes R
-  pub hears : Hears R
+  pub takes_input : Hears R
   pub replies : Replies R
   pub holds : Holds R
   pub lets_go : LetsGo R
@@ -136,10 +136,10 @@ pub record KeepsAll (R : History → History → Type 0) : Type 0 where
   pub writes : Writes R
 
 module _ (R : History → History → Type 0) (keeps : KeepsAll R) where
-  pub after_all : (store : StoreValue) (now : ℕ) (s : Side) (m : Message) → Between R s (side_after store now s m)
-  after_all = after_between R R keeps.composes.same keeps.composes.then keeps.hears keeps.composes.same keeps.replies keeps.holds
+  pub after_all : (store : StoreValue) (now : ℕ) (s : Connection) (m : Message) → Between R s (side_after store now s m)
+  after_all = after_between R R keeps.composes.same keeps.composes.then keeps.takes_input keeps.composes.same keeps.replies keeps.holds
 
-  pub faulted_all : (s : Side) (fault : StreamFault) → Between R s (side_faulted s fault)
+  pub faulted_all : (s : Connection) (fault : StreamFault) → Between R s (side_faulted s fault)
   faulted_all = faulted_between R keeps.composes.same keeps.rejects
 
   pub all_across : (w : World) (st : Step) (id : ℕ) → HoldsOf (Between R) w st id
@@ -157,16 +157,16 @@ module _ (R : History → History → Type 0) (keeps : KeepsAll R) where
 
 -- ---- properties kept by steps are kept by events
 
-pub world_keeps : (c : ConfigValues) (P : World → Type 0) → ((w : World) (st : Step) → P w → P (world.step c.limits w st)) → P (new_world c) → (es : List Event) → P (world_after c es)
+pub world_keeps : (c : ConfigValues) (P : World → Type 0) → ((w : World) (st : Step) → P w → P (world.step c.limits w st)) → P (new_world c) → (es : List AcceptedCall) → P (world_after c es)
 unfolding world_after
 world_keeps c P keeps first es = steps_keep P c.limits keeps (new_world c) (steps_of c.limits.max_message es) first
 
 -- A property of a new connection that the relation keeps holds of every connection after any events, if the relation
 -- holds across every effect.
-pub kept_by : (c : ConfigValues) (R : Side → Side → Type 0) (P : Side → Type 0) → P (new_side c.limits) → ((s t : Side) → R s t → P s → P t) → ((w : World) (st : Step) (id : ℕ) → HoldsOf R w st id)
-    → (es : List Event) (id : ℕ) (s : Side) → side_of id (world_after c es).sides ≡ Some s → P s
+pub kept_by : (c : ConfigValues) (R : Connection → Connection → Type 0) (P : Connection → Type 0) → P (new_side c.limits) → ((s t : Connection) → R s t → P s → P t) → ((w : World) (st : Step) (id : ℕ) → HoldsOf R w st id)
+    → (es : List AcceptedCall) (id : ℕ) (s : Connection) → side_of id (world_after c es).sides ≡ Some s → P s
 kept_by c R P first keeps holds =
-    world_keeps c (λ w. (id : ℕ) (s : Side) → side_of id w.sides ≡ Some s → P s) (λ w st each id t there. elim (step_across R c.limits w st id (holds w st id) t there) [
+    world_keeps c (λ w. (id : ℕ) (s : Connection) → side_of id w.sides ≡ Some s → P s) (λ w st each id t there. elim (step_across R c.limits w st id (holds w st id) t there) [
       | inl old ↦ keeps old.0 t old.2 (each id old.0 old.1)
       | inr new ↦ keeps (new_side c.limits) t new.2 first
     ]) (λ id s there. absurd (none_or_some s (sym (nobody id) ∙ there)))
@@ -177,5 +177,5 @@ keeping_composes P = record { same = λ h is. is; then = λ h k g one two is. tw
 
 -- The same for a property of a history that every part of an effect keeps.
 pub kept_history : (c : ConfigValues) (P : History → Type 0) → P (new_history Server c.limits 0) → KeepsAll (λ h k. P h → P k)
-    → (es : List Event) (id : ℕ) (s : Side) → side_of id (world_after c es).sides ≡ Some s → P s.history
+    → (es : List AcceptedCall) (id : ℕ) (s : Connection) → side_of id (world_after c es).sides ≡ Some s → P s.history
 kept_history c P first keeps = kept_by c (Between (λ h k. P h → P k)) (λ s. P s.history) first (λ s t kept. kept) (all_across (λ h k. P h → P k) keeps)

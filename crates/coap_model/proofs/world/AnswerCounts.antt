@@ -2,7 +2,7 @@
 -- consequences of this statement.
 use Rattle.std.proofs.Common.{◌≡◌, ℕ, ◌+◌, ◌≤◌, Bool, true, false, ◌&&◌, List, [], ◌∷◌, ◌++◌, refl, ap, ◌∙◌, append_assoc, arith, sym, inl, inr}
 use Rattle.coap_model.specs.Prelude.{AllByRecursion, Message, PendingEntryValue, Answer, Pong, is_custody_pong, same_bytes}
-use Rattle.coap_model.specs.Prelude.{responds, asks_held, is_asking, HasResponse, HaveOwnAnswers}
+use Rattle.coap_model.specs.Prelude.{responds, asks_pending, is_asking, HasResponse, HaveDistinctAnswers}
 use Rattle.std.proofs.lemmas.Bool.{cases_Bool}
 use Rattle.std.proofs.lemmas.List.{append-nil}
 use lib.Pointwise.{bytes_decides}
@@ -56,7 +56,7 @@ pub record IsBehind (ms : List Message) (n : Tally) (token : List ℕ) : Type 0 
   pub ping : Message
   pub later : List Message
   pub there : ms ≡ earlier ++ ping ∷ later
-  pub asks : asks_held ping (Pong token) ≡ true
+  pub asks : asks_pending ping (Pong token) ≡ true
   pub few : AtMost (requests earlier) n
 
 still_behind : (ms more ns : List Message) (n k : Tally) → ns ≡ ms ++ more → AtMost n k → (token : List ℕ) → IsBehind ms n token → IsBehind ns k token
@@ -158,8 +158,8 @@ own_rest m ms qs place asks few t = grind (arith, few t, one_token m.token t, co
 own_first : (m : Message) (ms qs : List Message) → is_asking m ≡ true → AtMost (requests (m ∷ ms)) (responses qs) → HasResponse m.token qs
 own_first m ms qs asks few = response_found m.token qs (grind (arith, few m.token, (bytes_decides m.token m.token).1 refl))
 
-pub own_answers : (ms qs : List Message) → AtMost (requests ms) (responses qs) → HaveOwnAnswers ms qs
-unfolding HaveOwnAnswers
+pub own_answers : (ms qs : List Message) → AtMost (requests ms) (responses qs) → HaveDistinctAnswers ms qs
+unfolding HaveDistinctAnswers
 own_answers [] qs few = tt
 own_answers (m ∷ ms) qs few =
     elim (cases_Bool (is_asking m)) [

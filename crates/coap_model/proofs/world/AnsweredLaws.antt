@@ -8,8 +8,8 @@ use Rattle.coap_model.specs.Prelude.{send_as, react, reaction_unless, asks_custo
 use Rattle.coap_model.specs.Prelude.{pong_with, History, standing_now, with_effect, after, limit_now, own_csm}
 use Rattle.coap_model.specs.Prelude.{standing_due, release, same_bytes, StoreValue, Response, delayed_response}
 use Rattle.coap_model.specs.Prelude.{immediate_answer, response_with_observe, ConfigValues, Observer, goes_on}
-use Rattle.coap_model.specs.Prelude.{notification, Side, handles, asks_answer, side_handled, side_after, next_due}
-use Rattle.coap_model.specs.Prelude.{held_message, after_sent, notified, side_of, Event, world_after, is_response}
+use Rattle.coap_model.specs.Prelude.{notification, Connection, handles, asks_answer, side_handled, side_after, next_due}
+use Rattle.coap_model.specs.Prelude.{held_message, after_sent, notified, side_of, AcceptedCall, world_after, is_response}
 use Rattle.coap_model.specs.Prelude.{responds, is_asking, FollowsAnswers, reject_reason}
 use Rattle.std.proofs.lemmas.Bool.{both_ways, cond_both, cond-true, or_left}
 use lib.Pointwise.{bytes_decides}
@@ -178,7 +178,7 @@ module _ (h : History) (m : Message) (server : h.role ≡ Server) (live : takes_
 
 -- ---- a request and its response
 
-module _ (store : StoreValue) (now : ℕ) (s : Side) (m : Message) (server : s.history.role ≡ Server) (is : PongsFollow s.history) where
+module _ (store : StoreValue) (now : ℕ) (s : Connection) (m : Message) (server : s.history.role ≡ Server) (is : PongsFollow s.history) where
   abbrev heard_so : History
   heard_so = after s.history (call.Handle m)
 
@@ -249,7 +249,7 @@ sent_due h now (Pong token) due is =
     by Stopped = over_follows left [] tt refl
 
 -- A notification is a response that nobody is owed.
-notified_follows : (store : StoreValue) (now : ℕ) (s : Side) (found : Option Observer) → PongsFollow s.history → PongsFollow (notified store now s found).history
+notified_follows : (store : StoreValue) (now : ℕ) (s : Connection) (found : Option Observer) → PongsFollow s.history → PongsFollow (notified store now s found).history
 notified_follows store now s None is = is
 notified_follows store now s (Some o) is =
     let r : Response = notification store now o in
@@ -274,7 +274,7 @@ follows_keeps limits = let R : History → History → Type 0 = λ h k. PongsFol
 }
 
 -- After any events, a Pong with Custody follows the responses to all requests before its Ping.
-pub pong_follows_answers : (c : ConfigValues) (es : List Event) (id : ℕ) (s : Side) (before : List Message) (pong : Message) (behind : List Message) → side_of id (world_after c es).sides ≡ Some s → s.history.queued ≡ before ++ pong ∷ behind → is_custody_pong pong ≡ true
+pub pong_follows_answers : (c : ConfigValues) (es : List AcceptedCall) (id : ℕ) (s : Connection) (before : List Message) (pong : Message) (behind : List Message) → side_of id (world_after c es).sides ≡ Some s → s.history.queued ≡ before ++ pong ∷ behind → is_custody_pong pong ≡ true
     → FollowsAnswers s.history.handled pong before
 pong_follows_answers c es id s before pong behind there queued custody =
     let is : PongsFollow s.history = kept_after c (λ t. PongsFollow t.history) (follows_keeps c.limits) es id s there in

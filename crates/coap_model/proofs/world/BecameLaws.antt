@@ -7,8 +7,8 @@ use Rattle.std.proofs.lemmas.List.{append-nil}
 use Rattle.coap_model.specs.Prelude.{Message, StreamFault, Stream, Phase, Reject, Reason, takes_messages, answers}
 use Rattle.coap_model.specs.Prelude.{is_open, fit, pong_with, PendingEntryValue, without_due, due_index, reject_of}
 use Rattle.coap_model.specs.Prelude.{reject_reason, History, standing_now, limit_now, StoreValue, ConfigValues}
-use Rattle.coap_model.specs.Prelude.{Side, handles, side_after, side_faulted, settled, new_side, settled_once, World}
-use Rattle.coap_model.specs.Prelude.{Step, side_of, Event, Took, stream_on, steps_by, world_after, spelled_on}
+use Rattle.coap_model.specs.Prelude.{Connection, handles, side_after, side_faulted, settled, new_side, settled_once, World}
+use Rattle.coap_model.specs.Prelude.{Step, side_of, AcceptedCall, Took, stream_on, steps_by, world_after, spelled_on}
 use Rattle.coap_model.specs.Prelude.{message_reason, LimitValues}
 use Rattle.coap_model.proofs.world.StepLaws.{world_same, world_step, nothing_spelled, world_first}
 use Rattle.coap_model.proofs.world.TookLaws.{Adds}
@@ -73,7 +73,7 @@ pong_rests h now token due room =
     sent_rests h (without_due now h.held) (pong_with true token) (pong_with false token) (λ why is. cc)
 
 -- Settling handles no message.
-pub settled_handles_none : (store : StoreValue) (now : ℕ) (s : Side) → HandlesNone s.history (settled store now s).history
+pub settled_handles_none : (store : StoreValue) (now : ℕ) (s : Connection) → HandlesNone s.history (settled store now s).history
 settled_handles_none = settled_between HandlesNone (record { same = rests_self; then = rests_then }) response_rests first_rests pong_rests
 
 -- ---- an error
@@ -83,7 +83,7 @@ pub record HasRejected (fault : StreamFault) (h k : History) : Type 0 where
   pub handled : k.handled ≡ h.handled
   pub stopped : HasStopped k (reject_reason (reject_of fault))
 
-side_rejects : (s : Side) (fault : StreamFault) → handles s ≡ true → HasRejected fault s.history (side_faulted s fault).history
+side_rejects : (s : Connection) (fault : StreamFault) → handles s ≡ true → HasRejected fault s.history (side_faulted s fault).history
 unfolding side_faulted
 side_rejects s fault does = grind arith
 
@@ -95,7 +95,7 @@ no_message_reason fault = grind arith
 
 -- The steps of a take: none, or that of the message or error that it completes. The flag says whether it handled a
 -- message.
-pub data TakesSo (M id : ℕ) (es : List Event) (bytes : List ℕ) (s : Side) (message : Bool) : Type 0 where
+pub data TakesSo (M id : ℕ) (es : List AcceptedCall) (bytes : List ℕ) (s : Connection) (message : Bool) : Type 0 where
   NoStep : message ≡ false → steps_by M es (Took id bytes) ≡ [] → (stream_on M id (es ++ Took id bytes ∷ [])).messages ≡ (stream_on M id es).messages → (stream_on M id (es ++ Took id bytes ∷ [])).fault ≡ (stream_on M id es).fault → TakesSo M id es bytes s message
   OneMessage : message ≡ true → handles s ≡ true → (m : Message) → Adds M id es bytes (record { messages = m ∷ []; rest = []; fault = None }) → TakesSo M id es bytes s message
   OneFault : message ≡ false → handles s ≡ true → (fault : StreamFault) (rest : List ℕ) → Adds M id es bytes (record { messages = []; rest = rest; fault = Some fault }) → TakesSo M id es bytes s message
@@ -106,21 +106,21 @@ pub data TakesSo (M id : ℕ) (es : List Event) (bytes : List ℕ) (s : Side) (m
 -- - unchanged, if the stream has no further message and no new error;
 -- - one message was handled, which may stop the connection;
 -- - the error stopped the connection.
-pub data Became (before after : Stream) (s t : Side) (message : Bool) : Type 0 where
+pub data Became (before after : Stream) (s t : Connection) (message : Bool) : Type 0 where
   Stayed : message ≡ false → t ≡ s → after.messages ≡ before.messages → after.fault ≡ before.fault → Became before after s t message
   Heard : message ≡ true → handles s ≡ true → (m : Message) → t.history.handled ≡ s.history.handled ++ m ∷ [] → StopsAtMost t.history.phase → after.messages ≡ before.messages ++ m ∷ [] → after.fault ≡ None → Became before after s t message
   Rejected : message ≡ false → handles s ≡ true → (fault : StreamFault) → HasRejected fault s.history t.history → after.messages ≡ before.messages → after.fault ≡ Some fault → Became before after s t message
 
 -- A connection that accepts messages has not stopped.
-live_stop : (s : Side) → handles s ≡ true → StopsAtMost s.history.phase
+live_stop : (s : Connection) → handles s ≡ true → StopsAtMost s.history.phase
 live_stop s does = grind arith
 
-module _ (c : ConfigValues) (es : List Event) (id : ℕ) (bytes : List ℕ) (s : Side) (message : Bool) (there : side_of id (world_after c es).sides ≡ Some s) where
+module _ (c : ConfigValues) (es : List AcceptedCall) (id : ℕ) (bytes : List ℕ) (s : Connection) (message : Bool) (there : side_of id (world_after c es).sides ≡ Some s) where
   abbrev w : World
   w = world_after c es
 
   abbrev pub BecameOne : Type 0
-  BecameOne = (t : Side) × (side_of id (world_after c (es ++ Took id bytes ∷ [])).sides ≡ Some t)
+  BecameOne = (t : Connection) × (side_of id (world_after c (es ++ Took id bytes ∷ [])).sides ≡ Some t)
       × Became (stream_on c.limits.max_message id es) (stream_on c.limits.max_message id (es ++ Took id bytes ∷ [])) s t message
 
   pub became : TakesSo c.limits.max_message id es bytes s message → BecameOne
@@ -169,20 +169,20 @@ rests_of w st id away = record {
 
 -- ---- a connection handled the messages of its stream
 
-pub record Agrees (u : Stream) (s : Side) : Type 0 where
+pub record Agrees (u : Stream) (s : Connection) : Type 0 where
   pub handled : s.history.handled ≡ u.messages
   pub stopped : (fault : StreamFault) → u.fault ≡ Some fault → HasStopped s.history (reject_reason (reject_of fault))
 
-pub rests_agrees : (u : Stream) (s t : Side) → Agrees u s → Between HandlesNone s t → Agrees u t
+pub rests_agrees : (u : Stream) (s t : Connection) → Agrees u s → Between HandlesNone s t → Agrees u t
 rests_agrees u s t is rests = record {
   handled = rests.handled ∙ is.handled;
   stopped = λ fault e. rests.stopped (reject_reason (reject_of fault)) (is.stopped fault e);
 }
 
-pub silent_agrees : (limits : LimitValues) (M id : ℕ) (es : List Event) → spelled_on M id es ≡ nothing_spelled M → Agrees (stream_on M id es) (new_side limits)
+pub silent_agrees : (limits : LimitValues) (M id : ℕ) (es : List AcceptedCall) → spelled_on M id es ≡ nothing_spelled M → Agrees (stream_on M id es) (new_side limits)
 silent_agrees limits M id es none = grind arith
 
-pub became_agrees : (u v : Stream) (s t : Side) (message : Bool) → Became u v s t message → Agrees u s → Agrees v t
+pub became_agrees : (u v : Stream) (s t : Connection) (message : Bool) → Became u v s t message → Agrees u s → Agrees v t
 became_agrees u v s t message (Stayed none same messages fault) is =
     rw same (record { handled = is.handled ∙ sym messages; stopped = λ f e. is.stopped f (sym fault ∙ e) })
 became_agrees u v s t message (Heard one does m handled stops messages fault) is = grind arith
@@ -190,8 +190,8 @@ became_agrees u v s t message (Rejected none does fault rejects messages at) is 
 
 -- ---- after accepted events
 
-abbrev pub AgreesOn : ConfigValues → List Event → ℕ → Type 0
-AgreesOn c es id = (s : Side) → side_of id (world_after c es).sides ≡ Some s → Agrees (stream_on c.limits.max_message id es) s
+abbrev pub AgreesOn : ConfigValues → List AcceptedCall → ℕ → Type 0
+AgreesOn c es id = (s : Connection) → side_of id (world_after c es).sides ≡ Some s → Agrees (stream_on c.limits.max_message id es) s
 
 pub first_agrees : (c : ConfigValues) (id : ℕ) → AgreesOn c [] id
 first_agrees c id s there = absurd (none_or_some s (sym (ap (λ (w : World). side_of id w.sides) (world_first c) ∙ nobody id) ∙ there))

@@ -6,10 +6,10 @@ use Rattle.coap_model.specs.Prelude.{answers, is_open, fit, bare_response, Pendi
 use Rattle.coap_model.specs.Prelude.{ConnectionState, send, is_custody_pong, pong_with, History, limit_now, standing_now}
 use Rattle.coap_model.specs.Prelude.{after, may_hold, StoreValue, Response, answer_of, immediate_answer, each_at}
 use Rattle.coap_model.specs.Prelude.{response_with_observe, Observer, without_token, notification}
-use Rattle.coap_model.specs.Prelude.{notification_message, Side, handles, with_history, held_for, moment_after}
+use Rattle.coap_model.specs.Prelude.{notification_message, Connection, handles, with_history, held_for, moment_after}
 use Rattle.coap_model.specs.Prelude.{asks_answer, side_handled, side_after, next_held, held_message, settled_once}
-use Rattle.coap_model.specs.Prelude.{side_written, next_due, notified, side_answered, side_with, asks_held, StandFor}
-use Rattle.coap_model.specs.Prelude.{QueuesCustody, IsFirstHeld, KeepsHeld, AddsAsked, KeepsHeldOver, Reason}
+use Rattle.coap_model.specs.Prelude.{side_written, next_due, notified, side_answered, side_with, asks_pending, CorrespondTo}
+use Rattle.coap_model.specs.Prelude.{QueuesCustody, IsFirstHeld, KeepsPending, AddsAsked, KeepsPendingOver, Reason}
 use Rattle.coap_model.specs.Prelude.{PeerTooSmall, standing_due}
 use Rattle.std.proofs.lemmas.Bool.{and_from, both_ways, cond-true, cond_both, or_from}
 use Rattle.std.proofs.lemmas.List.{append_cancel_left, append-nil}
@@ -44,7 +44,7 @@ gives_then : (G : Type 0) (h k g : History) → Gives G h k → Gives ⊥ k g �
 gives_then G h k g one two =
     (one.0 ++ two.0, two.1 ∙ ap (λ ms. ms ++ two.0) one.1 ∙ append_assoc h.queued one.0 two.0, λ pong. grind (arith, list_any-append))
 
-custody_gives : (G : Type 0) (s t : Side) → Gives G s.history t.history → QueuesCustody s t → G
+custody_gives : (G : Type 0) (s t : Connection) → Gives G s.history t.history → QueuesCustody s t → G
 custody_gives G s t gives custody = let same = append_cancel_left s.history.queued custody.more gives.0 (sym custody.queued ∙ gives.1) in grind arith
 
 none_pass : {X : Type 0} (p : X → Bool) (xs : List X) → AllByRecursion (λ x. p x ≡ false) xs → list_any p xs ≡ false
@@ -72,7 +72,7 @@ reply_gives h token observe r does room =
 
 -- ---- effects that queue such a Pong
 
-pub custody_waits : (store : StoreValue) (now : ℕ) (s : Side) (m : Message) → QueuesCustody s (side_after store now s m) → s.history.held ≡ []
+pub custody_waits : (store : StoreValue) (now : ℕ) (s : Connection) (m : Message) → QueuesCustody s (side_after store now s m) → s.history.held ≡ []
 custody_waits store now s m =
     custody_gives (s.history.held ≡ []) s (side_after store now s m)
     (after_between (λ h. Gives (h.held ≡ []) h) (Gives ⊥) (λ h. gives_none (h.held ≡ []) h h refl) (λ h. gives_then (h.held ≡ []) h)
@@ -80,7 +80,7 @@ custody_waits store now s m =
     (λ h token moment opened may. gives_none ⊥ h (holding h (h.held ++ Answer token moment ∷ [])) refl) store now s m)
 
 -- Plain effects queue no such Pong.
-pub plain_queues_no_custody : (s t : Side) → Queues IsPlain s.history t.history → QueuesCustody s t → ⊥
+pub plain_queues_no_custody : (s t : Connection) → Queues IsPlain s.history t.history → QueuesCustody s t → ⊥
 plain_queues_no_custody s t queues =
     custody_gives ⊥ s t
     (queues.more, queues.same, both_ways _ (none_pass is_custody_pong queues.more (all_to IsPlain IsNoPong (λ m is. is.1) queues.more queues.such)))
@@ -89,7 +89,7 @@ plain_queues_no_custody s t queues =
 abbrev IsPongFirst : History → Type 0
 IsPongFirst h = (token : List ℕ) × (rest : List PendingEntryValue) × (h.held ≡ Pong token ∷ rest)
 
-pub custody_comes_first : (store : StoreValue) (now : ℕ) (s : Side) → QueuesCustody s (settled_once store now s) → (token : List ℕ) × IsFirstHeld s token
+pub custody_comes_first : (store : StoreValue) (now : ℕ) (s : Connection) → QueuesCustody s (settled_once store now s) → (token : List ℕ) × IsFirstHeld s token
 custody_comes_first store now s custody =
     let first = custody_gives (IsPongFirst s.history) s (settled_once store now s)
     (once_between (λ h. Gives (IsPongFirst h) h) (Gives ⊥) (λ h. gives_none (IsPongFirst h) h h refl) (λ h. gives_then (IsPongFirst h) h) reply_gives
@@ -100,14 +100,14 @@ custody_comes_first store now s custody =
 -- ---- the order of pending entries
 
 -- One more message.
-stand_skip : (m : Message) (ms : List Message) (es : List PendingEntryValue) → StandFor ms es → StandFor (m ∷ ms) es
-unfolding StandFor
+stand_skip : (m : Message) (ms : List Message) (es : List PendingEntryValue) → CorrespondTo ms es → CorrespondTo (m ∷ ms) es
+unfolding CorrespondTo
 stand_skip m ms [] stand = tt
 stand_skip m ms (e ∷ es) stand = inr stand
 
 -- More messages, with the entries that they ask for.
-stand_append : (ms ns : List Message) (es fs : List PendingEntryValue) → StandFor ms es → StandFor ns fs → StandFor (ms ++ ns) (es ++ fs)
-unfolding StandFor
+stand_append : (ms ns : List Message) (es fs : List PendingEntryValue) → CorrespondTo ms es → CorrespondTo ns fs → CorrespondTo (ms ++ ns) (es ++ fs)
+unfolding CorrespondTo
 stand_append [] ns [] fs stand more = more
 stand_append [] ns (e ∷ es) fs stand more = absurd stand
 stand_append (m ∷ ms) ns [] fs stand more = stand_skip m (ms ++ ns) fs (stand_append ms ns [] fs tt more)
@@ -115,21 +115,21 @@ stand_append (m ∷ ms) ns (e ∷ es) fs (inl here) more = inl (here.0, stand_ap
 stand_append (m ∷ ms) ns (e ∷ es) fs (inr later) more = inr (stand_append ms ns (e ∷ es) fs later more)
 
 -- A message asks for the entry that it adds.
-stand_added : (m : Message) (es : List PendingEntryValue) → AddsAsked m es → StandFor (m ∷ []) es
-unfolding StandFor
+stand_added : (m : Message) (es : List PendingEntryValue) → AddsAsked m es → CorrespondTo (m ∷ []) es
+unfolding CorrespondTo
 stand_added m [] adds = tt
 stand_added m (e ∷ []) adds = inl (adds.asked.0, tt)
 stand_added m (e ∷ d ∷ es) adds = absurd (omega (arith, adds.few))
 
 -- The same without the first entry, and without any entry.
-stand_tail : (ms : List Message) (e : PendingEntryValue) (es : List PendingEntryValue) → StandFor ms (e ∷ es) → StandFor ms es
-unfolding StandFor
+stand_tail : (ms : List Message) (e : PendingEntryValue) (es : List PendingEntryValue) → CorrespondTo ms (e ∷ es) → CorrespondTo ms es
+unfolding CorrespondTo
 stand_tail [] e es stand = absurd stand
 stand_tail (m ∷ ms) e es (inl here) = stand_skip m ms es here.1
 stand_tail (m ∷ ms) e es (inr later) = stand_skip m ms es (stand_tail ms e es later)
 
-stand_removed : (ms : List Message) (es : List PendingEntryValue) (i : ℕ) → StandFor ms es → StandFor ms (remove es i)
-unfolding StandFor
+stand_removed : (ms : List Message) (es : List PendingEntryValue) (i : ℕ) → CorrespondTo ms es → CorrespondTo ms (remove es i)
+unfolding CorrespondTo
 stand_removed ms [] zero stand = stand
 stand_removed ms [] (suc i) stand = stand
 stand_removed ms (e ∷ es) zero stand = stand_tail ms e es stand
@@ -137,13 +137,13 @@ stand_removed [] (e ∷ es) (suc i) stand = absurd stand
 stand_removed (m ∷ ms) (e ∷ es) (suc i) (inl here) = inl (here.0, stand_removed ms es i here.1)
 stand_removed (m ∷ ms) (e ∷ es) (suc i) (inr later) = inr (stand_removed ms (e ∷ es) (suc i) later)
 
-stand_due : (ms : List Message) (now : ℕ) (es : List PendingEntryValue) → StandFor ms es → StandFor ms (without_due now es)
+stand_due : (ms : List Message) (now : ℕ) (es : List PendingEntryValue) → CorrespondTo ms es → CorrespondTo ms (without_due now es)
 unfolding without_due
 stand_due ms now es stand = grind (arith, stand_removed)
 
 -- Each entry was asked for.
-pub stand_asked : (ms : List Message) (before : List PendingEntryValue) (e : PendingEntryValue) (after : List PendingEntryValue) → StandFor ms (before ++ e ∷ after) → list_any (λ m. asks_held m e) ms ≡ true
-unfolding StandFor
+pub stand_asked : (ms : List Message) (before : List PendingEntryValue) (e : PendingEntryValue) (after : List PendingEntryValue) → CorrespondTo ms (before ++ e ∷ after) → list_any (λ m. asks_pending m e) ms ≡ true
+unfolding CorrespondTo
 stand_asked [] [] e after stand = absurd stand
 stand_asked [] (b ∷ before) e after stand = absurd stand
 stand_asked (m ∷ ms) [] e after stand = grind (arith, stand_asked ms [] e after)
@@ -152,18 +152,18 @@ stand_asked (m ∷ ms) (b ∷ before) e after stand = grind (arith, stand_asked 
 -- ---- a request
 
 -- A request does not change the pending entries, and the connection stays open.
-pub asked_quiet : (s : Side) (m : Message) → asks_answer s m ≡ true → ((after s.history (call.Handle m)).held ≡ s.history.held) × (is_open (after s.history (call.Handle m)).phase ≡ true)
+pub asked_quiet : (s : Connection) (m : Message) → asks_answer s m ≡ true → ((after s.history (call.Handle m)).held ≡ s.history.held) × (is_open (after s.history (call.Handle m)).phase ≡ true)
 asked_quiet s m asks = let quiet = react_asks (standing_now s.history) m (said_request _ asks) in grind (arith, told_over (standing_now s.history) m)
 
 -- So its delayed response is appended to them.
-pub held_when_asked : (store : StoreValue) (now : ℕ) (s : Side) (m : Message) (seconds : ℕ) → handles s ≡ true → asks_answer s m ≡ true → held_for (after s.history (call.Handle m)) (answer_of store now m).hold ≡ Some seconds → (side_after store now s m).history.held ≡ s.history.held ++ Answer m.token (moment_after now seconds) ∷ []
+pub held_when_asked : (store : StoreValue) (now : ℕ) (s : Connection) (m : Message) (seconds : ℕ) → handles s ≡ true → asks_answer s m ≡ true → held_for (after s.history (call.Handle m)) (answer_of store now m).hold ≡ Some seconds → (side_after store now s m).history.held ≡ s.history.held ++ Answer m.token (moment_after now seconds) ∷ []
 unfolding side_after
 held_when_asked store now s m seconds does asks is = grind (arith, asked_quiet s m asks)
 
 -- The possible cases of a message: no request, a request with a delayed response, and one with an immediate response.
-pub handled_cases : (store : StoreValue) (now : ℕ) (s : Side) (m : Message) (P : Side → Type 0)
+pub handled_cases : (store : StoreValue) (now : ℕ) (s : Connection) (m : Message) (P : Connection → Type 0)
     → (asks_answer s m ≡ false → P (with_history s (after s.history (call.Handle m))))
-    → (asks_answer s m ≡ true → (moment : ℕ) → asks_held m (Answer m.token moment) ≡ true → P (side_with (holding (after s.history (call.Handle m)) ((after s.history (call.Handle m)).held ++ Answer m.token moment ∷ [])) (without_token m.token s.observers)))
+    → (asks_answer s m ≡ true → (moment : ℕ) → asks_pending m (Answer m.token moment) ≡ true → P (side_with (holding (after s.history (call.Handle m)) ((after s.history (call.Handle m)).held ++ Answer m.token moment ∷ [])) (without_token m.token s.observers)))
     → (asks_answer s m ≡ true → P (side_answered store now (after s.history (call.Handle m)) (without_token m.token s.observers) m (immediate_answer store now m)))
     → P (side_handled store now s m)
 handled_cases store now s m P other late prompt =
@@ -172,7 +172,7 @@ handled_cases store now s m P other late prompt =
     let hold : Option ℕ = (answer_of store now m).hold in
     cond_both (asks_answer s m) _ _ P (λ asks. replied_cases store now h others m hold P (λ seconds is. (
     let both : (may_hold h ≡ true) × (hold ≡ Some seconds) = grind arith in
-    let asked : asks_held m (Answer m.token (moment_after now seconds)) ≡ true =
+    let asked : asks_pending m (Answer m.token (moment_after now seconds)) ≡ true =
     rw ((held_of store now m seconds both.1).asked, (bytes_decides m.token m.token).1 refl) refl in
     subst (λ (k : History). P (side_with k others)) (sym (cond-true _ _ h (and_from _ _ (asked_quiet s m asks).1 both.0))) (late asks (moment_after now seconds) asked)
     )) (λ none. prompt asks)) other
@@ -186,7 +186,7 @@ Over m before after now = ((more : List PendingEntryValue) × (after ≡ before 
 adds_none : (m : Message) (es : List PendingEntryValue) (now : Phase) → Over m es es now
 adds_none m es now = inl ([], sym (append-nil es), record { few = omega arith; asked = tt })
 
-adds_one : (m : Message) (before : List PendingEntryValue) (e : PendingEntryValue) (now : Phase) → asks_held m e ≡ true → Over m before (before ++ e ∷ []) now
+adds_one : (m : Message) (before : List PendingEntryValue) (e : PendingEntryValue) (now : Phase) → asks_pending m e ≡ true → Over m before (before ++ e ∷ []) now
 adds_one m before e now asks = inl (e ∷ [], refl, record { few = omega arith; asked = (asks, tt) })
 
 -- A message was handled while messages were accepted, and it may have stopped the connection.
@@ -211,7 +211,7 @@ message_hears h m =
     cond_both (takes_messages h.phase) (heard h m) h (HasHeard m h) (λ takes. record { handled_more = λ takes. refl; stops = does.0; adds = does.1 })
     (λ off. record { handled_more = λ takes. absurd (both_ways _ off takes); stops = λ is. is; adds = adds_none m h.held h.phase })
 
-pub handled_hears : (store : StoreValue) (now : ℕ) (s : Side) (m : Message) → HasHeard m s.history (side_handled store now s m).history
+pub handled_hears : (store : StoreValue) (now : ℕ) (s : Connection) (m : Message) → HasHeard m s.history (side_handled store now s m).history
 handled_hears store now s m =
     let h : History = after s.history (call.Handle m) in
     let heard : HasHeard m s.history h = message_hears s.history m in
@@ -224,33 +224,33 @@ handled_hears store now s m =
     (λ asks. reply_either h _ (HandlesOne m s.history) heard
     (record { handled_more = heard.handled_more; stops = λ is. refl; adds = inr (PeerTooSmall, refl, refl) }))
 
-pub handled_over : (store : StoreValue) (now : ℕ) (s : Side) (m : Message) → KeepsHeldOver m s (side_handled store now s m)
+pub handled_over : (store : StoreValue) (now : ℕ) (s : Connection) (m : Message) → KeepsPendingOver m s (side_handled store now s m)
 handled_over store now s m = grind (arith, handled_hears store now s m)
 
-pub if_over : (m : Message) (does : Bool) (s t : Side) → KeepsHeldOver m s t → KeepsHeldOver m s (cond does t s)
+pub if_over : (m : Message) (does : Bool) (s t : Connection) → KeepsPendingOver m s t → KeepsPendingOver m s (cond does t s)
 if_over m true s t over = over
 if_over m false s t over = inl ([], sym (append-nil s.history.held), record { few = omega arith; asked = tt })
 
 -- ---- histories
 
 abbrev pub Stands : History → Type 0
-Stands h = StandFor h.handled h.held
+Stands h = CorrespondTo h.handled h.held
 
 sent_still_stands : (h : History) (m less : Message) → Stands h → Stands (sent h m less)
-unfolding StandFor
-sent_still_stands h m less stand = sent_either (standing_now h) m less (fit (limit_now h) m less) (λ es now. StandFor h.handled es) stand tt
+unfolding CorrespondTo
+sent_still_stands h m less stand = sent_either (standing_now h) m less (fit (limit_now h) m less) (λ es now. CorrespondTo h.handled es) stand tt
 
 -- The message asks for the entries that it added.
 heard_stands : (m : Message) (h k : History) → takes_messages h.phase ≡ true → HasHeard m h k → Stands h → Stands k
-unfolding StandFor
+unfolding CorrespondTo
 heard_stands m h k takes heard stand = rw (heard.handled_more takes) (by heard.adds)
   where
-    by : Over m h.held k.held k.phase → StandFor (h.handled ++ m ∷ []) k.held
+    by : Over m h.held k.held k.phase → CorrespondTo (h.handled ++ m ∷ []) k.held
     by (inl more) = rw more.1 (stand_append h.handled (m ∷ []) h.held more.0 stand (stand_added m more.0 more.2))
     by (inr over) = rw over.2 tt
 
 pub stands_keeps : (limits : LimitValues) → Keeps limits (λ s. Stands s.history)
-unfolding side_after StandFor
+unfolding side_after CorrespondTo
 stands_keeps limits = let R : History → History → Type 0 = λ h k. Stands h → Stands k in record {
   first = tt;
   handled = λ store now s m is stand. cond_both (handles s) (side_handled store now s m) s (λ t. Stands t.history)
@@ -272,18 +272,18 @@ abbrev pub Leaves : History → History → Type 0
 Leaves h k = (k.held ≡ h.held) ⊎ ((why : Reason) × (k.phase ≡ phase.Stopped why))
 
 -- So the pending entries are kept.
-pub left_kept : (s t : Side) → Leaves s.history t.history → KeepsHeld s t
+pub left_kept : (s t : Connection) → Leaves s.history t.history → KeepsPending s t
 left_kept s t leaves = let none = append-nil s.history.held in grind arith
 
-pub written_same : (s : Side) (n : ℕ) → (side_written s n).history.held ≡ s.history.held
+pub written_same : (s : Connection) (n : ℕ) → (side_written s n).history.held ≡ s.history.held
 written_same s n = written_between (λ h k. k.held ≡ h.held) (λ h. refl) (λ h n within. refl) s n
 
 -- If no entry is due, settling only notifies an observer.
-pub told_keeps : (store : StoreValue) (now : ℕ) (s : Side) → next_held now s ≡ None → KeepsHeld s (settled_once store now s)
+pub told_keeps : (store : StoreValue) (now : ℕ) (s : Connection) → next_held now s ≡ None → KeepsPending s (settled_once store now s)
 unfolding settled_once
 told_keeps store now s is = rw is (by (next_due store now s))
   where
-    by : (found : Option Observer) → KeepsHeld s (notified store now s found)
+    by : (found : Option Observer) → KeepsPending s (notified store now s found)
     by None = left_kept s s (inl refl)
     by (Some o) =
         left_kept s (notified store now s (Some o))
@@ -292,22 +292,22 @@ told_keeps store now s is = rw is (by (next_due store now s))
 
 -- ---- the first due entry is removed
 
-pub sent_when_due : (store : StoreValue) (now : ℕ) (s : Side) (token : List ℕ) (moment : ℕ) → next_held now s ≡ Some (Answer token moment) → (settled_once store now s).history ≡ after (after s.history (call.Due now)) (call.Reply (held_message token))
+pub sent_when_due : (store : StoreValue) (now : ℕ) (s : Connection) (token : List ℕ) (moment : ℕ) → next_held now s ≡ Some (Answer token moment) → (settled_once store now s).history ≡ after (after s.history (call.Due now)) (call.Reply (held_message token))
 unfolding settled_once
 sent_when_due store now s token moment is = rw is refl
 
-pub taken_out : (store : StoreValue) (now : ℕ) (s : Side) (e : PendingEntryValue) → next_held now s ≡ Some e → answers s.history.phase ≡ true → (settled_once store now s).history.phase ≡ s.history.phase → (settled_once store now s).history.held ≡ without_due now s.history.held
+pub taken_out : (store : StoreValue) (now : ℕ) (s : Connection) (e : PendingEntryValue) → next_held now s ≡ Some e → answers s.history.phase ≡ true → (settled_once store now s).history.phase ≡ s.history.phase → (settled_once store now s).history.held ≡ without_due now s.history.held
 unfolding settled_once
 taken_out store now s e is answering same = grind arith
 
 -- ---- its message is sent
 
-pub answer_sent : (store : StoreValue) (now : ℕ) (s : Side) (token : List ℕ) (moment : ℕ) → next_held now s ≡ Some (Answer token moment) → answers s.history.phase ≡ true
+pub answer_sent : (store : StoreValue) (now : ℕ) (s : Connection) (token : List ℕ) (moment : ℕ) → next_held now s ≡ Some (Answer token moment) → answers s.history.phase ≡ true
     → (settled_once store now s).history.queued ≡ s.history.queued ++ (send (standing_due now (standing_now s.history)) (held_message token) (bare_response (held_message token))).queued
 unfolding settled_once
 answer_sent store now s token moment is answering = grind (arith, append-nil)
 
-pub pong_sent : (store : StoreValue) (now : ℕ) (s : Side) (token : List ℕ) → next_held now s ≡ Some (Pong token)
+pub pong_sent : (store : StoreValue) (now : ℕ) (s : Connection) (token : List ℕ) → next_held now s ≡ Some (Pong token)
     → (settled_once store now s).history.queued ≡ s.history.queued ++ (send (standing_due now (standing_now s.history)) (pong_with true token) (pong_with false token)).queued
 unfolding settled_once
 pong_sent store now s token is = grind arith

@@ -4,7 +4,7 @@ use Rattle.std.proofs.lemmas.Bool.{cases_Bool}
 use Rattle.std.proofs.lemmas.List.{append-nil, map-append}
 use Rattle.std.proofs.Math.Seq.{drop-append_seam}
 use Rattle.coap_model.specs.Prelude.{StreamFault, Stream, split, behind, continued, split_on, ConfigValues, new_world}
-use Rattle.coap_model.specs.Prelude.{after_steps, Event, Took, Ended, taken_in, taken_on, size_by, size_on}
+use Rattle.coap_model.specs.Prelude.{after_steps, AcceptedCall, Took, Ended, taken_in, taken_on, size_by, size_on}
 use Rattle.coap_model.specs.Prelude.{stream_on, spelled_on, beyond, steps_by, steps_behind, steps_of, world_after}
 use Rattle.coap_model.proofs.world.StepLaws.{taken_then, steps_behind_more, size_then, sizes_then, read_before, stream_more, spelled_by, spelled_then}
 use Rattle.coap_model.proofs.world.TookLaws.{nothing_beyond}
@@ -12,23 +12,23 @@ use Rattle.coap_model.proofs.world.TookLaws.{nothing_beyond}
 -- ---- only the stream matters
 
 -- Two lists of events gave a connection the same stream, and the same sizes apply after them.
-abbrev pub SpellAlike : ℕ → List Event → List Event → Type 0
+abbrev pub SpellAlike : ℕ → List AcceptedCall → List AcceptedCall → Type 0
 SpellAlike M es fs = (id : ℕ) → spelled_on M id es ≡ spelled_on M id fs
 
-alike_by : (M : ℕ) (es fs : List Event) (e : Event) → SpellAlike M es fs → SpellAlike M (es ++ e ∷ []) (fs ++ e ∷ [])
+alike_by : (M : ℕ) (es fs : List AcceptedCall) (e : AcceptedCall) → SpellAlike M es fs → SpellAlike M (es ++ e ∷ []) (fs ++ e ∷ [])
 alike_by M es fs e alike id = spelled_then M id es e ∙ ap (λ (s : Stream × ℕ). spelled_by s (taken_in id e) (size_by id e)) (alike id) ∙ sym (spelled_then M id fs e)
 
-pub stream_alike : (M id : ℕ) (es fs : List Event) → SpellAlike M es fs → stream_on M id es ≡ stream_on M id fs
+pub stream_alike : (M id : ℕ) (es fs : List AcceptedCall) → SpellAlike M es fs → stream_on M id es ≡ stream_on M id fs
 stream_alike M id es fs alike = ap (λ (s : Stream × ℕ). s.0) (alike id)
 
-by_alike : (M : ℕ) (es fs : List Event) (e : Event) → SpellAlike M es fs → steps_by M es e ≡ steps_by M fs e
+by_alike : (M : ℕ) (es fs : List AcceptedCall) (e : AcceptedCall) → SpellAlike M es fs → steps_by M es e ≡ steps_by M fs e
 unfolding steps_by
 by_alike M es fs (Took id bytes) alike =
     cc (stream_alike M id es fs alike, stream_alike M id (es ++ Took id bytes ∷ []) (fs ++ Took id bytes ∷ []) (alike_by M es fs (Took id bytes) alike))
 by_alike M es fs (Ended id) alike = cc (stream_alike M id es fs alike)
 by_alike M es fs e alike = refl
 
-behind_alike : (M : ℕ) (es fs gs : List Event) → SpellAlike M es fs → steps_behind M es gs ≡ steps_behind M fs gs
+behind_alike : (M : ℕ) (es fs gs : List AcceptedCall) → SpellAlike M es fs → steps_behind M es gs ≡ steps_behind M fs gs
 unfolding steps_behind
 behind_alike M es fs [] alike = refl
 behind_alike M es fs (g ∷ gs) alike = cc (by_alike M es fs g alike, behind_alike M (es ++ g ∷ []) (fs ++ g ∷ []) gs (alike_by M es fs g alike))
@@ -55,9 +55,9 @@ beyond_parts M id before (Some fault) xs ys is =
 
 -- ---- an input slice in two parts
 
-pub spelled_twice : (M : ℕ) (es : List Event) (other : ℕ) (xs ys : List ℕ) → SpellAlike M (es ++ Took other (xs ++ ys) ∷ []) ((es ++ Took other xs ∷ []) ++ Took other ys ∷ [])
+pub spelled_twice : (M : ℕ) (es : List AcceptedCall) (other : ℕ) (xs ys : List ℕ) → SpellAlike M (es ++ Took other (xs ++ ys) ∷ []) ((es ++ Took other xs ∷ []) ++ Took other ys ∷ [])
 spelled_twice M es other xs ys id =
-    let half : List Event = es ++ Took other xs ∷ [] in
+    let half : List AcceptedCall = es ++ Took other xs ∷ [] in
     rw (read_before M id es (Took other (xs ++ ys)), read_before M id half (Took other ys), sizes_then M id es (Took other xs) (λ N. refl))
     (rw (taken_then id es (Took other xs), size_then M id es (Took other (xs ++ ys)), size_then M id half (Took other ys), size_then M id es (Took other xs))
     (elim (cases_Bool (other == id)) [
@@ -66,20 +66,20 @@ spelled_twice M es other xs ys id =
     ]))
 
 -- The steps of a slice are those of its parts.
-by_parts : (M : ℕ) (es : List Event) (id : ℕ) (xs ys : List ℕ) → steps_by M es (Took id (xs ++ ys)) ≡ steps_by M es (Took id xs) ++ steps_by M (es ++ Took id xs ∷ []) (Took id ys)
+by_parts : (M : ℕ) (es : List AcceptedCall) (id : ℕ) (xs ys : List ℕ) → steps_by M es (Took id (xs ++ ys)) ≡ steps_by M es (Took id xs) ++ steps_by M (es ++ Took id xs ∷ []) (Took id ys)
 unfolding steps_by
 by_parts M es id xs ys =
-    let half : List Event = es ++ Took id xs ∷ [] in
+    let half : List AcceptedCall = es ++ Took id xs ∷ [] in
     let whole = stream_alike M id (es ++ Took id (xs ++ ys) ∷ []) (half ++ Took id ys ∷ []) (spelled_twice M es id xs ys) in
     rw (whole, stream_more M id half ys, size_then M id es (Took id xs), stream_more M id es xs)
     (beyond_parts (size_on M id es) id (stream_on M id es) (stream_on M id es).fault xs ys refl)
 
 -- ---- the theorem
 
-pub cut_steps : (M : ℕ) (es fs : List Event) (id : ℕ) (xs ys : List ℕ) → steps_of M (es ++ Took id (xs ++ ys) ∷ fs) ≡ steps_of M (es ++ Took id xs ∷ Took id ys ∷ fs)
+pub cut_steps : (M : ℕ) (es fs : List AcceptedCall) (id : ℕ) (xs ys : List ℕ) → steps_of M (es ++ Took id (xs ++ ys) ∷ fs) ≡ steps_of M (es ++ Took id xs ∷ Took id ys ∷ fs)
 unfolding steps_of steps_behind
 cut_steps M es fs id xs ys =
-    let half : List Event = es ++ Took id xs ∷ [] in
+    let half : List AcceptedCall = es ++ Took id xs ∷ [] in
     rw (
       steps_behind_more M [] es (Took id (xs ++ ys) ∷ fs),
       steps_behind_more M [] es (Took id xs ∷ Took id ys ∷ fs),
@@ -88,6 +88,6 @@ cut_steps M es fs id xs ys =
       append_assoc (steps_by M es (Took id xs)) (steps_by M half (Took id ys)) (steps_behind M (half ++ Took id ys ∷ []) fs),
     ) refl
 
-pub cut_worlds : (c : ConfigValues) (es fs : List Event) (id : ℕ) (xs ys : List ℕ) → world_after c (es ++ Took id (xs ++ ys) ∷ fs) ≡ world_after c (es ++ Took id xs ∷ Took id ys ∷ fs)
+pub cut_worlds : (c : ConfigValues) (es fs : List AcceptedCall) (id : ℕ) (xs ys : List ℕ) → world_after c (es ++ Took id (xs ++ ys) ∷ fs) ≡ world_after c (es ++ Took id xs ∷ Took id ys ∷ fs)
 unfolding world_after
 cut_worlds c es fs id xs ys = ap (after_steps c.limits (new_world c)) (cut_steps c.limits.max_message es fs id xs ys)

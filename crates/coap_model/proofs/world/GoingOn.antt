@@ -7,10 +7,10 @@ use Rattle.coap_model.specs.Prelude.{Message, StreamFault, Reply, Server, LimitV
 use Rattle.coap_model.specs.Prelude.{is_open, fit, bare_response, PendingEntryValue, first_due, ConnectionState, ReactionResult, send_as}
 use Rattle.coap_model.specs.Prelude.{pong_with, due_effect, History, IsHistory, standing_now, with_effect, after}
 use Rattle.coap_model.specs.Prelude.{link_of, may_hold, bytes_of, own_csm, Call, call_effect, standing_due}
-use Rattle.coap_model.specs.Prelude.{StoreValue, ConfigValues, Side, new_side, handles, has_room}
+use Rattle.coap_model.specs.Prelude.{StoreValue, ConfigValues, Connection, new_side, handles, has_room}
 use Rattle.coap_model.specs.Prelude.{side_after, side_faulted, side_written, side_ended, side_released}
 use Rattle.coap_model.specs.Prelude.{side_announced, held_message, after_sent, settled_once, settled, World, Step}
-use Rattle.coap_model.specs.Prelude.{side_of, Event, world_after}
+use Rattle.coap_model.specs.Prelude.{side_of, AcceptedCall, world_after}
 use Rattle.coap_conn.specs.declared.phase.Reply.TheVariants as reply
 use Rattle.coap_conn.specs.PendingEntries as held
 use Rattle.coap_conn.specs.Calls.{IsWithin}
@@ -65,7 +65,7 @@ written_goes_on h n within = record { role = refl; limits = refl; history = λ i
 pub all_go_on : KeepsAll GoesOn
 all_go_on = record {
   composes = record { same = as_before; then = further };
-  hears = λ h m takes room. record { role = refl; limits = refl; history = history_more h _; over = λ none. absurd cc };
+  takes_input = λ h m takes room. record { role = refl; limits = refl; history = history_more h _; over = λ none. absurd cc };
   replies = λ h token observe r does room. sent_goes_so h _ _;
   holds = λ h token moment opened may. holding_so h _;
   lets_go = λ h now. holding_so h _;
@@ -98,50 +98,50 @@ sent_goes_on h now (held.Answer token moment) =
     let k : History = after h (call.Due now) in further h k _ (call_goes_on h (call.Due now) tt) (call_goes_on k (call.Reply (held_message token)) tt)
 sent_goes_on h now (held.Pong token) = call_goes_on h (call.Due now) tt
 
-pub settled_goes_on : (store : StoreValue) (now : ℕ) (s : Side) → Between GoesOn s (settled store now s)
+pub settled_goes_on : (store : StoreValue) (now : ℕ) (s : Connection) → Between GoesOn s (settled store now s)
 settled_goes_on = settled_between GoesOn all_go_on.composes all_go_on.replies all_go_on.lets_go all_go_on.pongs
 
 -- ---- stops
 
 -- An error stops a connection that accepts messages.
-pub faulted_stops : (s : Side) (fault : StreamFault) → handles s ≡ true → takes_messages (side_faulted s fault).history.phase ≡ false
+pub faulted_stops : (s : Connection) (fault : StreamFault) → handles s ≡ true → takes_messages (side_faulted s fault).history.phase ≡ false
 unfolding side_faulted
 faulted_stops s fault does = let takes = (and_parts (takes_messages s.history.phase) (has_room s) does).0 in rw does (rw takes refl)
 
 -- ---- properties of every connection of a server
 
 -- No more bytes were written than were queued. The connection has these limits and is the server's end.
-pub record IsSide (limits : LimitValues) (s : Side) : Type 0 where
+pub record IsSide (limits : LimitValues) (s : Connection) : Type 0 where
   pub is_history : IsHistory s.history
   pub same_limits : s.history.limits ≡ limits
   pub is_server : s.history.role ≡ Server
 
-pub follower_is : (limits : LimitValues) (s t : Side) → Between GoesOn s t → IsSide limits s → IsSide limits t
+pub follower_is : (limits : LimitValues) (s t : Connection) → Between GoesOn s t → IsSide limits s → IsSide limits t
 follower_is limits s t goes is = record { is_history = goes.history is.is_history; same_limits = goes.limits ∙ is.same_limits; is_server = goes.role ∙ is.is_server }
 
 new_side_is : (limits : LimitValues) → IsSide limits (new_side limits)
 new_side_is limits = record { is_history = (new_shown Server limits 0 _ refl).is_history; same_limits = refl; is_server = refl }
 
 -- The connection with an id has these properties.
-pub side_is : (c : ConfigValues) (es : List Event) (id : ℕ) (s : Side) → side_of id (world_after c es).sides ≡ Some s → IsSide c.limits s
+pub side_is : (c : ConfigValues) (es : List AcceptedCall) (id : ℕ) (s : Connection) → side_of id (world_after c es).sides ≡ Some s → IsSide c.limits s
 side_is c = kept_by c (Between GoesOn) (IsSide c.limits) (new_side_is c.limits) (follower_is c.limits) (all_across GoesOn all_go_on)
 
 -- A property that a new connection has and that every effect keeps.
-pub record Keeps (limits : LimitValues) (P : Side → Type 0) : Type 0 where
+pub record Keeps (limits : LimitValues) (P : Connection → Type 0) : Type 0 where
   pub first : P (new_side limits)
-  pub handled : (store : StoreValue) (now : ℕ) (s : Side) (m : Message) → IsSide limits s → P s → P (side_after store now s m)
-  pub faulted : (s : Side) (fault : StreamFault) → P s → P (side_faulted s fault)
-  pub written : (s : Side) (n : ℕ) → P s → P (side_written s n)
-  pub ended : (s : Side) (cut : Bool) → P s → P (side_ended s cut)
-  pub released : (s : Side) → P s → P (side_released s)
-  pub announced : (s : Side) (size : ℕ) → P s → P (side_announced s size)
-  pub told : (store : StoreValue) (now : ℕ) (s : Side) → P s → P (settled_once store now s)
+  pub handled : (store : StoreValue) (now : ℕ) (s : Connection) (m : Message) → IsSide limits s → P s → P (side_after store now s m)
+  pub faulted : (s : Connection) (fault : StreamFault) → P s → P (side_faulted s fault)
+  pub written : (s : Connection) (n : ℕ) → P s → P (side_written s n)
+  pub ended : (s : Connection) (cut : Bool) → P s → P (side_ended s cut)
+  pub released : (s : Connection) → P s → P (side_released s)
+  pub announced : (s : Connection) (size : ℕ) → P s → P (side_announced s size)
+  pub told : (store : StoreValue) (now : ℕ) (s : Connection) → P s → P (settled_once store now s)
 
 -- Each connection continues the earlier one, and has the property afterwards.
-abbrev GoesOnKeeping : LimitValues → (Side → Type 0) → Side → Side → Type 0
+abbrev GoesOnKeeping : LimitValues → (Connection → Type 0) → Connection → Connection → Type 0
 GoesOnKeeping limits P s t = Between GoesOn s t × (IsSide limits s → P s → P t)
 
-keeps_hold : (limits : LimitValues) (P : Side → Type 0) → Keeps limits P → (w : World) (st : Step) (id : ℕ) → HoldsOf (GoesOnKeeping limits P) w st id
+keeps_hold : (limits : LimitValues) (P : Connection → Type 0) → Keeps limits P → (w : World) (st : Step) (id : ℕ) → HoldsOf (GoesOnKeeping limits P) w st id
 keeps_hold limits P keeps w st id = let goes : HoldsOf (Between GoesOn) w st id = all_across GoesOn all_go_on w st id in record {
   same = λ s. (goes.same s, λ side is. is);
   handled = λ m at s. (goes.handled m at s, keeps.handled w.store w.now s m);
@@ -154,7 +154,7 @@ keeps_hold limits P keeps w st id = let goes : HoldsOf (Between GoesOn) w st id 
 }
 
 -- So each connection has the property after any events.
-pub kept_after : (c : ConfigValues) (P : Side → Type 0) → Keeps c.limits P → (es : List Event) (id : ℕ) (s : Side) → side_of id (world_after c es).sides ≡ Some s → P s
+pub kept_after : (c : ConfigValues) (P : Connection → Type 0) → Keeps c.limits P → (es : List AcceptedCall) (id : ℕ) (s : Connection) → side_of id (world_after c es).sides ≡ Some s → P s
 kept_after c P keeps es id s there =
     (kept_by c (GoesOnKeeping c.limits P) (λ t. IsSide c.limits t × P t) (new_side_is c.limits, keeps.first)
     (λ s t goes is. (follower_is c.limits s t goes.0 is.0, goes.1 is.0 is.1)) (keeps_hold c.limits P keeps) es id s there).1

@@ -1,13 +1,13 @@
 -- Facts that hold of every world, and the theorem that no change is lost in it.
 use Rattle.std.proofs.Common.{◌≡◌, ℕ, ◌≤◌, Bool, true, false, cond, List, [], ◌∷◌, map, Option, Some, None, refl, ◌==◌, not, is_none, nat_le, arith, ◌&&◌, sym, ap, ◌∙◌}
 use Rattle.coap_model.specs.Prelude.{AllByRecursion, LimitValues, StoreValue, found_in, Change, Put, Delete, changed}
-use Rattle.coap_model.specs.Prelude.{put_refusal, ConfigValues, Side, side_after, change_after, side_faulted}
-use Rattle.coap_model.specs.Prelude.{side_written, side_ended, side_released, side_announced, HearsAll, settled}
-use Rattle.coap_model.specs.Prelude.{with_history, Place, World, new_world, side_of, stored_after, Step, Handled}
-use Rattle.coap_model.specs.Prelude.{Faulted, Written, ticks, acted, settled_place, step, after_steps, Event}
+use Rattle.coap_model.specs.Prelude.{put_refusal, ConfigValues, Connection, side_after, change_after, side_faulted}
+use Rattle.coap_model.specs.Prelude.{side_written, side_ended, side_released, side_announced, IsUpToDate, settled}
+use Rattle.coap_model.specs.Prelude.{with_history, ConnectionEntry, World, new_world, side_of, stored_after, Step, Handled}
+use Rattle.coap_model.specs.Prelude.{Faulted, Written, ticks, acted, settled_place, step, after_steps, AcceptedCall}
 use Rattle.coap_model.specs.Prelude.{steps_of, world_after, takes_messages, stop, end_reason}
 use Rattle.coap_model.specs.Prelude.{standing_now, with_effect}
-use Rattle.coap_model.specs.Prelude.{hears, heard_step, heard_steps, steps_heard}
+use Rattle.coap_model.specs.Prelude.{takes_input, normalised_step, heard_steps, normalised_steps}
 use Rattle.coap_model.specs.Prelude.{all_settled}
 use Rattle.std.proofs.lemmas.Bool.{and_parts, leb-true, eqb-true, cond_both}
 use Rattle.coap_model.specs.world.World.{changed_at, Opened, Ticked, Stored, Removed, Ended, Released, Announced, Dropped}
@@ -24,7 +24,7 @@ use Rattle.coap_model.specs.world.World as world
 -- ---- facts on a world
 
 -- The facts hold of the connection in a place.
-abbrev pub IsKnownPlace : StoreValue → Place → Type 0
+abbrev pub IsKnownPlace : StoreValue → ConnectionEntry → Type 0
 IsKnownPlace store p = IsKnownSide store p.side
 
 pub record IsKnownWorld (w : World) : Type 0 where
@@ -35,10 +35,10 @@ pub record IsKnownWorld (w : World) : Type 0 where
 -- ---- steps
 
 -- A world with these connections has the facts.
-with_places : (w : World) (sides : List Place) → IsKnownWorld w → AllByRecursion (IsKnownPlace w.store) sides → IsKnownWorld (record w { sides = sides })
+with_places : (w : World) (sides : List ConnectionEntry) → IsKnownWorld w → AllByRecursion (IsKnownPlace w.store) sides → IsKnownWorld (record w { sides = sides })
 with_places w sides known places = record { versioned = known.versioned; moment = known.moment; places = places }
 
-on_side_known : (w : World) (id : ℕ) (f : Side → Side) → ((s : Side) → IsKnownSide w.store s → IsKnownSide w.store (f s)) → IsKnownWorld w → IsKnownWorld (record w { sides = map (changed_at id f) w.sides })
+on_side_known : (w : World) (id : ℕ) (f : Connection → Connection) → ((s : Connection) → IsKnownSide w.store s → IsKnownSide w.store (f s)) → IsKnownWorld w → IsKnownWorld (record w { sides = map (changed_at id f) w.sides })
 on_side_known w id f keeps known =
     with_places w _ known (all_map (IsKnownPlace w.store) (IsKnownPlace w.store) (changed_at id f)
     (λ p is. cond_both (p.id == id) (record p { side = f p.side }) p (IsKnownPlace w.store) (λ here. keeps p.side is) (λ apart. is)) w.sides known.places)
@@ -58,7 +58,7 @@ acted_known limits w (Opened id) known =
     (λ e. record { versioned = known.versioned; moment = known.moment; places = all_append (IsKnownPlace w.store) w.sides _ known.places ((record { is_history = omega arith; told = tt }), tt) })
     (λ e. known)
 acted_known limits w (Handled id m) known =
-    let sides : List Place = map (changed_at id (λ s. side_after w.store w.now s m)) w.sides in
+    let sides : List ConnectionEntry = map (changed_at id (λ s. side_after w.store w.now s m)) w.sides in
     let after : IsKnownWorld (record w { sides = sides }) =
     on_side_known w id (λ s. side_after w.store w.now s m) (λ s. after_known w.store w.now known.moment known.versioned s m) known in
     elim (side_of id w.sides) as (λ found. IsKnownWorld (record w { sides = sides; store = stored_after w m found })) [
@@ -84,11 +84,11 @@ unfolding step
 step_known limits w s before =
     let v : World = acted limits w s in
     let known : IsKnownWorld v = acted_known limits w s before in
-    let Known : Place → Type 0 = IsKnownPlace v.store in
+    let Known : ConnectionEntry → Type 0 = IsKnownPlace v.store in
     with_places v _ known (all_map Known Known (settled_place v.store v.now) (λ p. settled_known v.store v.now known.moment known.versioned p.side) v.sides known.places)
 
 -- The facts hold of the world after any events.
-pub world_known : (c : ConfigValues) (events : List Event) → c.starts.moment ≤ 18446744073709551615 → IsKnownWorld (world_after c events)
+pub world_known : (c : ConfigValues) (events : List AcceptedCall) → c.starts.moment ≤ 18446744073709551615 → IsKnownWorld (world_after c events)
 unfolding found_in
 world_known c events small =
     let versioned : IsVersioned (new_world c).store = record { distinct = tt; numbered = λ path r found. absurd cc; given = λ path r found. absurd cc } in
@@ -98,9 +98,9 @@ world_known c events small =
 
 -- On each connection with room, each observer was last sent the current state of its path, and no pending entry is due.
 abbrev pub AllHear : World → Type 0
-AllHear w = AllByRecursion (λ p. HearsAll w.store w.now p.side) w.sides
+AllHear w = AllByRecursion (λ p. IsUpToDate w.store w.now p.side) w.sides
 
-settled_hear : (store : StoreValue) (now : ℕ) (ps : List Place) → AllByRecursion (λ p. HearsAll store now p.side) (map (settled_place store now) ps)
+settled_hear : (store : StoreValue) (now : ℕ) (ps : List ConnectionEntry) → AllByRecursion (λ p. IsUpToDate store now p.side) (map (settled_place store now) ps)
 settled_hear store now [] = tt
 settled_hear store now (p ∷ ps) = (hears_at_rest store now (settled store now p.side) (settled_rests store now p.side), settled_hear store now ps)
 
@@ -109,49 +109,49 @@ unfolding step
 step_hears limits w s = settled_hear (acted limits w s).store (acted limits w s).now (acted limits w s).sides
 
 -- The same after any events.
-pub world_hears : (c : ConfigValues) (events : List Event) → AllHear (world_after c events)
+pub world_hears : (c : ConfigValues) (events : List AcceptedCall) → AllHear (world_after c events)
 world_hears c = world_keeps c AllHear (λ w s hear. step_hears c.limits w s) tt
 
 -- A world in which no change is lost is settled.
 pub world_stays : (w : World) → AllHear w → all_settled w ≡ w
 world_stays w hear =
-    let settles : Place → Place = settled_place w.store w.now in
-    ap (λ (ps : List Place). record w { sides = ps }) (all_stay settles w.sides
-    (all_to (λ p. HearsAll w.store w.now p.side) (λ p. settles p ≡ p)
-    (λ p hears. ap (λ (s : Side). record p { side = s }) (side_at_rest_stays w.store w.now p.side hears)) w.sides hear))
+    let settles : ConnectionEntry → ConnectionEntry = settled_place w.store w.now in
+    ap (λ (ps : List ConnectionEntry). record w { sides = ps }) (all_stay settles w.sides
+    (all_to (λ p. IsUpToDate w.store w.now p.side) (λ p. settles p ≡ p)
+    (λ p takes_input. ap (λ (s : Connection). record p { side = s }) (side_at_rest_stays w.store w.now p.side takes_input)) w.sides hear))
 
 -- ---- the end of input
 
 -- After a stop, the end of input has no effect, whether it cuts a message or not.
-ends_if_taking : (s : Side) (cut : Bool) → side_ended s (takes_messages s.history.phase && cut) ≡ side_ended s cut
+ends_if_taking : (s : Connection) (cut : Bool) → side_ended s (takes_messages s.history.phase && cut) ≡ side_ended s cut
 unfolding side_ended
 ends_if_taking s cut =
-    let ended : Bool → Bool → Side = λ takes cut. with_history s (cond takes (with_effect s.history (stop (standing_now s.history) (end_reason cut) [])) s.history) in
+    let ended : Bool → Bool → Connection = λ takes cut. with_history s (cond takes (with_effect s.history (stop (standing_now s.history) (end_reason cut) [])) s.history) in
     elim (takes_messages s.history.phase) as (λ takes. ended takes (takes && cut) ≡ ended takes cut) [ true ↦ refl | false ↦ refl ]
 
 -- Two changes have the same effect on a place if they have the same effect on the connection with this id.
-place_same : (id : ℕ) (f g : Side → Side) (p : Place) (here : Bool) → (p.id == id) ≡ here → (p.id ≡ id → f p.side ≡ g p.side) → changed_at id f p ≡ changed_at id g p
-place_same id f g p true is same = rw is (ap (λ (s : Side). record p { side = s }) (same (eqb-true p.id id is)))
+place_same : (id : ℕ) (f g : Connection → Connection) (p : ConnectionEntry) (here : Bool) → (p.id == id) ≡ here → (p.id ≡ id → f p.side ≡ g p.side) → changed_at id f p ≡ changed_at id g p
+place_same id f g p true is same = rw is (ap (λ (s : Connection). record p { side = s }) (same (eqb-true p.id id is)))
 place_same id f g p false is same = rw is refl
 
-map_same : {B : Type 0} (f g : Place → B) (ps : List Place) → AllByRecursion (λ p. f p ≡ g p) ps → map f ps ≡ map g ps
+map_same : {B : Type 0} (f g : ConnectionEntry → B) (ps : List ConnectionEntry) → AllByRecursion (λ p. f p ≡ g p) ps → map f ps ≡ map g ps
 map_same f g [] each = refl
 map_same f g (p ∷ ps) each = cc (each.0, map_same f g ps each.1)
 
 -- Two functions agree on all places if they agree on the connection of each id.
-pub each_same : {B : Type 0} (f g : Place → B) (ps : List Place) → AreDistinct ps → ((id : ℕ) (s : Side) → side_of id ps ≡ Some s → f (record { id = id; side = s }) ≡ g (record { id = id; side = s })) → map f ps ≡ map g ps
+pub each_same : {B : Type 0} (f g : ConnectionEntry → B) (ps : List ConnectionEntry) → AreDistinct ps → ((id : ℕ) (s : Connection) → side_of id ps ≡ Some s → f (record { id = id; side = s }) ≡ g (record { id = id; side = s })) → map f ps ≡ map g ps
 each_same f g ps distinct same = map_same f g ps (of_each (λ id s. f (record { id = id; side = s }) ≡ g (record { id = id; side = s })) ps distinct same)
 
 -- ---- a step, and all of them
 
-heard_acted : (limits : LimitValues) (w : World) (s : Step) → AreDistinct w.sides → acted limits w (heard_step w s) ≡ acted limits w s
+heard_acted : (limits : LimitValues) (w : World) (s : Step) → AreDistinct w.sides → acted limits w (normalised_step w s) ≡ acted limits w s
 unfolding acted
 heard_acted limits w (world.Ended id cut) distinct =
-    let f : Side → Side = λ t. side_ended t (hears (side_of id w.sides) && cut) in
-    let g : Side → Side = λ t. side_ended t cut in
-    ap (λ (ps : List Place). record w { sides = ps }) (each_same (changed_at id f) (changed_at id g) w.sides distinct (λ other s there.
+    let f : Connection → Connection = λ t. side_ended t (takes_input (side_of id w.sides) && cut) in
+    let g : Connection → Connection = λ t. side_ended t cut in
+    ap (λ (ps : List ConnectionEntry). record w { sides = ps }) (each_same (changed_at id f) (changed_at id g) w.sides distinct (λ other s there.
     place_same id f g (record { id = other; side = s }) (other == id) refl
-    (λ same. ap (λ (o : Option Side). side_ended s (hears o && cut)) (ap (λ (n : ℕ). side_of n w.sides) (sym same) ∙ there) ∙ ends_if_taking s cut)))
+    (λ same. ap (λ (o : Option Connection). side_ended s (takes_input o && cut)) (ap (λ (n : ℕ). side_of n w.sides) (sym same) ∙ there) ∙ ends_if_taking s cut)))
 heard_acted limits w other distinct = refl
 
 all_heard : (limits : LimitValues) (w : World) (ss : List Step) → AreDistinct w.sides → after_steps limits w (heard_steps limits w ss) ≡ after_steps limits w ss
@@ -161,19 +161,19 @@ all_heard limits w (s ∷ ss) distinct =
     rw (heard_acted limits w s distinct, after_steps) (all_heard limits (world.step limits w s) ss (step_distinct limits w s distinct))
 
 -- The received steps lead to the same world as the events.
-pub heard_world : (c : ConfigValues) (es : List Event) → after_steps c.limits (new_world c) (steps_heard c es) ≡ world_after c es
-unfolding steps_heard world_after
+pub heard_world : (c : ConfigValues) (es : List AcceptedCall) → after_steps c.limits (new_world c) (normalised_steps c es) ≡ world_after c es
+unfolding normalised_steps world_after
 heard_world c es = all_heard c.limits (new_world c) (steps_of c.limits.max_message es) tt
 
 -- So if the received steps are equal, the worlds are equal.
-pub same_heard : (c : ConfigValues) (es fs : List Event) → steps_heard c es ≡ steps_heard c fs → world_after c es ≡ world_after c fs
+pub same_heard : (c : ConfigValues) (es fs : List AcceptedCall) → normalised_steps c es ≡ normalised_steps c fs → world_after c es ≡ world_after c fs
 same_heard c es fs alike = sym (heard_world c es) ∙ ap (after_steps c.limits (new_world c)) alike ∙ heard_world c fs
 
 -- Equal steps are received as equal steps.
-pub heard_alike : (c : ConfigValues) (es fs : List Event) → steps_of c.limits.max_message es ≡ steps_of c.limits.max_message fs → steps_heard c es ≡ steps_heard c fs
-unfolding steps_heard
+pub heard_alike : (c : ConfigValues) (es fs : List AcceptedCall) → steps_of c.limits.max_message es ≡ steps_of c.limits.max_message fs → normalised_steps c es ≡ normalised_steps c fs
+unfolding normalised_steps
 heard_alike c es fs alike = ap (heard_steps c.limits (new_world c)) alike
 
 -- The end of input after a stop.
-pub quiet_end : (w : World) (id : ℕ) (s : Side) (cut : Bool) → side_of id w.sides ≡ Some s → takes_messages s.history.phase ≡ false → heard_step w (world.Ended id cut) ≡ world.Ended id false
-quiet_end w id s cut there over = ap (λ (o : Option Side). world.Ended id (hears o && cut)) there ∙ ap (λ (b : Bool). world.Ended id (b && cut)) over
+pub quiet_end : (w : World) (id : ℕ) (s : Connection) (cut : Bool) → side_of id w.sides ≡ Some s → takes_messages s.history.phase ≡ false → normalised_step w (world.Ended id cut) ≡ world.Ended id false
+quiet_end w id s cut there over = ap (λ (o : Option Connection). world.Ended id (takes_input o && cut)) there ∙ ap (λ (b : Bool). world.Ended id (b && cut)) over

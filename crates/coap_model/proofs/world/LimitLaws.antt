@@ -11,8 +11,8 @@ use Rattle.coap_model.specs.Prelude.{first_due, ConnectionState, send_as, send, 
 use Rattle.coap_model.specs.Prelude.{reaction_unless, live_reaction, reject_reason, History, IsHistory, limit_now}
 use Rattle.coap_model.specs.Prelude.{standing_now, after, link_of, with_effect, bytes_of, own_csm, free_in, release}
 use Rattle.coap_model.specs.Prelude.{end_reason, StoreValue, response_with_observe, ConfigValues, Observer, is_due}
-use Rattle.coap_model.specs.Prelude.{without_token, entry_for, left_of, first_becomes, Side, new_side, waiting_on}
-use Rattle.coap_model.specs.Prelude.{settled_once, settled, side_of, World, Step, Event, stream_on, world_after}
+use Rattle.coap_model.specs.Prelude.{without_token, entry_for, left_of, first_becomes, Connection, new_side, waiting_on}
+use Rattle.coap_model.specs.Prelude.{settled_once, settled, side_of, World, Step, AcceptedCall, stream_on, world_after}
 use Rattle.coap_model.specs.Prelude.{AreAccepted, size_on, kept_on, unwrap_or, Server}
 use Rattle.coap_model.proofs.world.SideLaws.{send_held, observers_after, observers_settled}
 use Rattle.coap_wire.proofs.StreamSteps.{unfinished_below}
@@ -73,7 +73,7 @@ few_keeps limits =
     }
 
 -- The observers do not exceed their limit.
-pub observers_within : (c : ConfigValues) (es : List Event) (id : ℕ) (s : Side) → side_of id (world_after c es).sides ≡ Some s → length s.observers ≤ c.limits.observers
+pub observers_within : (c : ConfigValues) (es : List AcceptedCall) (id : ℕ) (s : Connection) → side_of id (world_after c es).sides ≡ Some s → length s.observers ≤ c.limits.observers
 observers_within c = kept_after c (λ t. length t.observers ≤ c.limits.observers) (few_keeps c.limits)
 
 -- ---- pending entries
@@ -94,7 +94,7 @@ taken_few h now few = there_or_not (first_due now h.held) (λ due. HoldsFew (wit
 all_hold_few : KeepsAll (λ h k. HoldsFew h → HoldsFew k)
 all_hold_few = record {
   composes = keeping_composes HoldsFew;
-  hears = λ h m takes room few. held_few (standing_now h) m few;
+  takes_input = λ h m takes room few. held_few (standing_now h) m few;
   replies = λ h token observe r does room. (let m = response_with_observe token observe r in sent_few h m (bare_response m));
   holds = λ h token moment opened may few. omega (arith, ltb-true (length h.held) h.limits.pending may, length-append h.held (Answer token moment ∷ []));
   lets_go = taken_few;
@@ -107,7 +107,7 @@ all_hold_few = record {
 }
 
 -- The pending entries do not exceed their limit.
-pub held_within : (c : ConfigValues) (es : List Event) (id : ℕ) (s : Side) → side_of id (world_after c es).sides ≡ Some s → length s.history.held ≤ c.limits.pending
+pub held_within : (c : ConfigValues) (es : List AcceptedCall) (id : ℕ) (s : Connection) → side_of id (world_after c es).sides ≡ Some s → length s.history.held ≤ c.limits.pending
 held_within c es id s there =
     let few : HoldsFew s.history = kept_history c HoldsFew (omega arith) all_hold_few es id s there in
     omega (arith, few, ap (λ (l : LimitValues). l.pending) (side_is c es id s there).same_limits)
@@ -144,7 +144,7 @@ added_waits h k ms goes same room one each = waits_by h k goes (λ w.
 all_wait : KeepsAll (λ h k. Waits h → Waits k)
 all_wait = record {
   composes = keeping_composes Waits;
-  hears = λ h m takes room. added_waits h _ _ (all_go_on.hears h m takes room) refl room (message_one (standing_now h) m) (reaction_fits h m);
+  takes_input = λ h m takes room. added_waits h _ _ (all_go_on.takes_input h m takes room) refl room (message_one (standing_now h) m) (reaction_fits h m);
   replies = λ h token observe r does room.
       (let m = response_with_observe token observe r in
       added_waits h _ _ (all_go_on.replies h token observe r does room) refl room (sent_one (standing_now h) m (bare_response m) _) (sent_fits h m (bare_response m)));
@@ -166,7 +166,7 @@ all_wait = record {
       waits_by h _ (all_go_on.writes h n within) (λ w. omega (arith, w.few, length-drop h.written (bytes_of h.queued), length-drop (h.written + n) (bytes_of h.queued)));
 }
 
-pub waiting_within : (c : ConfigValues) (es : List Event) (id : ℕ) (s : Side) → AreInRange c.limits → side_of id (world_after c es).sides ≡ Some s → length (waiting_on s) ≤ c.limits.queue
+pub waiting_within : (c : ConfigValues) (es : List AcceptedCall) (id : ℕ) (s : Connection) → AreInRange c.limits → side_of id (world_after c es).sides ≡ Some s → length (waiting_on s) ≤ c.limits.queue
 waiting_within c es id s ranges there =
     let new : length (waiting_on (new_side c.limits)) ≤ c.limits.queue = omega (arith, first_csm_bytes_small c.limits.max_message, ranges.sent_low, ranges.queue_low) in
     let waits : Waits s.history = kept_history c Waits (record { is = omega arith; few = new }) all_wait es id s there in
@@ -175,7 +175,7 @@ waiting_within c es id s ranges there =
 -- ---- bytes kept of an unfinished frame
 
 -- An unfinished frame has fewer bytes than the largest message that is accepted.
-pub kept_within : (c : ConfigValues) (es : List Event) (id : ℕ) (s : Side) → AreInRange c.limits → AreAccepted c es → side_of id (world_after c es).sides ≡ Some s → length (kept_on s (stream_on c.limits.max_message id es).rest) < s.history.own_max
+pub kept_within : (c : ConfigValues) (es : List AcceptedCall) (id : ℕ) (s : Connection) → AreInRange c.limits → AreAccepted c es → side_of id (world_after c es).sides ≡ Some s → length (kept_on s (stream_on c.limits.max_message id es).rest) < s.history.own_max
 kept_within c es id s ranges accepted there =
     let M : ℕ = c.limits.max_message in
     let N : ℕ = size_on M id es in
@@ -250,7 +250,7 @@ message_grows h m takes room =
 
 -- ---- a step
 
-once_evenly : (store : StoreValue) (now : ℕ) (s : Side) → Between GrowsEvenly s (settled_once store now s)
+once_evenly : (store : StoreValue) (now : ℕ) (s : Connection) → Between GrowsEvenly s (settled_once store now s)
 once_evenly =
     once_between GrowsEvenly GrowsEvenly evenly_self evenly_then reply_evenly (λ h now. same_evenly h _ refl refl)
     (λ h now token due room. effect_evenly h _ (sent_fits (without_first h now) (pong_with true token) (pong_with false token)))
@@ -272,21 +272,21 @@ grows_of w st id = let same : (h : History) → GrowsFitting h h = λ h. (evenly
 }
 
 -- A step only appends to the queued messages of a connection, and the appended ones fit.
-pub step_fits : (limits : LimitValues) (w : World) (st : Step) (id : ℕ) (s t : Side) → side_of id w.sides ≡ Some s → side_of id (world.step limits w st).sides ≡ Some t
+pub step_fits : (limits : LimitValues) (w : World) (st : Step) (id : ℕ) (s t : Connection) → side_of id w.sides ≡ Some s → side_of id (world.step limits w st).sides ≡ Some t
     → (more : List Message) × (t.history.queued ≡ s.history.queued ++ more) × AllFit (limit_now t.history) more
 step_fits limits w st id s t there then =
     let grows : Between GrowsFitting s t = elim (step_across (Between GrowsFitting) limits w st id (grows_of w st id) t then) [
-      | inl old ↦ subst (λ (u : Side). Between GrowsFitting u t) (same_there old.0 s (sym old.1 ∙ there)) old.2
+      | inl old ↦ subst (λ (u : Connection). Between GrowsFitting u t) (same_there old.0 s (sym old.1 ∙ there)) old.2
       | inr new ↦ absurd (none_or_some s (sym new.0 ∙ there))
     ] in
     (grows.more, grows.queued, grows.fit)
 
 -- If the step opened the connection, all its queued messages fit.
-pub opening_fits : (limits : LimitValues) (w : World) (id : ℕ) (t : Side) → AreInRange limits → side_of id w.sides ≡ None → side_of id (world.step limits w (world.Opened id)).sides ≡ Some t → AllFit (limit_now t.history) t.history.queued
+pub opening_fits : (limits : LimitValues) (w : World) (id : ℕ) (t : Connection) → AreInRange limits → side_of id w.sides ≡ None → side_of id (world.step limits w (world.Opened id)).sides ≡ Some t → AllFit (limit_now t.history) t.history.queued
 opening_fits limits w id t ranges none then =
     let new : History = (new_side limits).history in
     let is : settled w.store w.now (new_side limits) ≡ t = same_there _ t (sym (opened_there limits w id none) ∙ then) in
-    let evenly : GrowsEvenly new t.history = subst (λ (u : Side). GrowsEvenly new u.history) is
+    let evenly : GrowsEvenly new t.history = subst (λ (u : Connection). GrowsEvenly new u.history) is
     (settled_keeps (λ u. GrowsEvenly new u.history) w.store w.now (λ u grown. evenly_then new u.history _ grown (once_evenly w.store w.now u))
     (new_side limits) (evenly_self new)) in
     rw evenly.grows.queued (all_append _ new.queued evenly.grows.more (rw evenly.same (new_fits Server limits 0 ranges)) evenly.grows.fit)

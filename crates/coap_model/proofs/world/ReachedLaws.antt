@@ -2,10 +2,10 @@
 -- messages has no error.
 use Rattle.std.proofs.Common.{◌≡◌, ℕ, ◌+◌, ◌<◌, ◌≤◌, Bool, true, false, cond, List, [], ◌∷◌, length, map, Option, Some, None, refl, sym, ap, subst, ◌∙◌, arith, is_none, ◌++◌, take, Result, Ok, Err, inl, inr, ◌⊎◌, nat_lt, not, ◌==◌, if◌then◌else◌}
 use Rattle.coap_model.specs.Prelude.{AllByRecursion, StreamFault, Stream, frame_then, LimitValues, takes_messages}
-use Rattle.coap_model.specs.Prelude.{put_refusal, ConfigValues, Side, new_side, handles, side_after, side_faulted}
+use Rattle.coap_model.specs.Prelude.{put_refusal, ConfigValues, Connection, new_side, handles, side_after, side_faulted}
 use Rattle.coap_model.specs.Prelude.{side_written, side_ended, side_released, side_announced, settled, has_room}
-use Rattle.coap_model.specs.Prelude.{may_raise, Place, World, Step, new_world, side_of, on_side, ticks, acted}
-use Rattle.coap_model.specs.Prelude.{settled_place, Event, steps_of, world_after, taken_in, size_on, stream_on}
+use Rattle.coap_model.specs.Prelude.{may_raise, ConnectionEntry, World, Step, new_world, side_of, on_side, ticks, acted}
+use Rattle.coap_model.specs.Prelude.{settled_place, AcceptedCall, steps_of, world_after, taken_in, size_on, stream_on}
 use Rattle.coap_model.specs.Prelude.{spelled_on, steps_by, takes, IfSide, IsAccepted, AreAccepted, Message}
 use Rattle.coap_model.specs.Prelude.{message_of, FormatFault, FrameEventValue, AFrame, AFault, History, link_of}
 use Rattle.coap_model.specs.Prelude.{may_announce, StoreValue, put_in, removed_in}
@@ -36,12 +36,12 @@ use Rattle.coap_model.specs.world.Events as event
 -- changes.
 pub record KeptByStep (P : World → Type 0) (limits : LimitValues) (w : World) (st : Step) : Type 0 where
   pub opened : (id : ℕ) → st ≡ world.Opened id → side_of id w.sides ≡ None → P (opened_world limits w id)
-  pub changed : (v : World) (g : Place → Place) → ((p : Place) → (g p).id ≡ p.id) → P v → P (record v { sides = map g v.sides })
+  pub changed : (v : World) (g : ConnectionEntry → ConnectionEntry) → ((p : ConnectionEntry) → (g p).id ≡ p.id) → P v → P (record v { sides = map g v.sides })
   pub told : (v : World) (store : StoreValue) (now : ℕ) → P v → P (record v { store = store; now = now })
   pub dropped : (id : ℕ) → P (record w { sides = but id w.sides })
 
 module _ (P : World → Type 0) (limits : LimitValues) (w : World) (holds : P w) where
-  one_changed : (st : Step) (id : ℕ) (f : Side → Side) → KeptByStep P limits w st → P (on_side id f w)
+  one_changed : (st : Step) (id : ℕ) (f : Connection → Connection) → KeptByStep P limits w st → P (on_side id f w)
   one_changed st id f keeps = keeps.changed w (changed_at id f) (changed_id id f) holds
 
   acted_keeps : (st : Step) → KeptByStep P limits w st → P (acted limits w st)
@@ -76,7 +76,7 @@ step_distinct limits w s distinct = step_keeps (λ v. AreDistinct v.sides) limit
 })
 
 -- The same after any events, accepted or not.
-pub events_distinct : (c : ConfigValues) (es : List Event) → AreDistinct (world_after c es).sides
+pub events_distinct : (c : ConfigValues) (es : List AcceptedCall) → AreDistinct (world_after c es).sides
 unfolding world_after
 events_distinct c es = steps_keep (λ w. AreDistinct w.sides) c.limits (step_distinct c.limits) (new_world c) (steps_of c.limits.max_message es) tt
 
@@ -99,11 +99,11 @@ pub record IsNumbered (c : ConfigValues) (w : World) : Type 0 where
   pub few : length w.sides ≤ c.connections
 
 -- The id of an existing connection was assigned.
-pub number_given : (c : ConfigValues) (w : World) (id : ℕ) (s : Side) → IsNumbered c w → side_of id w.sides ≡ Some s → IsGivenNumber c w.ids id
+pub number_given : (c : ConfigValues) (w : World) (id : ℕ) (s : Connection) → IsNumbered c w → side_of id w.sides ≡ Some s → IsGivenNumber c w.ids id
 number_given c w id s is e = of_number (λ n t. IsGivenNumber c w.ids n) id s w.sides is.each e
 
 -- The next id is free, so it opens a connection.
-free_by : (c : ConfigValues) (w : World) (id : ℕ) (there : Option Side) → side_of id w.sides ≡ there → IsNumbered c w → w.ids < id → side_of id w.sides ≡ None
+free_by : (c : ConfigValues) (w : World) (id : ℕ) (there : Option Connection) → side_of id w.sides ≡ there → IsNumbered c w → w.ids < id → side_of id w.sides ≡ None
 free_by c w id None e is h = e
 free_by c w id (Some s) e is h = absurd (omega (arith, h, (number_given c w id s is e).within))
 
@@ -115,7 +115,7 @@ step_numbered : (c : ConfigValues) (w : World) (s : Step) → IsNumbered c w →
 step_numbered c w s is next = step_keeps (IsNumbered c) c.limits w is s (record {
   opened = λ id opened free.
       let given : (id ≡ w.ids + 1) × (length w.sides < c.connections) = subst (OpensNext c w) opened next in
-      let new : Place = record { id = id; side = new_side c.limits } in
+      let new : ConnectionEntry = record { id = id; side = new_side c.limits } in
       record {
         low = omega (arith, is.low, given.0);
         each = all_append (λ p. IsGivenNumber c id p.id) w.sides (new ∷ [])
@@ -130,7 +130,7 @@ step_numbered c w s is next = step_keeps (IsNumbered c) c.limits w is s (record 
     few = omega (arith, still.few, length-map v.sides g);
   };
   told = λ v store now still. record { low = still.low; each = still.each; few = still.few };
-  dropped = λ id. let others : Place → Bool = λ (p : Place). not (p.id == id) in record {
+  dropped = λ id. let others : ConnectionEntry → Bool = λ (p : ConnectionEntry). not (p.id == id) in record {
     low = is.low;
     each = all_filter (λ p. IsGivenNumber c w.ids p.id) others w.sides is.each;
     few = omega (arith, is.few, length-filter others w.sides, count_by-le-length others w.sides);
@@ -149,19 +149,19 @@ ids_grow c w s next = step_keeps (λ v. w.ids ≤ v.ids) c.limits w (omega arith
 -- ---- worlds after accepted events
 
 -- If a connection accepts messages, its stream has no error.
-abbrev pub HaveNoFault : ConfigValues → List Event → World → Type 0
-HaveNoFault c es w = (id : ℕ) (s : Side) → side_of id w.sides ≡ Some s → takes_messages s.history.phase ≡ true → (stream_on c.limits.max_message id es).fault ≡ None
+abbrev pub HaveNoFault : ConfigValues → List AcceptedCall → World → Type 0
+HaveNoFault c es w = (id : ℕ) (s : Connection) → side_of id w.sides ≡ Some s → takes_messages s.history.phase ≡ true → (stream_on c.limits.max_message id es).fault ≡ None
 
 -- A connection that is not yet opened has an empty stream.
-abbrev pub IsSilent : ConfigValues → List Event → World → Type 0
+abbrev pub IsSilent : ConfigValues → List AcceptedCall → World → Type 0
 IsSilent c es w = (id : ℕ) → w.ids < id → spelled_on c.limits.max_message id es ≡ nothing_spelled c.limits.max_message
 
 -- Each connection accepts messages of the size that was announced last on it.
-abbrev pub HaveSizes : ConfigValues → List Event → World → Type 0
-HaveSizes c es w = (id : ℕ) (s : Side) → side_of id w.sides ≡ Some s → s.history.own_max ≡ size_on c.limits.max_message id es
+abbrev pub HaveSizes : ConfigValues → List AcceptedCall → World → Type 0
+HaveSizes c es w = (id : ℕ) (s : Connection) → side_of id w.sides ≡ Some s → s.history.own_max ≡ size_on c.limits.max_message id es
 
 -- The world after accepted events has these properties.
-pub record IsReached (c : ConfigValues) (es : List Event) : Type 0 where
+pub record IsReached (c : ConfigValues) (es : List AcceptedCall) : Type 0 where
   pub numbered : IsNumbered c (world_after c es)
   pub silent : IsSilent c es (world_after c es)
   pub goes_on : HaveNoFault c es (world_after c es)
@@ -180,8 +180,8 @@ first_reached c = record {
 -- ---- a step
 
 -- A connection after a step existed before it, or its stream is empty.
-was_before : (R : Side → Side → Type 0) (c : ConfigValues) (es : List Event) (st : Step) (id : ℕ) (t : Side) → IsReached c es → OpensNext c (world_after c es) st → HoldsOf R (world_after c es) st id → side_of id (world.step c.limits (world_after c es) st).sides ≡ Some t
-    → ((s : Side) × (side_of id (world_after c es).sides ≡ Some s) × R s t) ⊎ ((spelled_on c.limits.max_message id es ≡ nothing_spelled c.limits.max_message) × R (new_side c.limits) t)
+was_before : (R : Connection → Connection → Type 0) (c : ConfigValues) (es : List AcceptedCall) (st : Step) (id : ℕ) (t : Connection) → IsReached c es → OpensNext c (world_after c es) st → HoldsOf R (world_after c es) st id → side_of id (world.step c.limits (world_after c es) st).sides ≡ Some t
+    → ((s : Connection) × (side_of id (world_after c es).sides ≡ Some s) × R s t) ⊎ ((spelled_on c.limits.max_message id es ≡ nothing_spelled c.limits.max_message) × R (new_side c.limits) t)
 was_before R c es st id t before next holds there =
     let w : World = world_after c es in
     elim (step_across R c.limits w st id holds t there) [
@@ -192,7 +192,7 @@ was_before R c es st id t before next holds there =
     ]
 
 -- If a connection accepts messages after a step, its stream had no error before.
-step_live : (c : ConfigValues) (es : List Event) (s : Step) (id : ℕ) (t : Side) → IsReached c es → OpensNext c (world_after c es) s → side_of id (world.step c.limits (world_after c es) s).sides ≡ Some t → takes_messages t.history.phase ≡ true → (stream_on c.limits.max_message id es).fault ≡ None
+step_live : (c : ConfigValues) (es : List AcceptedCall) (s : Step) (id : ℕ) (t : Connection) → IsReached c es → OpensNext c (world_after c es) s → side_of id (world.step c.limits (world_after c es) s).sides ≡ Some t → takes_messages t.history.phase ≡ true → (stream_on c.limits.max_message id es).fault ≡ None
 step_live c es s id t before next there takes =
     elim (was_before (Between GoesOn) c es s id t before next (all_across GoesOn all_go_on (world_after c es) s id) there) [
       | inl old ↦ before.goes_on id old.0 old.1 (was_live old.0.history t.history old.2 takes)
@@ -205,7 +205,7 @@ step_live c es s id t before next there takes =
 abbrev SameSize : History → History → Type 0
 SameSize h k = k.own_max ≡ h.own_max
 
-settled_size : (store : StoreValue) (now : ℕ) (s : Side) → Between SameSize s (settled store now s)
+settled_size : (store : StoreValue) (now : ℕ) (s : Connection) → Between SameSize s (settled store now s)
 settled_size = settled_between SameSize (record { same = λ h. refl; then = λ h k g one two. two ∙ one }) (λ h token observe r does room. refl) (λ h now. refl) (λ h now token due room. refl)
 
 -- The step is no announcement of this connection.
@@ -225,7 +225,7 @@ size_kept w st id none = record {
   told = λ store now s t is. (once_between SameSize SameSize (λ h. refl) (λ h k g one two. two ∙ one) (λ h token observe r does room. refl) (λ h now. refl) (λ h now token due room. refl)) store now t ∙ is;
 }
 
-step_sized : (c : ConfigValues) (es : List Event) (st : Step) (id : ℕ) (t : Side) → IsReached c es → OpensNext c (world_after c es) st → IsUnannounced st id → side_of id (world.step c.limits (world_after c es) st).sides ≡ Some t → t.history.own_max ≡ size_on c.limits.max_message id es
+step_sized : (c : ConfigValues) (es : List AcceptedCall) (st : Step) (id : ℕ) (t : Connection) → IsReached c es → OpensNext c (world_after c es) st → IsUnannounced st id → side_of id (world.step c.limits (world_after c es) st).sides ≡ Some t → t.history.own_max ≡ size_on c.limits.max_message id es
 step_sized c es st id t before next none there =
     elim (was_before (Between SameSize) c es st id t before next (size_kept (world_after c es) st id none) there) [
       | inl old ↦ old.2 ∙ before.sizes id old.0 old.1
@@ -235,7 +235,7 @@ step_sized c es st id t before next none there =
 -- ---- an event that makes one step
 
 -- An event that adds no bytes to connections not yet opened, and w is the world after it.
-reached_more : (c : ConfigValues) (es : List Event) (e : Event) (w : World) → IsReached c es → world_after c (es ++ e ∷ []) ≡ w → IsNumbered c w → (world_after c es).ids ≤ w.ids
+reached_more : (c : ConfigValues) (es : List AcceptedCall) (e : AcceptedCall) (w : World) → IsReached c es → world_after c (es ++ e ∷ []) ≡ w → IsNumbered c w → (world_after c es).ids ≤ w.ids
     → ((id : ℕ) → (world_after c es).ids < id → (taken_in id e ≡ []) × size_stays id e) → HaveNoFault c (es ++ e ∷ []) w → HaveSizes c (es ++ e ∷ []) w → IsReached c (es ++ e ∷ [])
 reached_more c es e w before is numbered grow none goes_on sizes = record {
   numbered = rw is numbered;
@@ -247,7 +247,7 @@ reached_more c es e w before is numbered grow none goes_on sizes = record {
 }
 
 -- An event without bytes.
-step_reached : (c : ConfigValues) (es : List Event) (e : Event) (s : Step) → IsReached c es → steps_by c.limits.max_message es e ≡ s ∷ [] → OpensNext c (world_after c es) s → ((id : ℕ) → taken_in id e ≡ []) → ((id : ℕ) → (world_after c es).ids < id → size_stays id e)
+step_reached : (c : ConfigValues) (es : List AcceptedCall) (e : AcceptedCall) (s : Step) → IsReached c es → steps_by c.limits.max_message es e ≡ s ∷ [] → OpensNext c (world_after c es) s → ((id : ℕ) → taken_in id e ≡ []) → ((id : ℕ) → (world_after c es).ids < id → size_stays id e)
     → HaveSizes c (es ++ e ∷ []) (world.step c.limits (world_after c es) s) → IsReached c (es ++ e ∷ [])
 step_reached c es e s before one next none stays sizes =
     let w : World = world_after c es in
@@ -257,7 +257,7 @@ step_reached c es e s before one next none stays sizes =
     sizes
 
 -- An event that also announces nothing.
-plain_reached : (c : ConfigValues) (es : List Event) (e : Event) (s : Step) → IsReached c es → steps_by c.limits.max_message es e ≡ s ∷ [] → OpensNext c (world_after c es) s → ((id : ℕ) → taken_in id e ≡ []) → ((id : ℕ) → size_stays id e) → ((id : ℕ) → IsUnannounced s id) → IsReached c (es ++ e ∷ [])
+plain_reached : (c : ConfigValues) (es : List AcceptedCall) (e : AcceptedCall) (s : Step) → IsReached c es → steps_by c.limits.max_message es e ≡ s ∷ [] → OpensNext c (world_after c es) s → ((id : ℕ) → taken_in id e ≡ []) → ((id : ℕ) → size_stays id e) → ((id : ℕ) → IsUnannounced s id) → IsReached c (es ++ e ∷ [])
 plain_reached c es e s before one next none stays quiet =
     let M : ℕ = c.limits.max_message in
     step_reached c es e s before one next none (λ id h. stays id)
@@ -266,22 +266,22 @@ plain_reached c es e s before one next none stays quiet =
 -- ---- a take
 
 -- If a connection handles messages, its stream has no error.
-pub handling_goes_on : (c : ConfigValues) (es : List Event) (id : ℕ) (s : Side) → IsReached c es → side_of id (world_after c es).sides ≡ Some s → handles s ≡ true → (stream_on c.limits.max_message id es).fault ≡ None
+pub handling_goes_on : (c : ConfigValues) (es : List AcceptedCall) (id : ℕ) (s : Connection) → IsReached c es → side_of id (world_after c es).sides ≡ Some s → handles s ≡ true → (stream_on c.limits.max_message id es).fault ≡ None
 handling_goes_on c es id s is there does = is.goes_on id s there (and_parts (takes_messages s.history.phase) (has_room s) does).0
 
 -- The number of bytes of an input slice that are accepted, if the connection exists.
-pub takes_there : (c : ConfigValues) (es : List Event) (id : ℕ) (piece : List ℕ) (s : Side) → side_of id (world_after c es).sides ≡ Some s → takes c es id piece ≡ cond (handles s) (front_of (size_on c.limits.max_message id es) (stream_on c.limits.max_message id es).rest piece) 0
+pub takes_there : (c : ConfigValues) (es : List AcceptedCall) (id : ℕ) (piece : List ℕ) (s : Connection) → side_of id (world_after c es).sides ≡ Some s → takes c es id piece ≡ cond (handles s) (front_of (size_on c.limits.max_message id es) (stream_on c.limits.max_message id es).rest piece) 0
 unfolding takes
 takes_there c es id piece s there = rw there refl
 
-module _ (c : ConfigValues) (es : List Event) (id : ℕ) (bytes : List ℕ) (s : Side) (before : IsReached c es) (there : side_of id (world_after c es).sides ≡ Some s) where
-  abbrev events_then : List Event
+module _ (c : ConfigValues) (es : List AcceptedCall) (id : ℕ) (bytes : List ℕ) (s : Connection) (before : IsReached c es) (there : side_of id (world_after c es).sides ≡ Some s) where
+  abbrev events_then : List AcceptedCall
   events_then = es ++ event.Took id bytes ∷ []
 
   -- A take, with the world w after it.
   take_reached : (w : World) → world_after c events_then ≡ w → IsNumbered c w → (world_after c es).ids ≤ w.ids
-      → ((t : Side) → side_of id w.sides ≡ Some t → takes_messages t.history.phase ≡ true → (stream_on c.limits.max_message id events_then).fault ≡ None)
-      → ((n : ℕ) (t : Side) → side_of n w.sides ≡ Some t → takes_messages t.history.phase ≡ true → (stream_on c.limits.max_message n es).fault ≡ None)
+      → ((t : Connection) → side_of id w.sides ≡ Some t → takes_messages t.history.phase ≡ true → (stream_on c.limits.max_message id events_then).fault ≡ None)
+      → ((n : ℕ) (t : Connection) → side_of n w.sides ≡ Some t → takes_messages t.history.phase ≡ true → (stream_on c.limits.max_message n es).fault ≡ None)
       → HaveSizes c es w
       → IsReached c events_then
   take_reached w is numbered grow own others sizes =
@@ -302,7 +302,7 @@ module _ (c : ConfigValues) (es : List Event) (id : ℕ) (bytes : List ℕ) (s :
 
   -- A take that makes a step.
   stepped_reached : (st : Step) → steps_by c.limits.max_message es (event.Took id bytes) ≡ st ∷ [] → OpensNext c (world_after c es) st → ((n : ℕ) → IsUnannounced st n)
-      → ((t : Side) → side_of id (world.step c.limits (world_after c es) st).sides ≡ Some t → takes_messages t.history.phase ≡ true → (stream_on c.limits.max_message id events_then).fault ≡ None)
+      → ((t : Connection) → side_of id (world.step c.limits (world_after c es) st).sides ≡ Some t → takes_messages t.history.phase ≡ true → (stream_on c.limits.max_message id events_then).fault ≡ None)
       → IsReached c events_then
   stepped_reached st one next quiet own =
       take_reached (world.step c.limits (world_after c es) st) (world_step c es (event.Took id bytes) st one)
@@ -346,17 +346,17 @@ module _ (c : ConfigValues) (es : List Event) (id : ℕ) (bytes : List ℕ) (s :
 -- ---- any event
 
 -- The connection that exists.
-pub on_one : (P : Side → Type 0) (there : Option Side) → IfSide there P → (s : Side) × (there ≡ Some s) × P s
+pub on_one : (P : Connection → Type 0) (there : Option Connection) → IfSide there P → (s : Connection) × (there ≡ Some s) × P s
 on_one P None holds = absurd holds
 on_one P (Some s) holds = (s, refl, holds)
 
 -- After an announcement, the announced size is the one that applies.
-announcing_has_sizes : (c : ConfigValues) (es : List Event) (id size : ℕ) (s : Side) → side_of id (world_after c es).sides ≡ Some s → IsReached c es → may_raise s size ≡ true → HaveSizes c (es ++ event.Announced id size ∷ []) (world.step c.limits (world_after c es) (world.Announced id size))
+announcing_has_sizes : (c : ConfigValues) (es : List AcceptedCall) (id size : ℕ) (s : Connection) → side_of id (world_after c es).sides ≡ Some s → IsReached c es → may_raise s size ≡ true → HaveSizes c (es ++ event.Announced id size ∷ []) (world.step c.limits (world_after c es) (world.Announced id size))
 unfolding world.step acted side_announced
 announcing_has_sizes c es id size s there before may k t at =
     let w : World = world_after c es in
     let M : ℕ = c.limits.max_message in
-    let e : Event = event.Announced id size in
+    let e : AcceptedCall = event.Announced id size in
     elim (cases_eq id k) [
       | inl same ↦
           let there_now : side_of id (world.step c.limits w (world.Announced id size)).sides ≡ Some t = ap (λ (n : ℕ). side_of n (world.step c.limits w (world.Announced id size)).sides) same ∙ at in
@@ -364,7 +364,7 @@ announcing_has_sizes c es id size s there before may k t at =
           let lower : s.history.own_max ≤ size = grind (arith, nat_tests, may) in
           let told : may_announce (link_of s.history) size ≡ true = grind (arith, nat_tests, may) in
           let raised : (side_announced s size).history.own_max ≡ size = rw (may, told) refl in
-          let own : t.history.own_max ≡ size = ap (λ (u : Side). u.history.own_max) (sym now) ∙ settled_size w.store w.now (side_announced s size) ∙ raised in
+          let own : t.history.own_max ≡ size = ap (λ (u : Connection). u.history.own_max) (sym now) ∙ settled_size w.store w.now (side_announced s size) ∙ raised in
           let N : ℕ = size_on M id es in
           let risen : (if nat_lt N size then size else N) ≡ size = grind (arith, nat_tests, before.sizes id s there, lower) in
           rw (← same) (own ∙ sym (size_then M id es e ∙ announced_here id size N ∙ risen))
@@ -373,7 +373,7 @@ announcing_has_sizes c es id size s there before may k t at =
           ∙ sym (size_then M k es e ∙ announced_elsewhere k id size apart (size_on M k es))
     ]
 
-event_reached : (c : ConfigValues) (es : List Event) (e : Event) → IsReached c es → IsAccepted c es e → IsReached c (es ++ e ∷ [])
+event_reached : (c : ConfigValues) (es : List AcceptedCall) (e : AcceptedCall) → IsReached c es → IsAccepted c es e → IsReached c (es ++ e ∷ [])
 unfolding IsAccepted steps_by
 event_reached c es (event.Opened id) before is = plain_reached c es (event.Opened id) (world.Opened id) before refl (is.0, is.2) (λ n. refl) (λ k N. refl) (λ k size is. cc)
 event_reached c es (event.Took id bytes) before is =
@@ -388,13 +388,13 @@ event_reached c es (event.Announced id size) before is =
 event_reached c es e before is = plain_reached c es e _ before refl tt (λ k. refl) (λ k N. refl) (λ k size is. cc)
 
 -- Each list of accepted events leads to such a world.
-pub accepted_is : (c : ConfigValues) (es : List Event) → AreAccepted c es → IsReached c es
+pub accepted_is : (c : ConfigValues) (es : List AcceptedCall) → AreAccepted c es → IsReached c es
 accepted_is c es all = by_events c (λ fs. IsReached c fs) (first_reached c) (λ fs e accepted is before. event_reached c fs e before is) es all
 
 -- ---- takes that are accepted
 
 -- The bytes that a connection accepts of any input slice make an accepted event.
-pub piece_accepted : (c : ConfigValues) (es : List Event) (id : ℕ) (piece : List ℕ) (s : Side) → IsReached c es → side_of id (world_after c es).sides ≡ Some s → IsAccepted c es (event.Took id (take (takes c es id piece) piece))
+pub piece_accepted : (c : ConfigValues) (es : List AcceptedCall) (id : ℕ) (piece : List ℕ) (s : Connection) → IsReached c es → side_of id (world_after c es).sides ≡ Some s → IsAccepted c es (event.Took id (take (takes c es id piece) piece))
 unfolding IsAccepted
 piece_accepted c es id piece s is there =
     let M : ℕ = c.limits.max_message in

@@ -10,9 +10,9 @@ use Rattle.coap_model.specs.Prelude.{path_bytes, entry_bytes, listing, kind_of_p
 use Rattle.coap_model.specs.Prelude.{value_of, number_of, match_holds, is_seconds, get_answer, store_answer}
 use Rattle.coap_model.specs.Prelude.{method_answer, resource_answer, answer_at, answer_of, immediate_answer}
 use Rattle.coap_model.specs.Prelude.{notification_at, put_refusal, ConfigValues, is_due, without_token}
-use Rattle.coap_model.specs.Prelude.{first_becomes, Side, waiting_on, side_after, change_after, side_faulted}
+use Rattle.coap_model.specs.Prelude.{first_becomes, Connection, waiting_on, side_after, change_after, side_faulted}
 use Rattle.coap_model.specs.Prelude.{side_written, side_ended, side_released, settled_once, settled_within, settled}
-use Rattle.coap_model.specs.Prelude.{side_announced, side_of, acted, step, after_steps, Event, taken_on, size_on}
+use Rattle.coap_model.specs.Prelude.{side_announced, side_of, acted, step, after_steps, AcceptedCall, taken_on, size_on}
 use Rattle.coap_model.specs.Prelude.{sizes_on, stream_on, steps_by, steps_behind, steps_of, world_after, takes}
 use Rattle.coap_frame.proofs.Computed.{bytes_computed}
 use Rattle.coap_store.specs.Requests.{values_of}
@@ -59,28 +59,28 @@ call => wanted = record { call = call; wanted = wanted }
 
 -- ---- the events of a call after earlier events
 
-abbrev taking : (List Event → List ℕ → List Event) → List Event → ℕ → List ℕ → ℕ → List Event
+abbrev taking : (List AcceptedCall → List ℕ → List AcceptedCall) → List AcceptedCall → ℕ → List ℕ → ℕ → List AcceptedCall
 taking go events id piece zero = []
 taking go events id piece (suc n) =
     event.Took id (take (suc n) piece) ∷ go (events ++ event.Took id (take (suc n) piece) ∷ []) (drop (suc n) piece)
 
 -- Each round accepts at least one byte, so the number of bytes is enough.
-abbrev offered_within : ℕ → ConfigValues → ℕ → List Event → List ℕ → List Event
+abbrev offered_within : ℕ → ConfigValues → ℕ → List AcceptedCall → List ℕ → List AcceptedCall
 offered_within zero c id events piece = []
 offered_within (suc turns) c id events piece =
     taking (offered_within turns c id) events id piece (takes c events id piece)
 
-abbrev side_after_events : ConfigValues → List Event → ℕ → Option Side
+abbrev side_after_events : ConfigValues → List AcceptedCall → ℕ → Option Connection
 side_after_events c events id = side_of id (world_after c events).sides
 
-abbrev waiting_at : Option Side → List ℕ
+abbrev waiting_at : Option Connection → List ℕ
 waiting_at None = []
 waiting_at (Some s) = waiting_on s
 
-abbrev waiting_after : ConfigValues → List Event → ℕ → List ℕ
+abbrev waiting_after : ConfigValues → List AcceptedCall → ℕ → List ℕ
 waiting_after c events id = waiting_at (side_after_events c events id)
 
-abbrev events_by : ConfigValues → List Event → Call → List Event
+abbrev events_by : ConfigValues → List AcceptedCall → Call → List AcceptedCall
 events_by c events (Open id) = event.Opened id ∷ []
 events_by c events (In id piece) = offered_within (length piece) c id events piece
 events_by c events (Drain id) = event.Wrote id (length (waiting_after c events id)) ∷ []
@@ -95,11 +95,11 @@ events_by c events (Look id) = []
 
 -- ---- the result of a call that made these events after earlier ones
 
-abbrev look_at : ℕ → Option Side → Told
+abbrev look_at : ℕ → Option Connection → Told
 look_at left None = Absent
 look_at left (Some s) = Stands s.history.phase left (length (waiting_on s)) (length s.history.held) (length s.observers)
 
-abbrev told_of_call : ConfigValues → List Event → List Event → Call → Told
+abbrev told_of_call : ConfigValues → List AcceptedCall → List AcceptedCall → Call → Told
 told_of_call c events new (Open id) = Done
 told_of_call c events new (In id piece) = Taken (length (taken_on id new))
 told_of_call c events new (Drain id) = Out (waiting_after c events id)
@@ -112,7 +112,7 @@ told_of_call c events new (Announce id size) = Done
 told_of_call c events new (Drop id) = Done
 told_of_call c events new (Look id) = look_at (length (stream_on c.limits.max_message id events).rest) (side_after_events c events id)
 
-abbrev told_behind : ConfigValues → List Event → List Call → List Told
+abbrev told_behind : ConfigValues → List AcceptedCall → List Call → List Told
 told_behind c events [] = []
 told_behind c events (call ∷ calls) =
     told_of_call c events (events_by c events call) call ∷ told_behind c (events ++ events_by c events call) calls
@@ -136,12 +136,12 @@ unfoldable pub told : ConfigValues → List Call → List Told
 unfolding bytes_computed answers_computed worlds_computed
 told c calls = told_behind c [] calls
 
-abbrev events_behind : ConfigValues → List Event → List Call → List Event
+abbrev events_behind : ConfigValues → List AcceptedCall → List Call → List AcceptedCall
 events_behind c events [] = []
 events_behind c events (call ∷ calls) = events_by c events call ++ events_behind c (events ++ events_by c events call) calls
 
 -- The events that calls make.
-unfoldable pub events_of : ConfigValues → List Call → List Event
+unfoldable pub events_of : ConfigValues → List Call → List AcceptedCall
 unfolding told
 events_of c calls = events_behind c [] calls
 

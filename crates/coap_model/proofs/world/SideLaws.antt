@@ -7,11 +7,11 @@ use Rattle.coap_model.specs.Prelude.{due_index, NothingIsDue, History, IsHistory
 use Rattle.coap_model.specs.Prelude.{after, standing_due}
 use Rattle.coap_model.specs.Prelude.{StoreValue, path_of, answer_of, immediate_answer}
 use Rattle.coap_model.specs.Prelude.{Change, changed, response_with_observe}
-use Rattle.coap_model.specs.Prelude.{Side, handles, has_room, side_with, with_history, side_answered}
+use Rattle.coap_model.specs.Prelude.{Connection, handles, has_room, side_with, with_history, side_answered}
 use Rattle.coap_model.specs.Prelude.{moment_after, held_for, side_replied, asks_answer, side_handled, side_after}
 use Rattle.coap_model.specs.Prelude.{next_due}
 use Rattle.coap_model.specs.Prelude.{notified, next_held, held_message, after_sent, settled_so, settled_once}
-use Rattle.coap_model.specs.Prelude.{settled_within, settled, HearsAll}
+use Rattle.coap_model.specs.Prelude.{settled_within, settled, IsUpToDate}
 use Rattle.coap_model.specs.Prelude.{Observer, without_token, asks_entry, has_place, entry_for}
 use Rattle.coap_model.specs.Prelude.{is_whole, with_entry, is_due, goes_on, notification, notification_message}
 use Rattle.coap_model.specs.Prelude.{left_of, first_becomes}
@@ -34,17 +34,17 @@ abbrev pub AreKnown : StoreValue → List Observer → Type 0
 AreKnown store observers = AllByRecursion (IsKnown store) observers
 
 -- The facts on a connection.
-pub record IsKnownSide (store : StoreValue) (s : Side) : Type 0 where
+pub record IsKnownSide (store : StoreValue) (s : Connection) : Type 0 where
   pub is_history : IsHistory s.history
   pub told : AreKnown store s.observers
 
 -- ---- its parts
 
-pub handles_parts : (s : Side) → handles s ≡ true → (takes_messages s.history.phase ≡ true) × (has_room s ≡ true)
+pub handles_parts : (s : Connection) → handles s ≡ true → (takes_messages s.history.phase ≡ true) × (has_room s ≡ true)
 handles_parts s e = and_parts (takes_messages s.history.phase) (has_room s) e
 
 -- A request whose response is delayed, and one whose response is sent at once.
-pub replied_cases : (store : StoreValue) (now : ℕ) (h : History) (others : List Observer) (m : Message) (hold : Option ℕ) (P : Side → Type 0)
+pub replied_cases : (store : StoreValue) (now : ℕ) (h : History) (others : List Observer) (m : Message) (hold : Option ℕ) (P : Connection → Type 0)
     → ((seconds : ℕ) → held_for h hold ≡ Some seconds → P (side_with (after h (call.Hold m.token (moment_after now seconds))) others))
     → (held_for h hold ≡ None → P (side_answered store now h others m (immediate_answer store now m)))
     → P (side_replied store now h others m (held_for h hold))
@@ -54,14 +54,14 @@ replied_cases store now h others m hold P held prompt =
 -- ---- one round of settling
 
 -- A due pending entry is sent first; if there is none, an observer is notified.
-pub settled_cases : (store : StoreValue) (now : ℕ) (s : Side) (P : Side → Type 0)
+pub settled_cases : (store : StoreValue) (now : ℕ) (s : Connection) (P : Connection → Type 0)
     → ((e : PendingEntryValue) → next_held now s ≡ Some e → P (with_history s (after_sent s.history now e)))
     → (next_held now s ≡ None → P (notified store now s (next_due store now s)))
     → P (settled_once store now s)
 unfolding settled_once
 settled_cases store now s P sends tells = there_or_not (next_held now s) (λ found. P (settled_so store now s found)) tells sends
 
-pub held_room : (now : ℕ) (s : Side) (e : PendingEntryValue) → next_held now s ≡ Some e → (has_room s ≡ true) × (first_due now s.history.held ≡ Some e)
+pub held_room : (now : ℕ) (s : Connection) (e : PendingEntryValue) → next_held now s ≡ Some e → (has_room s ≡ true) × (first_due now s.history.held ≡ Some e)
 held_room now s e is = there_where (has_room s) (first_due now s.history.held) e is
 
 -- Sending a message adds no pending entry.
@@ -88,7 +88,7 @@ sent_leaves h now (held.Pong token) = due_held (standing_due now (standing_now h
 -- ---- the facts are kept
 
 -- Any change of the store keeps them.
-pub still_known_side : (store : StoreValue) (change : Change) (s : Side) → IsVersioned store → IsKnownSide store s → IsKnownSide (changed store change) s
+pub still_known_side : (store : StoreValue) (change : Change) (s : Connection) → IsVersioned store → IsKnownSide store s → IsKnownSide (changed store change) s
 still_known_side store change s is known = record {
   is_history = known.is_history;
   told = all_to (IsKnown store) (IsKnown (changed store change)) (λ o. still_known store change o is) s.observers known.told;
@@ -107,7 +107,7 @@ calls_known store = let told = observers_kept (AreKnown store) tt in record {
 
 -- A property of the observers after a message. It must hold of no observers, and of the observers before. It must also
 -- hold of those without the message's token, and of these with its entry if there is a place for it.
-pub observers_after : (P : List Observer → Type 0) (store : StoreValue) (now : ℕ) (s : Side) (m : Message) → P [] → P s.observers → P (without_token m.token s.observers)
+pub observers_after : (P : List Observer → Type 0) (store : StoreValue) (now : ℕ) (s : Connection) (m : Message) → P [] → P s.observers → P (without_token m.token s.observers)
     → ((immediate_answer store now m).watch ≡ watch.Add → length (without_token m.token s.observers) < (after s.history (call.Handle m)).limits.observers → P (without_token m.token s.observers ++ entry_for store now m ∷ []))
     → P (side_after store now s m).observers
 unfolding side_after
@@ -118,7 +118,7 @@ observers_after P store now s m none same others entered =
     let observes : Bool = has_place h.limits.observers os asked in
     let response : Message = response_with_observe m.token observes (immediate_answer store now m).response in
     let enters : Bool = observes && is_whole (fit (limit_now h) response (bare_response response)) in
-    let HasThem : Side → Type 0 = λ t. P t.observers in
+    let HasThem : Connection → Type 0 = λ t. P t.observers in
     let with_it : P (with_entry enters os (entry_for store now m)) =
     elim enters as (λ so. enters ≡ so → P (with_entry so os (entry_for store now m))) [
       | true ↦ λ so. (let place = and_parts (asks_entry asked) (nat_lt (length os) h.limits.observers) (and_parts observes _ so).0 in
@@ -132,7 +132,7 @@ observers_after P store now s m none same others entered =
     (λ other. kept_open_has P none h s.observers same)) (λ idle. same)
 
 -- A message keeps the facts, before it changes the store.
-pub after_known : (store : StoreValue) (now : ℕ) → now ≤ 18446744073709551615 → IsVersioned store → (s : Side) (m : Message) → IsKnownSide store s → IsKnownSide store (side_after store now s m)
+pub after_known : (store : StoreValue) (now : ℕ) → now ≤ 18446744073709551615 → IsVersioned store → (s : Connection) (m : Message) → IsKnownSide store s → IsKnownSide store (side_after store now s m)
 unfolding without_token
 after_known store now small is s m known =
     let others : AreKnown store (without_token m.token s.observers) = all_filter (IsKnown store) (λ o. not (same_bytes o.token m.token)) s.observers known.told in
@@ -145,17 +145,17 @@ after_known store now small is s m known =
 -- ---- settling of a connection: the facts are kept, and no change is lost
 
 -- Nothing is left to settle: no pending entry and no observer is due, or there is no room.
-abbrev pub IsAtRest : StoreValue → ℕ → Side → Type 0
+abbrev pub IsAtRest : StoreValue → ℕ → Connection → Type 0
 IsAtRest store now s = (next_held now s ≡ None) × (next_due store now s ≡ None)
 
 -- ---- one round
 
-pub next_due_found : (store : StoreValue) (now : ℕ) (s : Side) (o : Observer) → next_due store now s ≡ Some o → find (is_due store now) s.observers ≡ Some o
+pub next_due_found : (store : StoreValue) (now : ℕ) (s : Connection) (o : Observer) → next_due store now s ≡ Some o → find (is_due store now) s.observers ≡ Some o
 next_due_found store now s o e = (there_where (has_room s) (find (is_due store now) s.observers) o e).1
 
 -- A property of the observers after a round. It must hold of no observers, of the observers before, and of those after
 -- the first due one was notified.
-pub observers_settled : (P : List Observer → Type 0) (store : StoreValue) (now : ℕ) (s : Side) → P [] → P s.observers
+pub observers_settled : (P : List Observer → Type 0) (store : StoreValue) (now : ℕ) (s : Connection) → P [] → P s.observers
     → ((o : Observer) (stays : Bool) → next_due store now s ≡ Some o → (stays ≡ true → goes_on (notification store now o) ≡ true) → P (first_becomes (is_due store now) (left_of store now o stays) s.observers))
     → P (settled_once store now s).observers
 observers_settled P store now s none same told =
@@ -173,17 +173,17 @@ module _ (store : StoreValue) (now : ℕ) (small : now ≤ 18446744073709551615)
   left_all o false known on = tt
 
   -- The first due observer is one of the observers.
-  pub next_known : (s : Side) → IsKnownSide store s → (o : Observer) → next_due store now s ≡ Some o → IsKnown store o
+  pub next_known : (s : Connection) → IsKnownSide store s → (o : Observer) → next_due store now s ≡ Some o → IsKnown store o
   next_known s known o e = found_all (IsKnown store) (is_due store now) s.observers o known.told (next_due_found store now s o e)
 
-  pub once_known : (s : Side) → IsKnownSide store s → IsKnownSide store (settled_once store now s)
+  pub once_known : (s : Connection) → IsKnownSide store s → IsKnownSide store (settled_once store now s)
   once_known s known = record {
     is_history = (once_between GoesOn GoesOn as_before further all_go_on.replies all_go_on.lets_go all_go_on.pongs store now s).history known.is_history;
     told = observers_settled (AreKnown store) store now s tt known.told (λ o stays due on.
         all_become (IsKnown store) (is_due store now) (left_of store now o stays) s.observers known.told (left_all o stays (next_known s known o due) on));
   }
 
-  pub settled_known : (s : Side) → IsKnownSide store s → IsKnownSide store (settled store now s)
+  pub settled_known : (s : Connection) → IsKnownSide store s → IsKnownSide store (settled store now s)
   settled_known = settled_keeps (IsKnownSide store) store now once_known
 
 -- ---- nothing is left that is due
@@ -199,20 +199,20 @@ left_quiet store now o true = rw (not_due store now (record o { told = state_of 
 left_quiet store now o false = refl
 
 -- If nothing is left to settle, further rounds change nothing.
-pub at_rest : (turns : ℕ) (store : StoreValue) (now : ℕ) (s : Side) → IsAtRest store now s → settled_within turns store now s ≡ s
+pub at_rest : (turns : ℕ) (store : StoreValue) (now : ℕ) (s : Connection) → IsAtRest store now s → settled_within turns store now s ≡ s
 unfolding settled_within settled_once
 at_rest zero store now s rests = refl
 at_rest (suc turns) store now s rests = rw (rests.0, rests.1) (at_rest turns store now s rests)
 
 -- The number of pending entries and due observers of a connection.
-abbrev pub left_on : StoreValue → ℕ → Side → ℕ
+abbrev pub left_on : StoreValue → ℕ → Connection → ℕ
 left_on store now s = length s.history.held + count_due (is_due store now) s.observers
 
 -- A round sends nothing, or the number decreases.
-pub once_less : (store : StoreValue) (now : ℕ) (s : Side) → IsAtRest store now s ⊎ (left_on store now (settled_once store now s) + 1 ≤ left_on store now s)
+pub once_less : (store : StoreValue) (now : ℕ) (s : Connection) → IsAtRest store now s ⊎ (left_on store now (settled_once store now s) + 1 ≤ left_on store now s)
 unfolding settled_once
 once_less store now s =
-    let Less : Side → Type 0 = λ t. IsAtRest store now s ⊎ (left_on store now t + 1 ≤ left_on store now s) in
+    let Less : Connection → Type 0 = λ t. IsAtRest store now s ⊎ (left_on store now t + 1 ≤ left_on store now s) in
     let due : Observer → Bool = is_due store now in
     there_or_not (next_held now s) (λ found. Less (settled_so store now s found))
     (λ held. there_or_not (next_due store now s) (λ found. Less (notified store now s found)) (λ is. inl (held, is)) (λ o is. (
@@ -224,7 +224,7 @@ once_less store now s =
     (λ e is. (let fewer = due_fewer now s.history.held e (held_room now s e is).1 in
     inr (omega (arith, count_if due (is_open (after_sent s.history now e).phase) s.observers, sent_leaves s.history now e, fewer))))
 
-rests_by : (turns : ℕ) (store : StoreValue) (now : ℕ) (s : Side) → left_on store now s ≤ turns → IsAtRest store now (settled_within turns store now s)
+rests_by : (turns : ℕ) (store : StoreValue) (now : ℕ) (s : Connection) → left_on store now s ≤ turns → IsAtRest store now (settled_within turns store now s)
 unfolding settled_within
 rests_by zero store now s few = elim (once_less store now s) [ inl rests ↦ rests | inr less ↦ absurd (omega (arith, few, less)) ]
 rests_by (suc turns) store now s few =
@@ -234,12 +234,12 @@ rests_by (suc turns) store now s few =
     ]
 
 -- Each round leaves fewer pending entries or due observers, so in the end nothing is left to settle.
-pub settled_rests : (store : StoreValue) (now : ℕ) (s : Side) → IsAtRest store now (settled store now s)
+pub settled_rests : (store : StoreValue) (now : ℕ) (s : Connection) → IsAtRest store now (settled store now s)
 unfolding settled
 settled_rests store now s = rests_by (length s.history.held + length s.observers) store now s (omega (arith, count_within (is_due store now) s.observers))
 
 -- No change is lost: if there is room, each observer was last sent the current state, and no pending entry is due.
-pub hears_at_rest : (store : StoreValue) (now : ℕ) (s : Side) → IsAtRest store now s → HearsAll store now s
+pub hears_at_rest : (store : StoreValue) (now : ℕ) (s : Connection) → IsAtRest store now s → IsUpToDate store now s
 hears_at_rest store now s rests = record {
   told = λ room. all_to (λ o. is_due store now o ≡ false) (λ o. o.told ≡ state_of store now o.path) (told_now store now) s.observers
       (none_due (is_due store now) s.observers (rw room at rests.1));
@@ -256,16 +256,16 @@ unfolding first_due due_index
 nothing_due_first now held none =
     ap (λ moments. held_at held (else_index (answer_index (reduce min moments) held) (pong_index held))) (none_come_listed now held none.0) ∙ ap (held_at held) none.1
 
-pub hears_sent : (store : StoreValue) (now : ℕ) (s : Side) → HearsAll store now s → next_held now s ≡ None
-hears_sent store now s hears =
-    cond_both (has_room s) (first_due now s.history.held) None (λ found. found ≡ None) (λ room. nothing_due_first now s.history.held (hears.sent room)) (λ room. refl)
+pub hears_sent : (store : StoreValue) (now : ℕ) (s : Connection) → IsUpToDate store now s → next_held now s ≡ None
+hears_sent store now s takes_input =
+    cond_both (has_room s) (first_due now s.history.held) None (λ found. found ≡ None) (λ room. nothing_due_first now s.history.held (takes_input.sent room)) (λ room. refl)
 
 -- A connection on which no change is lost has nothing to settle.
-pub side_at_rest_stays : (store : StoreValue) (now : ℕ) (s : Side) → HearsAll store now s → settled store now s ≡ s
+pub side_at_rest_stays : (store : StoreValue) (now : ℕ) (s : Connection) → IsUpToDate store now s → settled store now s ≡ s
 unfolding settled
-side_at_rest_stays store now s hears =
+side_at_rest_stays store now s takes_input =
     let quiet = all_to (λ o. o.told ≡ state_of store now o.path) (λ o. is_due store now o ≡ false) (not_due store now) s.observers in
     let rests : next_due store now s ≡ None =
     cond_both (has_room s) (find (is_due store now) s.observers) None (λ due. due ≡ None)
-    (λ room. none_found (is_due store now) s.observers (quiet (hears.told room))) (λ full. refl) in
-    at_rest (length s.history.held + length s.observers) store now s (hears_sent store now s hears, rests)
+    (λ room. none_found (is_due store now) s.observers (quiet (takes_input.told room))) (λ full. refl) in
+    at_rest (length s.history.held + length s.observers) store now s (hears_sent store now s takes_input, rests)

@@ -5,11 +5,11 @@ use Rattle.coap_model.specs.Prelude.{AllByRecursion, Message, LimitValues, is_op
 use Rattle.coap_model.specs.Prelude.{Answer, Pong, first_due, History, limit_now, after, same_bytes, StoreValue}
 use Rattle.coap_model.specs.Prelude.{state_of, immediate_answer, response_with_observe, ConfigValues, Observer, is_due}
 use Rattle.coap_model.specs.Prelude.{without_token, has_place, asks_entry, entry_for, is_whole, with_entry, goes_on}
-use Rattle.coap_model.specs.Prelude.{notification, notification_message, left_of, first_becomes, Side, handles}
+use Rattle.coap_model.specs.Prelude.{notification, notification_message, left_of, first_becomes, Connection, handles}
 use Rattle.coap_model.specs.Prelude.{side_with, with_history, side_answered, side_handled, side_after, next_due}
-use Rattle.coap_model.specs.Prelude.{notified, held_message, after_sent, side_of, Event, world_after, responds}
-use Rattle.coap_model.specs.Prelude.{is_response, ReportsState, asked_late, WasToldLast, HaveOwnTokens, last_response}
-use Rattle.coap_model.specs.Prelude.{StandFor}
+use Rattle.coap_model.specs.Prelude.{notified, held_message, after_sent, side_of, AcceptedCall, world_after, responds}
+use Rattle.coap_model.specs.Prelude.{is_response, ReportsState, asked_late, IsLastNotification, TokensAreDistinct, last_response}
+use Rattle.coap_model.specs.Prelude.{CorrespondTo}
 use Rattle.std.proofs.lemmas.Bool.{cond_both, and_parts, and_left}
 use Rattle.std.proofs.lemmas.List.Folds.{list_any-append}
 use lib.Pointwise.{bytes_decides}
@@ -29,25 +29,25 @@ use Rattle.coap_model.proofs.world.KnownLaws.{tells_responds, entry_tells, notif
 
 -- The last response reports the recorded state, if no request for a delayed response had the observer's token.
 abbrev pub ToldOn : History → Observer → Type 0
-ToldOn h o = asked_late o.token h.handled ≡ false → WasToldLast h.queued o
+ToldOn h o = asked_late o.token h.handled ≡ false → IsLastNotification h.queued o
 
 -- This holds of each observer, and no two have the same token.
 pub record AreTold (h : History) (os : List Observer) : Type 0 where
-  pub own : HaveOwnTokens os
+  pub own : TokensAreDistinct os
   pub told : AllByRecursion (ToldOn h) os
 
-abbrev AllTold : Side → Type 0
+abbrev AllTold : Connection → Type 0
 AllTold s = AreTold s.history s.observers
 
 -- A message that reports the recorded state is queued.
-told_by_last : (o : Observer) (queued : List Message) (m : Message) → ReportsState o o.told m → WasToldLast (queued ++ m ∷ []) o
+told_by_last : (o : Observer) (queued : List Message) (m : Message) → ReportsState o o.told m → IsLastNotification (queued ++ m ∷ []) o
 told_by_last o queued m tells = (m, grind (arith, last_of_longer o.token queued m, tells_responds o o.told m tells), tells)
 
 -- Queued messages keep this if none of them is a response with the observer's token.
 queued_told : (P : Message → Type 0) (h k : History) (o : Observer) → Queues P h k → (asked_late o.token h.handled ≡ false → (m : Message) → P m → responds o.token m ≡ false) → ToldOn h o → ToldOn k o
 queued_told P h k o queues other told none =
     let before : asked_late o.token h.handled ≡ false = grind (arith, queues.handled, list_any-append) in
-    let was : WasToldLast h.queued o = told before in
+    let was : IsLastNotification h.queued o = told before in
     let stays = last_stays o.token h.queued queues.more (all_to P (λ m. responds o.token m ≡ false) (other before) queues.more queues.such) in
     (was.0, ap (last_response o.token) queues.same ∙ stays ∙ was.1, was.2)
 
@@ -81,11 +81,11 @@ others_told : (token : List ℕ) (h k : History) (os : List Observer) → Queues
 others_told token h k [] queues others told = tt
 others_told token h k (o ∷ os) queues others told = (other_told token h k o queues others.0 told.0, others_told token h k os queues others.1 told.1)
 
-own_filter : (test : Observer → Bool) (os : List Observer) → HaveOwnTokens os → HaveOwnTokens (filter test os)
+own_filter : (test : Observer → Bool) (os : List Observer) → TokensAreDistinct os → TokensAreDistinct (filter test os)
 own_filter test [] own = tt
-own_filter test (o ∷ os) own = cond_both (test o) _ _ HaveOwnTokens (λ e. (all_filter _ test os own.0, own_filter test os own.1)) (λ e. own_filter test os own.1)
+own_filter test (o ∷ os) own = cond_both (test o) _ _ TokensAreDistinct (λ e. (all_filter _ test os own.0, own_filter test os own.1)) (λ e. own_filter test os own.1)
 
-own_last : (os : List Observer) (e : Observer) → HaveOtherTokens e.token os → HaveOwnTokens os → HaveOwnTokens (os ++ e ∷ [])
+own_last : (os : List Observer) (e : Observer) → HaveOtherTokens e.token os → TokensAreDistinct os → TokensAreDistinct (os ++ e ∷ [])
 own_last [] e others own = (tt, tt)
 own_last (o ∷ os) e others own =
     (all_append (λ other. o.token ≢ other.token) os (e ∷ []) own.0 ((λ same. others.0 (sym same)), tt), own_last os e others.1 own.1)
@@ -108,7 +108,7 @@ kept_told : (h : History) (os : List Observer) → (is_open h.phase ≡ true →
 kept_told h os go = cond_both (is_open h.phase) os [] (AreTold h) go (λ e. record { own = tt; told = tt })
 
 -- The entry of a request is appended if the response reports its state.
-entered_told : (h : History) (os : List Observer) (entry : Observer) (enters : Bool) → HaveOtherTokens entry.token os → AreTold h os → (enters ≡ true → WasToldLast h.queued entry) → AreTold h (with_entry enters os entry)
+entered_told : (h : History) (os : List Observer) (entry : Observer) (enters : Bool) → HaveOtherTokens entry.token os → AreTold h os → (enters ≡ true → IsLastNotification h.queued entry) → AreTold h (with_entry enters os entry)
 entered_told h os entry true others are new =
     record { own = own_last os entry others are.own; told = all_append (ToldOn h) os (entry ∷ []) are.told ((λ none. new refl), tt) }
 entered_told h os entry false others are new = are
@@ -128,15 +128,15 @@ told_with_answer store now h os m others are =
     kept_told k (with_entry (observes && whole) os entry)
     (λ opened. entered_told k os entry (observes && whole) others (record { own = are.own; told = others_told m.token h k os (reply_queues h response) others are.told })
     (λ e. (let both = and_parts observes whole e in
-    subst (λ queued. WasToldLast queued entry) (sym (whole_last h response both.1 opened)) (told_by_last entry h.queued response (tells both.0)))))
+    subst (λ queued. IsLastNotification queued entry) (sym (whole_last h response both.1 opened)) (told_by_last entry h.queued response (tells both.0)))))
 
 -- ---- messages
 
 -- No response is queued.
-signalled_side : (s : Side) (h : History) → Queues IsNoResponse s.history h → AllTold s → AllTold (with_history s h)
+signalled_side : (s : Connection) (h : History) → Queues IsNoResponse s.history h → AllTold s → AllTold (with_history s h)
 signalled_side s h queues are = kept_told h s.observers (λ opened. signalled_told IsNoResponse (λ m is. is) s.history h s.observers queues are)
 
-handled_told : (limits : LimitValues) (store : StoreValue) (now : ℕ) (s : Side) (m : Message) → IsSide limits s → AllTold s → AllTold (side_handled store now s m)
+handled_told : (limits : LimitValues) (store : StoreValue) (now : ℕ) (s : Connection) (m : Message) → IsSide limits s → AllTold s → AllTold (side_handled store now s m)
 unfolding without_token
 handled_told limits store now s m is are =
     let h : History = after s.history (call.Handle m) in
@@ -151,8 +151,8 @@ handled_told limits store now s m is are =
 
 -- The entry after a notification has the token of the first due observer.
 module _ (store : StoreValue) (now : ℕ) (h k : History) (o : Observer) (queues : Queues (HasToken o.token) h k) (stays : Bool) (new : AllByRecursion (ToldOn k) (left_of store now o stays)) (due : Observer → Bool) where
-  own_left : (os : List Observer) → HaveOtherTokens o.token os → HaveOwnTokens os → HaveOwnTokens (left_of store now o stays ++ os)
-  own_left os others own = elim stays as (λ b. HaveOwnTokens (left_of store now o b ++ os)) [ true ↦ (others, own) | false ↦ own ]
+  own_left : (os : List Observer) → HaveOtherTokens o.token os → TokensAreDistinct os → TokensAreDistinct (left_of store now o stays ++ os)
+  own_left os others own = elim stays as (λ b. TokensAreDistinct (left_of store now o b ++ os)) [ true ↦ (others, own) | false ↦ own ]
 
   left_apart : (token : List ℕ) → token ≢ o.token → HaveOtherTokens token (left_of store now o stays)
   left_apart token apart = elim stays as (λ b. HaveOtherTokens token (left_of store now o b)) [ true ↦ (apart, tt) | false ↦ tt ]
@@ -186,13 +186,13 @@ left_told : (store : StoreValue) (now : ℕ) (h : History) (o : Observer) (stays
 left_told store now h o true on whole opened =
     let m : Message = notification_message o.token (notification store now o) in
     let left : Observer = record o { told = state_of store now o.path } in (
-      (λ none. subst (λ queued. WasToldLast queued left) (sym (whole_last h m (whole refl) opened))
+      (λ none. subst (λ queued. IsLastNotification queued left) (sym (whole_last h m (whole refl) opened))
           (told_by_last left h.queued m (notification_tells_observer store now o (on refl)))),
       tt,
     )
 left_told store now h o false on whole opened = tt
 
-notified_told : (store : StoreValue) (now : ℕ) (s : Side) (found : Option Observer) → ((o : Observer) → found ≡ Some o → find (is_due store now) s.observers ≡ Some o) → AllTold s → AllTold (notified store now s found)
+notified_told : (store : StoreValue) (now : ℕ) (s : Connection) (found : Option Observer) → ((o : Observer) → found ≡ Some o → find (is_due store now) s.observers ≡ Some o) → AllTold s → AllTold (notified store now s found)
 notified_told store now s None there are = are
 notified_told store now s (Some o) there are =
     let m : Message = notification_message o.token (notification store now o) in
@@ -207,24 +207,24 @@ notified_told store now s (Some o) there are =
 -- ---- pending entries
 
 -- The token of a delayed response is that of a request for one.
-sent_told : (s : Side) (now : ℕ) (e : PendingEntryValue) → first_due now s.history.held ≡ Some e → Stands s.history → AllTold s → AllTold (with_history s (after_sent s.history now e))
+sent_told : (s : Connection) (now : ℕ) (e : PendingEntryValue) → first_due now s.history.held ≡ Some e → Stands s.history → AllTold s → AllTold (with_history s (after_sent s.history now e))
 sent_told s now (Answer token moment) found stand are =
     let h : History = after s.history (call.Due now) in
     let k : History = after h (call.Reply (held_message token)) in
     let first = due_answer now s.history.held token moment found in
     kept_told k s.observers
     (λ opened. late_told token h k s.observers (reply_queues h (held_message token))
-    (stand_asked s.history.handled first.before (Answer token moment) first.after (subst (StandFor s.history.handled) first.there stand))
+    (stand_asked s.history.handled first.before (Answer token moment) first.after (subst (CorrespondTo s.history.handled) first.there stand))
     (signalled_told IsNoResponse (λ m is. is) s.history h s.observers (due_queues s.history now) are))
 sent_told s now (Pong token) found stand are = signalled_side s (after s.history (call.Due now)) (due_queues s.history now) are
 
 -- ---- properties of every connection
 
-abbrev IsToldSide : Side → Type 0
+abbrev IsToldSide : Connection → Type 0
 IsToldSide s = Stands s.history × AllTold s
 
 -- Only plain messages are queued, and the observers stay or are removed.
-plain_told : (s t : Side) → Stands t.history → Between (Queues IsPlain) s t → ((P : List Observer → Type 0) → P [] → P s.observers → P t.observers) → IsToldSide s → IsToldSide t
+plain_told : (s t : Connection) → Stands t.history → Between (Queues IsPlain) s t → ((P : List Observer → Type 0) → P [] → P s.observers → P t.observers) → IsToldSide s → IsToldSide t
 plain_told s t stand queues kept of =
     (stand, kept (AreTold t.history) (record { own = tt; told = tt }) (signalled_told IsPlain (λ m is. is.0) s.history t.history s.observers queues of.1))
 
@@ -254,11 +254,11 @@ told_side_keeps limits =
       );
     }
 
-are_told : (c : ConfigValues) (es : List Event) (id : ℕ) (s : Side) → side_of id (world_after c es).sides ≡ Some s → AreTold s.history s.observers
+are_told : (c : ConfigValues) (es : List AcceptedCall) (id : ℕ) (s : Connection) → side_of id (world_after c es).sides ≡ Some s → AreTold s.history s.observers
 are_told c es id s there = (kept_after c IsToldSide (told_side_keeps c.limits) es id s there).1
 
-pub observers_told_last : (c : ConfigValues) (es : List Event) (id : ℕ) (s : Side) → side_of id (world_after c es).sides ≡ Some s → AllByRecursion (λ o. asked_late o.token s.history.handled ≡ false → WasToldLast s.history.queued o) s.observers
+pub observers_told_last : (c : ConfigValues) (es : List AcceptedCall) (id : ℕ) (s : Connection) → side_of id (world_after c es).sides ≡ Some s → AllByRecursion (λ o. asked_late o.token s.history.handled ≡ false → IsLastNotification s.history.queued o) s.observers
 observers_told_last c es id s there = (are_told c es id s there).told
 
-pub observers_have_own_tokens : (c : ConfigValues) (es : List Event) (id : ℕ) (s : Side) → side_of id (world_after c es).sides ≡ Some s → HaveOwnTokens s.observers
+pub observers_have_own_tokens : (c : ConfigValues) (es : List AcceptedCall) (id : ℕ) (s : Connection) → side_of id (world_after c es).sides ≡ Some s → TokensAreDistinct s.observers
 observers_have_own_tokens c es id s there = (are_told c es id s there).own

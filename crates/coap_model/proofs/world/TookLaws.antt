@@ -5,7 +5,7 @@ use Rattle.std.proofs.lemmas.List.{length-append, take_at}
 use Rattle.std.proofs.Math.Seq.{drop-length, drop-append_seam}
 use Rattle.coap_model.specs.Prelude.{Message, message_of, FormatFault, FrameFault, Unfinished, prefix_kind}
 use Rattle.coap_model.specs.Prelude.{fault_bytes, OfFrame, Format, Stream, split, behind, AFrame, AFault, Framing}
-use Rattle.coap_model.specs.Prelude.{framing_at, framing, without_last, Event, Took, size_on, stream_on, new_fault}
+use Rattle.coap_model.specs.Prelude.{framing_at, framing, without_last, AcceptedCall, Took, size_on, stream_on, new_fault}
 use Rattle.coap_model.specs.Prelude.{beyond, steps_by}
 use Rattle.coap_wire.proofs.StreamSteps.{whole_itself, split_unfinished}
 use Rattle.coap_frame.specs.Framing.{Nothing}
@@ -29,11 +29,11 @@ nothing_beyond id s = grind (arith, drop-length s.messages)
 -- ---- the addition of a take
 
 -- The steps of a take and the stream after it are those of what it adds to the stream before it.
-pub record Adds (M id : ℕ) (es : List Event) (bytes : List ℕ) (added : Stream) : Type 0 where
+pub record Adds (M id : ℕ) (es : List AcceptedCall) (bytes : List ℕ) (added : Stream) : Type 0 where
   pub steps : steps_by M es (Took id bytes) ≡ map (step.Handled id) added.messages ++ new_fault id None added.fault
   pub stream : stream_on M id (es ++ Took id bytes ∷ []) ≡ behind (stream_on M id es).messages added
 
-module _ (M id : ℕ) (es : List Event) (bytes : List ℕ) (none : (stream_on M id es).fault ≡ None) where
+module _ (M id : ℕ) (es : List AcceptedCall) (bytes : List ℕ) (none : (stream_on M id es).fault ≡ None) where
   -- The current size.
   abbrev N : ℕ
   N = size_on M id es
@@ -59,10 +59,10 @@ module _ (M id : ℕ) (es : List Event) (bytes : List ℕ) (none : (stream_on M 
 -- ---- no bytes
 
 -- An empty take makes no step and does not change the stream.
-pub no_bytes_stream : (M id : ℕ) (es : List Event) → stream_on M id (es ++ Took id [] ∷ []) ≡ stream_on M id es
+pub no_bytes_stream : (M id : ℕ) (es : List AcceptedCall) → stream_on M id (es ++ Took id [] ∷ []) ≡ stream_on M id es
 no_bytes_stream M id es = stream_same M id es (Took id []) (taken_here id [])
 
-pub no_bytes_steps : (M id : ℕ) (es : List Event) → steps_by M es (Took id []) ≡ []
+pub no_bytes_steps : (M id : ℕ) (es : List AcceptedCall) → steps_by M es (Took id []) ≡ []
 unfolding steps_by
 no_bytes_steps M id es = ap (beyond id (stream_on M id es)) (no_bytes_stream M id es) ∙ nothing_beyond id (stream_on M id es)
 
@@ -86,7 +86,7 @@ module _ (M : ℕ) (kept piece frame : List ℕ) (n : ℕ) (u : prefix_kind M ke
 
 -- ---- the bytes accepted of an input slice
 
-module _ (M id : ℕ) (es : List Event) (piece : List ℕ) (none : (stream_on M id es).fault ≡ None) where
+module _ (M id : ℕ) (es : List AcceptedCall) (piece : List ℕ) (none : (stream_on M id es).fault ≡ None) where
   abbrev size_before : ℕ
   size_before = size_on M id es
 

@@ -2,8 +2,8 @@
 -- events.
 use Rattle.std.proofs.Common.{◌≡◌, ◌≢◌, ℕ, ◌≤◌, ◌<◌, true, false, List, [], ◌∷◌, ◌++◌, length, map, drop, Option, None, refl, sym, ap, subst, ◌∙◌, append_assoc, arith, ◌==◌, if◌then◌else◌, inl, inr}
 use Rattle.coap_model.specs.Prelude.{AllByRecursion, Message, StreamFault, Stream, LimitValues, link_of}
-use Rattle.coap_model.specs.Prelude.{release_refusal, Change, Nothing, Put, Delete, changed, ConfigValues, Side}
-use Rattle.coap_model.specs.Prelude.{waiting_on, is_cut, may_raise, World, Step, side_of, after_steps, Event, Opened}
+use Rattle.coap_model.specs.Prelude.{release_refusal, Change, Nothing, Put, Delete, changed, ConfigValues, Connection}
+use Rattle.coap_model.specs.Prelude.{waiting_on, is_cut, may_raise, World, Step, side_of, after_steps, AcceptedCall, Opened}
 use Rattle.coap_model.specs.Prelude.{Took, Wrote, Ticked, Stored, Removed, Ended, Released, Announced, Dropped}
 use Rattle.coap_model.specs.Prelude.{taken_in, size_by, size_on, stream_on, spelled_on, new_fault, beyond, steps_by}
 use Rattle.coap_model.specs.Prelude.{world_after, takes_of, takes, IfSide, OnSide, IsAccepted, AreAcceptedBehind}
@@ -20,9 +20,9 @@ use Rattle.coap_model.proofs.world.ViewLaws.{IsNotRefused, by_passes, Share, sha
 
 -- ---- lists
 
-view_more : (c : ConfigValues) (id : ℕ) (a es : List Event) (e : Event) → view_behind c id a (es ++ e ∷ []) ≡ view_behind c id a es ++ view_event c id (a ++ es) e
+view_more : (c : ConfigValues) (id : ℕ) (a es : List AcceptedCall) (e : AcceptedCall) → view_behind c id a (es ++ e ∷ []) ≡ view_behind c id a es ++ view_event c id (a ++ es) e
 unfolding view_behind
-view_more c id a [] e = append-nil (view_event c id a e) ∙ ap (λ (b : List Event). view_event c id b e) (sym (append-nil a))
+view_more c id a [] e = append-nil (view_event c id a e) ∙ ap (λ (b : List AcceptedCall). view_event c id b e) (sym (append-nil a))
 view_more c id a (d ∷ es) e =
     rw (view_more c id (a ++ d ∷ []) es e, append_assoc a (d ∷ []) es)
     (sym (append_assoc (view_event c id a d) (view_behind c id (a ++ d ∷ []) es) (view_event c id (a ++ d ∷ es) e)))
@@ -72,7 +72,7 @@ module _ (c : ConfigValues) (id : ℕ) where
 
   -- These events are a view of the events that led to a world. If the connection is not yet opened, the view has no
   -- connection.
-  record IsView (w : World) (spelled : Stream × ℕ) (ids : ℕ) (vs : List Event) : Type 0 where
+  record IsView (w : World) (spelled : Stream × ℕ) (ids : ℕ) (vs : List AcceptedCall) : Type 0 where
     alike : share_of id w ≡ share_of n (world_after c vs)
     spells : spelled ≡ spelled_on M n vs
     accepted : AreAccepted c vs
@@ -80,8 +80,8 @@ module _ (c : ConfigValues) (id : ℕ) where
     rests : SettlesAlike id w
 
   -- One more event that makes one step.
-  module _ (w : World) (spelled : Stream × ℕ) (ids : ℕ) (vs : List Event) (is : IsView w spelled ids vs) where
-    view_stored : (w' : World) (e : Event) (s : Step) → steps_by M vs e ≡ s ∷ [] → OpensNone s → taken_in n e ≡ [] → size_stays n e → IsAccepted c vs e → SettlesAlike id w' → share_of id w' ≡ share_of n (world.step c.limits (world_after c vs) s) → IsView w' spelled ids (vs ++ e ∷ [])
+  module _ (w : World) (spelled : Stream × ℕ) (ids : ℕ) (vs : List AcceptedCall) (is : IsView w spelled ids vs) where
+    view_stored : (w' : World) (e : AcceptedCall) (s : Step) → steps_by M vs e ≡ s ∷ [] → OpensNone s → taken_in n e ≡ [] → size_stays n e → IsAccepted c vs e → SettlesAlike id w' → share_of id w' ≡ share_of n (world.step c.limits (world_after c vs) s) → IsView w' spelled ids (vs ++ e ∷ [])
     view_stored w' e s one none quiet stays ok rests same =
         let stepped : world_after c (vs ++ e ∷ []) ≡ world.step c.limits (world_after c vs) s = world_step c vs e s one in
         record {
@@ -108,12 +108,12 @@ module _ (c : ConfigValues) (id : ℕ) where
         (same ∙ change_alike c.limits id n w (world_after c vs) is.alike (Delete path) is.rests passes)
 
   -- Steps of another connection.
-  view_others : (ss : List Step) (w : World) (spelled : Stream × ℕ) (ids : ℕ) (vs : List Event) → AllByRecursion (λ s. concerns id s ≡ false) ss → IsView w spelled ids vs → IsView (after_steps c.limits w ss) spelled ids (vs ++ changes_of c.limits w ss)
+  view_others : (ss : List Step) (w : World) (spelled : Stream × ℕ) (ids : ℕ) (vs : List AcceptedCall) → AllByRecursion (λ s. concerns id s ≡ false) ss → IsView w spelled ids vs → IsView (after_steps c.limits w ss) spelled ids (vs ++ changes_of c.limits w ss)
   unfolding after_steps changes_of
   view_others [] w spelled ids vs each is = rw (append-nil vs) is
   view_others (s ∷ ss) w spelled ids vs each is =
       let next : World = world.step c.limits w s in
-      let changes : List Event = change_events (change_by w s) in
+      let changes : List AcceptedCall = change_events (change_by w s) in
       let seen : share_of id next ≡ settled_share (share (changed w.store (change_by w s)) w.now (side_of id w.sides)) =
       step_share c.limits id w s ∙ ap settled_share (other_did c.limits id w s each.0) in
       subst (IsView (after_steps c.limits next ss) spelled ids) (append_assoc vs changes (changes_of c.limits next ss))
@@ -122,7 +122,7 @@ module _ (c : ConfigValues) (id : ℕ) where
 
   -- ---- one more event
 
-  abbrev Sees : List Event → List Event → Type 0
+  abbrev Sees : List AcceptedCall → List AcceptedCall → Type 0
   Sees es vs = IsView (world_after c es) (spelled_on M id es) (world_after c es).ids vs
 
   -- None of these steps opens a connection with an id other than the next one.
@@ -134,7 +134,7 @@ module _ (c : ConfigValues) (id : ℕ) where
   ids_more [] w each = omega arith
   ids_more (s ∷ ss) w each = omega (arith, ids_grow c w s (each.0 w), ids_more ss (world.step c.limits w s) each.1)
 
-  module _ (es vs : List Event) (all : AreAccepted c es) (sees : Sees es vs) (e : Event) where
+  module _ (es vs : List AcceptedCall) (all : AreAccepted c es) (sees : Sees es vs) (e : AcceptedCall) where
     abbrev w : World
     w = world_after c es
 
@@ -154,16 +154,16 @@ module _ (c : ConfigValues) (id : ℕ) where
         }
 
     -- The same bytes are accepted, and the same size is announced.
-    abbrev SpellSame : Event → Type 0
+    abbrev SpellSame : AcceptedCall → Type 0
     SpellSame e' = (taken_in id e ≡ taken_in n e') × ((N : ℕ) → size_by id e N ≡ size_by n e' N)
 
-    spells_on : (e' : Event) → SpellSame e' → spelled_on M id (es ++ e ∷ []) ≡ spelled_on M n (vs ++ e' ∷ [])
+    spells_on : (e' : AcceptedCall) → SpellSame e' → spelled_on M id (es ++ e ∷ []) ≡ spelled_on M n (vs ++ e' ∷ [])
     spells_on e' same =
         spelled_then M id es e ∙ ap (λ (t : Stream × ℕ). spelled_by t (taken_in id e) (size_by id e)) sees.spells
         ∙ rw (same.0, same.1 (size_on M n vs)) (sym (spelled_then M n vs e'))
 
     -- An event of the connection itself.
-    seen : (e' : Event) → steps_by M vs e' ≡ map (renamed n) steps_made → AllByRecursion (λ s. concerns id s ≡ true) steps_made → SpellSame e' → IsAccepted c vs e' → ((after_steps c.limits w steps_made).ids < id → IsFresh c (world_after c (vs ++ e' ∷ []))) → Sees (es ++ e ∷ []) (vs ++ e' ∷ [])
+    seen : (e' : AcceptedCall) → steps_by M vs e' ≡ map (renamed n) steps_made → AllByRecursion (λ s. concerns id s ≡ true) steps_made → SpellSame e' → IsAccepted c vs e' → ((after_steps c.limits w steps_made).ids < id → IsFresh c (world_after c (vs ++ e' ∷ []))) → Sees (es ++ e ∷ []) (vs ++ e' ∷ [])
     seen e' makes each bytes ok fresh = record {
       alike = ap (share_of id) (world_more c es e) ∙ own_steps c.limits id n steps_made w (world_after c vs) each sees.alike
           ∙ ap (λ (ss : List Step). share_of n (after_steps c.limits (world_after c vs) ss)) (sym makes) ∙ ap (share_of n) (sym (world_more c vs e'));
@@ -173,7 +173,7 @@ module _ (c : ConfigValues) (id : ℕ) where
       rests = rw (world_more c es e) (steps_keep (SettlesAlike id) c.limits (λ u s rests. step_rests c.limits id u s) w steps_made sees.rests);
     }
 
-    sees_own : (e' : Event) (P : Side → Type 0) → steps_by M vs e' ≡ map (renamed n) steps_made → AllByRecursion (λ s. concerns id s ≡ true) steps_made → AllByRecursion OpensSo steps_made → SpellSame e' → IsAccepted c vs e' → IfSide (side_of id w.sides) P → Sees (es ++ e ∷ []) (vs ++ e' ∷ [])
+    sees_own : (e' : AcceptedCall) (P : Connection → Type 0) → steps_by M vs e' ≡ map (renamed n) steps_made → AllByRecursion (λ s. concerns id s ≡ true) steps_made → AllByRecursion OpensSo steps_made → SpellSame e' → IsAccepted c vs e' → IfSide (side_of id w.sides) P → Sees (es ++ e ∷ []) (vs ++ e' ∷ [])
     sees_own e' P makes each opening bytes ok holds =
         let at = on_one P (side_of id w.sides) holds in
         let given = (number_given c w id at.0 (accepted_is c es all).numbered at.1).within in
@@ -181,7 +181,7 @@ module _ (c : ConfigValues) (id : ℕ) where
 
   -- ---- each event
 
-  module _ (es vs : List Event) (all : AreAccepted c es) (sees : Sees es vs) where
+  module _ (es vs : List AcceptedCall) (all : AreAccepted c es) (sees : Sees es vs) where
     abbrev v : World
     v = world_after c vs
 
@@ -196,7 +196,7 @@ module _ (c : ConfigValues) (id : ℕ) where
     takes_alike bytes = ap (λ (s : Stream × ℕ). takes_of s.1 s.0.rest bytes (side_of id (world_after c es).sides)) sees.spells ∙ rw same_side refl
 
     -- An event of one connection: its own is viewed with the other id, and that of another connection as these changes.
-    of_one : (other : ℕ) (at : ℕ → Event) (changes : List Event) → IsAccepted c es (at other) → (IsAccepted c es (at id) → Sees (es ++ at id ∷ []) (vs ++ at n ∷ [])) → (other ≢ id → Sees (es ++ at other ∷ []) (vs ++ changes))
+    of_one : (other : ℕ) (at : ℕ → AcceptedCall) (changes : List AcceptedCall) → IsAccepted c es (at other) → (IsAccepted c es (at id) → Sees (es ++ at id ∷ []) (vs ++ at n ∷ [])) → (other ≢ id → Sees (es ++ at other ∷ []) (vs ++ changes))
         → Sees (es ++ at other ∷ []) (vs ++ (if other == id then at n ∷ [] else changes))
     of_one other at changes ok here away =
         elim (cases_eq other id) [
@@ -205,7 +205,7 @@ module _ (c : ConfigValues) (id : ℕ) where
         ]
 
     -- An event that is not viewed.
-    blind : (e : Event) (s : Step) → steps_by M es e ≡ s ∷ [] → concerns id s ≡ false → change_by (world_after c es) s ≡ Nothing → OpensNext c (world_after c es) s → taken_in id e ≡ [] → size_stays id e → Sees (es ++ e ∷ []) (vs ++ [])
+    blind : (e : AcceptedCall) (s : Step) → steps_by M es e ≡ s ∷ [] → concerns id s ≡ false → change_by (world_after c es) s ≡ Nothing → OpensNext c (world_after c es) s → taken_in id e ≡ [] → size_stays id e → Sees (es ++ e ∷ []) (vs ++ [])
     unfolding changes_of after_steps
     blind e s one apart still opening quiet stays =
         let none : changes_of c.limits (world_after c es) (steps_by M es e) ≡ [] = rw (one, still) refl in
@@ -219,11 +219,11 @@ module _ (c : ConfigValues) (id : ℕ) where
         let numbered : IsNumbered c (world_after c es) = (accepted_is c es all).numbered in
         let given : (world.step c.limits (world_after c es) (world.Opened id)).ids ≡ id = ap (λ (u : World). u.ids) (opens c (world_after c es) id numbered ok.0) in
         seen es vs all sees (Opened id) (Opened n) refl (eq-eqb id id refl, tt) (refl, λ N. refl)
-        (omega (arith, fresh.ids), omega (arith, numbered.low, ok.0, ok.1), omega (arith, ok.2, ap (λ (ps : List world.Place). length ps) fresh.empty))
+        (omega (arith, fresh.ids), omega (arith, numbered.low, ok.0, ok.1), omega (arith, ok.2, ap (λ (ps : List world.ConnectionEntry). length ps) fresh.empty))
         (λ low. absurd (omega (arith, low, given)))
 
     -- An event of its own with one step and no bytes.
-    own_seen : (e e' : Event) (s : Step) (P : Side → Type 0) → steps_by M es e ≡ s ∷ [] → steps_by M vs e' ≡ renamed n s ∷ [] → concerns id s ≡ true → OpensSo s → SpellSame es vs all sees e e' → (OnSide n v P → IsAccepted c vs e') → OnSide id (world_after c es) P → Sees (es ++ e ∷ []) (vs ++ e' ∷ [])
+    own_seen : (e e' : AcceptedCall) (s : Step) (P : Connection → Type 0) → steps_by M es e ≡ s ∷ [] → steps_by M vs e' ≡ renamed n s ∷ [] → concerns id s ≡ true → OpensSo s → SpellSame es vs all sees e e' → (OnSide n v P → IsAccepted c vs e') → OnSide id (world_after c es) P → Sees (es ++ e ∷ []) (vs ++ e' ∷ [])
     own_seen e e' s P one too own opening bytes accepts here =
         sees_own es vs all sees e e' P (rw one too) (rw one (own, tt)) (rw one (opening, tt)) bytes (accepts (rw same_side at here)) here
 
@@ -254,7 +254,7 @@ module _ (c : ConfigValues) (id : ℕ) where
         (taken_elsewhere id other bytes apart) (λ N. refl)
 
     -- An event of no connection.
-    common : (e : Event) (s : Step) → steps_by M es e ≡ s ∷ [] → steps_by M vs e ≡ s ∷ [] → renamed n s ≡ s → concerns id s ≡ true → OpensNone s → OpensSo s → SpellSame es vs all sees e e → IsAccepted c vs e → Sees (es ++ e ∷ []) (vs ++ e ∷ [])
+    common : (e : AcceptedCall) (s : Step) → steps_by M es e ≡ s ∷ [] → steps_by M vs e ≡ s ∷ [] → renamed n s ≡ s → concerns id s ≡ true → OpensNone s → OpensSo s → SpellSame es vs all sees e e → IsAccepted c vs e → Sees (es ++ e ∷ []) (vs ++ e ∷ [])
     unfolding after_steps
     common e s one too same of_all none opening bytes ok =
         let grow : (world_after c es).ids ≤ (after_steps c.limits (world_after c es) (steps_by M es e)).ids =
@@ -262,7 +262,7 @@ module _ (c : ConfigValues) (id : ℕ) where
         seen es vs all sees e e (rw (one, too) (ap (λ (t : Step). t ∷ []) (sym same))) (rw one (of_all, tt)) bytes ok
         (λ low. rw (world_step c vs e s too) (fresh_step c v s none (sees.fresh (omega (arith, low, grow)))))
 
-    event_seen : (e : Event) → IsAccepted c es e → Sees (es ++ e ∷ []) (vs ++ view_event c id es e)
+    event_seen : (e : AcceptedCall) → IsAccepted c es e → Sees (es ++ e ∷ []) (vs ++ view_event c id es e)
     unfolding IsAccepted steps_by concerns view_event
     event_seen (Opened other) ok =
         of_one other Opened [] ok opening_seen (λ apart. blind (Opened other) _ refl (ne_eqb other id apart) refl (ok.0, ok.2) refl (λ N. refl))
@@ -309,22 +309,22 @@ module _ (c : ConfigValues) (id : ℕ) where
     rests = rw (world_first c) (new_rests c id);
   }
 
-  events_seen : (es : List Event) → AreAccepted c es → Sees es (view_events c id es)
+  events_seen : (es : List AcceptedCall) → AreAccepted c es → Sees es (view_events c id es)
   unfolding view_events
   events_seen es all =
       by_events c (λ fs. Sees fs (view_events c id fs)) sees_nothing
       (λ fs e before ok sees. rw (view_more c id [] fs e) (event_seen fs (view_events c id fs) before sees e ok)) es all
 
   -- The connection is the same after its view.
-  pub same_in_view : (es : List Event) → AreAccepted c es → side_of id (world_after c es).sides ≡ side_of n (world_after c (view_events c id es)).sides
+  pub same_in_view : (es : List AcceptedCall) → AreAccepted c es → side_of id (world_after c es).sides ≡ side_of n (world_after c (view_events c id es)).sides
   same_in_view es all = ap (λ (x : Share). x.side) (events_seen es all).alike
 
-  pub same_store_in_view : (es : List Event) → AreAccepted c es → (world_after c es).store ≡ (world_after c (view_events c id es)).store
+  pub same_store_in_view : (es : List AcceptedCall) → AreAccepted c es → (world_after c es).store ≡ (world_after c (view_events c id es)).store
   same_store_in_view es all = ap (λ (x : Share). x.store) (events_seen es all).alike
 
-  pub same_now_in_view : (es : List Event) → AreAccepted c es → (world_after c es).now ≡ (world_after c (view_events c id es)).now
+  pub same_now_in_view : (es : List AcceptedCall) → AreAccepted c es → (world_after c es).now ≡ (world_after c (view_events c id es)).now
   same_now_in_view es all = ap (λ (x : Share). x.now) (events_seen es all).alike
 
   -- The view is accepted.
-  pub view_accepted : (es : List Event) → AreAccepted c es → AreAccepted c (view_events c id es)
+  pub view_accepted : (es : List AcceptedCall) → AreAccepted c es → AreAccepted c (view_events c id es)
   view_accepted es all = (events_seen es all).accepted

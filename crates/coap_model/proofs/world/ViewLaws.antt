@@ -6,10 +6,10 @@ use Rattle.std.proofs.lemmas.Bool.{eqb-false, cases_Bool, cond_both}
 use Rattle.coap_model.specs.Prelude.{Message, LimitValues, Path, Representation, StoreValue, put_in, removed_in}
 use Rattle.coap_model.specs.Prelude.{is_dynamic, kind_of_path, key_for, state_at, target_of, path_of, Change, Nothing}
 use Rattle.coap_model.specs.Prelude.{Put, Delete, changed, stored_under, deletion, answer_at, removes_watch}
-use Rattle.coap_model.specs.Prelude.{answer_of, immediate_answer, put_refusal, remove_refusal, ConfigValues, Side}
+use Rattle.coap_model.specs.Prelude.{answer_of, immediate_answer, put_refusal, remove_refusal, ConfigValues, Connection}
 use Rattle.coap_model.specs.Prelude.{new_side, handles, asks_answer, side_after, change_after, side_faulted}
 use Rattle.coap_model.specs.Prelude.{side_written, side_ended, side_released, side_announced, settled, World, Step}
-use Rattle.coap_model.specs.Prelude.{new_world, side_of, stored_after, acted, after_steps, Event, steps_of}
+use Rattle.coap_model.specs.Prelude.{new_world, side_of, stored_after, acted, after_steps, AcceptedCall, steps_of}
 use Rattle.coap_model.specs.Prelude.{world_after, change_steps, change_on, concerns, view_step, view_of, after_view}
 use Rattle.coap_model.specs.Prelude.{AreSeen}
 use Rattle.coap_store.specs.Answer.{Answer}
@@ -66,7 +66,7 @@ prompt_passes s now m =
     let a = answer_of s now m in
     subst (IsNotRefused s) (sym (change_unheld a.hold a ∙ change_finally (removes_watch m) at)) (answer_passes s now (path_of m) m)
 
-on_passes : (w : World) (m : Message) (there : Option Side) → IsNotRefused w.store (change_on w m there)
+on_passes : (w : World) (m : Message) (there : Option Connection) → IsNotRefused w.store (change_on w m there)
 unfolding change_after
 on_passes w m None = tt
 on_passes w m (Some s) =
@@ -83,9 +83,9 @@ by_passes w other = tt
 pub record Share : Type 0 where
   pub store : StoreValue
   pub now : ℕ
-  pub side : Option Side
+  pub side : Option Connection
 
-abbrev pub share : StoreValue → ℕ → Option Side → Share
+abbrev pub share : StoreValue → ℕ → Option Connection → Share
 share store now side = record { store = store; now = now; side = side }
 
 abbrev pub share_of : ℕ → World → Share
@@ -96,10 +96,10 @@ share_of id w = share w.store w.now (side_of id w.sides)
 abbrev pub settled_share : Share → Share
 settled_share x = record x { side = option_map (settled x.store x.now) x.side }
 
-settled_again : (store : StoreValue) (now : ℕ) (there : Option Side) → option_map (settled store now) (option_map (settled store now) there) ≡ option_map (settled store now) there
+settled_again : (store : StoreValue) (now : ℕ) (there : Option Connection) → option_map (settled store now) (option_map (settled store now) there) ≡ option_map (settled store now) there
 unfolding settled
 settled_again store now None = refl
-settled_again store now (Some s) = ap (λ (t : Side). Some t) (at_rest (length (settled store now s).history.held + length (settled store now s).observers) store now (settled store now s) (settled_rests store now s))
+settled_again store now (Some s) = ap (λ (t : Connection). Some t) (at_rest (length (settled store now s).history.held + length (settled store now s).observers) store now (settled store now s) (settled_rests store now s))
 
 -- Settling does not change this part.
 abbrev pub SettlesAlike : ℕ → World → Type 0
@@ -137,7 +137,7 @@ own_number id s own = grind (arith, nat_tests)
 -- Two worlds with two connections that have the same part.
 module _ (limits : LimitValues) (id n : ℕ) (w v : World) (alike : share_of id w ≡ share_of n v) where
   -- A change of the connection and of the store.
-  changed_alike : (store : Share → StoreValue) (f : Share → Side → Side)
+  changed_alike : (store : Share → StoreValue) (f : Share → Connection → Connection)
       → share (store (share_of id w)) w.now (side_of id (map (changed_at id (f (share_of id w))) w.sides)) ≡ share (store (share_of n v)) v.now (side_of n (map (changed_at n (f (share_of n v))) v.sides))
   changed_alike store f =
       rw (changed_here id (f (share_of id w)) w.sides, changed_here n (f (share_of n v)) v.sides)
@@ -145,7 +145,7 @@ module _ (limits : LimitValues) (id n : ℕ) (w v : World) (alike : share_of id 
 
   opened_here : (m : ℕ) (u : World) → is_none (side_of m u.sides) ≡ true → share_of m (opened_world limits u m) ≡ record (share_of m u) { side = Some (new_side limits) }
   opened_here m u free =
-      let new : world.Place = record { id = m; side = new_side limits } in
+      let new : world.ConnectionEntry = record { id = m; side = new_side limits } in
       ap (share u.store u.now) (new_there m u.sides (new ∷ []) (none_where (side_of m u.sides) free) ∙ first_there m new [] refl)
 
   acted_alike : (s : Step) → share_of id (acted limits w (renamed id s)) ≡ share_of n (acted limits v (renamed n s))
@@ -183,10 +183,10 @@ module _ (limits : LimitValues) (id n : ℕ) (w v : World) (alike : share_of id 
 -- ---- a step of another connection
 
 -- The store after another connection's message is the store after the change of that message.
-stored_by_change : (w : World) (m : Message) (there : Option Side) → stored_after w m there ≡ changed w.store (change_on w m there)
+stored_by_change : (w : World) (m : Message) (there : Option Connection) → stored_after w m there ≡ changed w.store (change_on w m there)
 stored_by_change w m there = grind arith
 
-changed_apart : (id other : ℕ) (w : World) (f : Side → Side) → (other == id) ≡ false → share w.store w.now (side_of id (map (changed_at other f) w.sides)) ≡ share_of id w
+changed_apart : (id other : ℕ) (w : World) (f : Connection → Connection) → (other == id) ≡ false → share w.store w.now (side_of id (map (changed_at other f) w.sides)) ≡ share_of id w
 changed_apart id other w f apart = ap (share w.store w.now) (changed_elsewhere other id f w.sides (eqb-false other id apart))
 
 -- Only the store changes, and only by the change of the step.
@@ -261,12 +261,12 @@ one_moment_of_a_view c id ss = ap (λ (x : Share). x.now) (view_shares c id ss)
 
 -- ---- events
 
-pub one_side_of_events : (c : ConfigValues) (id : ℕ) (events : List Event) → side_of id (world_after c events).sides ≡ side_of id (after_view c id (steps_of c.limits.max_message events)).sides
+pub one_side_of_events : (c : ConfigValues) (id : ℕ) (events : List AcceptedCall) → side_of id (world_after c events).sides ≡ side_of id (after_view c id (steps_of c.limits.max_message events)).sides
 unfolding world_after
 one_side_of_events c id events = one_side_of_a_view c id (steps_of c.limits.max_message events)
 
 -- Lists of events with the same view lead to the same connection.
-pub one_side_of_one_view : (c : ConfigValues) (id : ℕ) (events others : List Event)
+pub one_side_of_one_view : (c : ConfigValues) (id : ℕ) (events others : List AcceptedCall)
     → view_of c.limits id (new_world c) (steps_of c.limits.max_message events) ≡ view_of c.limits id (new_world c) (steps_of c.limits.max_message others)
     → side_of id (world_after c events).sides ≡ side_of id (world_after c others).sides
 one_side_of_one_view c id events others same =

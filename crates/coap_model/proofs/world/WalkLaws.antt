@@ -12,7 +12,7 @@ use Rattle.coap_model.specs.Prelude.{due_effect, reject_of, reject_reason, relea
 use Rattle.coap_model.specs.Prelude.{limit_now, with_effect, after, may_hold, link_of, standing_due, end_reason}
 use Rattle.coap_model.specs.Prelude.{release, may_announce, LinkValue, own_csm, free_in, limit_in, StoreValue}
 use Rattle.coap_model.specs.Prelude.{Response, delayed_response, answer_of, immediate_answer, response_with_observe}
-use Rattle.coap_model.specs.Prelude.{Observer, without_token, has_place, goes_on, notification, Side, waiting_on}
+use Rattle.coap_model.specs.Prelude.{Observer, without_token, has_place, goes_on, notification, Connection, waiting_on}
 use Rattle.coap_model.specs.Prelude.{has_room, handles, kept_open, with_history, moment_after, held_for}
 use Rattle.coap_model.specs.Prelude.{side_replied, asks_answer, side_handled, side_after, side_faulted, side_written}
 use Rattle.coap_model.specs.Prelude.{side_ended, side_released, may_raise, side_announced, next_due, notified}
@@ -84,7 +84,7 @@ pub record Composes (R : History → History → Type 0) : Type 0 where
   pub then : (h k g : History) → R h k → R k g → R h g
 
 -- The same for connections.
-abbrev pub Between : (History → History → Type 0) → Side → Side → Type 0
+abbrev pub Between : (History → History → Type 0) → Connection → Connection → Type 0
 Between R s t = R s.history t.history
 
 -- ---- cases
@@ -122,13 +122,13 @@ answer_goes h now token moment is = cc (due_is h now (Some (Answer token moment)
 -- ---- settling
 
 -- A property that each round keeps is kept by settling.
-module _ (P : Side → Type 0) (store : StoreValue) (now : ℕ) (keeps : (s : Side) → P s → P (settled_once store now s)) where
-  within_keeps : (turns : ℕ) (s : Side) → P s → P (settled_within turns store now s)
+module _ (P : Connection → Type 0) (store : StoreValue) (now : ℕ) (keeps : (s : Connection) → P s → P (settled_once store now s)) where
+  within_keeps : (turns : ℕ) (s : Connection) → P s → P (settled_within turns store now s)
   unfolding settled_within
   within_keeps zero s is = is
   within_keeps (suc turns) s is = within_keeps turns (settled_once store now s) (keeps s is)
 
-  pub settled_keeps : (s : Side) → P s → P (settled store now s)
+  pub settled_keeps : (s : Connection) → P s → P (settled store now s)
   unfolding settled
   settled_keeps s = within_keeps (length s.history.held + length s.observers) s
 
@@ -148,7 +148,7 @@ module _ (R E : History → History → Type 0) (same : (h : History) → R h h)
       (reply_between h (without_first h now) token false delayed_response (lets_go h now) room)
   sent_between h now (Pong token) is room = rw (due_is h now (Some (Pong token)) is) (pongs h now token is room)
 
-  module _ (store : StoreValue) (now : ℕ) (s : Side) where
+  module _ (store : StoreValue) (now : ℕ) (s : Connection) where
     notified_between : (found : Option Observer) → has_room s ≡ true → R s.history (notified store now s found).history
     notified_between None room = same s.history
     notified_between (Some o) room = reply_between s.history s.history o.token (goes_on (notification store now o)) (notification store now o) (same s.history) room
@@ -163,7 +163,7 @@ module _ (R E : History → History → Type 0) (same : (h : History) → R h h)
         cond_both (has_room s) (first_due now s.history.held) None So
         (λ room. there_or_not (first_due now s.history.held) So (λ none. told_between) (λ e is. sent_between s.history now e is room)) (λ none. told_between)
 
-pub settled_between : (R : History → History → Type 0) → Composes R → Replies R → LetsGo R → Pongs R → (store : StoreValue) (now : ℕ) (s : Side) → R s.history (settled store now s).history
+pub settled_between : (R : History → History → Type 0) → Composes R → Replies R → LetsGo R → Pongs R → (store : StoreValue) (now : ℕ) (s : Connection) → R s.history (settled store now s).history
 settled_between R composes replies lets_go pongs store now s =
     settled_keeps (Between R s) store now
     (λ t is. composes.then s.history t.history _ is (once_between R R composes.same composes.then replies lets_go pongs store now t)) s (composes.same s.history)
@@ -172,7 +172,7 @@ settled_between R composes replies lets_go pongs store now s =
 
 -- A message may need a weaker relation than its response: R holds across the message, and E, which continues R, across
 -- its response.
-module _ (R E : History → History → Type 0) (same : (h : History) → R h h) (then : (h k g : History) → R h k → E k g → R h g) (hears : Hears R) (stays : (h : History) → E h h) (replies : Replies E) (holds : Holds E) where
+module _ (R E : History → History → Type 0) (same : (h : History) → R h h) (then : (h k g : History) → R h k → E k g → R h g) (takes_input : Hears R) (stays : (h : History) → E h h) (replies : Replies E) (holds : Holds E) where
   replied_between : (store : StoreValue) (now : ℕ) (h : History) (others : List Observer) (m : Message) (hold : Option ℕ) → room_in h ≡ true → E h (side_replied store now h others m hold).history
   replied_between store now h others m None room =
       let a = immediate_answer store now m in
@@ -181,13 +181,13 @@ module _ (R E : History → History → Type 0) (same : (h : History) → R h h)
       if_between E (is_open h.phase && may_hold h) h _ (stays h)
       (λ does. (let both = and_parts (is_open h.phase) (may_hold h) does in holds h m.token (moment_after now seconds) both.0 both.1))
 
-  pub after_between : (store : StoreValue) (now : ℕ) (s : Side) (m : Message) → R s.history (side_after store now s m).history
+  pub after_between : (store : StoreValue) (now : ℕ) (s : Connection) (m : Message) → R s.history (side_after store now s m).history
   unfolding side_after
   after_between store now s m =
       let h : History = after s.history (call.Handle m) in
       cond_both (handles s) (side_handled store now s m) s (Between R s) (λ does. (
       let room = (and_parts (takes_messages s.history.phase) (has_room s) does).1 in
-      let message : R s.history h = if_between R (takes_messages s.history.phase) s.history _ (same s.history) (λ takes. hears s.history m takes room) in
+      let message : R s.history h = if_between R (takes_messages s.history.phase) s.history _ (same s.history) (λ takes. takes_input s.history m takes room) in
       cond_both (asks_answer s m) _ (with_history s h) (Between R s)
       (λ asks. then s.history h _ message
       (replied_between store now h (without_token m.token s.observers) m (held_for h (answer_of store now m).hold) (asked_room s.history m asks room)))
@@ -200,29 +200,29 @@ pub release_fits : (v : LinkValue) → is_none (release_refusal v) ≡ true → 
 release_fits v none = (grind (arith, nat_tests), grind (arith, nat_tests))
 
 module _ (R : History → History → Type 0) (same : (h : History) → R h h) where
-  pub faulted_between : Rejects R → (s : Side) (fault : StreamFault) → R s.history (side_faulted s fault).history
+  pub faulted_between : Rejects R → (s : Connection) (fault : StreamFault) → R s.history (side_faulted s fault).history
   unfolding side_faulted
   faulted_between rejects s fault =
       cond_both (handles s) _ s (Between R s)
       (λ does. if_between R (takes_messages s.history.phase) s.history _ (same s.history) (λ takes. rejects s.history (reject_of fault) takes (and_parts (takes_messages s.history.phase) (has_room s) does).1))
       (λ none. same s.history)
 
-  pub written_between : Writes R → (s : Side) (n : ℕ) → R s.history (side_written s n).history
+  pub written_between : Writes R → (s : Connection) (n : ℕ) → R s.history (side_written s n).history
   unfolding side_written
   written_between writes s n =
       cond_both (nat_le n (length (waiting_on s))) _ s (Between R s) (λ does. writes s.history n (leb-true n (length (waiting_on s)) does)) (λ none. same s.history)
 
-  pub ended_between : Ends R → (s : Side) (cut : Bool) → R s.history (side_ended s cut).history
+  pub ended_between : Ends R → (s : Connection) (cut : Bool) → R s.history (side_ended s cut).history
   unfolding side_ended
   ended_between ends s cut = if_between R (takes_messages s.history.phase) s.history _ (same s.history) (λ takes. ends s.history cut takes)
 
-  pub released_between : Releases R → (s : Side) → R s.history (side_released s).history
+  pub released_between : Releases R → (s : Connection) → R s.history (side_released s).history
   unfolding side_released
   released_between releases s =
       cond_both (is_none (release_refusal (link_of s.history))) _ s (Between R s)
       (λ does. if_between R (is_open s.history.phase) s.history _ (same s.history) (λ opened. releases s.history opened does)) (λ none. same s.history)
 
-  pub announced_between : Announces R → (s : Side) (size : ℕ) → R s.history (side_announced s size).history
+  pub announced_between : Announces R → (s : Connection) (size : ℕ) → R s.history (side_announced s size).history
   unfolding side_announced
   announced_between announces s size =
       let h : History = s.history in
@@ -235,12 +235,12 @@ module _ (R : History → History → Type 0) (same : (h : History) → R h h) w
 -- ---- observers
 
 -- The relation holds across every effect on a connection other than a message.
-pub record HoldsOfCalls (R : Side → Side → Type 0) : Type 0 where
-  pub faulted : (s : Side) (fault : StreamFault) → R s (side_faulted s fault)
-  pub written : (s : Side) (n : ℕ) → R s (side_written s n)
-  pub ended : (s : Side) (cut : Bool) → R s (side_ended s cut)
-  pub released : (s : Side) → R s (side_released s)
-  pub announced : (s : Side) (size : ℕ) → R s (side_announced s size)
+pub record HoldsOfCalls (R : Connection → Connection → Type 0) : Type 0 where
+  pub faulted : (s : Connection) (fault : StreamFault) → R s (side_faulted s fault)
+  pub written : (s : Connection) (n : ℕ) → R s (side_written s n)
+  pub ended : (s : Connection) (cut : Bool) → R s (side_ended s cut)
+  pub released : (s : Connection) → R s (side_released s)
+  pub announced : (s : Connection) (size : ℕ) → R s (side_announced s size)
 
 -- A property of the observers, and of no observers, holds if they are removed unless the connection is open.
 pub kept_open_has : (P : List Observer → Type 0) → P [] → (h : History) (os : List Observer) → P os → P (kept_open h os)
@@ -249,7 +249,7 @@ kept_open_has P none h os is = cond_both (is_open h.phase) os [] P (λ e. is) (�
 pub observers_kept : (P : List Observer → Type 0) → P [] → HoldsOfCalls (λ s t. P s.observers → P t.observers)
 unfolding side_faulted side_written side_ended side_released side_announced
 observers_kept P none =
-    let kept_where : (does : Bool) (s : Side) (h : History) → P s.observers → P (cond does (with_history s h) s).observers =
+    let kept_where : (does : Bool) (s : Connection) (h : History) → P s.observers → P (cond does (with_history s h) s).observers =
     λ does s h is. cond_both does (with_history s h) s (λ t. P t.observers) (λ e. kept_open_has P none h s.observers is) (λ e. is) in
     record {
       faulted = λ s fault. kept_where (handles s) s _;

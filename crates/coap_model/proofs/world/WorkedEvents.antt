@@ -1,7 +1,7 @@
 -- Worked examples of the definitions in `specs/world` by events: the events that calls make, the bytes accepted of a
 -- slice, and equal worlds.
 use Rattle.std.proofs.Common.{◌≡◌, List, [], ◌∷◌, ◌++◌, map, refl, codes}
-use Rattle.coap_model.specs.Prelude.{Message, ConfigValues, step, Event, Opened, Took, Wrote, Dropped, steps_of}
+use Rattle.coap_model.specs.Prelude.{Message, ConfigValues, step, AcceptedCall, Opened, Took, Wrote, Dropped, steps_of}
 use Rattle.coap_model.specs.Prelude.{takes, world_after}
 use Rattle.coap_wire.specs.Codes as code
 use Rattle.coap_wire.specs.OptionNumbers as numbers
@@ -11,7 +11,7 @@ use Rattle.coap_model.proofs.world.Rows.{Open, In, Drain, told, events_of}
 use Rattle.coap_model.proofs.world.Worked.{usual, config_with, narrow_limits}
 
 -- A connection is opened, and the server's CSM is written.
-abbrev opened_event : List Event
+abbrev opened_event : List AcceptedCall
 opened_event = Opened 1 ∷ Wrote 1 8 ∷ []
 
 -- A CSM and a GET of `/` in one slice are two events, each up to the end of its message.
@@ -32,10 +32,10 @@ unfolding told
 takes_with_room = refl
 
 -- A GET of `/time` in one slice, and byte by byte.
-in_one_piece : List Event
+in_one_piece : List AcceptedCall
 in_one_piece = opened_event ++ Took 1 (hex "00e1") ∷ Took 1 (hex "510107b474696d65") ∷ []
 
-byte_by_byte : List Event
+byte_by_byte : List AcceptedCall
 byte_by_byte = opened_event ++ Took 1 (hex "00e1") ∷ Took 1 (hex "51") ∷ Took 1 (hex "01") ∷ Took 1 (hex "07") ∷ Took 1 (hex "b4")
     ∷ Took 1 (hex "74") ∷ Took 1 (hex "69") ∷ Took 1 (hex "6d") ∷ Took 1 (hex "65") ∷ []
 
@@ -44,7 +44,7 @@ unfolding told in_one_piece byte_by_byte
 same_worlds = refl
 
 -- After an error, further bytes make no step.
-faulted_events : List Event
+faulted_events : List AcceptedCall
 faulted_events = opened_event ++ Took 1 (hex "00e1") ∷ Took 1 (hex "09") ∷ []
 
 behind_a_fault : steps_of 65536 (faulted_events ++ Took 1 (hex "09010101") ∷ []) ≡ steps_of 65536 faulted_events
@@ -76,7 +76,7 @@ not_released = refl
 narrow : ConfigValues
 narrow = config_with (narrow_limits 65536) 1
 
-answered_events : List Event
+answered_events : List AcceptedCall
 answered_events = opened_event ++ Took 1 (hex "00e1") ∷ Took 1 (hex "010101") ∷ []
 
 put_b : Message

@@ -2,7 +2,7 @@
 -- when they are dropped.
 use Rattle.std.proofs.Common.{◌≡◌, ℕ, List, [], ◌∷◌, ◌++◌, Some, None, option_map, refl, codes}
 use Prim.Native.String.{String}
-use Rattle.coap_model.specs.Prelude.{Answer, Pong, ConfigValues, side_of, Event, Opened, Took, Wrote, Ticked}
+use Rattle.coap_model.specs.Prelude.{Answer, Pong, ConfigValues, side_of, AcceptedCall, Opened, Took, Wrote, Ticked}
 use Rattle.coap_model.specs.Prelude.{world_after}
 use Rattle.coap_conn.specs.declared.phase.Phase.TheVariants as phase
 use Rattle.coap_conn.specs.declared.reason.Reason.TheVariants as reason
@@ -114,7 +114,7 @@ unfolding told
 pong_behind_pong = refl
 
 -- The pending entries in order of arrival, with the times at which the responses are due.
-two_answers : List Event
+two_answers : List AcceptedCall
 two_answers = Opened 1 ∷ Wrote 1 8 ∷ Took 1 (hex "00e1") ∷ Ticked 4 ∷ Took 1 (asked "05" "3") ∷ Took 1 (ping "06") ∷ Took 1 (asked "07" "1") ∷ []
 
 answers_and_pong_held : option_map (λ s. s.history.held) (side_of 1 (world_after usual two_answers).sides)

@@ -4,7 +4,7 @@ use Rattle.std.proofs.Common.{◌≡◌, List, [], ◌∷◌, map, refl}
 use Rattle.coap_conn.specs.declared.phase.Phase.TheVariants as phase
 use Rattle.coap_conn.specs.declared.reason.Reason.TheVariants as reason
 use Rattle.coap_model.specs.Prelude.{ConfigValues}
-use Rattle.coap_model.specs.Prelude.{Event, Took, Announced, size_on, sizes_on}
+use Rattle.coap_model.specs.Prelude.{AcceptedCall, Took, Announced, size_on, sizes_on}
 use Rattle.coap_text.proofs.HexDigits.{hex}
 use Rattle.coap_model.proofs.world.Rows.{Open, In, Drain, Announce, Look, Done, Taken, Out, Stands, ◌=>◌, told, Plays}
 use Rattle.coap_model.proofs.world.Worked.{config_with, narrow_limits}
@@ -60,7 +60,7 @@ announced_again = refl
 -- ---- sizes
 
 -- The size of each byte is the one that was current when it came.
-raised : List Event
+raised : List AcceptedCall
 raised = Took 1 (hex "e103") ∷ Announced 1 2000 ∷ Took 1 (hex "6f") ∷ []
 
 sizes_of_bytes : map (sizes_on 1152 1 raised) (0 ∷ 1 ∷ 2 ∷ 3 ∷ []) ≡ 1152 ∷ 1152 ∷ 2000 ∷ 2000 ∷ []

@@ -1,6 +1,6 @@
 -- Worked examples of the definitions in `specs/world`: the views that connections have of one another.
 use Rattle.std.proofs.Common.{◌≡◌, List, [], ◌∷◌, None, refl}
-use Rattle.coap_model.specs.Prelude.{Message, new_world, Event, Opened, Took, Wrote, Ticked, Dropped, steps_of}
+use Rattle.coap_model.specs.Prelude.{Message, new_world, AcceptedCall, Opened, Took, Wrote, Ticked, Dropped, steps_of}
 use Rattle.coap_model.specs.Prelude.{concerns, view_step, view_of}
 use Rattle.coap_wire.specs.Codes as code
 use Rattle.coap_model.specs.world.World as step
@@ -9,7 +9,7 @@ use Rattle.coap_model.proofs.world.Rows.{told}
 use Rattle.coap_model.proofs.world.Worked.{one_resource, path_a}
 
 -- Two connections. The second one stores x at `/a`, fails to store at `/time`, gets `/a`, deletes it, and is removed.
-both_observe : List Event
+both_observe : List AcceptedCall
 both_observe =
     Opened 1 ∷ Wrote 1 8 ∷ Opened 2 ∷ Wrote 2 8 ∷ Took 2 (hex "00e1") ∷ Took 1 (hex "00e1")
     ∷ Took 2 (hex "4003b161ff78") ∷ Took 2 (hex "7003b474696d65ff78") ∷ Took 2 (hex "2001b161") ∷ Ticked 5 ∷ Took 2 (hex "2004b161") ∷ Dropped 2 ∷ []

@@ -7,7 +7,7 @@ use Rattle.coap_conn.specs.Limits.{LimitValues}
 use Rattle.coap_conn.specs.Phases.{stop_of}
 use Rattle.coap_conn.specs.LinkValue.{bytes_of}
 use Rattle.coap_model.specs.Configs.{ConfigValues}
-use Rattle.coap_model.specs.world.Sides.{Side, waiting_on}
+use Rattle.coap_model.specs.world.Connections.{Connection, waiting_on}
 use Rattle.coap_model.specs.world.World.{World, Step, new_world, side_of, step}
 use Rattle.coap_model.specs.world.World as step
 use Rattle.coap_model.specs.world.Events.{Opened, Took, steps_of}
@@ -15,12 +15,12 @@ use Rattle.coap_model.specs.world.Events.{Opened, Took, steps_of}
 -- ---- a flush
 
 -- The bytes queued for writing on a connection; none if it does not exist.
-abbrev pub waiting_of : Option Side → List ℕ
+abbrev pub waiting_of : Option Connection → List ℕ
 waiting_of None = []
 waiting_of (Some s) = waiting_on s
 
 -- The number of pending entries and observers of a connection; 0 if it does not exist.
-abbrev pub more_of : Option Side → ℕ
+abbrev pub more_of : Option Connection → ℕ
 more_of None = 0
 more_of (Some s) = length s.history.held + length s.observers
 
@@ -65,7 +65,7 @@ unfoldable pub world_for : ConfigValues → List ℕ → World
 world_for c bytes = flushed_after c.limits (only_id c) (new_world c) (steps_for c bytes)
 
 -- The connection in that world.
-abbrev pub side_for : ConfigValues → List ℕ → Option Side
+abbrev pub side_for : ConfigValues → List ℕ → Option Connection
 side_for c bytes = side_of (only_id c) (world_for c bytes).sides
 
 -- ---- the outcome
@@ -81,7 +81,7 @@ pub record Outcome : Type 0 where
 
 -- The outcome for the connection at the end of the run. Its output is everything that was queued, because each step is
 -- followed by a flush. A connection that does not exist has no output.
-abbrev pub outcome_on : Option Side → Outcome
+abbrev pub outcome_on : Option Connection → Outcome
 outcome_on None = record { output = []; messages = 0; stop = None }
 outcome_on (Some s) = record { output = bytes_of s.history.queued; messages = length s.history.handled; stop = stop_of s.history.phase }
 

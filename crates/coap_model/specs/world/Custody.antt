@@ -10,41 +10,41 @@ use Rattle.coap_conn.specs.PendingEntries.{PendingEntryValue, Answer, Pong}
 use Rattle.coap_conn.specs.Reaction.{asks_custody, is_custody_pong}
 use Rattle.coap_store.specs.Paths.{same_bytes}
 use Rattle.coap_store.specs.Answer.{is_delayed}
-use Rattle.coap_model.specs.world.Sides.{Side}
+use Rattle.coap_model.specs.world.Connections.{Connection}
 
 -- The message asks for this pending entry. A GET of `/async` asks for a delayed response with its token. A Ping with
 -- Custody asks for a Pong with its token.
-abbrev pub asks_held : Message → PendingEntryValue → Bool
-asks_held m (Answer token moment) = is_delayed m && same_bytes m.token token
-asks_held m (Pong token) = m.code == code.ping && asks_custody m && same_bytes m.token token
+abbrev pub asks_pending : Message → PendingEntryValue → Bool
+asks_pending m (Answer token moment) = is_delayed m && same_bytes m.token token
+asks_pending m (Pong token) = m.code == code.ping && asks_custody m && same_bytes m.token token
 
 -- These messages asked for the entries: each entry has a message of its own, in the same order.
-unfoldable pub StandFor : List Message → List PendingEntryValue → Type 0
-StandFor ms [] = Unit {0}
-StandFor [] (e ∷ es) = ⊥
-StandFor (m ∷ ms) (e ∷ es) = ((asks_held m e ≡ true) × StandFor ms es) ⊎ StandFor ms (e ∷ es)
+unfoldable pub CorrespondTo : List Message → List PendingEntryValue → Type 0
+CorrespondTo ms [] = Unit {0}
+CorrespondTo [] (e ∷ es) = ⊥
+CorrespondTo (m ∷ ms) (e ∷ es) = ((asks_pending m e ≡ true) × CorrespondTo ms es) ⊎ CorrespondTo ms (e ∷ es)
 
 -- From one state of a connection to the next, messages are queued that include a Pong with Custody.
-pub record QueuesCustody (before after : Side) : Type 0 where
+pub record QueuesCustody (before after : Connection) : Type 0 where
   pub more : List Message
   pub queued : after.history.queued ≡ before.history.queued ++ more
   pub pong : list_any is_custody_pong more ≡ true
 
 -- The Pong with this token is the first pending entry.
-pub record IsFirstHeld (s : Side) (token : List ℕ) : Type 0 where
+pub record IsFirstHeld (s : Connection) (token : List ℕ) : Type 0 where
   pub rest : List PendingEntryValue
   pub first : s.history.held ≡ Pong token ∷ rest
 
 -- All pending entries keep their places, perhaps with further ones after them; or the connection has stopped.
-abbrev pub KeepsHeld : Side → Side → Type 0
-KeepsHeld before after = ((more : List PendingEntryValue) × (after.history.held ≡ before.history.held ++ more)) ⊎ ((why : Reason) × (after.history.phase ≡ Stopped why))
+abbrev pub KeepsPending : Connection → Connection → Type 0
+KeepsPending before after = ((more : List PendingEntryValue) × (after.history.held ≡ before.history.held ++ more)) ⊎ ((why : Reason) × (after.history.phase ≡ Stopped why))
 
 -- At most one entry is added, and the message asks for it.
 pub record AddsAsked (m : Message) (more : List PendingEntryValue) : Type 0 where
   pub few : length more ≤ 1
-  pub asked : AllByRecursion (λ e. asks_held m e ≡ true) more
+  pub asked : AllByRecursion (λ e. asks_pending m e ≡ true) more
 
 -- All pending entries keep their places over this message, followed by at most one for which it asks; or the connection
 -- has stopped.
-abbrev pub KeepsHeldOver : Message → Side → Side → Type 0
-KeepsHeldOver m before after = ((more : List PendingEntryValue) × (after.history.held ≡ before.history.held ++ more) × AddsAsked m more) ⊎ ((why : Reason) × (after.history.phase ≡ Stopped why))
+abbrev pub KeepsPendingOver : Message → Connection → Connection → Type 0
+KeepsPendingOver m before after = ((more : List PendingEntryValue) × (after.history.held ≡ before.history.held ++ more) × AddsAsked m more) ⊎ ((why : Reason) × (after.history.phase ≡ Stopped why))

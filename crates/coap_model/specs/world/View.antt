@@ -6,7 +6,7 @@ use Rattle.coap_wire.specs.Message.{Message}
 use Rattle.coap_conn.specs.Limits.{LimitValues}
 use Rattle.coap_store.specs.Answer.{Change, Nothing, Put, Delete}
 use Rattle.coap_model.specs.Configs.{ConfigValues}
-use Rattle.coap_model.specs.world.Sides.{Side, change_after}
+use Rattle.coap_model.specs.world.Connections.{Connection, change_after}
 use Rattle.coap_model.specs.world.World.{World, new_world, side_of, Step, Opened, Handled, Faulted, Written, Ticked, Stored, Removed, Ended, Released, Announced, Dropped, step, after_steps}
 
 -- ---- changes of the store
@@ -18,7 +18,7 @@ change_steps (Put path format bytes) = Stored path format bytes ∷ []
 change_steps (Delete path) = Removed path ∷ []
 
 -- The change that a message makes in the store if this connection receives it; none if the connection does not exist.
-abbrev pub change_on : World → Message → Option Side → Change
+abbrev pub change_on : World → Message → Option Connection → Change
 change_on w m None = Nothing
 change_on w m (Some s) = change_after w.store w.now s m
 

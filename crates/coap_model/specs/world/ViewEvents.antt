@@ -5,7 +5,7 @@ use Rattle.coap_conn.specs.Limits.{LimitValues}
 use Rattle.coap_store.specs.Answer.{Change, Nothing, Put, Delete}
 use Rattle.coap_model.specs.Configs.{ConfigValues}
 use Rattle.coap_model.specs.world.World.{World, Step, step}
-use Rattle.coap_model.specs.world.Events.{Event, Opened, Took, Wrote, Ticked, Stored, Removed, Ended, Released, Announced, Dropped, steps_by, world_after}
+use Rattle.coap_model.specs.world.Events.{AcceptedCall, Opened, Took, Wrote, Ticked, Stored, Removed, Ended, Released, Announced, Dropped, steps_by, world_after}
 use Rattle.coap_model.specs.world.View.{change_by}
 
 -- The id of the connection that is opened first.
@@ -13,24 +13,24 @@ abbrev pub first_number : ConfigValues → ℕ
 first_number c = c.starts.ids + 1
 
 -- The event of the embedding program that makes the same change; none for `Nothing`.
-abbrev pub change_events : Change → List Event
+abbrev pub change_events : Change → List AcceptedCall
 change_events Nothing = []
 change_events (Put path format bytes) = Stored path format bytes ∷ []
 change_events (Delete path) = Removed path ∷ []
 
 -- The changes that steps make in the store, as events. Each step is considered in the world before it.
-unfoldable pub changes_of : LimitValues → World → List Step → List Event
+unfoldable pub changes_of : LimitValues → World → List Step → List AcceptedCall
 changes_of limits w [] = []
 changes_of limits w (s ∷ ss) = change_events (change_by w s) ++ changes_of limits (step limits w s) ss
 
 -- The event e if `other` is the id of the viewing connection, otherwise nothing.
-abbrev pub if_own : ℕ → ℕ → Event → List Event
+abbrev pub if_own : ℕ → ℕ → AcceptedCall → List AcceptedCall
 if_own id other e = if other == id then e ∷ [] else []
 
 -- The view of an event after earlier events.
 -- An event of the connection itself has the id that the connection has in the view. Bytes accepted on another
 -- connection become the changes that they make in the store. All other events of another connection are left out.
-unfoldable pub view_event : ConfigValues → ℕ → List Event → Event → List Event
+unfoldable pub view_event : ConfigValues → ℕ → List AcceptedCall → AcceptedCall → List AcceptedCall
 view_event c id earlier (Opened other) = if_own id other (Opened (first_number c))
 view_event c id earlier (Took other bytes) =
     if other == id then Took (first_number c) bytes ∷ []
@@ -45,10 +45,10 @@ view_event c id earlier (Announced other size) = if_own id other (Announced (fir
 view_event c id earlier (Dropped other) = if_own id other (Dropped (first_number c))
 
 -- The view of a list of events after earlier events.
-unfoldable pub view_behind : ConfigValues → ℕ → List Event → List Event → List Event
+unfoldable pub view_behind : ConfigValues → ℕ → List AcceptedCall → List AcceptedCall → List AcceptedCall
 view_behind c id earlier [] = []
 view_behind c id earlier (e ∷ es) = view_event c id earlier e ++ view_behind c id (earlier ++ e ∷ []) es
 
 -- The view of a list of events, from the start of the server.
-unfoldable pub view_events : ConfigValues → ℕ → List Event → List Event
+unfoldable pub view_events : ConfigValues → ℕ → List AcceptedCall → List AcceptedCall
 view_events c id events = view_behind c id [] events

@@ -7,17 +7,17 @@ use Rattle.coap_store.specs.Paths.{Path}
 use Rattle.coap_store.specs.Store.{StoreValue, put_in, removed_in}
 use Rattle.coap_store.specs.Refusals.{put_refusal}
 use Rattle.coap_model.specs.Configs.{ConfigValues}
-use Rattle.coap_model.specs.world.Sides.{Side, new_side, side_after, store_after, side_faulted, side_written, side_ended, side_released, side_announced, settled}
+use Rattle.coap_model.specs.world.Connections.{Connection, new_side, side_after, store_after, side_faulted, side_written, side_ended, side_released, side_announced, settled}
 
 -- A connection with its id.
-pub record Place : Type 0 where
+pub record ConnectionEntry : Type 0 where
   pub id : ℕ
-  pub side : Side
+  pub side : Connection
 
 -- The state of the server model: the connections in the order of opening, the id assigned last, the store, and the time
 -- in seconds.
 pub record World : Type 0 where
-  pub sides : List Place
+  pub sides : List ConnectionEntry
   pub ids : ℕ
   pub store : StoreValue
   pub now : ℕ
@@ -34,20 +34,20 @@ new_world c = record {
 -- ---- connections
 
 -- The connection with this id, if it exists.
-unfoldable pub side_of : ℕ → List Place → Option Side
+unfoldable pub side_of : ℕ → List ConnectionEntry → Option Connection
 side_of id [] = None
 side_of id (p ∷ ps) = if p.id == id then Some p.side else side_of id ps
 
 -- The place in which f has changed the connection, if it has this id.
-abbrev pub changed_at : ℕ → (Side → Side) → Place → Place
+abbrev pub changed_at : ℕ → (Connection → Connection) → ConnectionEntry → ConnectionEntry
 changed_at id f p = if p.id == id then record p { side = f p.side } else p
 
 -- The world in which f has changed the connection with this id.
-abbrev pub on_side : ℕ → (Side → Side) → World → World
+abbrev pub on_side : ℕ → (Connection → Connection) → World → World
 on_side id f w = record w { sides = map (changed_at id f) w.sides }
 
 -- The store after a message to a connection; unchanged if the connection does not exist.
-abbrev pub stored_after : World → Message → Option Side → StoreValue
+abbrev pub stored_after : World → Message → Option Connection → StoreValue
 stored_after w m None = w.store
 stored_after w m (Some s) = store_after w.store w.now s m
 
@@ -95,7 +95,7 @@ acted limits w (Announced id size) = on_side id (λ s. side_announced s size) w
 acted limits w (Dropped id) = record w { sides = filter (λ p. not (p.id == id)) w.sides }
 
 -- The place after its connection has settled.
-abbrev pub settled_place : StoreValue → ℕ → Place → Place
+abbrev pub settled_place : StoreValue → ℕ → ConnectionEntry → ConnectionEntry
 settled_place store now p = record p { side = settled store now p.side }
 
 -- The world after every connection has settled.

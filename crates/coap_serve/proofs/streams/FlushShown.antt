@@ -6,8 +6,8 @@ use Rattle.std.proofs.lemmas.Bool.Decides.{nat_tests}
 use Rattle.std.proofs.lemmas.List.{append-nil, length-map}
 use Rattle.coap_serve.specs.Prelude.{ConfigValues, ServerValue, SessionValue, session_of, session_written, session_becomes}
 use Rattle.coap_serve.specs.Prelude.{settled_entry, server_written, waiting_in, waiting_at}
-use Rattle.coap_serve.specs.Prelude.{more_in, more_at, flush_turns, IsFlushed, Side, waiting_on, side_written}
-use Rattle.coap_serve.specs.Prelude.{settled, World, side_of, Event, Wrote, stream_on, steps_by, world_after}
+use Rattle.coap_serve.specs.Prelude.{more_in, more_at, flush_turns, IsFlushed, Connection, waiting_on, side_written}
+use Rattle.coap_serve.specs.Prelude.{settled, World, side_of, AcceptedCall, Wrote, stream_on, steps_by, world_after}
 use Rattle.coap_serve.specs.Prelude.{spelled_on, Shows, session_shown, only_id, stream_of, more_of, written_times}
 use Rattle.coap_serve.specs.Prelude.{flushed, world_for, Outcome, stdio_output, Stands}
 use Rattle.coap_model.specs.world.World as world
@@ -22,28 +22,28 @@ use Rattle.coap_model.proofs.world.WalkLaws.{written_between}
 use Rattle.coap_model.proofs.world.AcrossLaws.{written_there}
 
 -- The server after some iterations of a flush shows this world, and these bytes were written.
-pub record FlushShown (c : ConfigValues) (es : List Event) (id : ℕ) (s : Side) (turns : ℕ) (after : ServerValue) (text : List ℕ) : Type 0 where
+pub record FlushShown (c : ConfigValues) (es : List AcceptedCall) (id : ℕ) (s : Connection) (turns : ℕ) (after : ServerValue) (text : List ℕ) : Type 0 where
   pub config : after.config ≡ c
-  pub events : List Event
+  pub events : List AcceptedCall
   pub shows : Shows after events
   pub world : world_after c events ≡ written_times c.limits id turns (world_after c es)
   pub spelled : spelled_on c.limits.max_message id events ≡ spelled_on c.limits.max_message id es
-  pub side : Side
+  pub side : Connection
   pub there : side_of id (world_after c events).sides ≡ Some side
   pub said : front_written side ≡ front_written s ++ text
 
 -- A server of this configuration shows a world in which the connection with this number is this one.
-pub record ShowsSide (c : ConfigValues) (v : ServerValue) (id : ℕ) (s : Side) : Type 0 where
+pub record ShowsSide (c : ConfigValues) (v : ServerValue) (id : ℕ) (s : Connection) : Type 0 where
   pub config : v.config ≡ c
-  pub events : List Event
+  pub events : List AcceptedCall
   pub shows : Shows v events
   pub there : side_of id (world_after c events).sides ≡ Some s
 
 -- The same for the only connection. A flush leads from this world to the world for these bytes, and the connection
 -- received the stream that they encode.
-pub record LeadsTo (c : ConfigValues) (v : ServerValue) (s : Side) (bytes : List ℕ) : Type 0 where
+pub record LeadsTo (c : ConfigValues) (v : ServerValue) (s : Connection) (bytes : List ℕ) : Type 0 where
   pub config : v.config ≡ c
-  pub events : List Event
+  pub events : List AcceptedCall
   pub shows : Shows v events
   pub there : side_of (only_id c) (world_after c events).sides ≡ Some s
   pub flushes : flushed c.limits (only_id c) (world_after c events) ≡ world_for c bytes
@@ -56,8 +56,8 @@ pub record StandsBehind (c : ConfigValues) (bytes front : List ℕ) (after : Ser
   pub says : stdio_output c bytes ≡ front ++ text
   pub written : wrote text
 
-module _ (c : ConfigValues) (v : ServerValue) (id : ℕ) (s : Side) (from : ShowsSide c v id s) where
-  abbrev es : List Event
+module _ (c : ConfigValues) (v : ServerValue) (id : ℕ) (s : Connection) (from : ShowsSide c v id s) where
+  abbrev es : List AcceptedCall
   es = from.events
 
   -- One more iteration.
@@ -71,12 +71,12 @@ module _ (c : ConfigValues) (v : ServerValue) (id : ℕ) (s : Side) (from : Show
     turn_shown : FlushShown c es id s (suc turns) (server_written now id (length (waiting_at id now))) (text ++ waiting_at id now)
     unfolding written_times steps_by
     turn_shown =
-        let fs : List Event = so_far.events in
+        let fs : List AcceptedCall = so_far.events in
         let w : World = world_after c fs in
-        let t : Side = so_far.side in
+        let t : Connection = so_far.side in
         let count : ℕ = length (waiting_at id now) in
-        let wrote : Side = side_written t count in
-        let next : Side = settled w.store w.now wrote in
+        let wrote : Connection = side_written t count in
+        let next : Connection = settled w.store w.now wrote in
         let next_step : world_after c (fs ++ Wrote id count ∷ []) ≡ world.step c.limits w (world.Written id count) = world_step c fs (Wrote id count) (world.Written id count) refl in
         record {
           config = so_far.config;
@@ -145,16 +145,16 @@ absent_turns id v (suc turns) none =
     (absent_entries id becomes u.sessions (λ e. cond_both (e.0 == id) _ _ (λ (x : ℕ × SessionValue). x.0 ≡ e.0) (λ is. refl) (λ apart. refl)) (absent_turns id v turns none))
 
 -- A flush leaves no byte queued on the connection with this number, if there is one.
-flush_on : (v after : ServerValue) (es : List Event) (id : ℕ) (wrote : List ℕ → Type 0) (found : Option Side) → Shows v es → side_of id (world_after v.config es).sides ≡ found → IsFlushed id v after wrote → waiting_at id after ≡ []
+flush_on : (v after : ServerValue) (es : List AcceptedCall) (id : ℕ) (wrote : List ℕ → Type 0) (found : Option Connection) → Shows v es → side_of id (world_after v.config es).sides ≡ found → IsFlushed id v after wrote → waiting_at id after ≡ []
 flush_on v after es id wrote (Some s) shows there did = leaves_nothing v.config v id s (record { config = refl; events = es; shows = shows; there = there }) after wrote did
 flush_on v after es id wrote None shows absent did = rw did.server (ap waiting_in (absent_turns id v did.turns (no_session v es id shows absent)))
 
-pub flush_empties : (v after : ServerValue) (es : List Event) (id : ℕ) (wrote : List ℕ → Type 0) → Shows v es → IsFlushed id v after wrote → waiting_at id after ≡ []
+pub flush_empties : (v after : ServerValue) (es : List AcceptedCall) (id : ℕ) (wrote : List ℕ → Type 0) → Shows v es → IsFlushed id v after wrote → waiting_at id after ≡ []
 flush_empties v after es id wrote shows did = flush_on v after es id wrote (side_of id (world_after v.config es).sides) shows refl did
 
 -- ---- the only connection
 
-module _ (c : ConfigValues) (v : ServerValue) (s : Side) (bytes : List ℕ) (leads : LeadsTo c v s bytes) where
+module _ (c : ConfigValues) (v : ServerValue) (s : Connection) (bytes : List ℕ) (leads : LeadsTo c v s bytes) where
   abbrev id : ℕ
   id = only_id c
 

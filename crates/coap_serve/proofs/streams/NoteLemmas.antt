@@ -160,9 +160,9 @@ takes_sparing (suc turns) v id bytes =
 
 -- ---- serving one connection
 
-hears : (v : ServerValue) (id : ℕ) (heard : Got) → GoesOnSparing (But id) v (server_heard v id heard)
-hears v id End = one_happens v id session_ended v.host (follows_itself v.host)
-hears v id heard = nothing_happens
+takes_input : (v : ServerValue) (id : ℕ) (heard : Got) → GoesOnSparing (But id) v (server_heard v id heard)
+takes_input v id End = one_happens v id session_ended v.host (follows_itself v.host)
+takes_input v id heard = nothing_happens
 
 writes : (v : ServerValue) (id : ℕ) (wrote : Got) → GoesOnSparing (But id) v (server_wrote v id wrote)
 writes v id (Bytes n) = one_happens v id (λ s. session_written s n) v.host (follows_itself v.host)
@@ -175,7 +175,7 @@ is_carried_on false may_write v id bytes wire after left told course carried =
 
 module _ (may_read may_write : Bool) (v : ServerValue) (id : ℕ) (rest : List ℕ) {wire : WireTrace} (after : ServerValue) (left : List ℕ) {told : WireTrace} (course : Course) (part : IsServedOnce may_read may_write v id rest wire after left told course) where
   served_on : GoesOnSparing (But id) v after
-  served_on = one_then_another (hears v id part.heard) (is_carried_on (has_failed part.heard) may_write _ id part.bytes part.between after left told course part.carried)
+  served_on = one_then_another (takes_input v id part.heard) (is_carried_on (has_failed part.heard) may_write _ id part.bytes part.between after left told course part.carried)
 
   pub served_no_earlier : IsNoEarlier (stamp_of v.host) (stamp_of after.host)
   served_no_earlier = served_on.follows.no_earlier

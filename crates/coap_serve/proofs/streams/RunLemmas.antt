@@ -7,8 +7,8 @@ use Rattle.coap_serve.specs.Prelude.{ConfigValues, IoFault, Read, Write, Memory,
 use Rattle.coap_serve.specs.Prelude.{IsPartFlushed, ServerValue, session_of, new_server, server_opened, is_there}
 use Rattle.coap_serve.specs.Prelude.{stop_on, DeviceTrace, HasGiven, pieces_read, AddsBytes, WritesPart, only_id, outcome}
 use Rattle.coap_serve.specs.Prelude.{stream_of, stdio_output, IsGoing, IsWhole, Says, HasRead, IsTurn, AreNotEmpty}
-use Rattle.coap_serve.specs.Prelude.{GoesOn, EndsRun, IsStdioRun, Event, Opened, steps_by, world_after, Ended}
-use Rattle.coap_serve.specs.Prelude.{stream_on, Shows, is_cut, new_side, Side, side_ended, settled, World, side_of}
+use Rattle.coap_serve.specs.Prelude.{GoesOn, EndsRun, IsStdioRun, AcceptedCall, Opened, steps_by, world_after, Ended}
+use Rattle.coap_serve.specs.Prelude.{stream_on, Shows, is_cut, new_side, Connection, side_ended, settled, World, side_of}
 use Rattle.coap_serve.specs.Prelude.{step}
 use Rattle.coap_serve.specs.streams.Standing.{IsServed}
 use Rattle.coap_model.specs.world.World as world
@@ -219,7 +219,7 @@ pub record Opens (c : ConfigValues) (new v : ServerValue) (id : ℕ) : Type 0 wh
   pub id_is : id ≡ new.ids + 1
   pub v_is : v ≡ server_opened new
   pub ranges : AreInRange new.config.limits
-  pub shows : (events : List Event) → Shows new events → Shows v (events ++ Opened id ∷ [])
+  pub shows : (events : List AcceptedCall) → Shows new events → Shows v (events ++ Opened id ∷ [])
 
 module _ (c : ConfigValues) (new v : ServerValue) (id : ℕ) (opens : Opens c new v id) where
   number : id ≡ only_id c
@@ -254,15 +254,15 @@ module _ (c : ConfigValues) (new v : ServerValue) (id : ℕ) (opens : Opens c ne
 -- ---- the end of input
 
 -- The connection processes messages, so the end of input stops it, and pending entries are discarded.
-pub end_stops : (c : ConfigValues) (v v1 : ServerValue) (id : ℕ) (bytes : List ℕ) → IsGoing c v id bytes → v1.config ≡ v.config → ((events : List Event) → Shows v events → Shows v1 (events ++ Ended id ∷ [])) → stop_on (session_of id v1.sessions) ≡ Some (end_reason (is_cut (stream_of c bytes).rest))
+pub end_stops : (c : ConfigValues) (v v1 : ServerValue) (id : ℕ) (bytes : List ℕ) → IsGoing c v id bytes → v1.config ≡ v.config → ((events : List AcceptedCall) → Shows v events → Shows v1 (events ++ Ended id ∷ [])) → stop_on (session_of id v1.sessions) ≡ Some (end_reason (is_cut (stream_of c bytes).rest))
 unfolding steps_by side_ended
 end_stops c v v1 id bytes goes config shows =
     let n : ℕ = only_id c in
-    let es : List Event = goes.stands.events in
+    let es : List AcceptedCall = goes.stands.events in
     let w : World = world_after c es in
     let all = world_for_written c bytes in
     let cut : Bool = is_cut (stream_on c.limits.max_message n es).rest in
-    let t : Side = settled w.store w.now (side_ended all.side cut) in
+    let t : Connection = settled w.store w.now (side_ended all.side cut) in
     let there : side_of n w.sides ≡ Some all.side = rw goes.stands.world all.there in
     let then : side_of n (world_after c (es ++ Ended n ∷ [])).sides ≡ Some t = rw (world_step c es (Ended n) (world.Ended n cut) refl) (ended_there c.limits w n cut all.side there) in
     let stopped : HasStopped (side_ended all.side cut).history (end_reason cut) = rw (takes_unless_stopped c bytes, goes.going) (refl, refl) in

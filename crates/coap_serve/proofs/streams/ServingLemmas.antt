@@ -2,7 +2,7 @@
 use Rattle.std.proofs.Common.{◌≡◌, ℕ, zero, suc, ◌+◌, true, false, List, [], ◌∷◌, ◌++◌, length, Option, Result, Ok, Err, OnOk, OnErr, append_assoc, arith}
 use Rattle.coap_serve.specs.Prelude.{AllByRecursion, Fed, fed_turns, where_there, took_turns, took, ShowsMore}
 use Rattle.coap_serve.specs.Prelude.{ShowsPartlyFed, IsServing, HasServed, HasTurned, opening, ServerValue, session_of}
-use Rattle.coap_serve.specs.Prelude.{SessionValue, Event, Opened, Took, Wrote, Dropped}
+use Rattle.coap_serve.specs.Prelude.{SessionValue, AcceptedCall, Opened, Took, Wrote, Dropped}
 use Rattle.coap_server_engine.specs.values.Fed.{goes_on}
 use Rattle.coap_server_engine.proofs.scripting.ShownLemmas.{shows_same, shows_then}
 use Rattle.coap_model.proofs.world.EntryLemmas.{all_append, all_if}
@@ -20,7 +20,7 @@ served_further {u} {v} {w} one two = record {
   shows = shows_then u v w one.events two.events one.shows two.shows;
 }
 
-pub one_served : (v after : ServerValue) (e : Event) → IsServing e → ShowsMore v after (e ∷ []) → HasServed v after
+pub one_served : (v after : ServerValue) (e : AcceptedCall) → IsServing e → ShowsMore v after (e ∷ []) → HasServed v after
 one_served v after e is shows = record { events = e ∷ []; serving = (is, tt); shows = shows }
 
 -- The connection was dropped, if it existed.

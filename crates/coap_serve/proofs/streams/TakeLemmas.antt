@@ -6,8 +6,8 @@ use Rattle.coap_serve.specs.Prelude.{Stream, split_on, LimitValues, ConfigValues
 use Rattle.coap_serve.specs.Prelude.{session_of, server_taken, server_taken_on, stop_on, RefusesPieceOn, waiting_at}
 use Rattle.coap_serve.specs.Prelude.{more_at, flush_turns, IsFlushed, IsPartFlushed, Taken, AddsBytes, WritesPart}
 use Rattle.coap_serve.specs.Prelude.{only_id, stream_of, flushed, flushed_after, world_for, Outcome, outcome_on}
-use Rattle.coap_serve.specs.Prelude.{outcome, stdio_output, IsLastByte, Stands, IsGoing, Says, IsWhole, IsCut, Side}
-use Rattle.coap_serve.specs.Prelude.{has_room, handles, World, Step, side_of, step, Event, Took, stream_on, beyond}
+use Rattle.coap_serve.specs.Prelude.{outcome, stdio_output, IsLastByte, Stands, IsGoing, Says, IsWhole, IsCut, Connection}
+use Rattle.coap_serve.specs.Prelude.{has_room, handles, World, Step, side_of, step, AcceptedCall, Took, stream_on, beyond}
 use Rattle.coap_serve.specs.Prelude.{steps_by, world_after, takes, size_on, Shows, session_shown, handled_in}
 use Rattle.coap_serve.specs.Prelude.{count_of}
 use Rattle.coap_wire.proofs.StreamSteps.{split_goes_on}
@@ -42,7 +42,7 @@ front_of_nothing (x ∷ xs) ys none = absurd cc
 -- ---- a flush that ends in the world for some bytes
 
 -- A part of the output that is still to be written for the bytes was written.
-pub part_flush_leads : (c : ConfigValues) (v : ServerValue) (s : Side) (bytes : List ℕ) → LeadsTo c v s bytes → (x y : Option (List ℕ)) → IsPartFlushed (only_id c) v (WritesPart x y)
+pub part_flush_leads : (c : ConfigValues) (v : ServerValue) (s : Connection) (bytes : List ℕ) → LeadsTo c v s bytes → (x y : Option (List ℕ)) → IsPartFlushed (only_id c) v (WritesPart x y)
     → (part missing : List ℕ) × (missing ≢ []) × (stdio_output c bytes ≡ front_written s ++ (part ++ missing)) × AddsBytes x y part
 part_flush_leads c v s bytes leads x y did =
     let all : ℕ = suc (more_at (only_id c) v) in
@@ -55,7 +55,7 @@ part_flush_leads c v s bytes leads x y did =
     )
 
 -- The messages processed before the flush.
-flush_counts : (c : ConfigValues) (v : ServerValue) (s : Side) (bytes : List ℕ) → LeadsTo c v s bytes → (outcome c bytes).messages ≡ length s.history.handled
+flush_counts : (c : ConfigValues) (v : ServerValue) (s : Connection) (bytes : List ℕ) → LeadsTo c v s bytes → (outcome c bytes).messages ≡ length s.history.handled
 flush_counts c v s bytes leads =
     let left = flush_leaves c.limits (only_id c) (world_after c leads.events) s leads.there in
     let is_there = ap (λ (w : World). side_of (only_id c) w.sides) (sym leads.flushes) ∙ left.0.there in
@@ -87,9 +87,9 @@ pub record FrontServed (c : ConfigValues) (id : ℕ) (bytes front : List ℕ) (a
 -- The contract of a call of `take` that returned no error.
 pub record WasTaken (v after : ServerValue) (id : ℕ) (piece : List ℕ) (t : Taken) : Type 0 where
   pub after_is : after ≡ server_taken v id piece
-  pub takes_so : (events : List Event) → Shows v events → t.bytes ≡ takes v.config events id piece
-  pub says : (events : List Event) → Shows v events → t.handled ≡ handled_in v.config events (Took id (take t.bytes piece)) id
-  pub shows : (events : List Event) → Shows v events → Shows after (events ++ Took id (take t.bytes piece) ∷ [])
+  pub takes_so : (events : List AcceptedCall) → Shows v events → t.bytes ≡ takes v.config events id piece
+  pub says : (events : List AcceptedCall) → Shows v events → t.handled ≡ handled_in v.config events (Took id (take t.bytes piece)) id
+  pub shows : (events : List AcceptedCall) → Shows v events → Shows after (events ++ Took id (take t.bytes piece) ∷ [])
 
 module _ (v : ServerValue) (bytes : List ℕ) (goes : IsGoing v.config v (only_id v.config) bytes) where
   abbrev c : ConfigValues
@@ -101,10 +101,10 @@ module _ (v : ServerValue) (bytes : List ℕ) (goes : IsGoing v.config v (only_i
   abbrev id : ℕ
   id = only_id c
 
-  abbrev es : List Event
+  abbrev es : List AcceptedCall
   es = goes.stands.events
 
-  abbrev before : Side
+  abbrev before : Connection
   before = (world_for_written c bytes).side
 
   was_there : side_of id (world_after c es).sides ≡ Some before
@@ -176,14 +176,14 @@ module _ (v : ServerValue) (bytes : List ℕ) (goes : IsGoing v.config v (only_i
         elim steps [
           | inl none ↦
               ap (flushed c.limits id) (world_same c es (Took id T) none ∙ goes.stands.world)
-              ∙ quiet_flush c.limits id (world_for c bytes) before all.hears all.there all.waits
+              ∙ quiet_flush c.limits id (world_for c bytes) before all.takes_input all.there all.waits
               ∙ sym (on ∙ ap (flushed_after c.limits id (world_for c bytes)) none)
           | inr one ↦
               ap (flushed c.limits id) (world_step c es (Took id T) one.0 one.1 ∙ ap (λ (w : World). step c.limits w one.0) goes.stands.world)
               ∙ sym (on ∙ ap (flushed_after c.limits id (world_for c bytes)) one.1)
         ]
 
-    abbrev grown : (s : Side) × (side_of id (world_after c (es ++ Took id T ∷ [])).sides ≡ Some s) × SideGrows before s
+    abbrev grown : (s : Connection) × (side_of id (world_after c (es ++ Took id T ∷ [])).sides ≡ Some s) × SideGrows before s
     grown = took_grows c es id T before was_there
 
     said_before : front_written grown.0 ≡ stdio_output c bytes

@@ -10,7 +10,7 @@ use Rattle.coap_server_engine.specs.values.Fed.{ShowsMore}
 use Rattle.coap_server_engine.specs.values.ServerDues.{stamp_of}
 use Rattle.coap_server_engine.specs.values.ServerAnswers.{open_refusal}
 use Rattle.coap_server_engine.specs.values.Servers.{ServerValue, server_opened, server_dropped}
-use Rattle.coap_model.specs.world.Events.{Event, Opened, Took, Wrote, Ticked, Stored, Removed, Ended, Released, Announced, Dropped}
+use Rattle.coap_model.specs.world.Events.{AcceptedCall, Opened, Took, Wrote, Ticked, Stored, Removed, Ended, Released, Announced, Dropped}
 use Rattle.coap_serve.specs.declared.door.peer.Course.{Course}
 use Rattle.coap_serve.specs.declared.door.peer.Course.TheVariants.{Open, Over}
 use Rattle.coap_serve.specs.declared.door.peer.Peer.{Peer}
@@ -20,7 +20,7 @@ use Rattle.coap_io.specs.declared.wire.Wait.{Wait}
 -- ---- events
 
 -- The events of serving connections: bytes are accepted, bytes are written, an input ends, a connection is dropped.
-abbrev pub IsServing : Event → Type 0
+abbrev pub IsServing : AcceptedCall → Type 0
 IsServing (Opened id) = ⊥
 IsServing (Took id bytes) = Unit {0}
 IsServing (Wrote id n) = Unit {0}
@@ -35,12 +35,12 @@ IsServing (Dropped id) = Unit {0}
 -- Connections were served, and nothing else happened. If the server showed some events before, it now shows them
 -- followed by events of serving.
 pub record HasServed (v after : ServerValue) : Type 0 where
-  pub events : List Event
+  pub events : List AcceptedCall
   pub serving : AllByRecursion IsServing events
   pub shows : ShowsMore v after events
 
 -- The event that opens a connection with the next number, or no event.
-abbrev pub opening : ServerValue → Bool → List Event
+abbrev pub opening : ServerValue → Bool → List AcceptedCall
 opening v true = Opened (v.ids + 1) ∷ []
 opening v false = []
 
@@ -48,7 +48,7 @@ opening v false = []
 -- happened.
 pub record HasTurned (v after : ServerValue) : Type 0 where
   pub opens : Bool
-  pub events : List Event
+  pub events : List AcceptedCall
   pub serving : AllByRecursion IsServing events
   pub shows : ShowsMore v after (opening v opens ++ events)
 

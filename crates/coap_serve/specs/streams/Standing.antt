@@ -8,8 +8,8 @@ use Rattle.coap_serve.specs.declared.serve.Turn.{Turn}
 use Rattle.coap_serve.specs.declared.serve.IoFault.{IoFault}
 use Rattle.coap_serve.specs.declared.serve.IoFault.TheVariants.{Read, Write, Memory, Turns}
 use Rattle.coap_server_engine.specs.values.Servers.{ServerValue}
-use Rattle.coap_model.specs.world.Sides.{is_cut}
-use Rattle.coap_model.specs.world.Events.{Event, spelled_on, world_after}
+use Rattle.coap_model.specs.world.Connections.{is_cut}
+use Rattle.coap_model.specs.world.Events.{AcceptedCall, spelled_on, world_after}
 use Rattle.coap_server_engine.specs.world.Shows.{Shows}
 use Rattle.coap_model.specs.streams.Output.{only_id, stream_of, world_for, outcome, stdio_output}
 use Rattle.coap_serve.specs.streams.StdioRun.{IsLastByte}
@@ -19,7 +19,7 @@ use Rattle.coap_serve.specs.streams.StdioRun.{IsLastByte}
 -- other size.
 pub record Stands (c : ConfigValues) (v : ServerValue) (bytes : List ℕ) : Type 0 where
   pub config : v.config ≡ c
-  pub events : List Event
+  pub events : List AcceptedCall
   pub shows : Shows v events
   pub world : world_after c events ≡ world_for c bytes
   pub spelled : (outcome c bytes).stop ≡ None → spelled_on c.limits.max_message (only_id c) events ≡ (stream_of c bytes, c.limits.max_message)

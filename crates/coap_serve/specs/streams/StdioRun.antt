@@ -10,7 +10,7 @@ use Rattle.coap_serve.specs.declared.serve.IoFault.{IoFault}
 use Rattle.coap_serve.specs.declared.serve.IoFault.TheVariants.{Read, Write, Memory, Turns}
 use Rattle.coap_store.specs.Changes.{IsPut}
 use Rattle.coap_model.specs.Configs.{ConfigValues}
-use Rattle.coap_model.specs.world.Sides.{Side, is_cut, waiting_on}
+use Rattle.coap_model.specs.world.Connections.{Connection, is_cut, waiting_on}
 use Rattle.coap_model.specs.world.View.{change_made}
 use Rattle.coap_model.specs.streams.Output.{only_id, stream_of, world_for, side_for, outcome, stdio_output}
 
@@ -99,7 +99,7 @@ IsStdioRun c pieces output (Err Memory) = IsNoRun pieces output ⊎ IsRefusedRun
 
 -- Everything that the connection queued for these bytes is in the output, and no byte is queued.
 pub record LeavesNothing (c : ConfigValues) (bytes output : List ℕ) : Type 0 where
-  pub side : Side
+  pub side : Connection
   pub there : side_for c bytes ≡ Some side
   pub none_waits : waiting_on side ≡ []
   pub written : output ≡ bytes_of side.history.queued

@@ -31,7 +31,7 @@ impl<W: Wire + Ready + Drop> Service<W> {
     ghost use Rattle.coap_serve.specs.Prelude.{RefusedBy, RefusedOrMemory, put_refusal, remove_refusal, HasTurned};
     ghost use Rattle.coap_serve.specs.Prelude.{IsAskedOnce, IsTurnOf, moved_to, TellsMore, trace_by, IsMemory};
     ghost use Rattle.coap_serve.specs.Prelude.{open_refusal, new_server, server_put, server_removed, server_ticked};
-    ghost use Rattle.coap_serve.specs.Prelude.{Event, Ticked, Stored, Removed, Shows};
+    ghost use Rattle.coap_serve.specs.Prelude.{AcceptedCall, Ticked, Stored, Removed, Shows};
     ghost use Rattle.coap_serve.specs.declared.serve.IoFault.TheVariants as fault;
 
     /// Returns a server with no connection and an empty store. Its counters begin at the values that the configuration
@@ -70,7 +70,7 @@ impl<W: Wire + Ready + Drop> Service<W> {
         ensures answer { is_ok result ≡ nat_le self.old.server.host.now now }
         ensures ok { OnOk result (self.new.server ≡ server_ticked self.old.server now) }
         ensures moved { self.new.server ≡ moved_to self.old.server now }
-        ensures shows { OnOk result ((events : List Event) → Shows self.old.server events →
+        ensures shows { OnOk result ((events : List AcceptedCall) → Shows self.old.server events →
             Shows self.new.server (events ++ Ticked now ∷ [])) }
         ensures err { OnErr result (self.new.server ≡ self.old.server) }
         ensures peers { self.new.peers ≡ self.old.peers }
@@ -93,7 +93,7 @@ impl<W: Wire + Ready + Drop> Service<W> {
         ensures answer { RefusedOrMemory result (put_refusal self.old.server.host.store path.now bytes.now) }
         ensures version { IfOk result (λ version. version ≡ self.old.server.host.store.versions + 1) }
         ensures ok { OnOk result (self.new.server ≡ server_put self.old.server path.now format bytes.now) }
-        ensures shows { OnOk result ((events : List Event) → Shows self.old.server events →
+        ensures shows { OnOk result ((events : List AcceptedCall) → Shows self.old.server events →
             Shows self.new.server (events ++ Stored path.now format bytes.now ∷ [])) }
         ensures err { OnErr result (self.new.server ≡ self.old.server) }
         ensures peers { self.new.peers ≡ self.old.peers }
@@ -110,7 +110,7 @@ impl<W: Wire + Ready + Drop> Service<W> {
     pub fn remove(&mut self, path: &PathKey) -> Result<(), StoreFault>
         ensures answer { RefusedBy result (remove_refusal self.old.server.host.store path.now) }
         ensures ok { OnOk result (self.new.server ≡ server_removed self.old.server path.now) }
-        ensures shows { OnOk result ((events : List Event) → Shows self.old.server events →
+        ensures shows { OnOk result ((events : List AcceptedCall) → Shows self.old.server events →
             Shows self.new.server (events ++ Removed path.now ∷ [])) }
         ensures err { OnErr result (self.new.server ≡ self.old.server) }
         ensures peers { self.new.peers ≡ self.old.peers }

@@ -4,7 +4,7 @@ ghost use Rattle.std.specs.Prelude.{◌≡◌, ℕ, Bool, Option, Result, ◌+�
 ghost use Rattle.coap_serve.specs.Prelude.{ConfigValues, ServerValue, AreSettled, LiesAt, server_opened};
 ghost use Rattle.coap_serve.specs.Prelude.{server_ticked, server_dropped, ComesToNothing, IsServedOnce, can_go_on};
 ghost use Rattle.coap_serve.specs.Prelude.{is_over_in, wants_of, IsNoEarlier, KeepsNotes, WhilePassedOver, WireTrace};
-ghost use Rattle.coap_serve.specs.Prelude.{Course, Stamp, outlook_of, stamp_of, Event, Shows, IsFlushed, AddsBytes};
+ghost use Rattle.coap_serve.specs.Prelude.{Course, Stamp, outlook_of, stamp_of, AcceptedCall, Shows, IsFlushed, AddsBytes};
 ghost use Rattle.coap_serve.specs.Prelude.{waiting_at, Report, IoFault, IsStdioRun, LeavesNothingWaiting};
 
 /// States that an idle connection may be skipped.
@@ -73,7 +73,7 @@ pub fn what_was_noted_holds()
 /// includes runs that end at the limit of turns or because a read failed. A run that ends because an allocation failed
 /// has accepted the bytes before the last one of the request, or none.
 pub fn a_flush_leaves_nothing_waiting()
-    ensures flush { (v after : ServerValue) (events : List Event) (id : ℕ) (before now : Option (List ℕ)) →
+    ensures flush { (v after : ServerValue) (events : List AcceptedCall) (id : ℕ) (before now : Option (List ℕ)) →
         Shows v events → IsFlushed id v after (AddsBytes before now) → waiting_at id after ≡ [] }
     ensures run { (c : ConfigValues) (pieces : List (List ℕ)) (output : List ℕ) (result : Result Report IoFault) →
         IsStdioRun c pieces output result → LeavesNothingWaiting c pieces output result }

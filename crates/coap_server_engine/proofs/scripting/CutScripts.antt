@@ -9,7 +9,7 @@ use Rattle.coap_server_engine.specs.Prelude.{tick_line, put_line, remove_line, w
 use Rattle.coap_server_engine.specs.Prelude.{lines_of, other_lines, IsInTime, AreInTime, SessionValue, ServerValue}
 use Rattle.coap_server_engine.specs.Prelude.{session_of, server_opened, server_taken, server_ticked, server_put}
 use Rattle.coap_server_engine.specs.Prelude.{server_removed, server_ended, server_released, server_dropped, open_refusal}
-use Rattle.coap_server_engine.specs.Prelude.{released_refusal_on, released_refusal, Event, Shows}
+use Rattle.coap_server_engine.specs.Prelude.{released_refusal_on, released_refusal, AcceptedCall, Shows}
 use Rattle.std.proofs.lemmas.Bool.{leb-true, leb-false, eqb-true, eqb-false, true_from_ne_false, cond_both}
 use Rattle.std.proofs.lemmas.List.{length-take}
 use Rattle.coap_script.specs.script.Events.{Put, End}
@@ -25,7 +25,7 @@ use Rattle.coap_store.proofs.RefusalLemmas.{passed}
 
 -- The server shows some history, and its ids fit in 64 bits.
 pub record IsShown (v : ServerValue) : Type 0 where
-  pub events : List Event
+  pub events : List AcceptedCall
   pub shows : Shows v events
   pub ids : v.ids < 2 ^ 64
 
@@ -161,7 +161,7 @@ text_of_lines v (e ∷ es) = rw (text_of_lines (event_ran v e).server es)
 
 -- ---- the theorem
 
-module _ (v : ServerValue) (before : List Event) (es fs : List ScriptEventValue) (shows : Shows v before) (ids : v.ids < 2 ^ 64) (one : AreInTime es) (other : AreInTime fs) (alike : DifferInCuts es fs) where
+module _ (v : ServerValue) (before : List AcceptedCall) (es fs : List ScriptEventValue) (shows : Shows v before) (ids : v.ids < 2 ^ 64) (one : AreInTime es) (other : AreInTime fs) (alike : DifferInCuts es fs) where
   runs_alike : RunAlike v es fs
   runs_alike =
       let shown : IsShown v = record { events = before; shows = shows; ids = ids } in

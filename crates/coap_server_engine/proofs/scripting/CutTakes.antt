@@ -6,8 +6,8 @@ use Rattle.std.proofs.lemmas.List.{append-nil, length-append, length-drop, drop-
 use Rattle.std.proofs.Math.Seq.{drop-length, drop-append-add, take-append-add, take-length}
 use Rattle.coap_server_engine.specs.Prelude.{Stream, StreamPrefix, Unfinished, Faulty, prefix_kind, fault_bytes, framing_at}
 use Rattle.coap_server_engine.specs.Prelude.{framing, ConfigValues, Fed, unfed, fed_once, fed_turns, fed, SessionValue}
-use Rattle.coap_server_engine.specs.Prelude.{ServerValue, session_of, server_taken, count_taken, Side, handles, World}
-use Rattle.coap_server_engine.specs.Prelude.{side_of, Event, Took, stream_on, world_after, size_on, session_shown}
+use Rattle.coap_server_engine.specs.Prelude.{ServerValue, session_of, server_taken, count_taken, Connection, handles, World}
+use Rattle.coap_server_engine.specs.Prelude.{side_of, AcceptedCall, Took, stream_on, world_after, size_on, session_shown}
 use Rattle.coap_server_engine.specs.Prelude.{server_shown, server_of, Shows}
 use Rattle.coap_wire.specs.StreamPrefix.{Whole}
 use Rattle.coap_wire.proofs.StreamSteps.{whole_more, faulty_more, fault_bytes_more}
@@ -28,7 +28,7 @@ use Rattle.coap_server_engine.proofs.scripting.ShownLemmas.{IsStuck, absent_stuc
 -- ---- servers that show equal histories
 
 -- A server is determined by the events that it shows.
-same_where_alike : (u v : ServerValue) (es fs : List Event) → u.config ≡ v.config → Shows u es → Shows v fs → SpellAlike v.config.limits.max_message es fs → world_after v.config es ≡ world_after v.config fs → u ≡ v
+same_where_alike : (u v : ServerValue) (es fs : List AcceptedCall) → u.config ≡ v.config → Shows u es → Shows v fs → SpellAlike v.config.limits.max_message es fs → world_after v.config es ≡ world_after v.config fs → u ≡ v
 unfolding server_of
 same_where_alike u v es fs config first second alike same =
     let M : ℕ = v.config.limits.max_message in
@@ -40,25 +40,25 @@ same_where_alike u v es fs config first second alike same =
 
 -- ---- a take that accepts no byte, or some bytes
 
-no_bytes_alike : (M : ℕ) (es : List Event) (id : ℕ) → SpellAlike M (es ++ Took id [] ∷ []) es
+no_bytes_alike : (M : ℕ) (es : List AcceptedCall) (id : ℕ) → SpellAlike M (es ++ Took id [] ∷ []) es
 no_bytes_alike M es id k = spelled_same M k es (Took id []) (grind arith) (λ N. refl)
 
 -- The current message size of a connection, and the bytes of its unfinished frame.
-abbrev size_here : ServerValue → List Event → ℕ → ℕ
+abbrev size_here : ServerValue → List AcceptedCall → ℕ → ℕ
 size_here v es id = size_on v.config.limits.max_message id es
 
-abbrev rest_here : ServerValue → List Event → ℕ → List ℕ
+abbrev rest_here : ServerValue → List AcceptedCall → ℕ → List ℕ
 rest_here v es id = (stream_on v.config.limits.max_message id es).rest
 
-record Goes (v : ServerValue) (es : List Event) (id : ℕ) : Type 0 where
-  pub side : Side
+record Goes (v : ServerValue) (es : List AcceptedCall) (id : ℕ) : Type 0 where
+  pub side : Connection
   pub there : side_of id (world_after v.config es).sides ≡ Some side
   pub handling : handles side ≡ true
   pub no_fault : (stream_on v.config.limits.max_message id es).fault ≡ None
   pub unfinished : prefix_kind (size_here v es id) (rest_here v es id) ≡ Unfinished
   pub counts : (bytes : List ℕ) → count_taken v id bytes ≡ front_of (size_here v es id) (rest_here v es id) bytes
 
-module _ (v : ServerValue) (es : List Event) (id : ℕ) (shows : Shows v es) (t : Side) (there : side_of id (world_after v.config es).sides ≡ Some t) where
+module _ (v : ServerValue) (es : List AcceptedCall) (id : ℕ) (shows : Shows v es) (t : Connection) (there : side_of id (world_after v.config es).sides ≡ Some t) where
   counts : (does : Bool) → handles t ≡ does → (bytes : List ℕ) → count_taken v id bytes ≡ cond does (front_of (size_here v es id) (rest_here v es id) bytes) 0
   counts does is bytes = rw (takes_shown v es id bytes shows, takes_there v.config es id bytes t there, is)
 
@@ -81,7 +81,7 @@ module _ (v : ServerValue) (es : List Event) (id : ℕ) (shows : Shows v es) (t 
         shows (no_bytes_alike v.config.limits.max_message es id) (world_same v.config es (Took id []) (no_bytes_steps v.config.limits.max_message id es));
   })
 
-stuck_or_there : (v : ServerValue) (es : List Event) (id : ℕ) → Shows v es → (found : Option SessionValue) → session_of id v.sessions ≡ found → IsStuck v id ⊎ Goes v es id
+stuck_or_there : (v : ServerValue) (es : List AcceptedCall) (id : ℕ) → Shows v es → (found : Option SessionValue) → session_of id v.sessions ≡ found → IsStuck v id ⊎ Goes v es id
 stuck_or_there v es id shows None at = inl (absent_stuck v id at)
 stuck_or_there v es id shows (Some s) at =
     let found = session_there v es id s shows at in
@@ -205,7 +205,7 @@ no_second_part : (v : ServerValue) (id : ℕ) (xs : List ℕ) → IsFedInParts v
 unfolding fed_turns
 no_second_part v id xs = record { server = rw append-nil; count = rw append-nil (omega arith) }
 
-module _ (v : ServerValue) (es : List Event) (id : ℕ) (xs ys : List ℕ) (shows : Shows v es) (goes : Goes v es id) where
+module _ (v : ServerValue) (es : List AcceptedCall) (id : ℕ) (xs ys : List ℕ) (shows : Shows v es) (goes : Goes v es id) where
   abbrev whole_taken : ServerValue
   whole_taken = server_taken v id (xs ++ ys)
 
@@ -217,7 +217,7 @@ module _ (v : ServerValue) (es : List Event) (id : ℕ) (xs ys : List ℕ) (show
 
   -- A frame or an error is found in the first part: the first take is the same.
   found_parts : 0 < length xs → front_of (size_here v es id) (rest_here v es id) (xs ++ ys) ≡ front_of (size_here v es id) (rest_here v es id) xs
-      → ((w : ServerValue) (fs : List Event) (zs : List ℕ) → Shows w fs → length zs < length xs → IsFedInParts w id zs ys)
+      → ((w : ServerValue) (fs : List AcceptedCall) (zs : List ℕ) → Shows w fs → length zs < length xs → IsFedInParts w id zs ys)
       → IsFedInParts v id xs ys
   found_parts some same again =
       let n : ℕ = front_of (size_here v es id) (rest_here v es id) xs in
@@ -238,7 +238,7 @@ module _ (v : ServerValue) (es : List Event) (id : ℕ) (xs ys : List ℕ) (show
   later_parts : prefix_kind (size_here v es id) (rest_here v es id ++ xs) ≡ Unfinished → 0 < length xs → 0 < length ys → IsFedInParts v id xs ys
   later_parts still some more =
       let M : ℕ = v.config.limits.max_message in
-      let now : List Event = es ++ Took id xs ∷ [] in
+      let now : List AcceptedCall = es ++ Took id xs ∷ [] in
       let n : ℕ = front_of (size_here v es id) (rest_here v es id ++ xs) ys in
       let takes_some : 1 ≤ n = some_in_front (size_here v es id) (rest_here v es id ++ xs) ys still more in
       let within : n ≤ length ys = taken_within (size_here v es id) (rest_here v es id ++ xs) ys still in
@@ -270,8 +270,8 @@ module _ (v : ServerValue) (es : List Event) (id : ℕ) (xs ys : List ℕ) (show
       rw first (fed_by part_taken id ys n next_count takes_some within) in
       record { server = rw (whole, second); count = rw (whole, second, first, add-zero (length xs), add_assoc (length xs) n) }
 
-going_parts : (v : ServerValue) (es : List Event) (id : ℕ) (xs ys : List ℕ) → Shows v es → (goes : Goes v es id) → 0 < length xs
-    → ((w : ServerValue) (fs : List Event) (zs : List ℕ) → Shows w fs → length zs < length xs → IsFedInParts w id zs ys)
+going_parts : (v : ServerValue) (es : List AcceptedCall) (id : ℕ) (xs ys : List ℕ) → Shows v es → (goes : Goes v es id) → 0 < length xs
+    → ((w : ServerValue) (fs : List AcceptedCall) (zs : List ℕ) → Shows w fs → length zs < length xs → IsFedInParts w id zs ys)
     → (b : StreamPrefix) → prefix_kind (size_here v es id) (rest_here v es id ++ xs) ≡ b → IsFedInParts v id xs ys
 going_parts v es id xs [] shows goes some again b is = no_second_part v id xs
 going_parts v es id xs (y ∷ ys) shows goes some again Unfinished is = later_parts v es id xs (y ∷ ys) shows goes is some (omega arith)
@@ -279,7 +279,7 @@ going_parts v es id xs (y ∷ ys) shows goes some again b is =
     let same = same_front_taken (size_here v es id) (rest_here v es id) xs (y ∷ ys) goes.unfinished b (λ unfinished. cc) is in
     found_parts v es id xs (y ∷ ys) shows goes some same again
 
-parts_within : (few : ℕ) (v : ServerValue) (es : List Event) (id : ℕ) (xs ys : List ℕ) → Shows v es → length xs ≤ few → IsFedInParts v id xs ys
+parts_within : (few : ℕ) (v : ServerValue) (es : List AcceptedCall) (id : ℕ) (xs ys : List ℕ) → Shows v es → length xs ≤ few → IsFedInParts v id xs ys
 parts_within few v es id [] ys shows within = no_first_part v id ys
 parts_within zero v es id (x ∷ xs) ys shows within = absurd (omega (arith, within))
 parts_within (suc few) v es id (x ∷ xs) ys shows within =
@@ -292,5 +292,5 @@ parts_within (suc few) v es id (x ∷ xs) ys shows within =
     ]
 
 -- Bytes in two consecutive parts have the same effect as in one, and the same number of them is accepted.
-pub fed_in_parts : (v : ServerValue) (es : List Event) (id : ℕ) (xs ys : List ℕ) → Shows v es → IsFedInParts v id xs ys
+pub fed_in_parts : (v : ServerValue) (es : List AcceptedCall) (id : ℕ) (xs ys : List ℕ) → Shows v es → IsFedInParts v id xs ys
 fed_in_parts v es id xs ys shows = parts_within (length xs) v es id xs ys shows (omega arith)

@@ -4,7 +4,7 @@ use Rattle.std.proofs.lemmas.List.{append-nil}
 use Rattle.std.proofs.lemmas.Bool.{cond_both}
 use Rattle.coap_server_engine.specs.Prelude.{IsErr, AllocError, ScriptEventValue, In, event_ran, replayed, Fed, unfed, fed_more}
 use Rattle.coap_server_engine.specs.Prelude.{fed_turns, events_ran, ShowsMore, IsPartlyMade, ShowsPart, ShowsPartlyFed, ShowsRun, took_turns}
-use Rattle.coap_server_engine.specs.Prelude.{ServerValue, session_of, is_there, server_taken, server_taken_on, count_taken, Event, Shows}
+use Rattle.coap_server_engine.specs.Prelude.{ServerValue, session_of, is_there, server_taken, server_taken_on, count_taken, AcceptedCall, Shows}
 use Rattle.coap_server_engine.specs.values.Fed.{goes_on}
 
 -- ---- servers
@@ -14,11 +14,11 @@ pub shows_same : (v after : ServerValue) → after ≡ v → ShowsMore v after [
 shows_same v after is before shows = rw (is, append-nil) shows
 
 -- Two changes, one after the other.
-pub shows_then : (u v w : ServerValue) (es fs : List Event) → ShowsMore u v es → ShowsMore v w fs → ShowsMore u w (es ++ fs)
+pub shows_then : (u v w : ServerValue) (es fs : List AcceptedCall) → ShowsMore u v es → ShowsMore v w fs → ShowsMore u w (es ++ fs)
 shows_then u v w es fs first second before shows = subst (Shows w) (append_assoc before es fs) (second (before ++ es) (first before shows))
 
 -- Equal events.
-pub shows_as : (v after : ServerValue) (es fs : List Event) → es ≡ fs → ShowsMore v after es → ShowsMore v after fs
+pub shows_as : (v after : ServerValue) (es fs : List AcceptedCall) → es ≡ fs → ShowsMore v after es → ShowsMore v after fs
 shows_as v after es fs same more = rw same at more
 
 -- A take does not change the configuration.

@@ -11,7 +11,7 @@ use Rattle.coap_server_engine.specs.Prelude.{server_ended, server_released, serv
 use Rattle.coap_server_engine.specs.Prelude.{open_refusal, written_refusal, written_refusal_on, released_refusal}
 use Rattle.coap_server_engine.specs.Prelude.{released_refusal_on, release_fault, session_refusal, announced_refusal_on}
 use Rattle.coap_server_engine.specs.Prelude.{IsAnnounced, IsNotTaken, Taken, OpenFault, TakeFault, WrittenFault}
-use Rattle.coap_server_engine.specs.Prelude.{ReleaseFault, AnnounceFault, Event, Opened, Took, Wrote, Ticked, Stored}
+use Rattle.coap_server_engine.specs.Prelude.{ReleaseFault, AnnounceFault, AcceptedCall, Opened, Took, Wrote, Ticked, Stored}
 use Rattle.coap_server_engine.specs.Prelude.{Removed, Ended, Released, Announced, Dropped, takes, AreAcceptedBehind, Shows}
 use Rattle.coap_server_engine.specs.Prelude.{ShowsRefused, server_of}
 use Rattle.coap_model.specs.declared.answers.TakeFault.TheVariants as taken
@@ -41,7 +41,7 @@ new_shows (Err e) c fits is = tt
 -- ---- open
 
 pub open_shows : (r : Result ℕ OpenFault) (v new : ServerValue) → IfOk r (λ id. id < 2 ^ 64) → OpenedOrMemory r (open_refusal v) → IfOk r (λ id. id ≡ v.ids + 1) → OnOk r (new ≡ server_opened v)
-    → IfOk r (λ id. (es : List Event) → Shows v es → Shows new (es ++ Opened id ∷ []))
+    → IfOk r (λ id. (es : List AcceptedCall) → Shows v es → Shows new (es ++ Opened id ∷ []))
 open_shows (Ok id) v new fits none next is = λ es shows.
     rw (next, is) (shows_opened v es shows (omega (arith, fits, next)) (grind (arith, nat_tests, none)))
 open_shows (Err e) v new fits none next is = tt
@@ -49,7 +49,7 @@ open_shows (Err e) v new fits none next is = tt
 -- ---- written
 
 pub written_shows : {T : Type 0} (r : Result T WrittenFault) (v new : ServerValue) (id n : ℕ) → RefusedBy r (written_refusal v id n) → OnOk r (new ≡ server_written v id n)
-    → OnOk r ((es : List Event) → Shows v es → Shows new (es ++ Wrote id n ∷ []))
+    → OnOk r ((es : List AcceptedCall) → Shows v es → Shows new (es ++ Wrote id n ∷ []))
 written_shows (Ok x) v new id n none is = λ es shows.
     let at = where_free (written_refusal_on n) writing.NoSuch (session_of id v.sessions) refl none in
     rw is (shows_written v es id n at.0 shows at.1 (grind (arith, nat_tests, at.2)))
@@ -58,31 +58,31 @@ written_shows (Err e) v new id n none is = tt
 -- ---- tick
 
 pub tick_shows : {T F : Type 0} (r : Result T F) (v new : ServerValue) (now : ℕ) → now < 2 ^ 64 → is_ok r ≡ nat_le v.host.now now → OnOk r (new ≡ server_ticked v now)
-    → OnOk r ((es : List Event) → Shows v es → Shows new (es ++ Ticked now ∷ []))
+    → OnOk r ((es : List AcceptedCall) → Shows v es → Shows new (es ++ Ticked now ∷ []))
 tick_shows (Ok x) v new now fits told is = λ es shows. rw is (shows_ticked v es now shows (leb-true v.host.now now (sym told)) (omega (arith, fits)))
 tick_shows (Err e) v new now fits told is = tt
 
 -- ---- put, remove
 
 pub put_shows : {T : Type 0} (r : Result T StoreFault) (v new : ServerValue) (path : Path) (format : Option ℕ) (bytes : List ℕ) → RefusedOrMemory r (put_refusal v.host.store path bytes) → OnOk r (new ≡ server_put v path format bytes)
-    → OnOk r ((es : List Event) → Shows v es → Shows new (es ++ Stored path format bytes ∷ []))
+    → OnOk r ((es : List AcceptedCall) → Shows v es → Shows new (es ++ Stored path format bytes ∷ []))
 put_shows (Ok x) v new path format bytes none is = λ es shows. rw is (shows_put v es path format bytes shows none)
 put_shows (Err e) v new path format bytes none is = tt
 
 pub remove_shows : {T : Type 0} (r : Result T StoreFault) (v new : ServerValue) (path : Path) → RefusedBy r (remove_refusal v.host.store path) → OnOk r (new ≡ server_removed v path)
-    → OnOk r ((es : List Event) → Shows v es → Shows new (es ++ Removed path ∷ []))
+    → OnOk r ((es : List AcceptedCall) → Shows v es → Shows new (es ++ Removed path ∷ []))
 remove_shows (Ok x) v new path none is = λ es shows. rw is (shows_removed v es path shows none)
 remove_shows (Err e) v new path none is = tt
 
 -- ---- ended, drop_conn
 
 pub ended_shows : {T F : Type 0} (r : Result T F) (v new : ServerValue) (id : ℕ) → is_ok r ≡ is_there (session_of id v.sessions) → OnOk r (new ≡ server_ended v id)
-    → OnOk r ((es : List Event) → Shows v es → Shows new (es ++ Ended id ∷ []))
+    → OnOk r ((es : List AcceptedCall) → Shows v es → Shows new (es ++ Ended id ∷ []))
 ended_shows (Ok x) v new id there is = λ es shows. let at = where_one (session_of id v.sessions) there in rw is (shows_ended v es id at.0 shows at.1)
 ended_shows (Err e) v new id there is = tt
 
 pub drop_shows : {T F : Type 0} (r : Result T F) (v new : ServerValue) (id : ℕ) → is_ok r ≡ is_there (session_of id v.sessions) → OnOk r (new ≡ server_dropped v id)
-    → OnOk r ((es : List Event) → Shows v es → Shows new (es ++ Dropped id ∷ []))
+    → OnOk r ((es : List AcceptedCall) → Shows v es → Shows new (es ++ Dropped id ∷ []))
 drop_shows (Ok x) v new id there is = λ es shows. let at = where_one (session_of id v.sessions) there in rw is (shows_dropped v es id at.0 shows at.1)
 drop_shows (Err e) v new id there is = tt
 
@@ -96,14 +96,14 @@ raises_where_free : (s : SessionValue) (size : ℕ) → session_refusal s size �
 raises_where_free s size none = grind (arith, nat_tests)
 
 pub announce_shows : {T : Type 0} (r : Result T AnnounceFault) (v new : ServerValue) (id size : ℕ) → IsAnnounced size (session_of id v.sessions) r → OnOk r (new ≡ server_announced v id size)
-    → OnOk r ((es : List Event) → Shows v es → Shows new (es ++ Announced id size ∷ []))
+    → OnOk r ((es : List AcceptedCall) → Shows v es → Shows new (es ++ Announced id size ∷ []))
 announce_shows (Ok x) v new id size none is = λ es shows.
     let at = where_free (announced_refusal_on size) announcing.NoSuch (session_of id v.sessions) refl none in
     rw is (shows_announced v es id size at.0 shows at.1 (raises_where_free at.0 size at.2))
 announce_shows (Err e) v new id size none is = tt
 
 pub release_shows : {T : Type 0} (r : Result T ReleaseFault) (v new : ServerValue) (id : ℕ) → RefusedBy r (released_refusal v id) → OnOk r (new ≡ server_released v id)
-    → OnOk r ((es : List Event) → Shows v es → Shows new (es ++ Released id ∷ []))
+    → OnOk r ((es : List AcceptedCall) → Shows v es → Shows new (es ++ Released id ∷ []))
 release_shows (Ok x) v new id none is = λ es shows.
     let at = where_free released_refusal_on releasing.NoSuch (session_of id v.sessions) refl none in
     rw is (shows_released v es id at.0 shows at.1 (not_refused (release_refusal at.0.link) at.2))
@@ -112,22 +112,22 @@ release_shows (Err e) v new id none is = tt
 -- ---- take
 
 pub take_takes : (r : Result Taken TakeFault) (v : ServerValue) (id : ℕ) (piece : List ℕ) → IfOk r (λ t. t.bytes ≡ count_taken v id piece)
-    → IfOk r (λ t. (es : List Event) → Shows v es → t.bytes ≡ takes v.config es id piece)
+    → IfOk r (λ t. (es : List AcceptedCall) → Shows v es → t.bytes ≡ takes v.config es id piece)
 take_takes r v id piece count = IfOk-weaker r (λ t. t.bytes ≡ count_taken v id piece) _ (λ t taken es shows. taken ∙ takes_shown v es id piece shows) count
 
 pub take_shows : (r : Result Taken TakeFault) (v new : ServerValue) (id : ℕ) (piece : List ℕ) → IfOk r (λ t. t.bytes ≡ count_taken v id piece) → OnOk r (is_there (session_of id v.sessions) ≡ true) → OnOk r (new ≡ server_taken v id piece)
-    → IfOk r (λ t. (es : List Event) → Shows v es → Shows new (es ++ Took id (take t.bytes piece) ∷ []))
+    → IfOk r (λ t. (es : List AcceptedCall) → Shows v es → Shows new (es ++ Took id (take t.bytes piece) ∷ []))
 take_shows (Ok t) v new id piece count there is = λ es shows.
     let at = where_one (session_of id v.sessions) (sym there) in
     rw (is, count) (shows_taken v es id piece at.0 shows at.1)
 take_shows (Err e) v new id piece count there is = tt
 
-not_taken : (fault : TakeFault) (v new : ServerValue) (id : ℕ) (piece : List ℕ) → IsNotTaken v id piece fault new → (es : List Event) → Shows v es → ShowsRefused es id piece fault new
+not_taken : (fault : TakeFault) (v new : ServerValue) (id : ℕ) (piece : List ℕ) → IsNotTaken v id piece fault new → (es : List AcceptedCall) → Shows v es → ShowsRefused es id piece fault new
 not_taken taken.NoSuch v new id piece not es shows = rw not.1 shows
 not_taken (taken.Memory n) v new id piece not es shows =
     let refused = refused_on v piece n (session_of id v.sessions) not.0 in
     rw not.1 (shows_refused_take v es id piece n refused.0 shows refused.1 refused.2)
 
 pub refused_take_shows : (r : Result Taken TakeFault) (v new : ServerValue) (id : ℕ) (piece : List ℕ) → IfErr r (λ fault. IsNotTaken v id piece fault new)
-    → IfErr r (λ fault. (es : List Event) → Shows v es → ShowsRefused es id piece fault new)
+    → IfErr r (λ fault. (es : List AcceptedCall) → Shows v es → ShowsRefused es id piece fault new)
 refused_take_shows r v new id piece not = IfErr-weaker r (λ fault. IsNotTaken v id piece fault new) _ (λ fault no. not_taken fault v new id piece no) not

@@ -8,7 +8,7 @@ use Rattle.coap_server_engine.specs.Prelude.{Message, message_of, FormatFault, O
 use Rattle.coap_server_engine.specs.Prelude.{AFault, framing, Reason, stop_of, after, ConfigValues, Host, Taken, TakeFault}
 use Rattle.coap_server_engine.specs.Prelude.{SessionValue, taking, taking_read, taking_found, ServerValue, session_of}
 use Rattle.coap_server_engine.specs.Prelude.{count_taken, server_taken_on, server_taken, stop_on, handled_so, handled_on}
-use Rattle.coap_server_engine.specs.Prelude.{handled_by, Side, handles, new_side, World, Step, side_of, Event, Took}
+use Rattle.coap_server_engine.specs.Prelude.{handled_by, Connection, handles, new_side, World, Step, side_of, AcceptedCall, Took}
 use Rattle.coap_server_engine.specs.Prelude.{stream_on, beyond, steps_by, world_after, takes, IfSide, IsAccepted, AreAccepted}
 use Rattle.coap_server_engine.specs.Prelude.{size_on, taken_in, session_shown, Shows, handled_between, handled_in, count_of}
 use Rattle.coap_frame.specs.Framing.{Nothing}
@@ -30,7 +30,7 @@ use Rattle.coap_model.proofs.world.BecameLaws.{NoStep, OneMessage, OneFault, bec
 use Rattle.coap_model.proofs.world.BecameLaws.{TakesSo, Became, IsElsewhere, rests_of, Agrees, rests_agrees}
 use Rattle.coap_model.proofs.world.BecameLaws.{silent_agrees, became_agrees, AgreesOn, first_agrees}
 
-module _ (c : ConfigValues) (es : List Event) (id : ℕ) (piece : List ℕ) (s : Side) (is : IsReached c es) (there : side_of id (world_after c es).sides ≡ Some s) where
+module _ (c : ConfigValues) (es : List AcceptedCall) (id : ℕ) (piece : List ℕ) (s : Connection) (is : IsReached c es) (there : side_of id (world_after c es).sides ≡ Some s) where
   abbrev rest_before : List ℕ
   rest_before = (stream_on c.limits.max_message id es).rest
 
@@ -73,7 +73,7 @@ module _ (c : ConfigValues) (es : List Event) (id : ℕ) (piece : List ℕ) (s :
       ]
 
 -- The same for all bytes of an accepted take.
-accepted_so : (c : ConfigValues) (es : List Event) (id : ℕ) (bytes : List ℕ) (s : Side) → IsReached c es → side_of id (world_after c es).sides ≡ Some s → takes c es id bytes ≡ length bytes
+accepted_so : (c : ConfigValues) (es : List AcceptedCall) (id : ℕ) (bytes : List ℕ) (s : Connection) → IsReached c es → side_of id (world_after c es).sides ≡ Some s → takes c es id bytes ≡ length bytes
     → (message : Bool) × TakesSo c.limits.max_message id es bytes s message
 accepted_so c es id bytes s is there all =
     let host : Host = record { store = (world_after c es).store; now = (world_after c es).now } in
@@ -81,7 +81,7 @@ accepted_so c es id bytes s is there all =
     let message : Bool = (taking host (session_shown (stream_on c.limits.max_message id es).rest s) bytes).handled in
     (message, subst (λ (b : List ℕ). TakesSo c.limits.max_message id es b s message) whole (took_so c es id bytes s is there host))
 
-took_became : (c : ConfigValues) (es : List Event) (id : ℕ) (bytes : List ℕ) (s t : Side) → IsReached c es → takes c es id bytes ≡ length bytes → side_of id (world_after c es).sides ≡ Some s → side_of id (world_after c (es ++ Took id bytes ∷ [])).sides ≡ Some t
+took_became : (c : ConfigValues) (es : List AcceptedCall) (id : ℕ) (bytes : List ℕ) (s t : Connection) → IsReached c es → takes c es id bytes ≡ length bytes → side_of id (world_after c es).sides ≡ Some s → side_of id (world_after c (es ++ Took id bytes ∷ [])).sides ≡ Some t
     → (message : Bool) × Became (stream_on c.limits.max_message id es) (stream_on c.limits.max_message id (es ++ Took id bytes ∷ [])) s t message
 took_became c es id bytes s t is all there then =
     let so = accepted_so c es id bytes s is there all in
@@ -90,18 +90,18 @@ took_became c es id bytes s t is all there then =
 
 -- ---- the result that a take reports
 
-tells_what_became : (before after : Stream) (s t : Side) (message : Bool) → Became before after s t message → handled_so (handles s) message (stop_of t.history.phase) ≡ handled_between (Some s) (Some t)
+tells_what_became : (before after : Stream) (s t : Connection) (message : Bool) → Became before after s t message → handled_so (handles s) message (stop_of t.history.phase) ≡ handled_between (Some s) (Some t)
 tells_what_became before after s t message became = grind (arith, le-ltb, lt-ltb, length-append)
 
 -- ---- the clause of a take
 
 -- The reason for which a connection no longer accepts messages, if it exists.
-abbrev side_stop : Option Side → Option Reason
+abbrev side_stop : Option Connection → Option Reason
 side_stop None = None
 side_stop (Some t) = stop_of t.history.phase
 
-module _ (v : ServerValue) (es : List Event) (id : ℕ) (piece : List ℕ) (shows : Shows v es) where
-  abbrev event_then : Event
+module _ (v : ServerValue) (es : List AcceptedCall) (id : ℕ) (piece : List ℕ) (shows : Shows v es) where
+  abbrev event_then : AcceptedCall
   event_then = Took id (take (count_taken v id piece) piece)
 
   abbrev stop_then : Option Reason
@@ -112,13 +112,13 @@ module _ (v : ServerValue) (es : List Event) (id : ℕ) (piece : List ℕ) (show
   unfolding server_taken
   stop_shown s e =
       let after : ServerValue = server_taken v id piece in
-      let fs : List Event = es ++ event_then ∷ [] in
+      let fs : List AcceptedCall = es ++ event_then ∷ [] in
       let rest : List ℕ = (stream_on after.config.limits.max_message id fs).rest in
       ap stop_on (sessions_shown after fs id (shows_taken v es id piece s shows e))
       ∙ elim (side_of id (world_after after.config fs).sides) as (λ there. stop_on (option_map (session_shown rest) there) ≡ side_stop there) [ None ↦ refl | Some t ↦ refl ]
       ∙ ap (λ (k : ConfigValues). side_stop (side_of id (world_after k fs).sides)) (ap (λ (o : Option SessionValue). (server_taken_on v id piece o).config) e)
 
-  tells_handled : (there : Option Side) → side_of id (world_after v.config es).sides ≡ there → handled_on v piece (session_of id v.sessions) stop_then ≡ handled_in v.config es event_then id
+  tells_handled : (there : Option Connection) → side_of id (world_after v.config es).sides ≡ there → handled_on v piece (session_of id v.sessions) stop_then ≡ handled_in v.config es event_then id
   tells_handled None none = rw (no_session v es id shows none, none) refl
   tells_handled (Some s) there =
       let c : ConfigValues = v.config in
@@ -131,7 +131,7 @@ module _ (v : ServerValue) (es : List Event) (id : ℕ) (piece : List ℕ) (show
       rw (at, stop_shown (session_shown rest s) at, after.1, there) (tells_what_became _ _ s after.0 message after.2)
 
 pub take_says : (r : Result Taken TakeFault) (v : ServerValue) (id : ℕ) (piece : List ℕ) → IfOk r (λ t. t.bytes ≡ count_taken v id piece) → IfOk r (λ t. t.handled ≡ handled_by v id piece)
-    → IfOk r (λ t. (es : List Event) → Shows v es → t.handled ≡ handled_in v.config es (Took id (take t.bytes piece)) id)
+    → IfOk r (λ t. (es : List AcceptedCall) → Shows v es → t.handled ≡ handled_in v.config es (Took id (take t.bytes piece)) id)
 unfolding handled_by
 take_says (Ok t) v id piece count says = λ es shows.
     says ∙ tells_handled v es id piece shows (side_of id (world_after v.config es).sides) refl
@@ -140,11 +140,11 @@ take_says (Err e) v id piece count says = tt
 
 -- ---- the number of processed messages
 
-counted : (before after : Stream) (s t : Side) (message : Bool) → Became before after s t message → length t.history.handled ≡ length s.history.handled + count_of (handled_between (Some s) (Some t))
+counted : (before after : Stream) (s t : Connection) (message : Bool) → Became before after s t message → length t.history.handled ≡ length s.history.handled + count_of (handled_between (Some s) (Some t))
 counted before after s t message became = grind (arith, le-ltb, lt-ltb, length-append, no_message_reason)
 
 -- A take has processed as many messages as its result counts.
-pub messages_counted : (c : ConfigValues) (es : List Event) (id : ℕ) (piece : List ℕ) (s t : Side) → AreAccepted c es → side_of id (world_after c es).sides ≡ Some s → side_of id (world_after c (es ++ Took id (take (takes c es id piece) piece) ∷ [])).sides ≡ Some t
+pub messages_counted : (c : ConfigValues) (es : List AcceptedCall) (id : ℕ) (piece : List ℕ) (s t : Connection) → AreAccepted c es → side_of id (world_after c es).sides ≡ Some s → side_of id (world_after c (es ++ Took id (take (takes c es id piece) piece) ∷ [])).sides ≡ Some t
     → length t.history.handled ≡ length s.history.handled + count_of (handled_in c es (Took id (take (takes c es id piece) piece)) id)
 unfolding IsAccepted
 messages_counted c es id piece s t accepted there then =
@@ -155,16 +155,16 @@ messages_counted c es id piece s t accepted there then =
     rw (there, then) (counted _ _ s t after.0 after.1)
 
 -- A take makes at most one step, since its bytes complete at most one message or error.
-pub one_step_at_most : (c : ConfigValues) (es : List Event) (id : ℕ) (piece : List ℕ) (s : Side) → IsReached c es → side_of id (world_after c es).sides ≡ Some s
+pub one_step_at_most : (c : ConfigValues) (es : List AcceptedCall) (id : ℕ) (piece : List ℕ) (s : Connection) → IsReached c es → side_of id (world_after c es).sides ≡ Some s
     → (beyond id (stream_on c.limits.max_message id es) (stream_on c.limits.max_message id (es ++ Took id (take (takes c es id piece) piece) ∷ [])) ≡ [])
     ⊎ ((st : Step) × (beyond id (stream_on c.limits.max_message id es) (stream_on c.limits.max_message id (es ++ Took id (take (takes c es id piece) piece) ∷ [])) ≡ st ∷ []))
 unfolding steps_by
 one_step_at_most c es id piece s is there =
     let so = took_so c es id piece s is there (record { store = (world_after c es).store; now = (world_after c es).now }) in grind arith
 
-module _ (c : ConfigValues) (es : List Event) (id : ℕ) (is : IsReached c es) (before : AgreesOn c es id) where
+module _ (c : ConfigValues) (es : List AcceptedCall) (id : ℕ) (is : IsReached c es) (before : AgreesOn c es id) where
   -- The connection, or a new one, after a step that is none of its messages or errors.
-  from_agrees : (st : Step) (t : Side) → OpensNext c (world_after c es) st → HoldsFrom (Between HandlesNone) c.limits (world_after c es) st id t → Agrees (stream_on c.limits.max_message id es) t
+  from_agrees : (st : Step) (t : Connection) → OpensNext c (world_after c es) st → HoldsFrom (Between HandlesNone) c.limits (world_after c es) st id t → Agrees (stream_on c.limits.max_message id es) t
   from_agrees st t next (inl old) = rests_agrees (stream_on c.limits.max_message id es) old.0 t (before old.0 old.1) old.2
   from_agrees st t next (inr new) =
       let opened = subst (OpensNext c (world_after c es)) new.1 next in
@@ -172,13 +172,13 @@ module _ (c : ConfigValues) (es : List Event) (id : ℕ) (is : IsReached c es) (
       (silent_agrees c.limits c.limits.max_message id es (is.silent id (omega (arith, opened.0)))) new.2
 
   -- An event that makes one step and accepts no byte on the connection.
-  step_agrees : (e : Event) (st : Step) → steps_by c.limits.max_message es e ≡ st ∷ [] → OpensNext c (world_after c es) st → IsElsewhere st id → taken_in id e ≡ [] → AgreesOn c (es ++ e ∷ []) id
+  step_agrees : (e : AcceptedCall) (st : Step) → steps_by c.limits.max_message es e ≡ st ∷ [] → OpensNext c (world_after c es) st → IsElsewhere st id → taken_in id e ≡ [] → AgreesOn c (es ++ e ∷ []) id
   step_agrees e st one next away none t there =
       let at : side_of id (world.step c.limits (world_after c es) st).sides ≡ Some t = ap (λ (w : World). side_of id w.sides) (sym (world_step c es e st one)) ∙ there in
       subst (λ (u : Stream). Agrees u t) (sym (stream_same c.limits.max_message id es e none))
       (from_agrees st t next (step_across (Between HandlesNone) c.limits (world_after c es) st id (rests_of (world_after c es) st id away) t at))
 
-  other_agrees : (other : ℕ) (bytes : List ℕ) (s : Side) (message : Bool) → other ≢ id → TakesSo c.limits.max_message other es bytes s message → AgreesOn c (es ++ event.Took other bytes ∷ []) id
+  other_agrees : (other : ℕ) (bytes : List ℕ) (s : Connection) (message : Bool) → other ≢ id → TakesSo c.limits.max_message other es bytes s message → AgreesOn c (es ++ event.Took other bytes ∷ []) id
   other_agrees other bytes s message apart (NoStep e steps messages fault) t then =
       subst (λ (u : Stream). Agrees u t) (sym (stream_elsewhere c.limits.max_message id other es bytes apart))
       (before t (ap (λ (w : World). side_of id w.sides) (sym (world_same c es (event.Took other bytes) steps)) ∙ then))
@@ -187,7 +187,7 @@ module _ (c : ConfigValues) (es : List Event) (id : ℕ) (is : IsReached c es) (
   other_agrees other bytes s message apart (OneFault e does fault rest adds) t then =
       step_agrees (event.Took other bytes) (world.Faulted other fault) adds.steps tt apart (taken_elsewhere id other bytes apart) t then
 
-  took_agrees : (other : ℕ) (bytes : List ℕ) (there : Option Side) → side_of other (world_after c es).sides ≡ there → IfSide there (λ s. takes c es other bytes ≡ length bytes) → AgreesOn c (es ++ event.Took other bytes ∷ []) id
+  took_agrees : (other : ℕ) (bytes : List ℕ) (there : Option Connection) → side_of other (world_after c es).sides ≡ there → IfSide there (λ s. takes c es other bytes ≡ length bytes) → AgreesOn c (es ++ event.Took other bytes ∷ []) id
   took_agrees other bytes None at all = absurd all
   took_agrees other bytes (Some s) at all =
       elim (cases_eq other id) [
@@ -199,7 +199,7 @@ module _ (c : ConfigValues) (es : List Event) (id : ℕ) (is : IsReached c es) (
         | inr apart ↦ let so = accepted_so c es other bytes s is at all in other_agrees other bytes s so.0 apart so.1
       ]
 
-  event_agrees : (e : Event) → IsAccepted c es e → AgreesOn c (es ++ e ∷ []) id
+  event_agrees : (e : AcceptedCall) → IsAccepted c es e → AgreesOn c (es ++ e ∷ []) id
   unfolding IsAccepted steps_by
   event_agrees (event.Opened n) all = step_agrees (event.Opened n) (world.Opened n) refl (all.0, all.2) tt refl
   event_agrees (event.Took other bytes) all = took_agrees other bytes (side_of other (world_after c es).sides) refl all
@@ -212,6 +212,6 @@ module _ (c : ConfigValues) (es : List Event) (id : ℕ) (is : IsReached c es) (
   event_agrees (event.Announced n size) all = step_agrees (event.Announced n size) (world.Announced n size) refl tt tt refl
   event_agrees (event.Dropped n) all = step_agrees (event.Dropped n) (world.Dropped n) refl tt tt refl
 
-pub handled_agrees : (c : ConfigValues) (es : List Event) (id : ℕ) (s : Side) → AreAccepted c es → side_of id (world_after c es).sides ≡ Some s → Agrees (stream_on c.limits.max_message id es) s
+pub handled_agrees : (c : ConfigValues) (es : List AcceptedCall) (id : ℕ) (s : Connection) → AreAccepted c es → side_of id (world_after c es).sides ≡ Some s → Agrees (stream_on c.limits.max_message id es) s
 handled_agrees c es id s accepted there =
     by_events c (λ fs. AgreesOn c fs id) (first_agrees c id) (λ fs e all last before. event_agrees c fs id (accepted_is c fs all) before e last) es accepted s there

@@ -3,7 +3,7 @@
 use Rattle.std.proofs.Common.{◌≡◌, ℕ, suc, ◌+◌, ◌<◌, List, [], ◌∷◌, ◌++◌, length, take, drop, get_or, Some, None, Result, refl, sym, ap, subst, ◌∙◌, append_assoc, arith, IfErr, inl, inr, ◌⊎◌}
 use Rattle.coap_server_engine.specs.Prelude.{AllByRecursion, Message, Stream, split, split_on, Framing, IsPut, ConfigValues}
 use Rattle.coap_server_engine.specs.Prelude.{Host, SessionValue, change_by, RefusesPiece, ServerValue, session_of, count_on}
-use Rattle.coap_server_engine.specs.Prelude.{count_taken, Side, World, side_of, Handled, Event, stream_on, beyond}
+use Rattle.coap_server_engine.specs.Prelude.{count_taken, Connection, World, side_of, Handled, AcceptedCall, stream_on, beyond}
 use Rattle.coap_server_engine.specs.Prelude.{world_after, size_on, Took, steps_by, takes, change_made, session_shown, Shows}
 use Rattle.coap_server_engine.specs.Prelude.{IsNotTaken, Taken, TakeFault, WrittenFault, ReleaseFault, IsRefusedStored}
 use Rattle.coap_server_engine.specs.Prelude.{IsRefusedFor, StoresNothing}
@@ -24,11 +24,11 @@ use Rattle.coap_model.specs.declared.answers.ReleaseFault.TheVariants as releasi
 use Rattle.coap_model.specs.world.View as view
 
 -- The stream of a connection, continued with more bytes.
-abbrev gone_on_with : ConfigValues → List Event → ℕ → List ℕ → Stream
+abbrev gone_on_with : ConfigValues → List AcceptedCall → ℕ → List ℕ → Stream
 gone_on_with c es id more = split_on (size_on c.limits.max_message id es) (stream_on c.limits.max_message id es) more
 
 -- Allocation failed for the message that ends with the byte after the first `n` bytes of a slice.
-pub record RefusesLast (v : ServerValue) (es : List Event) (id : ℕ) (piece : List ℕ) (n : ℕ) : Type 0 where
+pub record RefusesLast (v : ServerValue) (es : List AcceptedCall) (id : ℕ) (piece : List ℕ) (n : ℕ) : Type 0 where
   pub last : ℕ
   pub behind : List ℕ
   pub all : piece ≡ take n piece ++ last ∷ behind
@@ -42,7 +42,7 @@ pub record RefusesLast (v : ServerValue) (es : List Event) (id : ℕ) (piece : L
 -- ---- a failed allocation
 
 -- If allocation fails for a slice, it fails for the message that the next byte would complete.
-pub refuses_last : (v : ServerValue) (es : List Event) (id : ℕ) (piece : List ℕ) (n : ℕ) (s : SessionValue) → Shows v es → session_of id v.sessions ≡ Some s → RefusesPiece v.host s piece n → RefusesLast v es id piece n
+pub refuses_last : (v : ServerValue) (es : List AcceptedCall) (id : ℕ) (piece : List ℕ) (n : ℕ) (s : SessionValue) → Shows v es → session_of id v.sessions ≡ Some s → RefusesPiece v.host s piece n → RefusesLast v es id piece n
 unfolding steps_by
 refuses_last v es id piece n s shows e refused =
     let w : World = world_after v.config es in
@@ -50,7 +50,7 @@ refuses_last v es id piece n s shows e refused =
     let N : ℕ = size_on M id es in
     let so_far : Stream = stream_on M id es in
     let at = session_there v es id s shows e in
-    let t : Side = at.side in
+    let t : Connection = at.side in
     let refuses : RefusesPiece v.host (session_shown so_far.rest t) piece n = rw at.shown at refused in
     let front : List ℕ = take n piece in
     let last : List ℕ = get_or piece n 0 ∷ [] in
@@ -79,7 +79,7 @@ refuses_last v es id piece n s shows e refused =
 -- ---- the message for which allocation failed, from the events: the next byte of the slice would complete it
 
 -- This message stores a representation.
-pub refused_is_stored : (v after : ServerValue) (es : List Event) (id : ℕ) (piece : List ℕ) (n : ℕ) → Shows v es → IsNotTaken v id piece (fault.Memory n) after → IsRefusedStored v.config es id piece n
+pub refused_is_stored : (v after : ServerValue) (es : List AcceptedCall) (id : ℕ) (piece : List ℕ) (n : ℕ) → Shows v es → IsNotTaken v id piece (fault.Memory n) after → IsRefusedStored v.config es id piece n
 unfolding count_taken steps_by
 refused_is_stored v after es id piece n shows not =
     let M : ℕ = v.config.limits.max_message in
@@ -94,7 +94,7 @@ refused_is_stored v after es id piece n shows not =
     }
 
 -- Allocation fails for no other message.
-pub other_not_refused : (v after : ServerValue) (es : List Event) (id : ℕ) (piece : List ℕ) (n : ℕ) → Shows v es → StoresNothing v.config es id piece → IsNotTaken v id piece (fault.Memory n) after → ⊥
+pub other_not_refused : (v after : ServerValue) (es : List AcceptedCall) (id : ℕ) (piece : List ℕ) (n : ℕ) → Shows v es → StoresNothing v.config es id piece → IsNotTaken v id piece (fault.Memory n) after → ⊥
 other_not_refused v after es id piece n shows nothing not =
     let c : ConfigValues = v.config in
     let refused = refused_is_stored v after es id piece n shows not in
@@ -104,14 +104,14 @@ other_not_refused v after es id piece n shows nothing not =
 
 -- ---- the clause of a take
 
-not_taken_for : (why : TakeFault) (v new : ServerValue) (id : ℕ) (piece : List ℕ) → IsNotTaken v id piece why new → (es : List Event) → Shows v es → IsRefusedFor v.config es id piece why
+not_taken_for : (why : TakeFault) (v new : ServerValue) (id : ℕ) (piece : List ℕ) → IsNotTaken v id piece why new → (es : List AcceptedCall) → Shows v es → IsRefusedFor v.config es id piece why
 not_taken_for fault.NoSuch v new id piece not es shows =
-    let shown : Side → SessionValue = session_shown (stream_on v.config.limits.max_message id es).rest in
+    let shown : Connection → SessionValue = session_shown (stream_on v.config.limits.max_message id es).rest in
     none_made shown (side_of id (world_after v.config es).sides) (sym (sessions_shown v es id shows) ∙ not.0)
 not_taken_for (fault.Memory n) v new id piece not es shows = refused_is_stored v new es id piece n shows not
 
 pub take_refused_for : (r : Result Taken TakeFault) (v new : ServerValue) (id : ℕ) (piece : List ℕ) → IfErr r (λ why. IsNotTaken v id piece why new)
-    → IfErr r (λ why. (es : List Event) → Shows v es → IsRefusedFor v.config es id piece why)
+    → IfErr r (λ why. (es : List AcceptedCall) → Shows v es → IsRefusedFor v.config es id piece why)
 take_refused_for r v new id piece not = IfErr-weaker r (λ why. IsNotTaken v id piece why new) _ (λ why no. not_taken_for why v new id piece no) not
 
 -- ---- the other calls on a connection

@@ -13,11 +13,11 @@ use Rattle.coap_server_engine.specs.Prelude.{session_announced, session_raises, 
 use Rattle.coap_server_engine.specs.Prelude.{settled_entry, server_settled, server_taken_so, ServerValue, server_opened}
 use Rattle.coap_server_engine.specs.Prelude.{server_taken_on, server_taken, count_on, count_taken, server_written}
 use Rattle.coap_server_engine.specs.Prelude.{server_ticked, server_put, server_removed, server_ended, server_released}
-use Rattle.coap_server_engine.specs.Prelude.{server_announced, server_dropped, RefusesPieceOn, Side}
-use Rattle.coap_server_engine.specs.Prelude.{handles, side_after, side_faulted, HearsAll, is_cut}
-use Rattle.coap_server_engine.specs.Prelude.{new_side, side_written, side_ended, side_released, side_announced, Place, World}
+use Rattle.coap_server_engine.specs.Prelude.{server_announced, server_dropped, RefusesPieceOn, Connection}
+use Rattle.coap_server_engine.specs.Prelude.{handles, side_after, side_faulted, IsUpToDate, is_cut}
+use Rattle.coap_server_engine.specs.Prelude.{new_side, side_written, side_ended, side_released, side_announced, ConnectionEntry, World}
 use Rattle.coap_server_engine.specs.Prelude.{Step, side_of, on_side, stored_after, acted, settled_place, all_settled, ticks}
-use Rattle.coap_server_engine.specs.Prelude.{Event, Took, taken_in, stream_on, steps_by, world_after, size_on, Opened, Wrote}
+use Rattle.coap_server_engine.specs.Prelude.{AcceptedCall, Took, taken_in, stream_on, steps_by, world_after, size_on, Opened, Wrote}
 use Rattle.coap_server_engine.specs.Prelude.{Ticked, Stored, Removed, Ended, Released, Dropped, takes_of, takes, OnSide}
 use Rattle.coap_server_engine.specs.Prelude.{IsAccepted, Announced, session_shown, place_shown, server_shown, server_of}
 use Rattle.coap_server_engine.specs.Prelude.{Shows, Server, LinkValue, new_link, IsHistory, release_refusal, Path}
@@ -43,7 +43,7 @@ use Rattle.coap_model.specs.world.World as world
 -- ---- connections by id
 
 -- The connection of a server with this id represents that of the model.
-session_found : (M id : ℕ) (es : List Event) (ps : List Place) → session_of id (map (place_shown M es) ps) ≡ option_map (session_shown (stream_on M id es).rest) (side_of id ps)
+session_found : (M id : ℕ) (es : List AcceptedCall) (ps : List ConnectionEntry) → session_of id (map (place_shown M es) ps) ≡ option_map (session_shown (stream_on M id es).rest) (side_of id ps)
 unfolding session_of side_of
 session_found M id es [] = refl
 session_found M id es (p ∷ ps) = grind (arith, nat_tests, session_found M id es ps)
@@ -52,11 +52,11 @@ session_found M id es (p ∷ ps) = grind (arith, nat_tests, session_found M id e
 
 -- Ids are distinct. So it is enough that `g` maps the value of `t` after `es` to its value after `fs`, and that the
 -- other streams are equal.
-one_becomes : (M id : ℕ) (es fs : List Event) (f : Side → Side) (g : SessionValue → SessionValue) (t : Side) (ps : List Place) → AreDistinct ps → side_of id ps ≡ Some t
+one_becomes : (M id : ℕ) (es fs : List AcceptedCall) (f : Connection → Connection) (g : SessionValue → SessionValue) (t : Connection) (ps : List ConnectionEntry) → AreDistinct ps → side_of id ps ≡ Some t
     → ((n : ℕ) → id ≢ n → stream_on M n fs ≡ stream_on M n es) → session_shown (stream_on M id fs).rest (f t) ≡ g (session_shown (stream_on M id es).rest t)
     → map (place_shown M fs) (map (changed_at id f) ps) ≡ map (session_becomes id g) (map (place_shown M es) ps)
 one_becomes M id es fs f g t ps distinct there same becomes =
-    let place : ℕ → Side → Place = λ (n : ℕ) (s : Side). record { id = n; side = s } in
+    let place : ℕ → Connection → ConnectionEntry = λ (n : ℕ) (s : Connection). record { id = n; side = s } in
     maps_alike (changed_at id f) (place_shown M fs) (place_shown M es) (session_becomes id g) ps
     (of_each (λ n s. place_shown M fs (changed_at id f (place n s)) ≡ session_becomes id g (place_shown M es (place n s))) ps distinct
     (λ n s at. grind (arith, nat_tests, there, at, becomes, same n)))
@@ -64,10 +64,10 @@ one_becomes M id es fs f g t ps distinct there same becomes =
 -- ---- settling
 
 -- A server settles as its model does.
-server_after_settling : (c : ConfigValues) (es : List Event) (w : World) → IsKnownWorld w → server_shown c es (all_settled w) ≡ server_settled (server_shown c es w)
+server_after_settling : (c : ConfigValues) (es : List AcceptedCall) (w : World) → IsKnownWorld w → server_shown c es (all_settled w) ≡ server_settled (server_shown c es w)
 server_after_settling c es w known =
-    let shown : Place → ℕ × SessionValue = place_shown c.limits.max_message es in
-    let settles : Place → Place = settled_place w.store w.now in
+    let shown : ConnectionEntry → ℕ × SessionValue = place_shown c.limits.max_message es in
+    let settles : ConnectionEntry → ConnectionEntry = settled_place w.store w.now in
     let host : Host = host_of w.store w.now in
     ap (λ (os : List (ℕ × SessionValue)). record (server_shown c es w) { sessions = os })
     (maps_alike settles shown shown (settled_entry host) w.sides
@@ -76,7 +76,7 @@ server_after_settling c es w known =
     (settled_shown w.store w.now known.moment known.versioned (stream_on c.limits.max_message p.id es).rest p.side is)) w.sides known.places))
 
 -- The history of a connection of a reached world is valid.
-history_there : (c : ConfigValues) (es : List Event) (id : ℕ) (t : Side) → c.starts.moment ≤ 18446744073709551615 → side_of id (world_after c es).sides ≡ Some t → IsHistory t.history
+history_there : (c : ConfigValues) (es : List AcceptedCall) (id : ℕ) (t : Connection) → c.starts.moment ≤ 18446744073709551615 → side_of id (world_after c es).sides ≡ Some t → IsHistory t.history
 history_there c es id t small there =
     (of_number (λ n s. IsKnownSide (world_after c es).store s) id t (world_after c es).sides (world_known c es small).places there).is_history
 
@@ -87,7 +87,7 @@ unfolding taking
 taking_stopped host s piece stopped = rw stopped refl
 
 -- A connection that accepts bytes finds in the kept bytes and the slice the frame or error that `framing` finds.
-pub taking_front : (host : Host) (M : ℕ) (rest piece : List ℕ) (t : Side) → t.history.own_max ≡ M → handles t ≡ true
+pub taking_front : (host : Host) (M : ℕ) (rest piece : List ℕ) (t : Connection) → t.history.own_max ≡ M → handles t ≡ true
     → taking host (session_shown rest t) piece ≡ taking_found host (session_shown rest t) (framing M rest piece) (framing M rest piece).finding
 unfolding taking
 taking_front host M rest piece t most does = rw ((handles_parts t does).0, (handles_parts t does).1, most) refl
@@ -96,7 +96,7 @@ count_found : (host : Host) (s : SessionValue) (f : Framing) (found : FrameEvent
 count_found host s f found = grind arith
 
 -- The number of bytes that it accepts.
-pub taking_count : (host : Host) (M : ℕ) (rest piece : List ℕ) (t : Side) → t.history.own_max ≡ M → (taking host (session_shown rest t) piece).count ≡ (if handles t then front_of M rest piece else 0)
+pub taking_count : (host : Host) (M : ℕ) (rest piece : List ℕ) (t : Connection) → t.history.own_max ≡ M → (taking host (session_shown rest t) piece).count ≡ (if handles t then front_of M rest piece else 0)
 taking_count host M rest piece t most =
     let s : SessionValue = session_shown rest t in
     let f : Framing = framing M rest piece in
@@ -120,7 +120,7 @@ stores_by host s f other put = absurd put
 
 -- ---- the bytes that a server accepts
 
-module _ (c : ConfigValues) (es : List Event) (id : ℕ) (piece : List ℕ) (t : Side) (small : c.starts.moment ≤ 18446744073709551615) (is : IsReached c es) (there : side_of id (world_after c es).sides ≡ Some t) where
+module _ (c : ConfigValues) (es : List AcceptedCall) (id : ℕ) (piece : List ℕ) (t : Connection) (small : c.starts.moment ≤ 18446744073709551615) (is : IsReached c es) (there : side_of id (world_after c es).sides ≡ Some t) where
   abbrev most : ℕ
   most = c.limits.max_message
 
@@ -151,13 +151,13 @@ module _ (c : ConfigValues) (es : List Event) (id : ℕ) (piece : List ℕ) (t :
   TakesAs k = server_taken_so (server_of c es) id k ≡ server_of c (es ++ Took id (take k.count piece) ∷ [])
 
   -- Bytes that change the connection by `f`, whose value is `v` then.
-  took : (bytes : List ℕ) (f : Side → Side) (v : SessionValue) (store : StoreValue) → IsKnownWorld (record (on_side id f world_then) { store = store })
+  took : (bytes : List ℕ) (f : Connection → Connection) (v : SessionValue) (store : StoreValue) → IsKnownWorld (record (on_side id f world_then) { store = store })
       → world_after c (es ++ Took id bytes ∷ []) ≡ all_settled (record (on_side id f world_then) { store = store })
       → session_shown (stream_on most id (es ++ Took id bytes ∷ [])).rest (f t) ≡ v
       → server_settled (record (on_session id (λ s. v) (server_of c es)) { host = host_of store world_then.now }) ≡ server_of c (es ++ Took id bytes ∷ [])
   unfolding server_of
   took bytes f v store known settles shown =
-      let fs : List Event = es ++ Took id bytes ∷ [] in
+      let fs : List AcceptedCall = es ++ Took id bytes ∷ [] in
       let host : Host = host_of store world_then.now in
       sym (ap (server_shown c fs) settles ∙ server_after_settling c fs (record (on_side id f world_then) { store = store }) known
       ∙ ap (λ (os : List (ℕ × SessionValue)). server_settled (record (server_shown c es world_then) { host = host; sessions = os }))
@@ -169,7 +169,7 @@ module _ (c : ConfigValues) (es : List Event) (id : ℕ) (piece : List ℕ) (t :
   unfolding server_of
   took_quietly bytes v none shown =
       let still : on_side id (λ s. s) world_then ≡ world_then =
-      ap (λ (ps : List Place). record world_then { sides = ps }) (places_unchanged id world_then.sides) in
+      ap (λ (ps : List ConnectionEntry). record world_then { sides = ps }) (places_unchanged id world_then.sides) in
       took bytes (λ s. s) v world_then.store (rw still (world_known c es small))
       (world_same c es (Took id bytes) none ∙ sym (world_stays world_then (world_hears c es)) ∙ ap all_settled (sym still)) shown
 
@@ -225,63 +225,63 @@ module _ (c : ConfigValues) (es : List Event) (id : ℕ) (piece : List ℕ) (t :
 -- ---- the connections of a server are those of its model
 
 -- The bytes kept of a connection's unfinished frame.
-abbrev rest_on : ServerValue → List Event → ℕ → List ℕ
+abbrev rest_on : ServerValue → List AcceptedCall → ℕ → List ℕ
 rest_on v es id = (stream_on v.config.limits.max_message id es).rest
 
 -- The connection of the model that a session represents.
-pub record SessionThere (v : ServerValue) (events : List Event) (id : ℕ) (s : SessionValue) : Type 0 where
-  pub side : Side
+pub record SessionThere (v : ServerValue) (events : List AcceptedCall) (id : ℕ) (s : SessionValue) : Type 0 where
+  pub side : Connection
   pub there : side_of id (world_after v.config events).sides ≡ Some side
   pub shown : s ≡ session_shown (stream_on v.config.limits.max_message id events).rest side
 
 -- A server has a connection with an id if and only if its model has, and their values correspond.
-pub sessions_shown : (v : ServerValue) (es : List Event) (id : ℕ) → Shows v es → session_of id v.sessions ≡ option_map (session_shown (stream_on v.config.limits.max_message id es).rest) (side_of id (world_after v.config es).sides)
+pub sessions_shown : (v : ServerValue) (es : List AcceptedCall) (id : ℕ) → Shows v es → session_of id v.sessions ≡ option_map (session_shown (stream_on v.config.limits.max_message id es).rest) (side_of id (world_after v.config es).sides)
 unfolding server_of
 sessions_shown v es id shows =
     ap (λ (u : ServerValue). session_of id u.sessions) shows.same ∙ session_found v.config.limits.max_message id es (world_after v.config es).sides
 
-pub session_there : (v : ServerValue) (es : List Event) (id : ℕ) (s : SessionValue) → Shows v es → session_of id v.sessions ≡ Some s → SessionThere v es id s
+pub session_there : (v : ServerValue) (es : List AcceptedCall) (id : ℕ) (s : SessionValue) → Shows v es → session_of id v.sessions ≡ Some s → SessionThere v es id s
 session_there v es id s shows e =
     let made = one_made (session_shown (rest_on v es id)) (side_of id (world_after v.config es).sides) s (sym (sessions_shown v es id shows) ∙ e) in
     record { side = made.0; there = made.1; shown = sym made.2 }
 
 -- The session of a connection of the model.
-pub side_there : (v : ServerValue) (es : List Event) (id : ℕ) (t : Side) → Shows v es → side_of id (world_after v.config es).sides ≡ Some t → session_of id v.sessions ≡ Some (session_shown (stream_on v.config.limits.max_message id es).rest t)
+pub side_there : (v : ServerValue) (es : List AcceptedCall) (id : ℕ) (t : Connection) → Shows v es → side_of id (world_after v.config es).sides ≡ Some t → session_of id v.sessions ≡ Some (session_shown (stream_on v.config.limits.max_message id es).rest t)
 side_there v es id t shows e = sessions_shown v es id shows ∙ rw e refl
 
 -- A server has no connection with an id if its model has none.
-pub no_session : (v : ServerValue) (es : List Event) (id : ℕ) → Shows v es → side_of id (world_after v.config es).sides ≡ None → session_of id v.sessions ≡ None
+pub no_session : (v : ServerValue) (es : List AcceptedCall) (id : ℕ) → Shows v es → side_of id (world_after v.config es).sides ≡ None → session_of id v.sessions ≡ None
 no_session v es id shows e = sessions_shown v es id shows ∙ rw e refl
 
 -- The resources and the time.
-pub host_shown : (v : ServerValue) (es : List Event) → Shows v es → v.host ≡ host_of (world_after v.config es).store (world_after v.config es).now
+pub host_shown : (v : ServerValue) (es : List AcceptedCall) → Shows v es → v.host ≡ host_of (world_after v.config es).store (world_after v.config es).now
 unfolding server_of
 host_shown v es shows = ap (λ (u : ServerValue). u.host) shows.same
 
 -- ---- no change is lost
 
 -- A connection is up to date if its queue has room, since the one of the model is.
-pub no_change_is_lost : (v : ServerValue) (es : List Event) (id : ℕ) (s : SessionValue) (t : Side) → Shows v es → session_of id v.sessions ≡ Some s → side_of id (world_after v.config es).sides ≡ Some t → HearsAll v.host.store v.host.now t
+pub no_change_is_lost : (v : ServerValue) (es : List AcceptedCall) (id : ℕ) (s : SessionValue) (t : Connection) → Shows v es → session_of id v.sessions ≡ Some s → side_of id (world_after v.config es).sides ≡ Some t → IsUpToDate v.host.store v.host.now t
 no_change_is_lost v es id s t shows e there =
     let w : World = world_after v.config es in
-    rw (host_shown v es shows) (of_number (λ n u. HearsAll w.store w.now u) id t w.sides (world_hears v.config es) there)
+    rw (host_shown v es shows) (of_number (λ n u. IsUpToDate w.store w.now u) id t w.sides (world_hears v.config es) there)
 
 -- ---- calls that accept no byte
 
 -- A server with the value after one more accepted event shows that event too.
-shows_event : (v new : ServerValue) (es : List Event) (e : Event) → Shows v es → IsAccepted v.config es e → new ≡ server_of v.config (es ++ e ∷ []) → Shows new (es ++ e ∷ [])
+shows_event : (v new : ServerValue) (es : List AcceptedCall) (e : AcceptedCall) → Shows v es → IsAccepted v.config es e → new ≡ server_of v.config (es ++ e ∷ []) → Shows new (es ++ e ∷ [])
 unfolding server_of
 shows_event v new es e shows accepted same =
     rw same (record { accepted = accepted_more v.config es e shows.accepted accepted; same = refl; moment = shows.moment })
 
 -- An event without bytes that makes one step, where `g` changes the server as the step changes its model.
-shows_step : (v : ServerValue) (es : List Event) (e : Event) (st : Step) (g : ServerValue → ServerValue) → Shows v es → IsAccepted v.config es e → steps_by v.config.limits.max_message es e ≡ st ∷ [] → ((id : ℕ) → taken_in id e ≡ [])
+shows_step : (v : ServerValue) (es : List AcceptedCall) (e : AcceptedCall) (st : Step) (g : ServerValue → ServerValue) → Shows v es → IsAccepted v.config es e → steps_by v.config.limits.max_message es e ≡ st ∷ [] → ((id : ℕ) → taken_in id e ≡ [])
     → server_shown v.config es (acted v.config.limits (world_after v.config es) st) ≡ g (server_of v.config es) → Shows (server_settled (g v)) (es ++ e ∷ [])
 unfolding server_of world.step
 shows_step v es e st g shows accepted one none becomes =
     let c : ConfigValues = v.config in
     let did : World = acted c.limits (world_after c es) st in
-    let fs : List Event = es ++ e ∷ [] in
+    let fs : List AcceptedCall = es ++ e ∷ [] in
     let streams : server_shown c fs did ≡ server_shown c es did =
     ap (λ (streams : ℕ → Stream). record (server_shown c es did) { sessions = map (λ p. (p.id, session_shown (streams p.id).rest p.side)) did.sides })
     (streams_same c.limits.max_message es e none) in
@@ -291,11 +291,11 @@ shows_step v es e st g shows accepted one none becomes =
     ∙ server_after_settling c fs did (acted_known c.limits (world_after c es) st (world_known c es shows.moment)) ∙ ap server_settled (streams ∙ becomes)))
 
 -- The same for a step that changes only one connection, which has the property `P`.
-shows_on : (v : ServerValue) (es : List Event) (id : ℕ) (s : SessionValue) (e : Event) (st : Step) (f : Side → Side) (g : SessionValue → SessionValue) (P : SessionValue → Type 0)
+shows_on : (v : ServerValue) (es : List AcceptedCall) (id : ℕ) (s : SessionValue) (e : AcceptedCall) (st : Step) (f : Connection → Connection) (g : SessionValue → SessionValue) (P : SessionValue → Type 0)
     → Shows v es → session_of id v.sessions ≡ Some s → P s → steps_by v.config.limits.max_message es e ≡ st ∷ [] → ((k : ℕ) → taken_in k e ≡ [])
     → acted v.config.limits (world_after v.config es) st ≡ on_side id f (world_after v.config es)
     → (OnSide id (world_after v.config es) (λ t. P (session_shown (rest_on v es id) t)) → IsAccepted v.config es e)
-    → ((t : Side) → IsHistory t.history → P (session_shown (rest_on v es id) t) → session_shown (rest_on v es id) (f t) ≡ g (session_shown (rest_on v es id) t))
+    → ((t : Connection) → IsHistory t.history → P (session_shown (rest_on v es id) t) → session_shown (rest_on v es id) (f t) ≡ g (session_shown (rest_on v es id) t))
     → Shows (server_settled (on_session id g v)) (es ++ e ∷ [])
 unfolding server_of
 shows_on v es id s e st f g P shows there holds one none acts accepts becomes =
@@ -309,35 +309,35 @@ shows_on v es id s e st f g P shows there holds one none acts accepts becomes =
     (becomes at.side (history_there c es id at.side shows.moment at.there) here)))
 
 -- `written`.
-pub shows_written : (v : ServerValue) (es : List Event) (id n : ℕ) (s : SessionValue) → Shows v es → session_of id v.sessions ≡ Some s → n ≤ length s.link.waiting → Shows (server_written v id n) (es ++ Wrote id n ∷ [])
+pub shows_written : (v : ServerValue) (es : List AcceptedCall) (id n : ℕ) (s : SessionValue) → Shows v es → session_of id v.sessions ≡ Some s → n ≤ length s.link.waiting → Shows (server_written v id n) (es ++ Wrote id n ∷ [])
 unfolding IsAccepted acted steps_by
 shows_written v es id n s shows there within =
     shows_on v es id s (Wrote id n) _ (λ t. side_written t n) (λ u. session_written u n) (λ u. n ≤ length u.link.waiting) shows there within
     refl (λ k. refl) refl (λ ok. ok) (λ t history few. written_shown (rest_on v es id) t n history few)
 
 -- `ended`.
-pub shows_ended : (v : ServerValue) (es : List Event) (id : ℕ) (s : SessionValue) → Shows v es → session_of id v.sessions ≡ Some s → Shows (server_ended v id) (es ++ Ended id ∷ [])
+pub shows_ended : (v : ServerValue) (es : List AcceptedCall) (id : ℕ) (s : SessionValue) → Shows v es → session_of id v.sessions ≡ Some s → Shows (server_ended v id) (es ++ Ended id ∷ [])
 unfolding IsAccepted acted steps_by
 shows_ended v es id s shows there =
     shows_on v es id s (Ended id) _ (λ t. side_ended t (is_cut (rest_on v es id))) session_ended (λ u. Unit {0}) shows there tt
     refl (λ k. refl) refl (λ ok. ok) (λ t history any. ended_side_shown (rest_on v es id) t history)
 
 -- `release`.
-pub shows_released : (v : ServerValue) (es : List Event) (id : ℕ) (s : SessionValue) → Shows v es → session_of id v.sessions ≡ Some s → release_refusal s.link ≡ None → Shows (server_released v id) (es ++ Released id ∷ [])
+pub shows_released : (v : ServerValue) (es : List AcceptedCall) (id : ℕ) (s : SessionValue) → Shows v es → session_of id v.sessions ≡ Some s → release_refusal s.link ≡ None → Shows (server_released v id) (es ++ Released id ∷ [])
 unfolding IsAccepted acted steps_by
 shows_released v es id s shows there none =
     shows_on v es id s (Released id) _ side_released session_released (λ u. release_refusal u.link ≡ None) shows there none
     refl (λ k. refl) refl (λ ok. ok) (released_shown (rest_on v es id))
 
 -- `announce`.
-pub shows_announced : (v : ServerValue) (es : List Event) (id size : ℕ) (s : SessionValue) → Shows v es → session_of id v.sessions ≡ Some s → session_raises s size ≡ true → Shows (server_announced v id size) (es ++ Announced id size ∷ [])
+pub shows_announced : (v : ServerValue) (es : List AcceptedCall) (id size : ℕ) (s : SessionValue) → Shows v es → session_of id v.sessions ≡ Some s → session_raises s size ≡ true → Shows (server_announced v id size) (es ++ Announced id size ∷ [])
 unfolding IsAccepted acted steps_by
 shows_announced v es id size s shows there raises =
     shows_on v es id s (Announced id size) _ (λ t. side_announced t size) (λ u. session_announced u size) (λ u. session_raises u size ≡ true) shows there raises
     refl (λ k. refl) refl (λ ok. ok) (λ t history may. announced_shown (rest_on v es id) t size history may)
 
 -- `drop_conn`.
-pub shows_dropped : (v : ServerValue) (es : List Event) (id : ℕ) (s : SessionValue) → Shows v es → session_of id v.sessions ≡ Some s → Shows (server_dropped v id) (es ++ Dropped id ∷ [])
+pub shows_dropped : (v : ServerValue) (es : List AcceptedCall) (id : ℕ) (s : SessionValue) → Shows v es → session_of id v.sessions ≡ Some s → Shows (server_dropped v id) (es ++ Dropped id ∷ [])
 unfolding IsAccepted server_of acted steps_by
 shows_dropped v es id s shows there =
     let c : ConfigValues = v.config in
@@ -348,14 +348,14 @@ shows_dropped v es id s shows there =
     (mapped_filter (place_shown c.limits.max_message es) others (world_after c es).sides))
 
 -- `tick`.
-pub shows_ticked : (v : ServerValue) (es : List Event) (now : ℕ) → Shows v es → v.host.now ≤ now → now ≤ 18446744073709551615 → Shows (server_ticked v now) (es ++ Ticked now ∷ [])
+pub shows_ticked : (v : ServerValue) (es : List AcceptedCall) (now : ℕ) → Shows v es → v.host.now ≤ now → now ≤ 18446744073709551615 → Shows (server_ticked v now) (es ++ Ticked now ∷ [])
 unfolding IsAccepted server_of acted steps_by
 shows_ticked v es now shows later small =
     let ticks_there : ticks (world_after v.config es).now now ≡ true = grind (arith, nat_tests, host_shown v es shows) in
     shows_step v es (Ticked now) _ (λ u. record u { host = record u.host { now = now } }) shows ticks_there refl (λ k. refl) (rw ticks_there refl)
 
 -- `put`.
-pub shows_put : (v : ServerValue) (es : List Event) (path : Path) (format : Option ℕ) (bytes : List ℕ) → Shows v es → put_refusal v.host.store path bytes ≡ None → Shows (server_put v path format bytes) (es ++ Stored path format bytes ∷ [])
+pub shows_put : (v : ServerValue) (es : List AcceptedCall) (path : Path) (format : Option ℕ) (bytes : List ℕ) → Shows v es → put_refusal v.host.store path bytes ≡ None → Shows (server_put v path format bytes) (es ++ Stored path format bytes ∷ [])
 unfolding IsAccepted server_of acted steps_by
 shows_put v es path format bytes shows none =
     let free : put_refusal (world_after v.config es).store path bytes ≡ None = rw (host_shown v es shows) at none in
@@ -363,20 +363,20 @@ shows_put v es path format bytes shows none =
     refl (λ k. refl) (rw free refl)
 
 -- `remove`.
-pub shows_removed : (v : ServerValue) (es : List Event) (path : Path) → Shows v es → remove_refusal v.host.store path ≡ None → Shows (server_removed v path) (es ++ Removed path ∷ [])
+pub shows_removed : (v : ServerValue) (es : List AcceptedCall) (path : Path) → Shows v es → remove_refusal v.host.store path ≡ None → Shows (server_removed v path) (es ++ Removed path ∷ [])
 unfolding IsAccepted server_of acted steps_by
 shows_removed v es path shows none =
     shows_step v es (Removed path) _ (λ u. record u { host = record u.host { store = removed_in u.host.store path } }) shows
     (rw (host_shown v es shows) at none) refl (λ k. refl) refl
 
 -- `open`.
-pub shows_opened : (v : ServerValue) (es : List Event) → Shows v es → v.ids + 1 ≤ 18446744073709551615 → length v.sessions < v.config.connections → Shows (server_opened v) (es ++ Opened (v.ids + 1) ∷ [])
+pub shows_opened : (v : ServerValue) (es : List AcceptedCall) → Shows v es → v.ids + 1 ≤ 18446744073709551615 → length v.sessions < v.config.connections → Shows (server_opened v) (es ++ Opened (v.ids + 1) ∷ [])
 unfolding IsAccepted server_of steps_by
 shows_opened v es shows left room =
     let c : ConfigValues = v.config in
     let w : World = world_after c es in
     let id : ℕ = v.ids + 1 in
-    let shown : Place → ℕ × SessionValue = place_shown c.limits.max_message es in
+    let shown : ConnectionEntry → ℕ × SessionValue = place_shown c.limits.max_message es in
     let new : SessionValue = new_session c.limits in
     let is : IsReached c es = accepted_is c es shows.accepted in
     let next : id ≡ w.ids + 1 = ap (λ (u : ServerValue). u.ids + 1) shows.same in
@@ -392,19 +392,19 @@ shows_opened v es shows left room =
 
 -- ---- accepted bytes
 
-takes_by : (v : ServerValue) (es : List Event) (id : ℕ) (piece : List ℕ) (side : Option Side) → IsReached v.config es → side_of id (world_after v.config es).sides ≡ side
+takes_by : (v : ServerValue) (es : List AcceptedCall) (id : ℕ) (piece : List ℕ) (side : Option Connection) → IsReached v.config es → side_of id (world_after v.config es).sides ≡ side
     → count_on v piece (option_map (session_shown (rest_on v es id)) side) ≡ takes_of (size_on v.config.limits.max_message id es) (rest_on v es id) piece side
 takes_by v es id piece None is e = refl
 takes_by v es id piece (Some t) is e = taking_count v.host (size_on v.config.limits.max_message id es) (rest_on v es id) piece t (is.sizes id t e)
 
 -- The number of bytes that a server accepts is a function of its events.
-pub takes_shown : (v : ServerValue) (es : List Event) (id : ℕ) (piece : List ℕ) → Shows v es → count_taken v id piece ≡ takes v.config es id piece
+pub takes_shown : (v : ServerValue) (es : List AcceptedCall) (id : ℕ) (piece : List ℕ) → Shows v es → count_taken v id piece ≡ takes v.config es id piece
 unfolding count_taken takes
 takes_shown v es id piece shows =
     ap (count_on v piece) (sessions_shown v es id shows)
     ∙ takes_by v es id piece (side_of id (world_after v.config es).sides) (accepted_is v.config es shows.accepted) refl
 
-pub shows_taken : (v : ServerValue) (es : List Event) (id : ℕ) (piece : List ℕ) (s : SessionValue) → Shows v es → session_of id v.sessions ≡ Some s → Shows (server_taken v id piece) (es ++ Took id (take (count_taken v id piece) piece) ∷ [])
+pub shows_taken : (v : ServerValue) (es : List AcceptedCall) (id : ℕ) (piece : List ℕ) (s : SessionValue) → Shows v es → session_of id v.sessions ≡ Some s → Shows (server_taken v id piece) (es ++ Took id (take (count_taken v id piece) piece) ∷ [])
 unfolding server_taken
 shows_taken v es id piece s shows e =
     let c : ConfigValues = v.config in
@@ -430,7 +430,7 @@ refused_on v piece n None refuses = absurd refuses
 refused_on v piece n (Some s) refuses = (s, refl, refuses)
 
 -- A slice on a connection of the model.
-module _ (v : ServerValue) (es : List Event) (id : ℕ) (piece : List ℕ) (n : ℕ) (t : Side) (shows : Shows v es) (there : side_of id (world_after v.config es).sides ≡ Some t) (refuses : RefusesPiece v.host (session_shown (stream_on v.config.limits.max_message id es).rest t) piece n) where
+module _ (v : ServerValue) (es : List AcceptedCall) (id : ℕ) (piece : List ℕ) (n : ℕ) (t : Connection) (shows : Shows v es) (there : side_of id (world_after v.config es).sides ≡ Some t) (refuses : RefusesPiece v.host (session_shown (stream_on v.config.limits.max_message id es).rest t) piece n) where
   abbrev stream_then : Stream
   stream_then = stream_on v.config.limits.max_message id es
 
@@ -466,7 +466,7 @@ module _ (v : ServerValue) (es : List Event) (id : ℕ) (piece : List ℕ) (n : 
       ∙ rw refusing_handles (ap (λ (f : Framing). f.taken) nothing ∙ length-take-le n piece (omega (arith, within)))
 
 -- All bytes but the last of a message that stores a representation are accepted, and the server shows this.
-pub shows_refused_take : (v : ServerValue) (es : List Event) (id : ℕ) (piece : List ℕ) (n : ℕ) (s : SessionValue) → Shows v es → session_of id v.sessions ≡ Some s → RefusesPiece v.host s piece n
+pub shows_refused_take : (v : ServerValue) (es : List AcceptedCall) (id : ℕ) (piece : List ℕ) (n : ℕ) (s : SessionValue) → Shows v es → session_of id v.sessions ≡ Some s → RefusesPiece v.host s piece n
     → Shows (server_taken v id (take n piece)) (es ++ Took id (take n piece) ∷ [])
 shows_refused_take v es id piece n s shows e refuses =
     let at = session_there v es id s shows e in

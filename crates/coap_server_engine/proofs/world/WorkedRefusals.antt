@@ -1,7 +1,7 @@
 -- Worked values: reasons for which a size is not announced on a connection of a server (RFC 8323 section 5.3.1).
 use Rattle.std.proofs.Common.{◌≡◌, ℕ, List, [], ◌∷◌, ◌++◌, map, Option, Some, None, refl}
-use Rattle.coap_server_engine.specs.Prelude.{ConfigValues, SessionValue, announced_refusal_on, AnnounceFault, Side, side_of}
-use Rattle.coap_server_engine.specs.Prelude.{Event, Opened, Took, Wrote, Announced, stream_on, world_after, session_shown}
+use Rattle.coap_server_engine.specs.Prelude.{ConfigValues, SessionValue, announced_refusal_on, AnnounceFault, Connection, side_of}
+use Rattle.coap_server_engine.specs.Prelude.{AcceptedCall, Opened, Took, Wrote, Announced, stream_on, world_after, session_shown}
 use Rattle.coap_model.specs.declared.answers.AnnounceFault.TheVariants as fault
 use Rattle.coap_text.proofs.HexDigits.{hex}
 use Rattle.coap_model.proofs.world.Rows.{told}
@@ -11,24 +11,24 @@ narrow_config : ConfigValues
 narrow_config = config_with (narrow_limits 1152) 0
 
 -- The connection with this id of a server after these events.
-abbrev there : List Event → ℕ → Option SessionValue
+abbrev there : List AcceptedCall → ℕ → Option SessionValue
 there events id = found (side_of id (world_after narrow_config events).sides)
   where
-    found : Option Side → Option SessionValue
+    found : Option Connection → Option SessionValue
     found None = None
     found (Some s) = Some (session_shown (stream_on 1152 id events).rest s)
 
-greeted_events : List Event
+greeted_events : List AcceptedCall
 greeted_events = Opened 1 ∷ Wrote 1 7 ∷ []
 
-opened_events : List Event
+opened_events : List AcceptedCall
 opened_events = greeted_events ++ Took 1 (hex "00e1") ∷ []
 
-small_peer : List Event
+small_peer : List AcceptedCall
 small_peer = greeted_events ++ Took 1 (hex "20e12104") ∷ []
 
 -- The refusals of sizes on connections after events.
-abbrev refusals : List (List Event × ℕ × ℕ) → List (Option AnnounceFault)
+abbrev refusals : List (List AcceptedCall × ℕ × ℕ) → List (Option AnnounceFault)
 refusals rows = map (λ r. announced_refusal_on r.2 (there r.0 r.1)) rows
 
 not_announced : refusals (

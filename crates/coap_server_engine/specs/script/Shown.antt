@@ -7,7 +7,7 @@ use Rattle.coap_server_engine.specs.script.Replay.{drained, tick_refusal, event_
 use Rattle.coap_server_engine.specs.values.Fed.{where_there, took, ShowsMore, IsPartlyTaken}
 use Rattle.coap_server_engine.specs.values.Servers.{ServerValue, session_of}
 use Rattle.coap_server_engine.specs.values.ServerAnswers.{open_refusal, released_refusal}
-use Rattle.coap_model.specs.world.Events.{Event, Opened, Wrote, Ticked, Stored, Removed, Ended, Released, Dropped}
+use Rattle.coap_model.specs.world.Events.{AcceptedCall, Opened, Wrote, Ticked, Stored, Removed, Ended, Released, Dropped}
 use Rattle.coap_server_engine.specs.world.Shows.{Shows}
 use Rattle.coap_server_engine.specs.declared.replay.ReplayFault.{ReplayFault}
 use Rattle.coap_server_engine.specs.declared.replay.ReplayFault.TheVariants.{Write, Memory}
@@ -15,12 +15,12 @@ use Rattle.coap_server_engine.specs.declared.replay.ReplayFault.TheVariants.{Wri
 -- ---- the calls of one event
 
 -- The event of a call, unless the call fails.
-abbrev pub unless : {F : Type 0} → Option F → Event → List Event
+abbrev pub unless : {F : Type 0} → Option F → AcceptedCall → List AcceptedCall
 unless None e = e ∷ []
 unless (Some refusal) e = []
 
 -- The calls that an event of a script makes and that succeed.
-unfoldable pub events_made : ServerValue → ScriptEventValue → List Event
+unfoldable pub events_made : ServerValue → ScriptEventValue → List AcceptedCall
 events_made v Open = unless (open_refusal v) (Opened (v.ids + 1))
 events_made v (In id bytes) = took v id bytes
 events_made v (Drain id most) = where_there (session_of id v.sessions) (λ s. Wrote id (length (drained most s.link.waiting)))
@@ -33,14 +33,14 @@ events_made v (Drop id) = where_there (session_of id v.sessions) (λ s. Dropped 
 events_made v (Status id) = []
 
 -- The calls of all events, each on the server after those before it.
-unfoldable pub events_ran : ServerValue → List ScriptEventValue → List Event
+unfoldable pub events_ran : ServerValue → List ScriptEventValue → List AcceptedCall
 events_ran v [] = []
 events_ran v (e ∷ es) = events_made v e ++ events_ran (event_ran v e).server es
 
 -- ---- one event
 
 -- Holds if `more` are the calls that an event made before allocation failed for it. Only an `in` makes any.
-abbrev pub IsPartlyMade : ServerValue → ScriptEventValue → ServerValue → List Event → Type 0
+abbrev pub IsPartlyMade : ServerValue → ScriptEventValue → ServerValue → List AcceptedCall → Type 0
 IsPartlyMade v Open after more = more ≡ []
 IsPartlyMade v (In id bytes) after more = IsPartlyTaken v id bytes after more
 IsPartlyMade v (Drain id most) after more = more ≡ []
@@ -54,7 +54,7 @@ IsPartlyMade v (Status id) after more = more ≡ []
 
 -- Holds if allocation failed for an event, and the server shows the calls that it made before.
 pub record ShowsPart (v : ServerValue) (e : ScriptEventValue) (after : ServerValue) : Type 0 where
-  pub more : List Event
+  pub more : List AcceptedCall
   pub part : IsPartlyMade v e after more
   pub shows : ShowsMore v after more
 
@@ -67,19 +67,19 @@ ShowsRun v e after (Err fault) = ShowsPart v e after
 
 -- Holds if allocation failed for the event with this number, from 1. The server shows the calls of those before it, and
 -- those that it made itself before.
-pub record ShowsRefusedAt (before : List Event) (v : ServerValue) (es : List ScriptEventValue) (number : ℕ) (after : ServerValue) : Type 0 where
+pub record ShowsRefusedAt (before : List AcceptedCall) (v : ServerValue) (es : List ScriptEventValue) (number : ℕ) (after : ServerValue) : Type 0 where
   pub ran : List ScriptEventValue
   pub event : ScriptEventValue
   pub others : List ScriptEventValue
   pub all : es ≡ ran ++ event ∷ others
   pub counted : number ≡ length ran + 1
-  pub more : List Event
+  pub more : List AcceptedCall
   pub part : IsPartlyMade (replayed v ran).server event after more
   pub shows : Shows after ((before ++ events_ran v ran) ++ more)
 
 -- States the history that a server shows after a replay, if it showed `before` at its start. After a failed write,
 -- `IsCutAt` states it.
-abbrev pub IsShownReplay : {T : Type 0} → List Event → ServerValue → List ScriptEventValue → ServerValue → Result T ReplayFault → Type 0
+abbrev pub IsShownReplay : {T : Type 0} → List AcceptedCall → ServerValue → List ScriptEventValue → ServerValue → Result T ReplayFault → Type 0
 IsShownReplay before v es after (Ok x) = Shows after (before ++ events_ran v es)
 IsShownReplay before v es after (Err Write) = Unit {0}
 IsShownReplay before v es after (Err (Memory number)) = ShowsRefusedAt before v es number after

@@ -5,7 +5,7 @@ use Rattle.std.specs.Prelude.{Option, Some, None, nat_lt, ◌==◌, if◌then◌
 use Rattle.coap_server_session.specs.values.Sessions.{SessionValue}
 use Rattle.coap_server_engine.specs.values.Servers.{ServerValue, session_of, server_taken, count_taken}
 use Rattle.coap_server_engine.specs.values.ServerAnswers.{IsNotTaken}
-use Rattle.coap_model.specs.world.Events.{Event, Took}
+use Rattle.coap_model.specs.world.Events.{AcceptedCall, Took}
 use Rattle.coap_server_engine.specs.world.Shows.{Shows}
 use Rattle.coap_model.specs.declared.answers.TakeFault.TheVariants as taking
 
@@ -54,39 +54,39 @@ pub record IsPartlyFed (v : ServerValue) (id : ℕ) (bytes : List ℕ) (after : 
 -- ---- the events of these takes
 
 -- The event of a call on a connection, if the connection exists.
-abbrev pub where_there : Option SessionValue → (SessionValue → Event) → List Event
+abbrev pub where_there : Option SessionValue → (SessionValue → AcceptedCall) → List AcceptedCall
 where_there None call = []
 where_there (Some s) call = call s ∷ []
 
 -- The event of one more take, of the remaining bytes `left`.
-abbrev pub took_more : ℕ → List ℕ → Fed → List Event
+abbrev pub took_more : ℕ → List ℕ → Fed → List AcceptedCall
 took_more id left f = where_there (session_of id f.server.sessions) (λ s. Took id (take (count_taken f.server id left) left))
 
 -- The event of one more take, if one is to be made.
-abbrev pub took_once : ℕ → List ℕ → Fed → List Event
+abbrev pub took_once : ℕ → List ℕ → Fed → List AcceptedCall
 took_once id bytes f = if goes_on bytes f then took_more id (drop f.count bytes) f else []
 
 -- The events of the takes that `fed_turns` makes.
-unfoldable pub took_turns : ℕ → ServerValue → ℕ → List ℕ → List Event
+unfoldable pub took_turns : ℕ → ServerValue → ℕ → List ℕ → List AcceptedCall
 took_turns zero v id bytes = []
 took_turns (suc turns) v id bytes = took_turns turns v id bytes ++ took_once id bytes (fed_turns turns v id bytes)
 
 -- The events of the takes that `fed` makes. If bytes are left, the last one accepted none.
-abbrev pub took : ServerValue → ℕ → List ℕ → List Event
+abbrev pub took : ServerValue → ℕ → List ℕ → List AcceptedCall
 took v id bytes = took_turns (length bytes) v id bytes
 
 -- Holds if the server `after` shows every history that `v` shows, followed by the events `more`.
-abbrev pub ShowsMore : ServerValue → ServerValue → List Event → Type 0
-ShowsMore v after more = (before : List Event) → Shows v before → Shows after (before ++ more)
+abbrev pub ShowsMore : ServerValue → ServerValue → List AcceptedCall → Type 0
+ShowsMore v after more = (before : List AcceptedCall) → Shows v before → Shows after (before ++ more)
 
 -- Holds if `more` are the events of the takes before an allocation failed, followed by that of the bytes which the
 -- failing take accepted.
-pub record IsPartlyTaken (v : ServerValue) (id : ℕ) (bytes : List ℕ) (after : ServerValue) (more : List Event) : Type 0 where
+pub record IsPartlyTaken (v : ServerValue) (id : ℕ) (bytes : List ℕ) (after : ServerValue) (more : List AcceptedCall) : Type 0 where
   pub fed : IsPartlyFed v id bytes after
   pub made : more ≡ took_turns fed.turns v id bytes ++ Took id (take fed.count (drop (fed_turns fed.turns v id bytes).count bytes)) ∷ []
 
 -- Holds if an allocation failed in a take, and the server shows these events.
 pub record ShowsPartlyFed (v : ServerValue) (id : ℕ) (bytes : List ℕ) (after : ServerValue) : Type 0 where
-  pub more : List Event
+  pub more : List AcceptedCall
   pub part : IsPartlyTaken v id bytes after more
   pub shows : ShowsMore v after more

@@ -13,7 +13,7 @@ impl Server {
     ghost use Rattle.coap_server_engine.specs.Prelude.{ShowsMore, ShowsPartlyFed, AddsBytes, WritesPart, waiting_at};
     ghost use Rattle.coap_server_engine.specs.Prelude.{more_at, IsFlushedOnce, session_of, is_there, count_taken};
     ghost use Rattle.coap_server_engine.specs.Prelude.{server_taken, server_written, can_take_on, handled_by};
-    ghost use Rattle.coap_server_engine.specs.Prelude.{IsNotTaken, written_refusal, front_of, stop_on, LiesAt, Event};
+    ghost use Rattle.coap_server_engine.specs.Prelude.{IsNotTaken, written_refusal, front_of, stop_on, LiesAt, AcceptedCall};
     ghost use Rattle.coap_server_engine.specs.Prelude.{Took, Wrote, takes, handled_in, Shows, ShowsRefused};
     ghost use Rattle.coap_server_engine.specs.Prelude.{IsRefusedFor};
     ghost use Rattle.coap_server_engine.specs.contracts.server.Server.{the_row};
@@ -46,20 +46,20 @@ impl Server {
     pub fn take(&mut self, id: ConnId, piece: &[u8]) -> Result<Taken, TakeFault>
         ensures within { IfOk result (λ t. t.bytes ≤ length piece.now) }
         ensures count { IfOk result (λ t. t.bytes ≡ count_taken self.old id piece.now) }
-        ensures takes { IfOk result (λ t. (events : List Event) → Shows self.old events →
+        ensures takes { IfOk result (λ t. (events : List AcceptedCall) → Shows self.old events →
             t.bytes ≡ takes self.old.config events id piece.now) }
         ensures handled { IfOk result (λ t. t.handled ≡ handled_by self.old id piece.now) }
-        ensures says { IfOk result (λ t. (events : List Event) → Shows self.old events →
+        ensures says { IfOk result (λ t. (events : List AcceptedCall) → Shows self.old events →
             t.handled ≡ handled_in self.old.config events (Took id (take t.bytes piece.now)) id) }
         ensures there { OnOk result (is_there (session_of id self.old.sessions) ≡ true) }
         ensures ok { OnOk result (self.new ≡ server_taken self.old id piece.now) }
-        ensures shows { IfOk result (λ t. (events : List Event) → Shows self.old events →
+        ensures shows { IfOk result (λ t. (events : List AcceptedCall) → Shows self.old events →
             Shows self.new (events ++ Took id (take t.bytes piece.now) ∷ [])) }
         ensures refused { IfErr result (λ fault. IsNotTaken self.old id piece.now fault self.new) }
-        ensures shows_refused { IfErr result (λ fault. (events : List Event) → Shows self.old events →
+        ensures shows_refused { IfErr result (λ fault. (events : List AcceptedCall) → Shows self.old events →
             ShowsRefused events id piece.now fault self.new) }
         ensures refused_for { IfErr result (λ fault.
-            (events : List Event) → Shows self.old events → IsRefusedFor self.old.config events id piece.now fault) }
+            (events : List AcceptedCall) → Shows self.old events → IsRefusedFor self.old.config events id piece.now fault) }
     {
         let Some(at) = find(&self.sessions, id) else {
             return Err(TakeFault::NoSuch);
@@ -77,20 +77,20 @@ impl Server {
         requires { LiesAt _id at self.old.sessions }
         ensures within { IfOk result (λ t. t.bytes ≤ length piece.now) }
         ensures count { IfOk result (λ t. t.bytes ≡ count_taken self.old _id piece.now) }
-        ensures takes { IfOk result (λ t. (events : List Event) → Shows self.old events →
+        ensures takes { IfOk result (λ t. (events : List AcceptedCall) → Shows self.old events →
             t.bytes ≡ takes self.old.config events _id piece.now) }
         ensures handled { IfOk result (λ t. t.handled ≡ handled_by self.old _id piece.now) }
-        ensures says { IfOk result (λ t. (events : List Event) → Shows self.old events →
+        ensures says { IfOk result (λ t. (events : List AcceptedCall) → Shows self.old events →
             t.handled ≡ handled_in self.old.config events (Took _id (take t.bytes piece.now)) _id) }
         ensures there { OnOk result (is_there (session_of _id self.old.sessions) ≡ true) }
         ensures ok { OnOk result (self.new ≡ server_taken self.old _id piece.now) }
-        ensures shows { IfOk result (λ t. (events : List Event) → Shows self.old events →
+        ensures shows { IfOk result (λ t. (events : List AcceptedCall) → Shows self.old events →
             Shows self.new (events ++ Took _id (take t.bytes piece.now) ∷ [])) }
         ensures refused { IfErr result (λ fault. IsNotTaken self.old _id piece.now fault self.new) }
-        ensures shows_refused { IfErr result (λ fault. (events : List Event) → Shows self.old events →
+        ensures shows_refused { IfErr result (λ fault. (events : List AcceptedCall) → Shows self.old events →
             ShowsRefused events _id piece.now fault self.new) }
         ensures refused_for { IfErr result (λ fault.
-            (events : List Event) → Shows self.old events → IsRefusedFor self.old.config events _id piece.now fault) }
+            (events : List AcceptedCall) → Shows self.old events → IsRefusedFor self.old.config events _id piece.now fault) }
         ensures lies { OnOk result (LiesAt _id at self.new.sessions) }
     {
         let takes = self.sessions[at].takes();
@@ -179,7 +179,7 @@ impl Server {
     pub fn written(&mut self, id: ConnId, count: usize) -> Result<(), WrittenFault>
         ensures answer { RefusedBy result (written_refusal self.old id count) }
         ensures ok { OnOk result (self.new ≡ server_written self.old id count) }
-        ensures shows { OnOk result ((events : List Event) → Shows self.old events →
+        ensures shows { OnOk result ((events : List AcceptedCall) → Shows self.old events →
             Shows self.new (events ++ Wrote id count ∷ [])) }
         ensures err { OnErr result (self.new ≡ self.old) }
     {

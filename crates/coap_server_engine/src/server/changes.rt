@@ -10,7 +10,7 @@ impl Server {
     ghost use Rattle.std.specs.Prelude.{◌≡◌, ◌+◌, ◌++◌, ◌∷◌, List, [], is_ok, is_none, nat_le, IfOk, OnOk, OnErr};
     ghost use Rattle.coap_server_engine.specs.Prelude.{RefusedBy, IsStore, RefusedOrMemory, put_refusal};
     ghost use Rattle.coap_server_engine.specs.Prelude.{remove_refusal, stamp_of, AreSettled, server_ticked, server_put};
-    ghost use Rattle.coap_server_engine.specs.Prelude.{server_removed, Event, Ticked, Stored, Removed, Shows};
+    ghost use Rattle.coap_server_engine.specs.Prelude.{server_removed, AcceptedCall, Ticked, Stored, Removed, Shows};
 
     /// Sets the time of the server, in seconds.
     ///
@@ -24,7 +24,7 @@ impl Server {
         ensures settled { AreSettled self.old.host self.old.sessions }
         ensures answer { is_ok result ≡ nat_le self.old.host.now now }
         ensures ok { OnOk result (self.new ≡ server_ticked self.old now) }
-        ensures shows { OnOk result ((events : List Event) → Shows self.old events →
+        ensures shows { OnOk result ((events : List AcceptedCall) → Shows self.old events →
             Shows self.new (events ++ Ticked now ∷ [])) }
         ensures err { OnErr result (self.new ≡ self.old) }
     {
@@ -68,7 +68,7 @@ impl Server {
         ensures answer { RefusedOrMemory result (put_refusal self.old.host.store path.now bytes.now) }
         ensures version { IfOk result (λ version. version ≡ self.old.host.store.versions + 1) }
         ensures ok { OnOk result (self.new ≡ server_put self.old path.now format bytes.now) }
-        ensures shows { OnOk result ((events : List Event) → Shows self.old events →
+        ensures shows { OnOk result ((events : List AcceptedCall) → Shows self.old events →
             Shows self.new (events ++ Stored path.now format bytes.now ∷ [])) }
         ensures err { OnErr result (self.new ≡ self.old) }
     {
@@ -86,7 +86,7 @@ impl Server {
         ensures settled { AreSettled self.old.host self.old.sessions }
         ensures answer { RefusedBy result (remove_refusal self.old.host.store path.now) }
         ensures ok { OnOk result (self.new ≡ server_removed self.old path.now) }
-        ensures shows { OnOk result ((events : List Event) → Shows self.old events →
+        ensures shows { OnOk result ((events : List AcceptedCall) → Shows self.old events →
             Shows self.new (events ++ Removed path.now ∷ [])) }
         ensures err { OnErr result (self.new ≡ self.old) }
     {

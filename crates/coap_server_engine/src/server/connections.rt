@@ -10,7 +10,7 @@ impl Server {
     ghost use Rattle.coap_server_engine.specs.Prelude.{RefusedBy, AreInRange, AreSettled, session_of, is_there};
     ghost use Rattle.coap_server_engine.specs.Prelude.{server_opened, server_ended, server_released, server_announced};
     ghost use Rattle.coap_server_engine.specs.Prelude.{server_dropped, OpenedOrMemory, open_refusal, released_refusal};
-    ghost use Rattle.coap_server_engine.specs.Prelude.{IsAnnounced, status_of, outlook_of, Event, Opened, Ended};
+    ghost use Rattle.coap_server_engine.specs.Prelude.{IsAnnounced, status_of, outlook_of, AcceptedCall, Opened, Ended};
     ghost use Rattle.coap_server_engine.specs.Prelude.{Released, Announced, Dropped, Shows};
 
     /// Returns `true` if `open` can fail only for lack of memory.
@@ -37,7 +37,7 @@ impl Server {
         ensures id { IfOk result (λ id. id ≡ self.old.ids + 1) }
         ensures ok { OnOk result (self.new ≡ server_opened self.old) }
         ensures ranges { OnOk result (AreInRange self.old.config.limits) }
-        ensures shows { IfOk result (λ id. (events : List Event) → Shows self.old events →
+        ensures shows { IfOk result (λ id. (events : List AcceptedCall) → Shows self.old events →
             Shows self.new (events ++ Opened id ∷ [])) }
         ensures err { OnErr result (self.new ≡ self.old) }
     {
@@ -68,7 +68,7 @@ impl Server {
     pub fn ended(&mut self, id: ConnId) -> Result<(), NoSuch>
         ensures answer { is_ok result ≡ is_there (session_of id self.old.sessions) }
         ensures ok { OnOk result (self.new ≡ server_ended self.old id) }
-        ensures shows { OnOk result ((events : List Event) → Shows self.old events →
+        ensures shows { OnOk result ((events : List AcceptedCall) → Shows self.old events →
             Shows self.new (events ++ Ended id ∷ [])) }
         ensures err { OnErr result (self.new ≡ self.old) }
     {
@@ -93,7 +93,7 @@ impl Server {
     pub fn release(&mut self, id: ConnId) -> Result<(), ReleaseFault>
         ensures answer { RefusedBy result (released_refusal self.old id) }
         ensures ok { OnOk result (self.new ≡ server_released self.old id) }
-        ensures shows { OnOk result ((events : List Event) → Shows self.old events →
+        ensures shows { OnOk result ((events : List AcceptedCall) → Shows self.old events →
             Shows self.new (events ++ Released id ∷ [])) }
         ensures err { OnErr result (self.new ≡ self.old) }
     {
@@ -124,7 +124,7 @@ impl Server {
     pub fn announce(&mut self, id: ConnId, new: u32) -> Result<(), AnnounceFault>
         ensures answer { IsAnnounced new (session_of id self.old.sessions) result }
         ensures ok { OnOk result (self.new ≡ server_announced self.old id new) }
-        ensures shows { OnOk result ((events : List Event) → Shows self.old events →
+        ensures shows { OnOk result ((events : List AcceptedCall) → Shows self.old events →
             Shows self.new (events ++ Announced id new ∷ [])) }
         ensures err { OnErr result (self.new ≡ self.old) }
     {
@@ -143,7 +143,7 @@ impl Server {
     pub fn drop_conn(&mut self, id: ConnId) -> Result<(), NoSuch>
         ensures answer { is_ok result ≡ is_there (session_of id self.old.sessions) }
         ensures ok { OnOk result (self.new ≡ server_dropped self.old id) }
-        ensures shows { OnOk result ((events : List Event) → Shows self.old events →
+        ensures shows { OnOk result ((events : List AcceptedCall) → Shows self.old events →
             Shows self.new (events ++ Dropped id ∷ [])) }
         ensures err { OnErr result (self.new ≡ self.old) }
     {

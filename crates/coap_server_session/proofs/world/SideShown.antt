@@ -6,7 +6,7 @@ use Rattle.coap_server_session.specs.Prelude.{Message, StreamFault, takes_messag
 use Rattle.coap_server_session.specs.Prelude.{release_refusal, stop, History, IsHistory, limit_now, after, link_of, Call}
 use Rattle.coap_server_session.specs.Prelude.{end_reason, link_after, LinkValue, link_with, standing_in, StoreValue, path_of}
 use Rattle.coap_server_session.specs.Prelude.{Nothing, answer_of, immediate_answer, response_with_observe, Host, is_cut}
-use Rattle.coap_server_session.specs.Prelude.{side_announced, may_raise, Side, handles, waiting_on, has_room, side_with}
+use Rattle.coap_server_session.specs.Prelude.{side_announced, may_raise, Connection, handles, waiting_on, has_room, side_with}
 use Rattle.coap_server_session.specs.Prelude.{with_history, moment_after, held_for, side_replied, asks_answer, side_after}
 use Rattle.coap_server_session.specs.Prelude.{change_after, side_faulted, side_written, side_ended, side_released, next_due}
 use Rattle.coap_server_session.specs.Prelude.{notified, next_held, settled_so, settled_once, settled_within, settled}
@@ -45,7 +45,7 @@ shown_as rest h l os same =
     ap (λ vs. record (session_shown rest (side_with h os)) { observers = vs }) kept ∙ ap (λ k. session_with rest k (map observer_shown os)) same
 
 -- If the history only continues, no frame is kept that was not kept before.
-side_shown : (rest : List ℕ) (s : Side) (h : History) (l : LinkValue) (os : List Observer) → GoesOn s.history h → link_of h ≡ l → session_shown rest (side_with h os) ≡ session_with (kept_on s rest) l (map observer_shown os)
+side_shown : (rest : List ℕ) (s : Connection) (h : History) (l : LinkValue) (os : List Observer) → GoesOn s.history h → link_of h ≡ l → session_shown rest (side_with h os) ≡ session_with (kept_on s rest) l (map observer_shown os)
 side_shown rest s h l os goes same =
     let with_frame : List ℕ → SessionValue = λ frame. session_with frame (link_of h) (map observer_shown os) in
     shown_as rest h (link_of h) os refl
@@ -54,19 +54,19 @@ side_shown rest s h l os goes same =
 
 -- ---- calls that need no resource
 
-pub faulted_shown : (rest left : List ℕ) (s : Side) (fault : StreamFault) → IsHistory s.history → handles s ≡ true → session_shown left (side_faulted s fault) ≡ session_rejected (session_shown rest s) (reject_of fault)
+pub faulted_shown : (rest left : List ℕ) (s : Connection) (fault : StreamFault) → IsHistory s.history → handles s ≡ true → session_shown left (side_faulted s fault) ≡ session_rejected (session_shown rest s) (reject_of fault)
 unfolding side_faulted
 faulted_shown rest left s fault is e =
     rw e (shown_as left (after s.history (call.Reject (reject_of fault))) _ s.observers (after_link s.history (call.Reject (reject_of fault)) tt is)
     ∙ rw (handles_parts s e).0 refl)
 
-pub written_shown : (rest : List ℕ) (s : Side) (n : ℕ) → IsHistory s.history → n ≤ length (waiting_on s) → session_shown rest (side_written s n) ≡ session_written (session_shown rest s) n
+pub written_shown : (rest : List ℕ) (s : Connection) (n : ℕ) → IsHistory s.history → n ≤ length (waiting_on s) → session_shown rest (side_written s n) ≡ session_written (session_shown rest s) n
 unfolding side_written
 written_shown rest s n is within =
     rw (le-leb n (length (waiting_on s)) within) (ap (λ l. record (session_shown rest s) { link = l }) (after_link s.history (call.Written n) within is))
 
 -- The input ends within a frame if bytes of a frame are kept.
-pub ended_side_shown : (rest : List ℕ) (s : Side) → IsHistory s.history → session_shown rest (side_ended s (is_cut rest)) ≡ session_ended (session_shown rest s)
+pub ended_side_shown : (rest : List ℕ) (s : Connection) → IsHistory s.history → session_shown rest (side_ended s (is_cut rest)) ≡ session_ended (session_shown rest s)
 unfolding side_ended
 ended_side_shown rest s is =
     let v : LinkValue = link_of s.history in
@@ -75,11 +75,11 @@ ended_side_shown rest s is =
     ∙ ap (λ l. session_with (kept_on s rest) l (map observer_shown s.observers))
     (elim (takes_messages s.history.phase) as (λ takes. ended takes (is_cut rest) ≡ ended takes (is_cut (if takes then rest else []))) [ true ↦ refl | false ↦ refl ])
 
-pub released_shown : (rest : List ℕ) (s : Side) → IsHistory s.history → release_refusal (link_of s.history) ≡ None → session_shown rest (side_released s) ≡ session_released (session_shown rest s)
+pub released_shown : (rest : List ℕ) (s : Connection) → IsHistory s.history → release_refusal (link_of s.history) ≡ None → session_shown rest (side_released s) ≡ session_released (session_shown rest s)
 unfolding side_released
 released_shown rest s is none = rw none (side_shown rest s _ _ s.observers (call_goes_on s.history call.Release tt) (after_link s.history call.Release tt is))
 
-pub announced_shown : (rest : List ℕ) (s : Side) (size : ℕ) → IsHistory s.history → may_raise s size ≡ true → session_shown rest (side_announced s size) ≡ session_announced (session_shown rest s) size
+pub announced_shown : (rest : List ℕ) (s : Connection) (size : ℕ) → IsHistory s.history → may_raise s size ≡ true → session_shown rest (side_announced s size) ≡ session_announced (session_shown rest s) size
 unfolding side_announced
 announced_shown rest s size is may =
     rw may (side_shown rest s _ _ s.observers (call_goes_on s.history (call.Announce size) tt) (after_link s.history (call.Announce size) tt is))
@@ -104,7 +104,7 @@ module _ (store : StoreValue) (now : ℕ) (small : now ≤ 18446744073709551615)
       let held : Call = call.Hold m.token (moment_after now seconds) in shown_as [] (after h held) _ os (after_link h held tt history)
 
   -- A message that is processed.
-  pub handled_shown : (rest : List ℕ) (s : Side) (m : Message) → IsHistory s.history → handles s ≡ true → session_shown [] (side_after store now s m) ≡ session_handled (host_of store now) (session_shown rest s) m
+  pub handled_shown : (rest : List ℕ) (s : Connection) (m : Message) → IsHistory s.history → handles s ≡ true → session_shown [] (side_after store now s m) ≡ session_handled (host_of store now) (session_shown rest s) m
   unfolding side_after session_handled
   handled_shown rest s m history e =
       let h = after s.history (call.Handle m) in
@@ -115,7 +115,7 @@ module _ (store : StoreValue) (now : ℕ) (small : now ≤ 18446744073709551615)
       let host = host_of store now in
       let others = without_token m.token s.observers in
       let vs = without_entry m.token (map observer_shown s.observers) in
-      let before : Bool → Side = λ asks. if asks then side_replied store now h others m (held_for h hold) else with_history s h in
+      let before : Bool → Connection = λ asks. if asks then side_replied store now h others m (held_for h hold) else with_history s h in
       let afterwards : Bool → SessionValue = λ asks. if asks then session_replied host l vs m (held_in l hold) else session_with [] l (map observer_shown s.observers) in
       rw e (elim (asks_answer s m) as (λ asks. session_shown [] (before asks) ≡ afterwards asks) [
         | true ↦
@@ -124,7 +124,7 @@ module _ (store : StoreValue) (now : ℕ) (small : now ≤ 18446744073709551615)
         | false ↦ shown_as [] h l s.observers same
       ])
 
-pub change_shown : (store : StoreValue) (now : ℕ) (s : Side) (m : Message) → handles s ≡ true → change_after store now s m ≡ change_by (host_of store now) (link_of s.history) m
+pub change_shown : (store : StoreValue) (now : ℕ) (s : Connection) (m : Message) → handles s ≡ true → change_after store now s m ≡ change_by (host_of store now) (link_of s.history) m
 unfolding change_after
 change_shown store now s m e = ap (λ b. cond (b && asks_answer s m) (immediate_answer store now m).change Nothing) e
 
@@ -149,7 +149,7 @@ module _ (store : StoreValue) (now : ℕ) (small : now ≤ 18446744073709551615)
   same_tests : (os : List Observer) → AreKnown store os → TellTheSame (is_due store now) (is_stale (host_of store now)) os
   same_tests os known = all_to (IsKnown store) (λ o. is_due store now o ≡ is_stale (host_of store now) (observer_shown o)) (λ o of. due_is_stale store now o of small is) os known
 
-  next_shown : (rest : List ℕ) (s : Side) → IsKnownSide store s → option_map observer_shown (next_due store now s) ≡ next_stale (host_of store now) (session_shown rest s)
+  next_shown : (rest : List ℕ) (s : Connection) → IsKnownSide store s → option_map observer_shown (next_due store now s) ≡ next_stale (host_of store now) (session_shown rest s)
   unfolding next_stale
   next_shown rest s known =
       elim (has_room s) as (λ b. option_map observer_shown (if b then find (is_due store now) s.observers else None) ≡ (if b then find (is_stale (host_of store now)) (map observer_shown s.observers) else None)) [
@@ -157,7 +157,7 @@ module _ (store : StoreValue) (now : ℕ) (small : now ≤ 18446744073709551615)
         | false ↦ refl
       ]
 
-  notified_shown : (rest : List ℕ) (s : Side) (found : Option Observer) → IsKnownSide store s → ((o : Observer) → found ≡ Some o → IsKnown store o)
+  notified_shown : (rest : List ℕ) (s : Connection) (found : Option Observer) → IsKnownSide store s → ((o : Observer) → found ≡ Some o → IsKnown store o)
       → session_shown rest (notified store now s found) ≡ session_notified (host_of store now) (session_shown rest s) (option_map observer_shown found)
   notified_shown rest s None known told = refl
   notified_shown rest s (Some o) known told =
@@ -171,7 +171,7 @@ module _ (store : StoreValue) (now : ℕ) (small : now ≤ 18446744073709551615)
       (call_goes_on s.history (call.Reply m) tt) (after_link s.history (call.Reply m) tt known.is_history)
       ∙ cc (become_shown (is_due store now) stale left s.observers (same_tests s.observers known.told), left_shown o stays (told o refl) (λ e. (and_parts on _ e).0))
 
-  once_shown : (rest : List ℕ) (s : Side) → IsKnownSide store s → session_shown rest (settled_once store now s) ≡ session_settled_once (host_of store now) (session_shown rest s)
+  once_shown : (rest : List ℕ) (s : Connection) → IsKnownSide store s → session_shown rest (settled_once store now s) ≡ session_settled_once (host_of store now) (session_shown rest s)
   unfolding settled_once session_settled_once next_held_in
   once_shown rest s known =
       let v : SessionValue = session_shown rest s in
@@ -179,14 +179,14 @@ module _ (store : StoreValue) (now : ℕ) (small : now ≤ 18446744073709551615)
       (λ none. notified_shown rest s (next_due store now s) known (next_known store now small is s known) ∙ ap (session_notified (host_of store now) v) (next_shown rest s known))
       (λ e is. side_shown rest s _ _ s.observers (sent_goes_on s.history now e) (sent_link s.history now e known.is_history))
 
-  within_shown : (turns : ℕ) (rest : List ℕ) (s : Side) → IsKnownSide store s → session_shown rest (settled_within turns store now s) ≡ session_settled_within turns (host_of store now) (session_shown rest s)
+  within_shown : (turns : ℕ) (rest : List ℕ) (s : Connection) → IsKnownSide store s → session_shown rest (settled_within turns store now s) ≡ session_settled_within turns (host_of store now) (session_shown rest s)
   unfolding settled_within session_settled_within
   within_shown zero rest s known = refl
   within_shown (suc turns) rest s known =
       within_shown turns rest (settled_once store now s) (once_known store now small is s known) ∙ ap (session_settled_within turns (host_of store now)) (once_shown rest s known)
 
   -- A connection settles as its value does.
-  pub settled_shown : (rest : List ℕ) (s : Side) → IsKnownSide store s → session_shown rest (settled store now s) ≡ session_settled (host_of store now) (session_shown rest s)
+  pub settled_shown : (rest : List ℕ) (s : Connection) → IsKnownSide store s → session_shown rest (settled store now s) ≡ session_settled (host_of store now) (session_shown rest s)
   unfolding settled session_settled
   settled_shown rest s known =
       within_shown (length s.history.held + length s.observers) rest s known

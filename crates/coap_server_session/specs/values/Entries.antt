@@ -12,7 +12,7 @@ use Rattle.coap_store.specs.Messages.{response_with_observe}
 use Rattle.coap_store.specs.Notifications.{notification_of}
 use Rattle.coap_server_session.specs.declared.host.Host.{Host}
 use Rattle.coap_server_session.specs.declared.observers.Stale.{Stale}
-use Rattle.coap_model.specs.world.Sides.{moment_after}
+use Rattle.coap_model.specs.world.Connections.{moment_after}
 use Rattle.coap_model.specs.world.Observers.{has_place, is_whole, with_entry, goes_on, first_becomes}
 use Rattle.coap_server_session.specs.values.Sessions.{ObserverValue, SessionValue, new_entry, answer_on, entry_left, mark_of, state_on, is_stale, notification_on, session_settled}
 

@@ -28,7 +28,7 @@ use Rattle.coap_store.specs.Changes.{IsPut}
 use Rattle.coap_store.specs.Messages.{response_with_observe}
 use Rattle.coap_store.specs.Notifications.{notification_of}
 use Rattle.coap_server_session.specs.declared.host.Host.{Host}
-use Rattle.coap_model.specs.world.Sides.{is_cut, moment_after, held_message}
+use Rattle.coap_model.specs.world.Connections.{is_cut, moment_after, held_message}
 use Rattle.coap_model.specs.world.Observers.{format_of, has_place, is_whole, with_entry, goes_on, notification_message, first_becomes}
 use Rattle.coap_wire.specs.declared.sizes.TheConstants.{LARGEST_MESSAGE}
 

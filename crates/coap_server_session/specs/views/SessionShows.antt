@@ -3,10 +3,10 @@ use Rattle.std.specs.Prelude.{ℕ, List, map}
 use Rattle.coap_conn.specs.History.{link_of}
 use Rattle.coap_server_session.specs.values.Sessions.{ObserverValue, SessionValue}
 use Rattle.coap_model.specs.world.Observers.{Observer, format_of, mark_told}
-use Rattle.coap_model.specs.world.Sides.{Side, kept_on}
+use Rattle.coap_model.specs.world.Connections.{Connection, kept_on}
 
 abbrev pub observer_shown : Observer → ObserverValue
 observer_shown o = record { token = o.token; path = o.path; format = format_of o.told; mark = mark_told o.told }
 
-abbrev pub session_shown : List ℕ → Side → SessionValue
+abbrev pub session_shown : List ℕ → Connection → SessionValue
 session_shown rest s = record { frame = kept_on s rest; link = link_of s.history; observers = map observer_shown s.observers }

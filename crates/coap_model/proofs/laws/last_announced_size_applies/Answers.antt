@@ -1,5 +1,5 @@
 use Rattle.coap_model.proofs.world.ReachedLaws.{accepted_is}
-use Rattle.coap_model.proofs.laws.the_size_announced_last_is_in_force.Goals as goal
+use Rattle.coap_model.proofs.laws.last_announced_size_applies.Goals as goal
 
 pub returns : goal.returns
 returns c k events id s accepted there = (accepted_is k events accepted).sizes id s there

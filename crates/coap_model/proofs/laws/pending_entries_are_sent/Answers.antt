@@ -1,5 +1,5 @@
 use Rattle.coap_model.proofs.world.CustodyLaws.{written_same, told_keeps, taken_out, answer_sent, pong_sent, if_over, handled_over, left_kept, Leaves}
-use Rattle.coap_model.proofs.laws.what_is_held_is_sent.Goals as goal
+use Rattle.coap_model.proofs.laws.pending_entries_are_sent.Goals as goal
 use Rattle.coap_model.specs.Prelude.{side_after, handles, side_handled, side_faulted, side_ended, side_released}
 use Rattle.coap_model.specs.Prelude.{side_announced, reject_reason, end_reason, ReleasedHere}
 use Rattle.coap_model.proofs.world.WalkLaws.{faulted_between, ended_between, released_between, announced_between}

@@ -4,8 +4,8 @@ use Rattle.std.specs.Prelude.{◌≡◌, ℕ, Bool, true, false, List, [], ◌�
 use Rattle.coap_wire.specs.Message.{Message}
 use Rattle.coap_conn.specs.PendingEntries.{Pong}
 use Rattle.coap_conn.specs.Reaction.{is_asking}
-use Rattle.coap_model.specs.world.Told.{responds}
-use Rattle.coap_model.specs.world.Custody.{asks_held}
+use Rattle.coap_model.specs.world.LastNotification.{responds}
+use Rattle.coap_model.specs.world.Custody.{asks_pending}
 
 -- The messages have a response with this token. `before` and `behind` are the messages before and after it.
 pub record HasResponse (token : List ℕ) (messages : List Message) : Type 0 where
@@ -22,10 +22,10 @@ IfAsking false answered others = others
 
 -- Each request in the first list has its own response in the second one. The first request has a response with its
 -- token; the later ones have theirs among the other messages.
-unfoldable pub HaveOwnAnswers : List Message → List Message → Type 0
-HaveOwnAnswers [] messages = Unit {0}
-HaveOwnAnswers (m ∷ ms) messages =
-    IfAsking (is_asking m) ((place : HasResponse m.token messages) × HaveOwnAnswers ms (place.before ++ place.behind)) (HaveOwnAnswers ms messages)
+unfoldable pub HaveDistinctAnswers : List Message → List Message → Type 0
+HaveDistinctAnswers [] messages = Unit {0}
+HaveDistinctAnswers (m ∷ ms) messages =
+    IfAsking (is_asking m) ((place : HasResponse m.token messages) × HaveDistinctAnswers ms (place.before ++ place.behind)) (HaveDistinctAnswers ms messages)
 
 -- A Ping that was handled asked for this Pong with Custody. All requests handled before that Ping have their own
 -- responses among `queued`, the messages queued before the Pong.
@@ -34,5 +34,5 @@ pub record FollowsAnswers (handled : List Message) (pong : Message) (queued : Li
   pub ping : Message
   pub later : List Message
   pub there : handled ≡ earlier ++ ping ∷ later
-  pub asks : asks_held ping (Pong pong.token) ≡ true
-  pub answered : HaveOwnAnswers earlier queued
+  pub asks : asks_pending ping (Pong pong.token) ≡ true
+  pub answered : HaveDistinctAnswers earlier queued

@@ -26,35 +26,35 @@ use Rattle.coap_model.specs.world.Observers.{Observer, is_due, without_token, ha
 use Rattle.coap_wire.specs.declared.sizes.TheConstants.{LARGEST_MESSAGE}
 
 -- A connection of the model: its history, with all messages handled and queued, and its observers.
-pub record Side : Type 0 where
+pub record Connection : Type 0 where
   pub history : History
   pub observers : List Observer
 
 -- A connection that was just opened: the server's CSM is queued, and there is no observer.
-abbrev pub new_side : LimitValues → Side
+abbrev pub new_side : LimitValues → Connection
 new_side limits = record { history = new_history Server limits 0; observers = [] }
 
 -- ---- its parts
 
 -- The bytes queued for writing.
-abbrev pub waiting_on : Side → List ℕ
+abbrev pub waiting_on : Connection → List ℕ
 waiting_on s = (link_of s.history).waiting
 
 -- The number of free bytes in the queue.
-abbrev pub free_on : Side → ℕ
+abbrev pub free_on : Connection → ℕ
 free_on s = free_in (link_of s.history)
 
 -- The bytes kept of an unfinished frame: those left over from the accepted bytes, or none if the connection no longer
 -- accepts messages.
-abbrev pub kept_on : Side → List ℕ → List ℕ
+abbrev pub kept_on : Connection → List ℕ → List ℕ
 kept_on s rest = if takes_messages s.history.phase then rest else []
 
 -- The connection has room: its queue has space for a message of `max_sent` bytes, the largest that the server sends.
-abbrev pub has_room : Side → Bool
+abbrev pub has_room : Connection → Bool
 has_room s = nat_le s.history.limits.max_sent (free_on s)
 
 -- The connection handles messages and errors now: it still accepts messages, and it has room.
-abbrev pub handles : Side → Bool
+abbrev pub handles : Connection → Bool
 handles s = takes_messages s.history.phase && has_room s
 
 -- The observers after a history: all of them if the connection is open, otherwise none.
@@ -62,30 +62,30 @@ abbrev pub kept_open : History → List Observer → List Observer
 kept_open h observers = if is_open h.phase then observers else []
 
 -- The connection with this history, and with these observers if it is open.
-abbrev pub side_with : History → List Observer → Side
+abbrev pub side_with : History → List Observer → Connection
 side_with h observers = record { history = h; observers = kept_open h observers }
 
 -- The connection with another history; its observers are removed if it is no longer open.
-abbrev pub with_history : Side → History → Side
+abbrev pub with_history : Connection → History → Connection
 with_history s h = side_with h s.observers
 
 -- ---- a message
 
 -- The connection after a response to a request. `others` are the observers with other tokens. If `observes` holds and
 -- the response is sent whole, the entry is appended to them.
-abbrev pub responded : History → List Observer → Observer → Bool → Message → Side
+abbrev pub responded : History → List Observer → Observer → Bool → Message → Connection
 responded h others entry observes response =
     side_with (after h (call.Reply response)) (with_entry (observes && is_whole (fit (limit_now h) response (bare_response response))) others entry)
 
 -- The same for the answer of the store: its response is sent with or without Observe, and the entry has the current
 -- state.
-abbrev pub answered_among : StoreValue → ℕ → History → List Observer → Message → Answer → Bool → Side
+abbrev pub answered_among : StoreValue → ℕ → History → List Observer → Message → Answer → Bool → Connection
 answered_among store now h others m a observes =
     responded h others (entry_for store now m) observes (response_with_observe m.token observes a.response)
 
 -- The connection after an immediate response. The response has Observe if the request asks for an entry and the list of
 -- observers is not full.
-abbrev pub side_answered : StoreValue → ℕ → History → List Observer → Message → Answer → Side
+abbrev pub side_answered : StoreValue → ℕ → History → List Observer → Message → Answer → Connection
 side_answered store now h others m a =
     answered_among store now h others m a (has_place h.limits.observers others a.watch)
 
@@ -100,42 +100,42 @@ held_for h (Some seconds) = if may_hold h then Some seconds else None
 
 -- The connection after it answered a request. For `None` the response is immediate; otherwise a pending entry is
 -- appended that is due after this number of seconds.
-abbrev pub side_replied : StoreValue → ℕ → History → List Observer → Message → Option ℕ → Side
+abbrev pub side_replied : StoreValue → ℕ → History → List Observer → Message → Option ℕ → Connection
 side_replied store now h others m None = side_answered store now h others m (immediate_answer store now m)
 side_replied store now h others m (Some seconds) = side_with (after h (call.Hold m.token (moment_after now seconds))) others
 
 -- The message is a request that the server must answer, by the reaction of the connection.
-abbrev pub asks_answer : Side → Message → Bool
+abbrev pub asks_answer : Connection → Message → Bool
 asks_answer s m = is_request (react (standing_now s.history) m).verdict
 
 -- The connection after a message that it handles. A request first removes the observer with its token, and is then
 -- answered from the store.
-abbrev pub side_handled : StoreValue → ℕ → Side → Message → Side
+abbrev pub side_handled : StoreValue → ℕ → Connection → Message → Connection
 side_handled store now s m =
     if asks_answer s m then side_replied store now (after s.history (call.Handle m)) (without_token m.token s.observers) m (held_for (after s.history (call.Handle m)) (answer_of store now m).hold)
     else with_history s (after s.history (call.Handle m))
 
 -- The connection after it received a message; unchanged if it does not handle messages now.
-unfoldable pub side_after : StoreValue → ℕ → Side → Message → Side
+unfoldable pub side_after : StoreValue → ℕ → Connection → Message → Connection
 side_after store now s m = if handles s then side_handled store now s m else s
 
 -- The change that a message makes in the store; none if it is not handled or is no request. The change does not depend
 -- on whether the response could be sent.
-unfoldable pub change_after : StoreValue → ℕ → Side → Message → Change
+unfoldable pub change_after : StoreValue → ℕ → Connection → Message → Change
 change_after store now s m = if handles s && asks_answer s m then (immediate_answer store now m).change else Nothing
 
 -- The store after this change.
-abbrev pub store_after : StoreValue → ℕ → Side → Message → StoreValue
+abbrev pub store_after : StoreValue → ℕ → Connection → Message → StoreValue
 store_after store now s m = changed store (change_after store now s m)
 
 -- ---- other steps
 
 -- The connection after malformed input: the server aborts it if it handles errors now; otherwise it is unchanged.
-unfoldable pub side_faulted : Side → StreamFault → Side
+unfoldable pub side_faulted : Connection → StreamFault → Connection
 side_faulted s fault = if handles s then with_history s (after s.history (call.Reject (reject_of fault))) else s
 
 -- The connection after n of its queued bytes were written; unchanged if fewer are queued.
-unfoldable pub side_written : Side → ℕ → Side
+unfoldable pub side_written : Connection → ℕ → Connection
 side_written s n = if nat_le n (length (waiting_on s)) then record s { history = after s.history (call.Written n) } else s
 
 -- The end of input cuts a frame: some of its bytes are left over.
@@ -144,42 +144,42 @@ is_cut rest = nat_lt 0 (length rest)
 
 -- The connection after the end of input, which stops it if it still accepts messages. `cut` says whether the end cuts a
 -- frame.
-unfoldable pub side_ended : Side → Bool → Side
+unfoldable pub side_ended : Connection → Bool → Connection
 side_ended s cut = with_history s (after s.history (call.End cut))
 
 -- RFC 8323 section 5.3.1: the server may announce this size. It is not below the current one and at most 1,048,576
 -- bytes. The connection is open and has room, and the CSM with the size fits the peer's limit.
-abbrev pub may_raise : Side → ℕ → Bool
+abbrev pub may_raise : Connection → ℕ → Bool
 may_raise s size = (nat_le s.history.own_max size && nat_le size LARGEST_MESSAGE) && (has_room s && may_announce (link_of s.history) size)
 
 -- The connection after the server announced a size as the largest message that it accepts from then on; unchanged if it
 -- may not.
-unfoldable pub side_announced : Side → ℕ → Side
+unfoldable pub side_announced : Connection → ℕ → Connection
 side_announced s size = if may_raise s size then with_history s (after s.history (call.Announce size)) else s
 
 -- The connection after the server released it; unchanged if it cannot be released.
-unfoldable pub side_released : Side → Side
+unfoldable pub side_released : Connection → Connection
 side_released s = if is_none (release_refusal (link_of s.history)) then with_history s (after s.history call.Release) else s
 
 -- ---- settling
 
 -- The first observer that is due, if the connection has room.
-abbrev pub next_due : StoreValue → ℕ → Side → Option Observer
+abbrev pub next_due : StoreValue → ℕ → Connection → Option Observer
 next_due store now s = if has_room s then find (is_due store now) s.observers else None
 
 -- The connection after the notification m was sent to the first observer that is due. Its entry records the current
 -- state if `stays` holds and m was sent whole; otherwise it is removed.
-abbrev pub notified_so : StoreValue → ℕ → Side → Observer → Message → Bool → Side
+abbrev pub notified_so : StoreValue → ℕ → Connection → Observer → Message → Bool → Connection
 notified_so store now s o m stays =
     side_with (after s.history (call.Reply m)) (first_becomes (is_due store now) (left_of store now o (stays && is_whole (fit (limit_now s.history) m (bare_response m)))) s.observers)
 
 -- The connection after the first observer that is due was notified; unchanged if there is none.
-abbrev pub notified : StoreValue → ℕ → Side → Option Observer → Side
+abbrev pub notified : StoreValue → ℕ → Connection → Option Observer → Connection
 notified store now s None = s
 notified store now s (Some o) = notified_so store now s o (notification_message o.token (notification store now o)) (goes_on (notification store now o))
 
 -- The pending entry that is due first, if the connection has room.
-abbrev pub next_held : ℕ → Side → Option PendingEntryValue
+abbrev pub next_held : ℕ → Connection → Option PendingEntryValue
 next_held now s = if has_room s then first_due now s.history.held else None
 
 -- The delayed response to the request with this token.
@@ -192,29 +192,29 @@ after_sent h now (held.Answer token moment) = after (after h (call.Due now)) (ca
 after_sent h now (held.Pong token) = after h (call.Due now)
 
 -- The connection after one round of settling with this due entry. An observer is notified only if no entry is due.
-abbrev pub settled_so : StoreValue → ℕ → Side → Option PendingEntryValue → Side
+abbrev pub settled_so : StoreValue → ℕ → Connection → Option PendingEntryValue → Connection
 settled_so store now s None = notified store now s (next_due store now s)
 settled_so store now s (Some e) = with_history s (after_sent s.history now e)
 
 -- The connection after one round of settling. The pending entry that is due first is sent. If none is due, the first
 -- due observer is notified.
-unfoldable pub settled_once : StoreValue → ℕ → Side → Side
+unfoldable pub settled_once : StoreValue → ℕ → Connection → Connection
 settled_once store now s = settled_so store now s (next_held now s)
 
 -- The connection after this number of rounds of settling.
-unfoldable pub settled_within : ℕ → StoreValue → ℕ → Side → Side
+unfoldable pub settled_within : ℕ → StoreValue → ℕ → Connection → Connection
 settled_within zero store now s = s
 settled_within (suc turns) store now s = settled_within turns store now (settled_once store now s)
 
 -- The connection after it has settled: everything that is due is queued, as long as the connection has room.
 -- Each round with an effect leaves fewer pending entries or fewer due observers. So as many rounds as there are entries
 -- and observers are enough.
-unfoldable pub settled : StoreValue → ℕ → Side → Side
+unfoldable pub settled : StoreValue → ℕ → Connection → Connection
 settled store now s = settled_within (length s.history.held + length s.observers) store now s
 
 -- No change is lost, if the connection has room.
 -- - `told`: each observer was last sent the current state of its path.
 -- - `sent`: no pending entry is due. Each response is due at a later time, and no Pong is first in the list.
-pub record HearsAll (store : StoreValue) (now : ℕ) (s : Side) : Type 0 where
+pub record IsUpToDate (store : StoreValue) (now : ℕ) (s : Connection) : Type 0 where
   pub told : has_room s ≡ true → AllByRecursion (λ o. o.told ≡ state_of store now o.path) s.observers
   pub sent : has_room s ≡ true → NothingIsDue now s.history.held

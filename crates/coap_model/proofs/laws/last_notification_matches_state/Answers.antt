@@ -1,5 +1,5 @@
 use Rattle.coap_model.proofs.world.ToldLaws.{observers_told_last, observers_have_own_tokens}
-use Rattle.coap_model.proofs.laws.observers_were_told_last.Goals as goal
+use Rattle.coap_model.proofs.laws.last_notification_matches_state.Goals as goal
 
 pub returns-clause-told : goal.returns-clause-told
 returns-clause-told c k events id s there = observers_told_last k events id s there

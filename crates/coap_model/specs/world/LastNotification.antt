@@ -49,10 +49,10 @@ abbrev pub asked_late : List ℕ → List Message → Bool
 asked_late token messages = list_any (λ m. is_delayed m && same_bytes m.token token) messages
 
 -- The last response with the observer's token reports the state that the observer's entry records.
-abbrev pub WasToldLast : List Message → Observer → Type 0
-WasToldLast queued o = (m : Message) × (last_response o.token queued ≡ Some m) × ReportsState o o.told m
+abbrev pub IsLastNotification : List Message → Observer → Type 0
+IsLastNotification queued o = (m : Message) × (last_response o.token queued ≡ Some m) × ReportsState o o.told m
 
 -- No two observers have the same token.
-abbrev pub HaveOwnTokens : List Observer → Type 0
-HaveOwnTokens [] = Unit {0}
-HaveOwnTokens (o ∷ os) = AllByRecursion (λ other. o.token ≢ other.token) os × HaveOwnTokens os
+abbrev pub TokensAreDistinct : List Observer → Type 0
+TokensAreDistinct [] = Unit {0}
+TokensAreDistinct (o ∷ os) = AllByRecursion (λ other. o.token ≢ other.token) os × TokensAreDistinct os
