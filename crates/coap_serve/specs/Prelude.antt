@@ -57,7 +57,7 @@ pub use Rattle.coap_serve.specs.declared.door.peer.Course.{Course}
 pub use Rattle.coap_serve.specs.declared.door.peer.Course.TheVariants.{Over}
 pub use Rattle.coap_serve.specs.declared.door.peer.Peer.{Peer}
 pub use Rattle.coap_serve.specs.declared.door.wants.Wants.{Wants}
-pub use Rattle.coap_server_session.specs.declared.host.Host.{Host}
+pub use Rattle.coap_server_session.specs.declared.server_state.ServerState.{ServerState}
 pub use Rattle.coap_serve.specs.declared.serve.IoFault.{IoFault}
 pub use Rattle.coap_serve.specs.declared.serve.IoFault.TheVariants.{Memory, Read, Turns, Write}
 pub use Rattle.coap_serve.specs.declared.serve.Report.{Report}
@@ -84,7 +84,7 @@ pub use Rattle.coap_serve.specs.streams.Turns.{wants_in, ComesToNothing, can_go_
 pub use Rattle.coap_serve.specs.streams.Turns.{IsTakenAndWritten, least_with, left_behind, IsOffered, CanAnyGoOn}
 pub use Rattle.coap_serve.specs.streams.Turns.{concerns_earlier, wait_for}
 -- ---- coap_serve, values
-pub use Rattle.coap_server_session.specs.values.Dues.{sooner}
+pub use Rattle.coap_server_session.specs.values.Deadlines.{sooner}
 pub use Rattle.coap_server_engine.specs.values.Fed.{Fed, IsPartlyFed, ShowsMore, ShowsPartlyFed, fed, fed_more}
 pub use Rattle.coap_server_engine.specs.values.Fed.{took, where_there}
 unfoldable pub use Rattle.coap_server_engine.specs.values.Fed.{fed_turns, took_turns}

@@ -83,7 +83,7 @@ pub use Rattle.coap_model.specs.world.World.{settled_place, stored_after, ticks}
 unfoldable pub use Rattle.coap_model.specs.world.World.{side_of, after_steps, acted}
 -- ---- this crate: declared types
 pub use Rattle.coap_server_session.specs.declared.cause.Cause.{Cause}
-pub use Rattle.coap_server_session.specs.declared.host.Host.{Host}
+pub use Rattle.coap_server_session.specs.declared.server_state.ServerState.{ServerState}
 pub use Rattle.coap_server_engine.specs.declared.replay.Drained.{Drained}
 pub use Rattle.coap_server_engine.specs.declared.replay.Line.{Line}
 -- ---- this crate: script
@@ -99,9 +99,9 @@ pub use Rattle.coap_server_engine.specs.script.Shown.{ShowsRun, IsShownReplay, S
 unfoldable pub use Rattle.coap_server_engine.specs.script.Shown.{events_made, events_ran}
 -- ---- this crate: values
 pub use Rattle.coap_server_session.specs.values.Causes.{change_hash, path_hash}
-pub use Rattle.coap_server_session.specs.values.Causes.{IsUntouched}
+pub use Rattle.coap_server_session.specs.values.Causes.{IsUnaffected}
 pub use Rattle.coap_server_session.specs.values.Causes.{ConcernsNone, IsMarkedBut}
-pub use Rattle.coap_server_session.specs.values.Dues.{due_on, IsBefore}
+pub use Rattle.coap_server_session.specs.values.Deadlines.{due_on, IsBefore}
 pub use Rattle.coap_server_session.specs.values.Entries.{settled_held}
 pub use Rattle.coap_server_engine.specs.values.Fed.{Fed, IsPartlyFed, ShowsMore, ShowsPartlyFed, fed, fed_more, fed_once}
 pub use Rattle.coap_server_engine.specs.values.Fed.{took, unfed, where_there}
@@ -119,7 +119,7 @@ unfoldable pub use Rattle.coap_server_engine.specs.values.ServerAnswers.{handled
 pub use Rattle.coap_server_session.specs.values.SessionAnswers.{IsAnnounced, announced_refusal_on, session_refusal}
 pub use Rattle.coap_server_engine.specs.values.ServerCauses.{AreSettledUntouched, AreOthersSettled, AreUntouched}
 pub use Rattle.coap_server_engine.specs.values.ServerCauses.{AreMarkedBut, AreMarkedAfter}
-pub use Rattle.coap_server_engine.specs.values.ServerDues.{stamp_of, WaitsForWhatIsDue, outlook_of}
+pub use Rattle.coap_server_engine.specs.values.ServerDues.{stamp_of, WaitsForDeadlines, outlook_of}
 pub use Rattle.coap_server_engine.specs.values.Servers.{new_server, server_put, server_removed, server_ticked, AreSettled}
 pub use Rattle.coap_server_engine.specs.values.Servers.{server_dropped, ServerValue, LiesAt, server_opened}
 pub use Rattle.coap_server_engine.specs.values.Servers.{is_there, server_written, server_ended, server_released}
@@ -132,7 +132,7 @@ pub use Rattle.coap_server_session.specs.values.Sessions.{SessionValue}
 pub use Rattle.coap_server_session.specs.values.Sessions.{session_written, session_ended, session_released, session_announced}
 pub use Rattle.coap_server_session.specs.values.Sessions.{change_by, new_session}
 pub use Rattle.coap_server_session.specs.values.Sessions.{session_takes, IsSettled, RefusesPiece}
-pub use Rattle.coap_server_session.specs.values.Sessions.{Taking}
+pub use Rattle.coap_server_session.specs.values.Sessions.{TakeOutcome}
 pub use Rattle.coap_server_session.specs.values.Sessions.{session_raises}
 pub use Rattle.coap_server_session.specs.values.Sessions.{session_rejected}
 pub use Rattle.coap_server_session.specs.values.Sessions.{taking_found, taking_read, MarkedSession, IsMarked}

@@ -3,7 +3,7 @@
 ghost use Rattle.std.specs.Prelude.{◌≡◌, ◌⊎◌, ℕ, Bool, ◌+◌, ◌<◌, ◌^◌, ◌≤◌, List, ◌∷◌, ◌++◌, map, false, Some};
 ghost use Rattle.coap_server_engine.specs.Prelude.{concat, StreamFault, reject_of, reject_reason, takes_messages};
 ghost use Rattle.coap_server_engine.specs.Prelude.{IsStore, ConfigValues, IsNotTaken, ServerValue, AreSettled};
-ghost use Rattle.coap_server_engine.specs.Prelude.{WrittenFault, ReleaseFault, WaitsForWhatIsDue, Connection, IsUpToDate};
+ghost use Rattle.coap_server_engine.specs.Prelude.{WrittenFault, ReleaseFault, WaitsForDeadlines, Connection, IsUpToDate};
 ghost use Rattle.coap_server_engine.specs.Prelude.{World, new_world, side_of, after_steps, AcceptedCall, Took, stream_on};
 ghost use Rattle.coap_server_engine.specs.Prelude.{steps_of, world_after, AreAccepted, Shows, server_of, normalised_step};
 ghost use Rattle.coap_server_engine.specs.Prelude.{normalised_steps, kept_at, IsRefusedStored, StoresNothing, ScriptEventValue};
@@ -110,7 +110,7 @@ pub fn only_what_is_stored_wants_memory()
 /// stay the same.
 pub fn what_is_not_due_stays()
     ensures { (v : ServerValue) (later : ℕ) → IsStore v.host.store → AreSettled v.host v.sessions → v.host.now ≤ later →
-        later < 2 ^ 64 → WaitsForWhatIsDue v later }
+        later < 2 ^ 64 → WaitsForDeadlines v later }
 {}
 
 /// States that each accepted message is processed once.

@@ -16,7 +16,7 @@ mod sessions;
 
 use coap_conn::Reason;
 use coap_model::Config;
-use coap_server_session::{Host, Session};
+use coap_server_session::{ServerState, Session};
 use indexmap::IndexMap;
 use std::alloc::{AllocError, Global};
 use std::marker::Model;
@@ -67,7 +67,7 @@ type Sessions = IndexMap<u64, Session>;
 pub struct Server {
     alloc: Global,
     config: Config,
-    host: Host,
+    host: ServerState,
     ids: u64,
     sessions: Sessions,
 }
@@ -95,7 +95,7 @@ impl Server {
         ensures shows { IfOk result (λ s. Shows s []) }
     {
         let starts = config.starts();
-        let host = Host::open(
+        let host = ServerState::open(
             alloc,
             config.dynamic_max(),
             config.rep_max(),

@@ -77,17 +77,17 @@ unfoldable pub use Rattle.coap_model.specs.world.Connections.{side_released, sid
 unfoldable pub use Rattle.coap_model.specs.world.Connections.{settled, settled_within}
 -- ---- this crate: declared types
 pub use Rattle.coap_server_session.specs.declared.cause.Cause.{Cause}
-pub use Rattle.coap_server_session.specs.declared.host.Host.{Host}
-pub use Rattle.coap_server_session.specs.declared.observers.Stale.{Stale}
+pub use Rattle.coap_server_session.specs.declared.server_state.ServerState.{ServerState}
+pub use Rattle.coap_server_session.specs.declared.observers.StaleObserver.{StaleObserver}
 pub use Rattle.coap_server_session.specs.declared.chains.Chains.{Chains}
 pub use Rattle.coap_server_session.specs.declared.session.Session.TheInside.{Inside}
 -- ---- this crate: values
 pub use Rattle.coap_server_session.specs.values.Causes.{change_hash, ObservesNone, hash_behind, path_hash}
-pub use Rattle.coap_server_session.specs.values.Causes.{IsUntouched, has_come, may_touch, observes_hash, segments_hash, is_concerned}
+pub use Rattle.coap_server_session.specs.values.Causes.{IsUnaffected, has_come, may_touch, observes_hash, segments_hash, is_concerned}
 pub use Rattle.coap_server_session.specs.values.Causes.{ConcernsNone, marks_after, IsMarkedBut}
 unfoldable pub use Rattle.coap_server_session.specs.values.Causes.{marks_anew}
-pub use Rattle.coap_server_session.specs.values.Dues.{tells_time, sooner}
-pub use Rattle.coap_server_session.specs.values.Dues.{due_on, IsBefore, next_told}
+pub use Rattle.coap_server_session.specs.values.Deadlines.{is_time_observer, sooner}
+pub use Rattle.coap_server_session.specs.values.Deadlines.{due_on, IsBefore, next_told}
 pub use Rattle.coap_server_session.specs.values.Entries.{IsFirstStale, IsFirstMarked, link_replied, entries_replied, entries_notified}
 pub use Rattle.coap_server_session.specs.values.Entries.{settled_held, framer_on, is_observed, is_sent, response_on}
 unfoldable pub use Rattle.coap_server_session.specs.values.Entries.{first_index}
@@ -98,7 +98,7 @@ pub use Rattle.coap_server_session.specs.values.Sessions.{new_entry, notificatio
 pub use Rattle.coap_server_session.specs.values.Sessions.{session_written, session_ended, session_released, session_announced}
 pub use Rattle.coap_server_session.specs.values.Sessions.{change_by, observers_on, session_with, new_session}
 pub use Rattle.coap_server_session.specs.values.Sessions.{session_takes, session_notified, IsSettled, RefusesPiece}
-pub use Rattle.coap_server_session.specs.values.Sessions.{ObserversValue, Taking, asks_this, entry_left, frame_on, is_marked}
+pub use Rattle.coap_server_session.specs.values.Sessions.{ObserversValue, TakeOutcome, asks_this, entry_left, frame_on, is_marked}
 pub use Rattle.coap_server_session.specs.values.Sessions.{mark_of, session_max, session_ready}
 pub use Rattle.coap_server_session.specs.values.Sessions.{session_rejected, session_replied, session_settled_so, state_on}
 pub use Rattle.coap_server_session.specs.values.Sessions.{taking_found, taking_read, MarkedSession, AreMarked, IsMarked}

@@ -2,7 +2,7 @@
 -- it.
 pub mod Sessions
 pub mod Entries
-pub mod Dues
+pub mod Deadlines
 pub mod Causes
 pub mod Responses
 pub mod SessionAnswers

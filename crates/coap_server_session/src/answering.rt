@@ -13,9 +13,9 @@ ghost use Rattle.coap_server_session.specs.Prelude.{entries_notified, observer_v
 ghost use Rattle.coap_conn.specs.Calls as call;
 
 use crate::cause::Cause;
-use crate::host::{Host, mark_at};
+use crate::server_state::{ServerState, mark_at};
 use crate::observer::Observer;
-use crate::observers::{Observers, Stale};
+use crate::observers::{Observers, StaleObserver};
 use crate::path_hash::hash_of;
 use crate::response::respond;
 use coap_conn::{Due, Link, Reply};
@@ -42,7 +42,7 @@ use std::alloc::AllocError;
 pub(crate) fn answer(
     link: &mut Link,
     observers: &mut Observers,
-    host: &mut Host,
+    host: &mut ServerState,
     request: &MessageRef,
 ) -> Result<Option<u8>, AllocError>
     requires ready { IsReady link.old }
@@ -66,22 +66,22 @@ pub(crate) fn answer(
     let plan = host.store.answer(request, host.now);
     if let Some(seconds) = plan.hold() {
         let moment = host.now.saturating_add(u64::from(seconds));
-        answer_late(link, observers, request, plan, moment);
+        delay_answer(link, observers, request, plan, moment);
         return Ok(None);
     }
     if plan.changes() {
         let plan = plan.without_payload();
         let changed = change(&mut host.store, &plan)?;
-        observers.forget(request.token());
+        observers.remove_token(request.token());
         mark_changed(observers, changed, host);
         respond(link, request.token(), &plan, false);
         return Ok(changed);
     }
-    observers.forget(request.token());
+    observers.remove_token(request.token());
     let observes = asks_entry(plan.watch()) && !observers.is_full();
     let reply = respond(link, request.token(), &plan, observes);
     if observes && is_whole(reply) {
-        enter(observers, host, request);
+        add_observer(observers, host, request);
     }
     Ok(None)
 }
@@ -107,7 +107,7 @@ fn change(store: &mut Store, plan: &Plan) -> Result<Option<u8>, AllocError>
 }
 
 /// Recomputes the changed marks of the observers of a path with this hash, if there is one.
-fn mark_changed(observers: &mut Observers, changed: Option<u8>, host: &Host)
+fn mark_changed(observers: &mut Observers, changed: Option<u8>, host: &ServerState)
     ensures { observers.new ≡ record observers.old {
       marks = marks_after changed host.entry.now observers.old.entries observers.old.marks;
     } }
@@ -132,7 +132,7 @@ fn hash_of_change(change: &Change) -> Option<u8>
 
 /// Delays the response to a request until `moment`, in seconds. Sends 5.03 if the pending list is full. In both cases
 /// the observer with the request's token is removed.
-fn answer_late(
+fn delay_answer(
     link: &mut Link,
     observers: &mut Observers,
     request: &MessageRef,
@@ -150,7 +150,7 @@ fn answer_late(
         observers.new.marks ≡ map mark observers.new.entries }
     ensures room { observers.new.room ≡ observers.old.room }
 {
-    observers.forget(request.token());
+    observers.remove_token(request.token());
     if link.hold(request.token().to_token(), moment).is_err() {
         respond(link, request.token(), &plan.without_hold(), false);
     }
@@ -198,7 +198,7 @@ fn is_whole(reply: Reply) -> bool
 }
 
 /// Adds the observer that a request asks for. The list must not be full.
-fn enter(observers: &mut Observers, host: &Host, request: &MessageRef)
+fn add_observer(observers: &mut Observers, host: &ServerState, request: &MessageRef)
     requires room { length observers.old.entries < observers.old.room }
     requires watched { MayObserve host.now.store host.now.now (path_of request.now) (answer_on host.now request.now) }
     ensures value { observers.new ≡ record observers.old {
@@ -208,11 +208,11 @@ fn enter(observers: &mut Observers, host: &Host, request: &MessageRef)
     ensures marked { AreMarked host.entry.now observers.old.entries observers.old.marks →
         AreMarked host.entry.now observers.new.entries observers.new.marks }
 {
-    observers.enter(entry_for(host, request));
+    observers.add_observer(entry_for(host, request));
 }
 
 /// Returns the observer entry of a request: its path must be present, and its current state counts as sent.
-fn entry_for(host: &Host, request: &MessageRef) -> Observer
+fn entry_for(host: &ServerState, request: &MessageRef) -> Observer
     requires { MayObserve host.now.store host.now.now (path_of request.now) (answer_on host.now request.now) }
     ensures entry { observer_value result ≡ new_entry host.entry.now request.now }
     ensures tagged { IsTagged result }
@@ -241,7 +241,7 @@ fn entry_for(host: &Host, request: &MessageRef) -> Observer
 ///
 /// The entry stays, with the current state as the last one sent, if a 2.05 is sent whole. Otherwise the entry is
 /// removed.
-pub(crate) fn notify(link: &mut Link, observers: &mut Observers, host: &Host, stale: Stale)
+pub(crate) fn notify(link: &mut Link, observers: &mut Observers, host: &ServerState, stale: StaleObserver)
     requires ready { IsReady link.old }
     requires answering { IsAnswering link.old.phase }
     requires first { IsFirstStale host.now observers.old.entries stale }
@@ -260,7 +260,7 @@ pub(crate) fn notify(link: &mut Link, observers: &mut Observers, host: &Host, st
     let goes_on = plan.code() == Code::CONTENT;
     let reply = respond(link, &TokenRef::of(&observer.token), &plan, goes_on);
     if goes_on && is_whole(reply) {
-        observers.tell(stale.index, stale.mark);
+        observers.set_mark(stale.index, stale.mark);
     } else {
         observers.remove(stale.index);
     }

@@ -2,7 +2,7 @@
 //!
 //! - `Session` accepts input slices, processes one message at a time and queues everything that is due. That includes
 //!   delayed responses, Pongs with Custody, and the notifications of its observers (RFC 7641).
-//! - `Host` is the state that all connections of a server share: the store of resources, and the time.
+//! - `ServerState` is the state that all connections of a server share: the store of resources, and the time.
 //! - `Cause` is a change of a path, by its hash (`hash_of`), or of the time. `Session::is_touched` returns `true` if a
 //!   change may make something due on a connection.
 //!
@@ -15,7 +15,7 @@ mod answering;
 mod cause;
 mod chains;
 mod flags;
-mod host;
+mod server_state;
 mod observer;
 mod observers;
 mod path_hash;
@@ -23,6 +23,6 @@ mod response;
 mod session;
 
 pub use cause::Cause;
-pub use host::Host;
+pub use server_state::ServerState;
 pub use path_hash::hash_of;
-pub use session::{Session, Taking, sooner};
+pub use session::{Session, TakeOutcome, sooner};

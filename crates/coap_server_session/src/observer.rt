@@ -5,7 +5,7 @@ ghost use Rattle.coap_server_session.specs.Prelude.{linked, previous_in, IsTagge
 ghost use Rattle.coap_server_session.specs.Prelude.{untold_by as mark_untold_by, observer_value};
 
 use crate::cause::Cause;
-use crate::host::Host;
+use crate::server_state::ServerState;
 use coap_store::PathKey;
 use coap_wire::Token;
 
@@ -18,7 +18,7 @@ pub(crate) struct Observer {
     pub path: PathKey,
     /// Content-Format of the representation sent last, if it had one.
     pub format: Option<u16>,
-    /// Mark of the state sent last, see `Host::mark`.
+    /// Mark of the state sent last, see `ServerState::mark`.
     pub mark: u64,
     /// Hash of `path`.
     pub hash: u8,
@@ -45,7 +45,7 @@ impl Observer {
     }
 
     /// Returns the mark of the current state of the path, or `None` if the path is absent.
-    pub(crate) fn present(&self, host: &Host) -> Option<u64>
+    pub(crate) fn present(&self, host: &ServerState) -> Option<u64>
         requires { IsTagged self.now }
         ensures { result ≡ present_mark host.entry.now self.now.path }
     {
@@ -56,7 +56,7 @@ impl Observer {
     }
 
     /// Returns the same as `present`. If the path is `known`, whose mark is `present`, the store is not read.
-    fn present_by(&self, known: &PathKey, present: Option<u64>, host: &Host) -> Option<u64>
+    fn present_by(&self, known: &PathKey, present: Option<u64>, host: &ServerState) -> Option<u64>
         requires tagged { IsTagged self.now }
         requires present { present ≡ present_mark host.now known.now }
         ensures { result ≡ present_mark host.entry.now self.now.path }
@@ -72,7 +72,7 @@ impl Observer {
         &self,
         known: &PathKey,
         present: Option<u64>,
-        host: &Host,
+        host: &ServerState,
     ) -> Option<u64>
         requires tagged { IsTagged self.now }
         requires present { present ≡ present_mark host.now known.now }

@@ -2,7 +2,7 @@
 
 ghost use Rattle.std.specs.Prelude.{◌≡◌, ◌<◌, ◌≤◌, None, false, length, map, is_some, IfNone, IfSome, Option, ℕ};
 ghost use Rattle.std.specs.Prelude.{vec_capacity, ◌++◌, ◌∷◌, [], not, nat_lt, IfOk, Some, slice_get, slice_set, remove};
-ghost use Rattle.coap_server_session.specs.Prelude.{list_any, tells_time as observes_time, IsFirstMarked};
+ghost use Rattle.coap_server_session.specs.Prelude.{list_any, is_time_observer as observes_time, IsFirstMarked};
 ghost use Rattle.coap_server_session.specs.Prelude.{AllByRecursion, AreChainedTo, AreFlagged, linked, IsTagged};
 ghost use Rattle.coap_server_session.specs.Prelude.{mark_in, marks_anew, first_index, without_entry, observer_value};
 ghost use Rattle.coap_server_session.specs.Prelude.{observes_hash, ObserverValue};
@@ -10,7 +10,7 @@ ghost use Rattle.coap_server_session.specs.Prelude.{observes_hash, ObserverValue
 use crate::cause::Cause;
 use crate::chains::{Chains, chains_of};
 use crate::flags::Flags;
-use crate::host::Host;
+use crate::server_state::ServerState;
 use crate::observer::{Observer, untold_by};
 use coap_wire::TokenRef;
 use std::alloc::{AllocError, Global};
@@ -18,7 +18,7 @@ use std::marker::Model;
 
 /// Stale observer: the state sent to it last differs from the current state of its path.
 #[derive(Clone, Copy)]
-pub(crate) struct Stale {
+pub(crate) struct StaleObserver {
     /// Index of the observer in the list.
     pub index: usize,
     /// Mark of the current state, 0 if the path is absent.
@@ -82,7 +82,7 @@ impl Observers {
     }
 
     /// Returns `true` if an observer observes the time.
-    pub(crate) fn tell_time(&self) -> bool
+    pub(crate) fn any_observes_time(&self) -> bool
         ensures { result ≡ list_any observes_time self.now.entries }
     {
         self.chains.last(Cause::Moment(0)).is_some()
@@ -96,7 +96,7 @@ impl Observers {
     }
 
     /// Recomputes the changed marks of the observers that a change affects.
-    pub(crate) fn mark(&mut self, cause: Cause, host: &Host)
+    pub(crate) fn mark(&mut self, cause: Cause, host: &ServerState)
         ensures { self.new ≡ record self.old { marks = marks_anew cause host.entry.now self.old.entries self.old.marks } }
     {
         mark_chain(
@@ -109,14 +109,14 @@ impl Observers {
     }
 
     /// Returns the first observer that has a changed mark, or `None` if there is none.
-    pub(crate) fn first_changed(&mut self) -> Option<Stale>
+    pub(crate) fn first_changed(&mut self) -> Option<StaleObserver>
         ensures none { IfNone result (first_index is_some self.old.marks ≡ None) }
         ensures some { IfSome result (λ found. IsFirstMarked self.old.marks found) }
         ensures same { self.new ≡ self.old }
     {
         let index = self.marked.first()?;
         let mark = self.entries[index].changed?;
-        Some(Stale { index, mark })
+        Some(StaleObserver { index, mark })
     }
 
     /// Returns the observer at an index.
@@ -128,7 +128,7 @@ impl Observers {
     }
 
     /// Records that the observer at an index was sent the state with this mark, and clears its changed mark.
-    pub(crate) fn tell(&mut self, index: usize, mark: u64)
+    pub(crate) fn set_mark(&mut self, index: usize, mark: u64)
         requires { index < length self.old.entries }
         ensures { (o : ObserverValue) → slice_get self.old.entries index ≡ Some o → self.new ≡ record self.old {
           entries = slice_set self.old.entries index (record o { mark = mark });
@@ -153,7 +153,7 @@ impl Observers {
 
     /// Removes the observer with this token, if there is one. The others keep their changed marks.
     #[tactic(auto, unfolding(crate::specs::values::Sessions::without_entry))]
-    pub(crate) fn forget(&mut self, token: &TokenRef)
+    pub(crate) fn remove_token(&mut self, token: &TokenRef)
         ensures entries { self.new.entries ≡ without_entry token.now self.old.entries }
         ensures marks { (mark : ObserverValue → Option ℕ) → self.old.marks ≡ map mark self.old.entries →
             self.new.marks ≡ map mark self.new.entries }
@@ -168,7 +168,7 @@ impl Observers {
     }
 
     /// Appends an observer without a changed mark. The list must not be full.
-    pub(crate) fn enter(&mut self, mut observer: Observer)
+    pub(crate) fn add_observer(&mut self, mut observer: Observer)
         requires room { length self.old.entries < self.old.room }
         requires tagged { IsTagged observer }
         requires unmarked { observer.changed ≡ None }
@@ -201,7 +201,7 @@ fn mark_chain(
     marked: &mut Flags,
     chains: &Chains,
     cause: Cause,
-    host: &Host,
+    host: &ServerState,
 )
     requires many { length observers.old.items ≤ 256 }
     requires tagged { AllByRecursion IsTagged observers.old.items }

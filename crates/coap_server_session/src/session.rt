@@ -1,11 +1,11 @@
 //! One connection of a server: it accepts bytes, processes messages and queues its output.
 //!
 //! The *changed mark* of an observer identifies the current state of its path, and is absent if that state was sent to
-//! it last. Changed marks are *current* if they agree with the server state (`Host`).
+//! it last. Changed marks are *current* if they agree with the server state (`ServerState`).
 
 ghost use Rattle.std.specs.Prelude.{◌≡◌, ℕ, List, [], IfOk, OnOk, OnErr, false, None, ◌≤◌, ◌+◌, ◌++◌, ⊤, Some, length};
 ghost use Rattle.std.specs.Prelude.{take, IfErr};
-ghost use Rattle.coap_server_session.specs.Prelude.{IsLive, IsReady, IsPut, Host as HostValue, change_hash, change_by};
+ghost use Rattle.coap_server_session.specs.Prelude.{IsLive, IsReady, IsPut, ServerState as HostValue, change_hash, change_by};
 ghost use Rattle.coap_server_session.specs.Prelude.{host_changed, session_handled, session_with, sizes_of, framer_on};
 ghost use Rattle.coap_server_session.specs.Prelude.{sem, follows_so, none, RefusedBy, AreInRange, is_finished};
 ghost use Rattle.coap_server_session.specs.Prelude.{release_refusal, MarkedSession, IsMarked, AreMarked};
@@ -18,7 +18,7 @@ mod due;
 mod settling;
 
 use crate::answering::answer;
-use crate::host::Host;
+use crate::server_state::ServerState;
 use crate::observers::Observers;
 use coap_conn::{Limits, Link, Phase, Reject, Role, SendFault, Verdict};
 use coap_frame::Framer;
@@ -30,7 +30,7 @@ use std::marker::Model;
 
 /// Result of `Session::take`.
 #[derive(Clone, Copy)]
-pub struct Taking {
+pub struct TakeOutcome {
     /// Number of accepted bytes, which are the first of the slice.
     pub count: usize,
     /// `true` if a message was processed.
@@ -39,12 +39,12 @@ pub struct Taking {
     pub changed: Option<u8>,
 }
 
-impl Taking {
+impl TakeOutcome {
     /// Returns a result with `count` bytes and no message.
-    fn without_message(count: usize) -> Taking
+    fn without_message(count: usize) -> TakeOutcome
         ensures { result ≡ record { count = count; handled = false; changed = None } }
     {
-        Taking {
+        TakeOutcome {
             count,
             handled: false,
             changed: None,
@@ -116,7 +116,7 @@ impl Session {
     ///
     /// The changed marks of the observers are current.
     #[tactic(auto, unfolding(crate::specs::values::Sessions::taking, coap_frame::specs::Framing::framing))]
-    pub fn take(&mut self, host: &mut Host, piece: &[u8]) -> Result<Taking, usize>
+    pub fn take(&mut self, host: &mut ServerState, piece: &[u8]) -> Result<TakeOutcome, usize>
         requires { IsMarked host.old self.old }
         ensures count { IfOk result (λ t. t.count ≡ (taking host.old self.old.session piece.now).count) }
         ensures within { IfOk result (λ t. t.count ≤ length piece.now) }
@@ -133,27 +133,27 @@ impl Session {
         ensures marked { IsMarked host.new self.new }
     {
         if !self.takes() {
-            return Ok(Taking::without_message(0));
+            return Ok(TakeOutcome::without_message(0));
         }
         let framed = self.framer.next(piece);
         let count = framed.taken;
         match framed.what.frame() {
-            Ok(None) => Ok(Taking::without_message(count)),
+            Ok(None) => Ok(TakeOutcome::without_message(count)),
             Err(fault) => {
                 self.link.reject(Reject::from(fault));
-                give_up(&mut self.framer, &self.link, &mut self.observers);
-                Ok(Taking::without_message(count))
+                discard_if_closed(&mut self.framer, &self.link, &mut self.observers);
+                Ok(TakeOutcome::without_message(count))
             }
             Ok(Some(frame)) => match parse(frame) {
                 Err(_) => {
                     self.link.reject(Reject::Format);
-                    give_up(&mut self.framer, &self.link, &mut self.observers);
-                    Ok(Taking::without_message(count))
+                    discard_if_closed(&mut self.framer, &self.link, &mut self.observers);
+                    Ok(TakeOutcome::without_message(count))
                 }
                 Ok(message) => match handle(&mut self.link, &mut self.observers, host, &message) {
                     Ok(changed) => {
-                        give_up(&mut self.framer, &self.link, &mut self.observers);
-                        Ok(Taking {
+                        discard_if_closed(&mut self.framer, &self.link, &mut self.observers);
+                        Ok(TakeOutcome {
                             count,
                             handled: true,
                             changed,
@@ -205,7 +205,7 @@ impl Session {
         ensures marked { (host : HostValue) → IsMarked host self.old → IsMarked host self.new }
     {
         self.link.end(self.framer.kept() > 0);
-        give_up(&mut self.framer, &self.link, &mut self.observers);
+        discard_if_closed(&mut self.framer, &self.link, &mut self.observers);
     }
 
     /// Sends Release and stops the connection (RFC 8323 section 5.5). Pending entries are dropped.
@@ -224,7 +224,7 @@ impl Session {
         ensures err { OnErr result (self.new ≡ self.old) }
     {
         self.link.release()?;
-        give_up(&mut self.framer, &self.link, &mut self.observers);
+        discard_if_closed(&mut self.framer, &self.link, &mut self.observers);
         Ok(())
     }
 
@@ -301,7 +301,7 @@ impl Session {
     }
 
     /// Returns the number of pending entries plus the number of observers, which bounds the iterations of `settle`.
-    pub fn more(&self) -> usize
+    pub fn settle_bound(&self) -> usize
         ensures { result ≡ length self.now.session.link.held + length self.now.session.observers }
     {
         self.link.pending() + self.observers.len()
@@ -339,7 +339,7 @@ impl Session {
 fn handle(
     link: &mut Link,
     observers: &mut Observers,
-    host: &mut Host,
+    host: &mut ServerState,
     message: &MessageRef,
 ) -> Result<Option<u8>, AllocError>
     requires ready { IsReady link.old }
@@ -369,7 +369,7 @@ fn handle(
 
 /// Removes the observers if the connection is not open, and the bytes of an unfinished frame if the connection no
 /// longer accepts messages.
-fn give_up(framer: &mut Framer, link: &Link, observers: &mut Observers)
+fn discard_if_closed(framer: &mut Framer, link: &Link, observers: &mut Observers)
     ensures framer { framer.new ≡ framer_on link.now framer.old }
     ensures observers { observers.new ≡ observers_left link.now observers.old }
 {

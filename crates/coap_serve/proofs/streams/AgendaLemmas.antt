@@ -1,7 +1,7 @@
 -- The work that remains on the connections visited so far in a turn.
 use Rattle.std.proofs.Common.{◌≡◌, ◌⊎◌, ℕ, suc, ◌+◌, ◌≤◌, Bool, true, false, List, [], ◌∷◌, ◌++◌, length, map, take, drop, Option, Some, None, refl, sym, ap, subst, ◌∙◌, inl, inr, arith, ◌||◌, slice_get, IfSome, ◌<◌, remove, nat_eq, append_assoc, add-one}
 use Rattle.std.proofs.lemmas.Bool.Decides.{nat_tests}
-use Rattle.coap_serve.specs.Prelude.{AllByRecursion, keys_of, values_of, Agenda, Course, Over, Wants, Host, Outlook}
+use Rattle.coap_serve.specs.Prelude.{AllByRecursion, keys_of, values_of, Agenda, Course, Over, Wants, ServerState, Outlook}
 use Rattle.coap_serve.specs.Prelude.{Stamp, sooner, stamp_of, outlook_of, ServerValue, server_opened}
 use Rattle.coap_serve.specs.Prelude.{server_dropped, FarEnd, agenda_with, agenda_past, IsAsked, IsServed, CanGoOn}
 use Rattle.coap_serve.specs.Prelude.{IsAtRest, IsInTurn, IsAgendaOf, least_with, wants_in, wants_of, end_of}
@@ -120,7 +120,7 @@ module _ {P : Type 0} (far : P → FarEnd) where
   })
 
   -- Serving a connection may affect those before it, as the stamps of the server before and after show.
-  pub served_later : (es fs : List (ℕ × P)) (i : ℕ) {a b : Agenda} {changed : Bool} (was is : Host) {stamp later : Stamp} {concerns : Bool} → IsAgendaOf a changed (stamp_of was) (far_ends (take i es))
+  pub served_later : (es fs : List (ℕ × P)) (i : ℕ) {a b : Agenda} {changed : Bool} (was is : ServerState) {stamp later : Stamp} {concerns : Bool} → IsAgendaOf a changed (stamp_of was) (far_ends (take i es))
       → take i fs ≡ take i es → stamp ≡ stamp_of was → later ≡ stamp_of is → concerns ≡ concerns_earlier i stamp later → b ≡ agenda_with a concerns None
       → IsAgendaOf b (changed || concerns_earlier i (stamp_of was) (stamp_of is)) (stamp_of is) (far_ends (take i fs))
   served_later es fs i {a} {changed = changed} was is seen same_front before after is_so is_with = rw (same_front, is_with, is_so, before, after) (record {
@@ -160,7 +160,7 @@ module _ {P : Type 0} (far : P → FarEnd) where
   one_next es i p stamp at in_turn = let there = value_at es i p at in rw (there.1, there.2) in_turn
 
   -- Connections that were visited, followed by those that were skipped then.
-  pub past_on : (es : List (ℕ × P)) (from to : ℕ) {a b : Agenda} {changed : Bool} (host : Host) {stamp : Stamp} → stamp ≡ stamp_of host → from ≤ to → IsAgendaOf a changed (stamp_of host) (far_ends (take from es))
+  pub past_on : (es : List (ℕ × P)) (from to : ℕ) {a b : Agenda} {changed : Bool} (host : ServerState) {stamp : Stamp} → stamp ≡ stamp_of host → from ≤ to → IsAgendaOf a changed (stamp_of host) (far_ends (take from es))
       → AllByRecursion (IsAtRest stamp) (far_ends (drop from (take to es))) → b ≡ agenda_past a (far_ends (drop from (take to es))) → IsAgendaOf b changed (stamp_of host) (far_ends (take to es))
   past_on es from to {changed = changed} host on order seen rest is =
       let passed = far_ends (drop from (take to es)) in

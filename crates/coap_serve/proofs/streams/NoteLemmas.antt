@@ -6,7 +6,7 @@ use Rattle.std.proofs.lemmas.Bool.Decides.{nat_tests}
 use Rattle.std.proofs.lemmas.Cmp.{nat_eq_equiv}
 use Rattle.std.proofs.lemmas.Map.{NonePasses, lookup-none}
 use Rattle.std.proofs.lemmas.Map.Entries.{none_past_head, lookup_from_place}
-use Rattle.coap_serve.specs.Prelude.{Path, Resource, removed_at, Change, Nothing, Put, Delete, Host, Stamp, Outlook}
+use Rattle.coap_serve.specs.Prelude.{Path, Resource, removed_at, Change, Nothing, Put, Delete, ServerState, Stamp, Outlook}
 use Rattle.coap_serve.specs.Prelude.{Course, Wants, Got, Bytes, End, SessionValue, taking, host_changed}
 use Rattle.coap_serve.specs.Prelude.{session_written, session_ended, session_settled, ServerValue, LiesAt}
 use Rattle.coap_serve.specs.Prelude.{AreSettled, session_of, session_becomes, settled_entry, server_settled}
@@ -46,14 +46,14 @@ never_back one other third first later back = no_earlier_either_way other one (r
 -- ---- the host
 
 -- The host `later` can follow `host`: its stamp is not earlier, and if the stamp is the same, the host is the same.
-pub record Follows (host later : Host) : Type 0 where
+pub record Follows (host later : ServerState) : Type 0 where
   pub no_earlier : IsNoEarlier (stamp_of host) (stamp_of later)
   pub same : stamp_of later ≡ stamp_of host → later ≡ host
 
-follows_itself : (host : Host) → Follows host host
+follows_itself : (host : ServerState) → Follows host host
 follows_itself host = record { no_earlier = omega arith; same = λ e. refl }
 
-pub moment_follows : (host : Host) (later : ℕ) → host.now ≤ later → Follows host (record host { now = later })
+pub moment_follows : (host : ServerState) (later : ℕ) → host.now ≤ later → Follows host (record host { now = later })
 moment_follows host later on = record { no_earlier = omega arith; same = λ e. ap (λ (s : Stamp). record host { now = s.moment }) e }
 
 -- A removal that removes no resource changes nothing.
@@ -63,7 +63,7 @@ none_removed [] path as_many = refl
 none_removed (r ∷ rs) path as_many = grind (arith, none_removed rs path)
 
 -- A change of the store either makes the stamp later or changes nothing.
-pub change_follows : (host : Host) (c : Change) → Follows host (host_changed host c)
+pub change_follows : (host : ServerState) (c : Change) → Follows host (host_changed host c)
 change_follows host Nothing = follows_itself host
 change_follows host (Put path format bytes) = record { no_earlier = omega arith; same = λ e. absurd (omega (arith, ap (λ (s : Stamp). s.versions) e)) }
 change_follows host (Delete path) = record {
@@ -88,7 +88,7 @@ unfolding session_of
 other_is_there other id s [] apart = grind (arith, nat_tests)
 other_is_there other id s (e ∷ es) apart = rw (other_is_there other id s es apart) refl
 
-each_settles : (other : ℕ) (host : Host) (es : Entries) → session_of other (map (settled_entry host) es) ≡ option_map (session_settled host) (session_of other es)
+each_settles : (other : ℕ) (host : ServerState) (es : Entries) → session_of other (map (settled_entry host) es) ≡ option_map (session_settled host) (session_of other es)
 unfolding session_of
 each_settles other host [] = refl
 each_settles other host (e ∷ es) = grind (arith, each_settles other host es)
@@ -119,7 +119,7 @@ one_then_another {v = v} {w = w} {after = after} first later =
     }
 
 -- Another host follows, and all connections settle on it.
-entries_settle : (Spared : ℕ → Type 0) (v : ServerValue) (host : Host) (ids : ℕ) (es : Entries) → Follows v.host host
+entries_settle : (Spared : ℕ → Type 0) (v : ServerValue) (host : ServerState) (ids : ℕ) (es : Entries) → Follows v.host host
     → ((other : ℕ) → Spared other → session_of other es ≡ session_of other v.sessions)
     → GoesOnSparing Spared v (record v { host = host; ids = ids; sessions = map (settled_entry host) es })
 entries_settle Spared v host ids es follows same = record {
@@ -129,7 +129,7 @@ entries_settle Spared v host ids es follows same = record {
       rw (each_settles other host es, same other is, follows.same e, ← each_settles other v.host v.sessions, all_settled_stay v.host v.sessions all) refl;
 }
 
-pub another_host : (Spared : ℕ → Type 0) (v : ServerValue) (host : Host) → Follows v.host host → GoesOnSparing Spared v (server_settled (record v { host = host }))
+pub another_host : (Spared : ℕ → Type 0) (v : ServerValue) (host : ServerState) → Follows v.host host → GoesOnSparing Spared v (server_settled (record v { host = host }))
 another_host Spared v host follows = entries_settle Spared v host v.ids v.sessions follows (λ other is. refl)
 
 -- All numbers but one.
@@ -137,7 +137,7 @@ abbrev pub But : ℕ → ℕ → Type 0
 But id other = other ≢ id
 
 -- One connection changes, and another host follows.
-one_happens : (v : ServerValue) (id : ℕ) (f : SessionValue → SessionValue) (host : Host) → Follows v.host host → GoesOnSparing (But id) v (record v { host = host; sessions = map (settled_entry host) (map (session_becomes id f) v.sessions) })
+one_happens : (v : ServerValue) (id : ℕ) (f : SessionValue → SessionValue) (host : ServerState) → Follows v.host host → GoesOnSparing (But id) v (record v { host = host; sessions = map (settled_entry host) (map (session_becomes id f) v.sessions) })
 one_happens v id f host follows = entries_settle (But id) v host v.ids (map (session_becomes id f) v.sessions) follows (λ other. other_stays other id f v.sessions)
 
 takes_once : (v : ServerValue) (id : ℕ) (piece : List ℕ) → GoesOnSparing (But id) v (server_taken v id piece)

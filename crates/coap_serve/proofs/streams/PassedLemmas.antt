@@ -24,17 +24,17 @@ untouched v id i s piece lies here settled closed =
     let same = sym (changed_one id (λ _. s) v.sessions i lies.distinct lies.index lies.within) ∙ written in
     rw (here, taking_stopped v.host s piece closed, same, all_settled_stay v.host v.sessions settled) refl
 
-record IsUntouched (v : ServerValue) (f : Fed) : Type 0 where
+record IsUnaffected (v : ServerValue) (f : Fed) : Type 0 where
   server : f.server ≡ v
   count : f.count ≡ 0
 
-untouched_where_stopped : (v : ServerValue) (id i : ℕ) (s : SessionValue) (bytes : List ℕ) (turns : ℕ) → LiesAt id i v.sessions → session_of id v.sessions ≡ Some s → AreSettled v.host v.sessions → session_takes s ≡ false → IsUntouched v (fed_turns turns v id bytes)
+untouched_where_stopped : (v : ServerValue) (id i : ℕ) (s : SessionValue) (bytes : List ℕ) (turns : ℕ) → LiesAt id i v.sessions → session_of id v.sessions ≡ Some s → AreSettled v.host v.sessions → session_takes s ≡ false → IsUnaffected v (fed_turns turns v id bytes)
 unfolding fed_turns count_taken
 untouched_where_stopped v id i s bytes zero lies here settled closed = record { server = refl; count = refl }
 untouched_where_stopped v id i s bytes (suc turns) lies here settled closed =
     let f : Fed = fed_turns turns v id bytes in
     let so_far = untouched_where_stopped v id i s bytes turns lies here settled closed in
-    elim (goes_on bytes f) as (λ b. IsUntouched v (if b then fed_more id (drop f.count bytes) f else f)) [
+    elim (goes_on bytes f) as (λ b. IsUnaffected v (if b then fed_more id (drop f.count bytes) f else f)) [
       | true ↦ record {
         server = rw so_far.server (untouched v id i s (drop f.count bytes) lies here settled closed);
         count =
@@ -50,7 +50,7 @@ takes_nothing : (v : ServerValue) (id : ℕ) (s : SessionValue) (b : ℕ) (rest 
 takes_nothing v id s b rest here idle = or_parts (session_takes s) (is_over s.link.phase) (rw eqb-suc-zero at (rw here at idle))
 
 -- Bytes that were read before and that do not fit stay; without such bytes, none are accepted.
-still_fed : (v : ServerValue) (id i : ℕ) (s : SessionValue) (rest : List ℕ) → LiesAt id i v.sessions → session_of id v.sessions ≡ Some s → AreSettled v.host v.sessions → (wants_of v id rest).take ≡ false → IsUntouched v (fed v id rest)
+still_fed : (v : ServerValue) (id i : ℕ) (s : SessionValue) (rest : List ℕ) → LiesAt id i v.sessions → session_of id v.sessions ≡ Some s → AreSettled v.host v.sessions → (wants_of v id rest).take ≡ false → IsUnaffected v (fed v id rest)
 unfolding fed_turns
 still_fed v id i s [] lies here settled idle = record { server = refl; count = refl }
 still_fed v id i s (b ∷ rest) lies here settled idle =

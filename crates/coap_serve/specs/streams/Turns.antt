@@ -4,7 +4,7 @@ use Rattle.std.specs.List.{AllByRecursion}
 use Rattle.coap_conn.specs.declared.reason.Reason.{Reason}
 use Rattle.coap_server_engine.specs.values.Servers.{ServerValue, session_of, server_ended, server_written}
 use Rattle.coap_server_engine.specs.values.ServerAnswers.{can_take_on, stop_on}
-use Rattle.coap_server_session.specs.values.Dues.{sooner}
+use Rattle.coap_server_session.specs.values.Deadlines.{sooner}
 use Rattle.coap_server_engine.specs.values.Fed.{fed}
 use Rattle.coap_server_engine.specs.values.ServerDues.{outlook_of, stamp_of, same_stamp}
 use Rattle.coap_server_engine.specs.values.Flushes.{waiting_at}

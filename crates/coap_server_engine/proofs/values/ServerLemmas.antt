@@ -1,7 +1,7 @@
 -- The connections of a server: found by id, and changed at their index.
 use Rattle.std.proofs.Common.{◌≡◌, ℕ, zero, suc, ◌+◌, ◌<◌, ◌≤◌, Bool, true, false, cond, List, [], ◌∷◌, ◌++◌, length, Option, Some, None, is_some, refl, sym, ap, subst, ◌∙◌, arith, map, filter, remove, IfNone, IfSome, OnOk, OnErr, Result, Ok, Err, not, nat_eq, option_map, nat_lt, slice_get, ◌==◌, if◌then◌else◌}
 use Rattle.coap_server_engine.specs.Prelude.{AllByRecursion, IsDistinct, position_or_len, position, lookup, keys_of}
-use Rattle.coap_server_engine.specs.Prelude.{values_of, nat_eq_equiv, set_value_at, insert_entry, Host, SessionValue}
+use Rattle.coap_server_engine.specs.Prelude.{values_of, nat_eq_equiv, set_value_at, insert_entry, ServerState, SessionValue}
 use Rattle.coap_server_engine.specs.Prelude.{new_session, session_settled, IsSettled, ServerValue, LiesAt, session_of}
 use Rattle.coap_server_engine.specs.Prelude.{is_there, changed_at, session_becomes, on_session, settled_entry}
 use Rattle.coap_server_engine.specs.Prelude.{server_settled, server_ticked, server_opened, server_dropped, AreSettled}
@@ -175,23 +175,23 @@ changed_one id f =
 
 -- ---- settling
 
-abbrev pub settling : Host → (SessionValue → SessionValue) → SessionValue → SessionValue
+abbrev pub settling : ServerState → (SessionValue → SessionValue) → SessionValue → SessionValue
 settling host f s = session_settled host (f s)
 
-entry_settles : (host : Host) (f : SessionValue → SessionValue) (b : Bool) (e : ℕ × SessionValue) → IsSettled host e.1 → cond b (e.0, settling host f e.1) e ≡ settled_entry host (cond b (e.0, f e.1) e)
+entry_settles : (host : ServerState) (f : SessionValue → SessionValue) (b : Bool) (e : ℕ × SessionValue) → IsSettled host e.1 → cond b (e.0, settling host f e.1) e ≡ settled_entry host (cond b (e.0, f e.1) e)
 entry_settles host f true e settled = refl
 entry_settles host f false e settled = ap (λ (v : SessionValue). (e.0, v)) (sym (settled_stays host e.1 settled))
 
 -- If all connections were settled, only the changed one needs to settle.
-pub one_settles : (host : Host) (id : ℕ) (f : SessionValue → SessionValue) (es : Entries) → AreSettled host es → map (session_becomes id (settling host f)) es ≡ map (settled_entry host) (map (session_becomes id f) es)
+pub one_settles : (host : ServerState) (id : ℕ) (f : SessionValue → SessionValue) (es : Entries) → AreSettled host es → map (session_becomes id (settling host f)) es ≡ map (settled_entry host) (map (session_becomes id f) es)
 one_settles host id f [] all = refl
 one_settles host id f (e ∷ es) all = cc (entry_settles host f (nat_eq e.0 id) e all.0, one_settles host id f es all.1)
 
-pub all_are_settled : (host : Host) (es : Entries) → AreSettled host (map (settled_entry host) es)
+pub all_are_settled : (host : ServerState) (es : Entries) → AreSettled host (map (settled_entry host) es)
 all_are_settled host [] = tt
 all_are_settled host (e ∷ es) = (settled_is_settled host e.1, all_are_settled host es)
 
-pub all_settled_stay : (host : Host) (es : Entries) → AreSettled host es → map (settled_entry host) es ≡ es
+pub all_settled_stay : (host : ServerState) (es : Entries) → AreSettled host es → map (settled_entry host) es ≡ es
 all_settled_stay host [] all = refl
 all_settled_stay host (e ∷ es) all = cc (ap {B = ℕ × SessionValue} (λ (v : SessionValue). (e.0, v)) (settled_stays host e.1 all.0), all_settled_stay host es all.1)
 
@@ -208,7 +208,7 @@ settled_server v entries is numbered few = rw is (record {
   few = rw (length-map v.sessions (settled_entry v.host)) few;
 })
 
-pub taken_server_with : (v : ServerValue) (id : ℕ) (f : SessionValue → SessionValue) (host : Host) → IsServer v → IsServer (record v { host = host; sessions = map (settled_entry host) (map (session_becomes id f) v.sessions) })
+pub taken_server_with : (v : ServerValue) (id : ℕ) (f : SessionValue → SessionValue) (host : ServerState) → IsServer v → IsServer (record v { host = host; sessions = map (settled_entry host) (map (session_becomes id f) v.sessions) })
 taken_server_with v id f host server =
     let few : length (map (session_becomes id f) v.sessions) ≤ v.config.connections = rw (length-map v.sessions (session_becomes id f)) server.few in
     settled_server (record (on_session id f v) { host = host }) _ refl (all_still (λ e. e.0 ≤ v.ids) id f (λ e low. low) v.sessions server.numbered) few
@@ -218,7 +218,7 @@ keys_where_one_changed : (id : ℕ) (f : SessionValue → SessionValue) (es : En
 keys_where_one_changed id f [] = refl
 keys_where_one_changed id f (e ∷ es) = cc (cond_both (nat_eq e.0 id) (e.0, f e.1) e (λ x. x.0 ≡ e.0) (λ _. refl) (λ _. refl), keys_where_one_changed id f es)
 
-pub lies_where_taken : (id i : ℕ) (f : SessionValue → SessionValue) (host : Host) (es : Entries) → LiesAt id i es → LiesAt id i (map (settled_entry host) (map (session_becomes id f) es))
+pub lies_where_taken : (id i : ℕ) (f : SessionValue → SessionValue) (host : ServerState) (es : Entries) → LiesAt id i es → LiesAt id i (map (settled_entry host) (map (session_becomes id f) es))
 unfolding session_of
 lies_where_taken id i f host es lies =
     let now : Entries = map (settled_entry host) (map (session_becomes id f) es) in
@@ -261,26 +261,26 @@ same_moment v now server same =
 -- ---- all connections settle, one after the other
 
 -- The first `n` connections have settled.
-unfoldable pub settled_up_to : ℕ → Host → Entries → Entries
+unfoldable pub settled_up_to : ℕ → ServerState → Entries → Entries
 settled_up_to zero host es = es
 settled_up_to (suc n) host [] = []
 settled_up_to (suc n) host (e ∷ es) = settled_entry host e ∷ settled_up_to n host es
 
-pub none_settled : (host : Host) (es : Entries) → es ≡ settled_up_to 0 host es
+pub none_settled : (host : ServerState) (es : Entries) → es ≡ settled_up_to 0 host es
 unfolding settled_up_to
 none_settled host es = refl
 
-pub length-settled_up_to : (n : ℕ) (host : Host) (es : Entries) → length (settled_up_to n host es) ≡ length es
+pub length-settled_up_to : (n : ℕ) (host : ServerState) (es : Entries) → length (settled_up_to n host es) ≡ length es
 unfolding settled_up_to
 length-settled_up_to zero host es = refl
 length-settled_up_to (suc n) host [] = refl
 length-settled_up_to (suc n) host (e ∷ es) = ap suc (length-settled_up_to n host es)
 
-pub as_many_settled : (n : ℕ) (host : Host) (es now : MarkedEntries) → unmarked now ≡ settled_up_to n host (unmarked es) → length now ≡ length es
+pub as_many_settled : (n : ℕ) (host : ServerState) (es now : MarkedEntries) → unmarked now ≡ settled_up_to n host (unmarked es) → length now ≡ length es
 as_many_settled n host es now is =
     sym (length-map now unmarked_entry) ∙ ap length is ∙ length-settled_up_to n host (unmarked es) ∙ length-map es unmarked_entry
 
-next_settles : (n : ℕ) (host : Host) (es : Entries) → changed_at n (session_settled host) (settled_up_to n host es) ≡ settled_up_to (suc n) host es
+next_settles : (n : ℕ) (host : ServerState) (es : Entries) → changed_at n (session_settled host) (settled_up_to n host es) ≡ settled_up_to (suc n) host es
 unfolding settled_up_to changed_at
 next_settles zero host [] = refl
 next_settles zero host (e ∷ es) = refl
@@ -288,18 +288,18 @@ next_settles (suc n) host [] = refl
 next_settles (suc n) host (e ∷ es) = ap (λ (rest : Entries). settled_entry host e ∷ rest) (next_settles n host es)
 
 -- The next connection settles.
-pub one_more_settled : (n : ℕ) (host : Host) (es now : Entries) (s after : SessionValue) → now ≡ settled_up_to n host es → slice_get (values_of now) n ≡ Some s → after ≡ session_settled host s → set_value_at now n after ≡ settled_up_to (n + 1) host es
+pub one_more_settled : (n : ℕ) (host : ServerState) (es now : Entries) (s after : SessionValue) → now ≡ settled_up_to n host es → slice_get (values_of now) n ≡ Some s → after ≡ session_settled host s → set_value_at now n after ≡ settled_up_to (n + 1) host es
 one_more_settled n host es now s after is at settles =
     let next : suc n ≡ n + 1 = omega arith in
     cc (written_at_index (session_settled host) now n s at, next_settles n host es)
 
-settled_to_the_end : (host : Host) (es : Entries) → settled_up_to (length es) host es ≡ map (settled_entry host) es
+settled_to_the_end : (host : ServerState) (es : Entries) → settled_up_to (length es) host es ≡ map (settled_entry host) es
 unfolding settled_up_to
 settled_to_the_end host [] = refl
 settled_to_the_end host (e ∷ es) = ap (λ (rest : Entries). settled_entry host e ∷ rest) (settled_to_the_end host es)
 
 -- All connections have settled.
-pub all_settled : (n : ℕ) (host : Host) (es now : Entries) → now ≡ settled_up_to n host es → n ≡ length es → now ≡ map (settled_entry host) es
+pub all_settled : (n : ℕ) (host : ServerState) (es now : Entries) → now ≡ settled_up_to n host es → n ≡ length es → now ≡ map (settled_entry host) es
 all_settled n host es now is end = cc (settled_to_the_end host es)
 
 -- ---- a connection is removed

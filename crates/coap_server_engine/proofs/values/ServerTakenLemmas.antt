@@ -1,7 +1,7 @@
 -- After input that changes no resource, a server only has to settle the connection that received it, and only if an
 -- entry is pending.
 use Rattle.std.proofs.Common.{◌≡◌, ℕ, Bool, false, cond, List, take, Option, Some, sym, ap, subst, ◌∙◌, map, slice_get}
-use Rattle.coap_server_engine.specs.Prelude.{values_of, set_value_at, stop_of, Reason, changes, Host, SessionValue, Taking}
+use Rattle.coap_server_engine.specs.Prelude.{values_of, set_value_at, stop_of, Reason, changes, ServerState, SessionValue, TakeOutcome}
 use Rattle.coap_server_engine.specs.Prelude.{session_takes, taking, host_changed, IsSettled, RefusesPiece, settled_held}
 use Rattle.coap_server_engine.specs.Prelude.{ServerValue, LiesAt, session_of, changed_at, session_becomes, settled_entry}
 use Rattle.coap_server_engine.specs.Prelude.{AreSettled, server_taken_on, server_taken, count_on, count_taken, handled_so}
@@ -13,10 +13,10 @@ use Rattle.coap_server_session.proofs.values.TakenLemmas.{host_stays, refused_ch
 -- ---- the server
 
 module _ (v : ServerValue) (id i : ℕ) (s : SessionValue) (piece : List ℕ) (server : IsServer v) (lies : LiesAt id i v.sessions) (here : slice_get (values_of v.sessions) i ≡ Some s) where
-  abbrev taking_here : Taking
+  abbrev taking_here : TakeOutcome
   taking_here = taking v.host s piece
 
-  abbrev host_after : Host
+  abbrev host_after : ServerState
   host_after = host_changed v.host taking_here.change
 
   abbrev with_it : Entries
@@ -50,16 +50,16 @@ module _ (v : ServerValue) (id i : ℕ) (s : SessionValue) (piece : List ℕ) (s
       written_is ∙ sym (all_settled_stay host_after with_it settled)
 
   -- All connections settle if a resource changed, otherwise this one, if an entry is pending.
-  abbrev left_so : Host → SessionValue → Bool → Entries
+  abbrev left_so : ServerState → SessionValue → Bool → Entries
   left_so host after changed = cond changed (map (settled_entry host) (set_value_at v.sessions i after)) (changed_at i (settled_held host) (set_value_at v.sessions i after))
 
   -- A server with these connections.
-  module _ (host : Host) (entries : Entries) (host_is : host ≡ host_after) (all : entries ≡ map (settled_entry host_after) with_it) where
+  module _ (host : ServerState) (entries : Entries) (host_is : host ≡ host_after) (all : entries ≡ map (settled_entry host_after) with_it) where
     pub becomes : IsServer (record v { host = host; sessions = entries }) × (record v { host = host; sessions = entries } ≡ server_taken v id piece)
     unfolding server_taken
     becomes = rw (host_is, all) (taken_server_with v id (λ _. taking_here.session) host_after server, sym (ap (server_taken_on v id piece) (lies.found ∙ here)))
 
-  module _ (host : Host) (after : SessionValue) (changed : Bool) (entries : Entries) (after_is : after ≡ taking_here.session) (host_is : host ≡ host_after) (changed_is : changed ≡ changes taking_here.change) (entries_are : entries ≡ left_so host after changed) where
+  module _ (host : ServerState) (after : SessionValue) (changed : Bool) (entries : Entries) (after_is : after ≡ taking_here.session) (host_is : host ≡ host_after) (changed_is : changed ≡ changes taking_here.change) (entries_are : entries ≡ left_so host after changed) where
     all_are : entries ≡ map (settled_entry host_after) with_it
     all_are =
         let left : left_so host_after taking_here.session (changes taking_here.change) ≡ map (settled_entry host_after) with_it =
@@ -86,7 +86,7 @@ module _ (v : ServerValue) (id i : ℕ) (s : SessionValue) (piece : List ℕ) (c
   pub refuses_on : RefusesPieceOn v piece count (session_of id v.sessions)
   refuses_on = subst (RefusesPieceOn v piece count) (sym (lies.found ∙ here)) refuses
 
-  module _ (host : Host) (after : SessionValue) (after_is : after ≡ (taking v.host s (take count piece)).session) (host_is : host ≡ v.host) where
+  module _ (host : ServerState) (after : SessionValue) (after_is : after ≡ (taking v.host s (take count piece)).session) (host_is : host ≡ v.host) where
     host_after_is : host ≡ host_changed v.host (taking v.host s (take count piece)).change
     host_after_is = host_is ∙ sym (ap (host_changed v.host) (refused_changes_nothing v.host s piece count refuses))
 

@@ -5,7 +5,7 @@ use Rattle.std.proofs.Common.{Ok, Err, refl, sym, ap, subst, ◌∙◌, ◌⊎�
 use Rattle.std.proofs.lemmas.Bool.{lt-ltb, le-ltb, cases_eq, cases_Bool}
 use Rattle.std.proofs.lemmas.List.{append-nil, length-append, take_all}
 use Rattle.coap_server_engine.specs.Prelude.{Message, message_of, FormatFault, OfFrame, Format, Stream, FrameEventValue, AFrame}
-use Rattle.coap_server_engine.specs.Prelude.{AFault, framing, Reason, stop_of, after, ConfigValues, Host, Taken, TakeFault}
+use Rattle.coap_server_engine.specs.Prelude.{AFault, framing, Reason, stop_of, after, ConfigValues, ServerState, Taken, TakeFault}
 use Rattle.coap_server_engine.specs.Prelude.{SessionValue, taking, taking_read, taking_found, ServerValue, session_of}
 use Rattle.coap_server_engine.specs.Prelude.{count_taken, server_taken_on, server_taken, stop_on, handled_so, handled_on}
 use Rattle.coap_server_engine.specs.Prelude.{handled_by, Connection, handles, new_side, World, Step, side_of, AcceptedCall, Took}
@@ -44,7 +44,7 @@ module _ (c : ConfigValues) (es : List AcceptedCall) (id : ℕ) (piece : List �
   abbrev session_before : SessionValue
   session_before = session_shown rest_before s
 
-  module _ (host : Host) (does : handles s ≡ true) where
+  module _ (host : ServerState) (does : handles s ≡ true) where
     abbrev TakesFront : Bool → Type 0
     TakesFront message = TakesSo c.limits.max_message id es (take (front_of handling_size rest_before piece) piece) s message
 
@@ -63,7 +63,7 @@ module _ (c : ConfigValues) (es : List AcceptedCall) (id : ℕ) (piece : List �
     found_so (AFault fault) e = OneFault refl does (OfFrame fault) _ (piece_adds_fault c.limits.max_message id es piece no_fault_before fault e)
 
   -- The accepted bytes of any slice.
-  pub took_so : (host : Host) → TakesSo c.limits.max_message id es bytes_taken s (taking host session_before piece).handled
+  pub took_so : (host : ServerState) → TakesSo c.limits.max_message id es bytes_taken s (taking host session_before piece).handled
   took_so host =
       elim (cases_Bool (handles s)) [
         | inl does ↦ rw (takes_there c es id piece s there, does, taking_front host handling_size rest_before piece s (is.sizes id s there) does)
@@ -76,7 +76,7 @@ module _ (c : ConfigValues) (es : List AcceptedCall) (id : ℕ) (piece : List �
 accepted_so : (c : ConfigValues) (es : List AcceptedCall) (id : ℕ) (bytes : List ℕ) (s : Connection) → IsReached c es → side_of id (world_after c es).sides ≡ Some s → takes c es id bytes ≡ length bytes
     → (message : Bool) × TakesSo c.limits.max_message id es bytes s message
 accepted_so c es id bytes s is there all =
-    let host : Host = record { store = (world_after c es).store; now = (world_after c es).now } in
+    let host : ServerState = record { store = (world_after c es).store; now = (world_after c es).now } in
     let whole : bytes_taken c es id bytes s is there ≡ bytes = take_all (takes c es id bytes) bytes (omega (arith, all)) in
     let message : Bool = (taking host (session_shown (stream_on c.limits.max_message id es).rest s) bytes).handled in
     (message, subst (λ (b : List ℕ). TakesSo c.limits.max_message id es b s message) whole (took_so c es id bytes s is there host))

@@ -2,7 +2,7 @@
 -- message, which stores a representation.
 use Rattle.std.proofs.Common.{◌≡◌, ℕ, suc, ◌+◌, ◌<◌, List, [], ◌∷◌, ◌++◌, length, take, drop, get_or, Some, None, Result, refl, sym, ap, subst, ◌∙◌, append_assoc, arith, IfErr, inl, inr, ◌⊎◌}
 use Rattle.coap_server_engine.specs.Prelude.{AllByRecursion, Message, Stream, split, split_on, Framing, IsPut, ConfigValues}
-use Rattle.coap_server_engine.specs.Prelude.{Host, SessionValue, change_by, RefusesPiece, ServerValue, session_of, count_on}
+use Rattle.coap_server_engine.specs.Prelude.{ServerState, SessionValue, change_by, RefusesPiece, ServerValue, session_of, count_on}
 use Rattle.coap_server_engine.specs.Prelude.{count_taken, Connection, World, side_of, Handled, AcceptedCall, stream_on, beyond}
 use Rattle.coap_server_engine.specs.Prelude.{world_after, size_on, Took, steps_by, takes, change_made, session_shown, Shows}
 use Rattle.coap_server_engine.specs.Prelude.{IsNotTaken, Taken, TakeFault, WrittenFault, ReleaseFault, IsRefusedStored}
@@ -73,7 +73,7 @@ refuses_last v es id piece n s shows e refused =
       ends = rw (stream_more M id es (take (n + 1) piece)) at one.steps;
       one_more = rw (sym (stream_more M id es front) ∙ nothing.stream, append_assoc so_far.rest front last, ← (take_at_read piece n 0 within).1, spelled) refl;
       stores = rw (at.there, change_shown w.store w.now t stored.message refuses.takes)
-          (subst (λ (h : Host). IsPut (change_by h (session_shown so_far.rest t).link stored.message)) (host_shown v es shows) stored.puts);
+          (subst (λ (h : ServerState). IsPut (change_by h (session_shown so_far.rest t).link stored.message)) (host_shown v es shows) stored.puts);
     }
 
 -- ---- the message for which allocation failed, from the events: the next byte of the slice would complete it

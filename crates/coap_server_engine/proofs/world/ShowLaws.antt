@@ -6,8 +6,8 @@ use Rattle.std.proofs.lemmas.List.{length-take-le, length-map, map-append}
 use Rattle.coap_server_engine.specs.Prelude.{Message, message_of, Unfinished, prefix_kind, StreamFault, OfFrame, Format}
 use Rattle.coap_server_engine.specs.Prelude.{Stream, frame_then, FormatFault, Framing, FrameEventValue, AFrame, AFault, framing}
 use Rattle.coap_server_engine.specs.Prelude.{reject_of, StoreValue, put_in, removed_in, changed, IsPut}
-use Rattle.coap_server_engine.specs.Prelude.{ConfigValues, Host, SessionValue, session_takes, session_handled}
-use Rattle.coap_server_engine.specs.Prelude.{session_rejected, change_by, Taking, taking_read, taking_found, taking}
+use Rattle.coap_server_engine.specs.Prelude.{ConfigValues, ServerState, SessionValue, session_takes, session_handled}
+use Rattle.coap_server_engine.specs.Prelude.{session_rejected, change_by, TakeOutcome, taking_read, taking_found, taking}
 use Rattle.coap_server_engine.specs.Prelude.{RefusesPiece, new_session, session_written, session_ended, session_released}
 use Rattle.coap_server_engine.specs.Prelude.{session_announced, session_raises, session_of, session_becomes, on_session}
 use Rattle.coap_server_engine.specs.Prelude.{settled_entry, server_settled, server_taken_so, ServerValue, server_opened}
@@ -68,7 +68,7 @@ server_after_settling : (c : ConfigValues) (es : List AcceptedCall) (w : World) 
 server_after_settling c es w known =
     let shown : ConnectionEntry → ℕ × SessionValue = place_shown c.limits.max_message es in
     let settles : ConnectionEntry → ConnectionEntry = settled_place w.store w.now in
-    let host : Host = host_of w.store w.now in
+    let host : ServerState = host_of w.store w.now in
     ap (λ (os : List (ℕ × SessionValue)). record (server_shown c es w) { sessions = os })
     (maps_alike settles shown shown (settled_entry host) w.sides
     (all_to (IsKnownPlace w.store) (λ p. shown (settles p) ≡ settled_entry host (shown p))
@@ -82,35 +82,35 @@ history_there c es id t small there =
 
 -- ---- the bytes that a session accepts
 
-pub taking_stopped : (host : Host) (s : SessionValue) (piece : List ℕ) → session_takes s ≡ false → taking host s piece ≡ record { count = 0; handled = false; session = s; change = store_change.Nothing }
+pub taking_stopped : (host : ServerState) (s : SessionValue) (piece : List ℕ) → session_takes s ≡ false → taking host s piece ≡ record { count = 0; handled = false; session = s; change = store_change.Nothing }
 unfolding taking
 taking_stopped host s piece stopped = rw stopped refl
 
 -- A connection that accepts bytes finds in the kept bytes and the slice the frame or error that `framing` finds.
-pub taking_front : (host : Host) (M : ℕ) (rest piece : List ℕ) (t : Connection) → t.history.own_max ≡ M → handles t ≡ true
+pub taking_front : (host : ServerState) (M : ℕ) (rest piece : List ℕ) (t : Connection) → t.history.own_max ≡ M → handles t ≡ true
     → taking host (session_shown rest t) piece ≡ taking_found host (session_shown rest t) (framing M rest piece) (framing M rest piece).finding
 unfolding taking
 taking_front host M rest piece t most does = rw ((handles_parts t does).0, (handles_parts t does).1, most) refl
 
-count_found : (host : Host) (s : SessionValue) (f : Framing) (found : FrameEventValue) → (taking_found host s f found).count ≡ f.taken
+count_found : (host : ServerState) (s : SessionValue) (f : Framing) (found : FrameEventValue) → (taking_found host s f found).count ≡ f.taken
 count_found host s f found = grind arith
 
 -- The number of bytes that it accepts.
-pub taking_count : (host : Host) (M : ℕ) (rest piece : List ℕ) (t : Connection) → t.history.own_max ≡ M → (taking host (session_shown rest t) piece).count ≡ (if handles t then front_of M rest piece else 0)
+pub taking_count : (host : ServerState) (M : ℕ) (rest piece : List ℕ) (t : Connection) → t.history.own_max ≡ M → (taking host (session_shown rest t) piece).count ≡ (if handles t then front_of M rest piece else 0)
 taking_count host M rest piece t most =
     let s : SessionValue = session_shown rest t in
     let f : Framing = framing M rest piece in
     grind (arith, taking_front host M rest piece t most, count_found host s f f.finding, taking_stopped host s piece)
 
 -- A representation is stored only by a frame whose message stores it.
-pub record StoresBy (host : Host) (s : SessionValue) (found : FrameEventValue) : Type 0 where
+pub record StoresBy (host : ServerState) (s : SessionValue) (found : FrameEventValue) : Type 0 where
   pub frame : List ℕ
   pub message : Message
   pub is : found ≡ AFrame frame
   pub reads : message_of frame ≡ Ok message
   pub puts : IsPut (change_by host s.link message)
 
-stores_by : (host : Host) (s : SessionValue) (f : Framing) (found : FrameEventValue) → IsPut (taking_found host s f found).change → StoresBy host s found
+stores_by : (host : ServerState) (s : SessionValue) (f : Framing) (found : FrameEventValue) → IsPut (taking_found host s f found).change → StoresBy host s found
 stores_by host s f (AFrame frame) put = by (message_of frame) refl put
   where
     by : (read : Result Message FormatFault) → message_of frame ≡ read → IsPut (taking_read host s f.taken read).change → StoresBy host s (AFrame frame)
@@ -133,7 +133,7 @@ module _ (c : ConfigValues) (es : List AcceptedCall) (id : ℕ) (piece : List �
   abbrev world_then : World
   world_then = world_after c es
 
-  abbrev pub host_then : Host
+  abbrev pub host_then : ServerState
   host_then = host_of world_then.store world_then.now
 
   -- The current message size.
@@ -147,7 +147,7 @@ module _ (c : ConfigValues) (es : List AcceptedCall) (id : ℕ) (piece : List �
   front_taken_then = take (front_of in_force so_far piece) piece
 
   -- The server after this effect is that after the accepted bytes.
-  abbrev pub TakesAs : Taking → Type 0
+  abbrev pub TakesAs : TakeOutcome → Type 0
   TakesAs k = server_taken_so (server_of c es) id k ≡ server_of c (es ++ Took id (take k.count piece) ∷ [])
 
   -- Bytes that change the connection by `f`, whose value is `v` then.
@@ -158,7 +158,7 @@ module _ (c : ConfigValues) (es : List AcceptedCall) (id : ℕ) (piece : List �
   unfolding server_of
   took bytes f v store known settles shown =
       let fs : List AcceptedCall = es ++ Took id bytes ∷ [] in
-      let host : Host = host_of store world_then.now in
+      let host : ServerState = host_of store world_then.now in
       sym (ap (server_shown c fs) settles ∙ server_after_settling c fs (record (on_side id f world_then) { store = store }) known
       ∙ ap (λ (os : List (ℕ × SessionValue)). server_settled (record (server_shown c es world_then) { host = host; sessions = os }))
       (one_becomes most id es fs f (λ s. v) t world_then.sides (events_distinct c es) there (λ k apart. stream_elsewhere most k id es bytes apart) shown))
@@ -408,12 +408,12 @@ pub shows_taken : (v : ServerValue) (es : List AcceptedCall) (id : ℕ) (piece :
 unfolding server_taken
 shows_taken v es id piece s shows e =
     let c : ConfigValues = v.config in
-    let host : Host = host_of (world_after c es).store (world_after c es).now in
+    let host : ServerState = host_of (world_after c es).store (world_after c es).now in
     let at = session_there v es id s shows e in
     let is : IsReached c es = accepted_is c es shows.accepted in
-    let taken : Taking = taking host (session_shown (rest_on v es id) at.side) piece in
+    let taken : TakeOutcome = taking host (session_shown (rest_on v es id) at.side) piece in
     let same : taking v.host s piece ≡ taken =
-    ap (λ (h : Host). taking h s piece) (host_shown v es shows) ∙ ap (λ (u : SessionValue). taking host u piece) at.shown in
+    ap (λ (h : ServerState). taking h s piece) (host_shown v es shows) ∙ ap (λ (u : SessionValue). taking host u piece) at.shown in
     let count : taken.count ≡ takes c es id piece =
     taking_count host (size_on c.limits.max_message id es) (rest_on v es id) piece at.side (is.sizes id at.side at.there)
     ∙ sym (takes_there c es id piece at.side at.there) in

@@ -2,7 +2,7 @@
 use Rattle.std.specs.Prelude.{◌≡◌, ◌≤◌, ◌⊎◌, ℕ, zero, suc, ◌+◌, Bool, true, false, List, [], ◌++◌, length, Option, Some, None}
 use Rattle.coap_server_session.specs.values.Sessions.{SessionValue, session_written, session_settled}
 use Rattle.coap_server_engine.specs.values.Servers.{ServerValue, session_of, changed_at, server_written}
-use Rattle.coap_server_session.specs.declared.host.Host.{Host}
+use Rattle.coap_server_session.specs.declared.server_state.ServerState.{ServerState}
 
 -- The server after some iterations, and the bytes that they wrote.
 pub record Flush : Type 0 where
@@ -47,7 +47,7 @@ IsFlushedOnce id v after wrote false = (waiting_at id v ≡ []) × (after ≡ v)
 IsFlushedOnce id v after wrote true = (after ≡ server_written v id (length (waiting_at id v))) × wrote (waiting_at id v)
 
 -- The same for the connection at an index, whose value is `s`.
-abbrev pub IsFlushedAt : ℕ → Host → SessionValue → List (ℕ × SessionValue) → List (ℕ × SessionValue) → (List ℕ → Type 0) → Bool → Type 0
+abbrev pub IsFlushedAt : ℕ → ServerState → SessionValue → List (ℕ × SessionValue) → List (ℕ × SessionValue) → (List ℕ → Type 0) → Bool → Type 0
 IsFlushedAt at host s sessions after wrote false = (s.link.waiting ≡ []) × (after ≡ sessions) × wrote []
 IsFlushedAt at host s sessions after wrote true =
     (after ≡ changed_at at (λ u. session_settled host (session_written u (length s.link.waiting))) sessions) × wrote s.link.waiting

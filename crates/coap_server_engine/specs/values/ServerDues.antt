@@ -3,17 +3,17 @@ use Rattle.std.specs.Prelude.{◌≡◌, ◌&&◌, ℕ, Bool, length, Option, na
 use Rattle.std.specs.List.{AllByRecursion}
 use Rattle.coap_conn.specs.Phases.{is_over}
 use Rattle.coap_conn.specs.LinkValue.{is_finished}
-use Rattle.coap_server_session.specs.declared.host.Host.{Host}
+use Rattle.coap_server_session.specs.declared.server_state.ServerState.{ServerState}
 use Rattle.coap_server_engine.specs.declared.server.Stamp.{Stamp}
 use Rattle.coap_server_engine.specs.declared.server.Outlook.{Outlook}
 use Rattle.coap_server_session.specs.values.Sessions.{SessionValue, session_takes}
-use Rattle.coap_server_session.specs.values.Dues.{IsBefore, due_on}
+use Rattle.coap_server_session.specs.values.Deadlines.{IsBefore, due_on}
 use Rattle.coap_server_engine.specs.values.Servers.{ServerValue, session_of, server_ticked}
 
 -- States that only the time changes when it advances to `later`, if `later` is before each deadline. The queued bytes,
 -- the pending entries and the observers of every connection stay the same.
-abbrev pub WaitsForWhatIsDue : ServerValue → ℕ → Type 0
-WaitsForWhatIsDue v later =
+abbrev pub WaitsForDeadlines : ServerValue → ℕ → Type 0
+WaitsForDeadlines v later =
     AllByRecursion (λ e. IsBefore later (due_on v.host.now e.1)) v.sessions → server_ticked v later ≡ record v { host = record v.host { now = later } }
 
 -- ---- the work left on a connection
@@ -38,5 +38,5 @@ abbrev pub same_stamp : Stamp → Stamp → Bool
 same_stamp one other = (one.moment == other.moment) && (one.versions == other.versions) && (one.resources == other.resources)
 
 -- The change stamp: the time, and the counts that differ for any two states of the store in its history.
-abbrev pub stamp_of : Host → Stamp
+abbrev pub stamp_of : ServerState → Stamp
 stamp_of host = record { moment = host.now; versions = host.store.versions; resources = length host.store.resources }

@@ -5,13 +5,13 @@ use Rattle.std.specs.Map.{keys_of, values_of}
 use Rattle.coap_store.specs.Paths.{Path}
 use Rattle.coap_store.specs.Store.{put_in, removed_in}
 use Rattle.coap_model.specs.Configs.{ConfigValues}
-use Rattle.coap_server_session.specs.declared.host.Host.{Host}
-use Rattle.coap_server_session.specs.values.Sessions.{empty_host, SessionValue, MarkedSession, IsMarked, Taking, new_session, taking, host_changed, session_written, session_ended, session_released, session_announced, session_settled, IsSettled}
+use Rattle.coap_server_session.specs.declared.server_state.ServerState.{ServerState}
+use Rattle.coap_server_session.specs.values.Sessions.{empty_host, SessionValue, MarkedSession, IsMarked, TakeOutcome, new_session, taking, host_changed, session_written, session_ended, session_released, session_announced, session_settled, IsSettled}
 
 -- A server: its configuration, the resources with the time, the last id, and the connections in ascending order of ids.
 pub record ServerValue : Type 0 where
   pub config : ConfigValues
-  pub host : Host
+  pub host : ServerState
   pub ids : ℕ
   pub sessions : List (ℕ × SessionValue)
 
@@ -44,7 +44,7 @@ abbrev pub on_session : ℕ → (SessionValue → SessionValue) → ServerValue 
 on_session id f v = record v { sessions = map (session_becomes id f) v.sessions }
 
 -- An entry of the list after its connection settled.
-abbrev pub settled_entry : Host → ℕ × SessionValue → ℕ × SessionValue
+abbrev pub settled_entry : ServerState → ℕ × SessionValue → ℕ × SessionValue
 settled_entry host e = (e.0, session_settled host e.1)
 
 -- The server after every connection settled.
@@ -52,7 +52,7 @@ abbrev pub server_settled : ServerValue → ServerValue
 server_settled v = record v { sessions = map (settled_entry v.host) v.sessions }
 
 -- Holds if every connection is settled.
-abbrev pub AreSettled : Host → List (ℕ × SessionValue) → Type 0
+abbrev pub AreSettled : ServerState → List (ℕ × SessionValue) → Type 0
 AreSettled host sessions = AllByRecursion (λ e. IsSettled host e.1) sessions
 
 -- ---- the changed marks
@@ -66,7 +66,7 @@ abbrev pub unmarked : List (ℕ × MarkedSession) → List (ℕ × SessionValue)
 unmarked sessions = map unmarked_entry sessions
 
 -- Holds if the changed marks of all observers of all connections are current.
-abbrev pub AreAllMarked : Host → List (ℕ × MarkedSession) → Type 0
+abbrev pub AreAllMarked : ServerState → List (ℕ × MarkedSession) → Type 0
 AreAllMarked host sessions = AllByRecursion (λ e. IsMarked host e.1) sessions
 
 -- ---- queries
@@ -78,8 +78,8 @@ is_there (Some x) = true
 
 -- ---- calls
 
--- The server state (`Host`) of a new server, which stores nothing.
-abbrev pub new_host : ConfigValues → Host
+-- The server state (`ServerState`) of a new server, which stores nothing.
+abbrev pub new_host : ConfigValues → ServerState
 new_host c = empty_host c.dynamic_max c.rep_max c.starts.versions c.starts.moment
 
 -- A new server, which has no connection.
@@ -95,7 +95,7 @@ abbrev pub server_opened : ServerValue → ServerValue
 server_opened v = server_settled (record v { ids = v.ids + 1; sessions = v.sessions ++ (v.ids + 1, new_session v.config.limits) ∷ [] })
 
 -- The server after a `take` with the effect `t` on the connection with this id.
-abbrev pub server_taken_so : ServerValue → ℕ → Taking → ServerValue
+abbrev pub server_taken_so : ServerValue → ℕ → TakeOutcome → ServerValue
 server_taken_so v id t = server_settled (record (on_session id (λ s. t.session) v) { host = host_changed v.host t.change })
 
 -- The server after a `take` on a connection, unchanged if there is none.

@@ -224,7 +224,7 @@ impl Server {
                 stop: None,
             });
         };
-        let more = self.sessions[at].more();
+        let more = self.sessions[at].settle_bound();
         let waited = flush_at(&mut self.sessions, at, &self.host, writer)?;
         let stop = self.sessions[at].phase().stop();
         Ok(Flushed { waited, more, stop })

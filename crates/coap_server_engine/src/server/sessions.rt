@@ -14,7 +14,7 @@ use super::Sessions;
 use coap_conn::Reason;
 use coap_io::{Outlet, WriteFailed, write_parts};
 use coap_model::{AnnounceFault, ConnId, Handled, ReleaseFault};
-use coap_server_session::{Cause, Host};
+use coap_server_session::{Cause, ServerState};
 
 /// Returns the index of a connection, or `None` if no connection has this id.
 pub(super) fn find(sessions: &Sessions, id: ConnId) -> Option<usize>
@@ -48,7 +48,7 @@ pub(super) fn next_touched(
 
 /// Recomputes the marks on every connection that a change may affect, and settles these connections. The others are
 /// settled already.
-pub(super) fn settle_touched(sessions: &mut Sessions, host: &Host, cause: Cause)
+pub(super) fn settle_touched(sessions: &mut Sessions, host: &ServerState, cause: Cause)
     requires settled { AreSettledUntouched cause host.now (unmarked sessions.old.entries) }
     requires marked { AreMarkedBut cause host.now sessions.old.entries }
     ensures after { unmarked sessions.new.entries
@@ -64,7 +64,7 @@ pub(super) fn settle_touched(sessions: &mut Sessions, host: &Host, cause: Cause)
 
 /// Settles every connection if the one at an index changed the resource at a path with this hash. If nothing changed,
 /// settles only that connection, and only if an entry is pending.
-pub(super) fn settle_after(changed: Option<u8>, sessions: &mut Sessions, at: usize, host: &Host)
+pub(super) fn settle_after(changed: Option<u8>, sessions: &mut Sessions, at: usize, host: &ServerState)
     requires within { at < length sessions.old.entries }
     requires others { AreOthersSettled changed at host.now (unmarked sessions.old.entries) }
     requires marked { AreMarkedAfter changed host.now sessions.old.entries }
@@ -75,7 +75,7 @@ pub(super) fn settle_after(changed: Option<u8>, sessions: &mut Sessions, at: usi
     ensures marked { AreAllMarked host.entry.now sessions.new.entries }
 {
     match changed {
-        None => sessions[at].settle_held(host),
+        None => sessions[at].settle_if_pending(host),
         Some(hash) => {
             sessions[at].settle(host);
             settle_touched(sessions, host, Cause::Path(hash));
@@ -104,7 +104,7 @@ pub(super) fn what_was_handled(takes: bool, message: bool, stop: Option<Reason>)
 }
 
 /// Removes the first `count` bytes from the queue of the connection at an index, and settles it.
-pub(super) fn written_at(sessions: &mut Sessions, at: usize, host: &Host, count: usize)
+pub(super) fn written_at(sessions: &mut Sessions, at: usize, host: &ServerState, count: usize)
     requires within { at < length sessions.old.entries }
     requires waiting { IfSome (slice_get (values_of (unmarked sessions.old.entries)) at)
         (λ s. count ≤ length s.link.waiting) }
@@ -118,7 +118,7 @@ pub(super) fn written_at(sessions: &mut Sessions, at: usize, host: &Host, count:
 }
 
 /// Records the end of the input of the connection at an index, and settles it.
-pub(super) fn end_at(sessions: &mut Sessions, at: usize, host: &Host)
+pub(super) fn end_at(sessions: &mut Sessions, at: usize, host: &ServerState)
     requires within { at < length sessions.old.entries }
     requires marked { AreAllMarked host.now sessions.old.entries }
     ensures after { unmarked sessions.new.entries ≡ changed_at at
@@ -139,7 +139,7 @@ pub(super) fn end_at(sessions: &mut Sessions, at: usize, host: &Host)
 pub(super) fn release_at(
     sessions: &mut Sessions,
     at: usize,
-    host: &Host,
+    host: &ServerState,
 ) -> Result<(), ReleaseFault>
     requires within { at < length sessions.old.entries }
     requires marked { AreAllMarked host.now sessions.old.entries }
@@ -164,7 +164,7 @@ pub(super) fn release_at(
 pub(super) fn announce_at(
     sessions: &mut Sessions,
     at: usize,
-    host: &Host,
+    host: &ServerState,
     size: u32,
 ) -> Result<(), AnnounceFault>
     requires within { at < length sessions.old.entries }
@@ -189,7 +189,7 @@ pub(super) fn announce_at(
 pub(super) fn flush_at<W: Outlet>(
     sessions: &mut Sessions,
     at: usize,
-    host: &Host,
+    host: &ServerState,
     writer: &mut W,
 ) -> Result<bool, WriteFailed>
     requires within { at < length sessions.old.entries }

@@ -2,7 +2,7 @@
 use Rattle.std.proofs.Common.{◌≡◌, ℕ, Bool, true, false, ◌&&◌, List, [], Option, Some, None, refl, sym, ap, ◌∙◌, ◌==◌, slice_get, slice_set, if◌then◌else◌}
 use Rattle.coap_server_session.specs.Prelude.{remove, Message, Reply, fit, bare_response, first_due, link_after, LinkValue}
 use Rattle.coap_server_session.specs.Prelude.{limit_in, can_hold, path_of, says, answer_of, without_hold, immediate_answer, changes}
-use Rattle.coap_server_session.specs.Prelude.{response_message, response_with_observe, notification_of, MayObserve, Host}
+use Rattle.coap_server_session.specs.Prelude.{response_message, response_with_observe, notification_of, MayObserve, ServerState}
 use Rattle.coap_server_session.specs.Prelude.{moment_after, asks_entry, is_whole, with_entry, goes_on, ObserverValue}
 use Rattle.coap_server_session.specs.Prelude.{new_entry, answer_on, hold_on, held_in, is_stale, mark_of, notification_on}
 use Rattle.coap_server_session.specs.Prelude.{state_on, first_index, is_observed, response_on, is_sent, link_replied}
@@ -21,11 +21,11 @@ use Rattle.coap_model.proofs.world.EntryLemmas.{asks_to_enter}
 
 -- ---- a request
 
-pub may_watch : (host : Host) (m : Message) → asks_entry (answer_on host m).watch ≡ true → MayObserve host.store host.now (path_of m) (answer_on host m)
+pub may_watch : (host : ServerState) (m : Message) → asks_entry (answer_on host m).watch ≡ true → MayObserve host.store host.now (path_of m) (answer_on host m)
 may_watch host m asks = promptly_watched_is_there host.store host.now m (asks_to_enter (answer_on host m).watch asks)
 
 -- A request that changes the store gets no entry.
-unobserved : (host : Host) (m : Message) (room : ℕ) (others : List ObserverValue) → changes (answer_on host m).change ≡ true → is_observed host room others m ≡ false
+unobserved : (host : ServerState) (m : Message) (room : ℕ) (others : List ObserverValue) → changes (answer_on host m).change ≡ true → is_observed host room others m ≡ false
 unobserved host m room others does =
     and_left _ _ (false_from_ne_true (asks_entry (answer_on host m).watch) (λ asks. both_ways (changes (answer_on host m).change) (ap changes (may_watch host m asks).quiet) does))
 
@@ -37,7 +37,7 @@ nothing_changed (answer.Delete path) e = absurd cc
 
 -- ---- a request whose response is to be delayed
 
-module _ (host : Host) (m : Message) (seconds room : ℕ) (others : List ObserverValue) (holds : hold_on host m ≡ Some seconds) where
+module _ (host : ServerState) (m : Message) (seconds room : ℕ) (others : List ObserverValue) (holds : hold_on host m ≡ Some seconds) where
   pub late_quiet : (answer_on host m).change ≡ answer.Nothing
   late_quiet = same_change host.store host.now m ∙ (held_of host.store host.now m seconds holds).change
 
@@ -67,12 +67,12 @@ module _ (host : Host) (m : Message) (seconds room : ℕ) (others : List Observe
 
 -- ---- a request that is answered at once
 
-pub prompt_is : (host : Host) (m : Message) (a : Answer) → a ≡ answer_of host.store host.now m → a.hold ≡ None → (hold_on host m ≡ None) × (a ≡ answer_on host m)
+pub prompt_is : (host : ServerState) (m : Message) (a : Answer) → a ≡ answer_of host.store host.now m → a.hold ≡ None → (hold_on host m ≡ None) × (a ≡ answer_on host m)
 prompt_is host m a is at_once =
     let none : hold_on host m ≡ None = cc in
     (none, is ∙ sym (same_at_once host.store host.now m none))
 
-module _ (host : Host) (m : Message) (l : LinkValue) (room : ℕ) (others : List ObserverValue) (none : hold_on host m ≡ None) where
+module _ (host : ServerState) (m : Message) (l : LinkValue) (room : ℕ) (others : List ObserverValue) (none : hold_on host m ≡ None) where
   pub prompt_link : link_after l (call.Reply (response_on host room others m)) ≡ link_replied host l room others m (held_in l (hold_on host m))
   prompt_link = cc none
 
@@ -100,17 +100,17 @@ nothing_sent l now none = rw (none, (due_nothing now l.held none).1, append-nil 
 -- ---- a notification
 
 -- `true` if a notification is a 2.05 and is sent whole.
-abbrev pub goes_whole : Host → LinkValue → ObserverValue → Bool
+abbrev pub goes_whole : ServerState → LinkValue → ObserverValue → Bool
 goes_whole host l o = goes_on (notification_of host.store host.now o.path o.format) && is_sent l (notification_on host o)
 
 -- The entries after the notification of the observer at the index of the first stale one.
-pub notified_entries : (host : Host) (l : LinkValue) (entries : List ObserverValue) (index : ℕ) (o : ObserverValue) (stays : Bool) → first_index (is_stale host) entries ≡ Some index → stays ≡ goes_whole host l o
+pub notified_entries : (host : ServerState) (l : LinkValue) (entries : List ObserverValue) (index : ℕ) (o : ObserverValue) (stays : Bool) → first_index (is_stale host) entries ≡ Some index → stays ≡ goes_whole host l o
     → (if stays then slice_set entries index (record o { mark = mark_of host.now (state_on host o.path) }) else remove entries index) ≡ entries_notified host l entries o
 notified_entries host l entries index o true first is = (is_first (is_stale host) entries index first).becomes _ ∙ cc
 notified_entries host l entries index o false first is = (is_first (is_stale host) entries index first).goes ∙ cc
 
 -- An observer stays if and only if the code computes so from the entry at the index.
-pub observer_stays_by : (host : Host) (l : LinkValue) (entries : List ObserverValue) (index : ℕ) (seen o : ObserverValue) (a : Answer) (c : ℕ) (goes : Bool) (reply : Reply) → slice_get entries index ≡ Some seen → slice_get entries index ≡ Some o
+pub observer_stays_by : (host : ServerState) (l : LinkValue) (entries : List ObserverValue) (index : ℕ) (seen o : ObserverValue) (a : Answer) (c : ℕ) (goes : Bool) (reply : Reply) → slice_get entries index ≡ Some seen → slice_get entries index ≡ Some o
     → a ≡ says (notification_of host.store host.now seen.path seen.format) → c ≡ a.response.code → goes ≡ (c == code.content)
     → reply ≡ fit (limit_in l) (response_with_observe seen.token goes a.response) (bare_response (response_with_observe seen.token goes a.response)) → (goes && is_whole reply) ≡ goes_whole host l o
 observer_stays_by host l entries index seen o a c goes reply read at told code_is goes_is sent =

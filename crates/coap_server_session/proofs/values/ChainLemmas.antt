@@ -4,7 +4,7 @@ use Rattle.std.proofs.lemmas.Bool.{cases_lt, or_parts, or_right, eqb-false}
 use Rattle.std.proofs.lemmas.List.{length-map, length_push, map-set, map_push}
 use Rattle.std.proofs.lemmas.Option.{slice_get_read, slice_get-map}
 use Rattle.std.proofs.Math.Seq.{map-set_same}
-use Rattle.coap_server_session.specs.Prelude.{AllByRecursion, list_any, Cause, Path, Host, ObserverValue, ObservesNone, observes_hash, path_hash, is_concerned, changed_mark, marks_anew, observer_value, mark_in, IsTagged, AreFlagged}
+use Rattle.coap_server_session.specs.Prelude.{AllByRecursion, list_any, Cause, Path, ServerState, ObserverValue, ObservesNone, observes_hash, path_hash, is_concerned, changed_mark, marks_anew, observer_value, mark_in, IsTagged, AreFlagged}
 use Rattle.coap_server_session.specs.Prelude.{Chains, Linked, linked, concerns_path, last_in, previous_in, next_index, IsLastBefore, AreChainedTo}
 use Rattle.coap_server_session.specs.declared.cause.Cause.TheVariants as cause
 use Rattle.coap_server_session.specs.declared.observer.Observer.{Observer}
@@ -173,7 +173,7 @@ none_observes hash (o ∷ os) none =
 -- ---- the loop that recomputes the marks of a chain, from its last observer on
 
 -- The marks of the observers after this one are recomputed, and nothing else has changed.
-pub record IsMarkedFrom (at : Option ℕ) (why : Cause) (host : Host) (old now : List Observer) (flags : List Bool) : Type 0 where
+pub record IsMarkedFrom (at : Option ℕ) (why : Cause) (host : ServerState) (old now : List Observer) (flags : List Bool) : Type 0 where
   pub entries : map observer_value now ≡ map observer_value old
   pub links : map linked now ≡ map linked old
   pub tagged : AllByRecursion IsTagged now
@@ -183,7 +183,7 @@ pub record IsMarkedFrom (at : Option ℕ) (why : Cause) (host : Host) (old now :
   pub concerned : (k : ℕ) (o : Linked) → at ≡ Some k → slice_get (map linked old) k ≡ Some o → concerns_path why o.path ≡ true
 
 -- The loop begins with the last observer of the chain.
-pub mark_first : (why : Cause) (host : Host) (chains : Chains) (xs : List Observer) (flags : List Bool) → AreChainedTo (length xs) chains (map linked xs) → AllByRecursion IsTagged xs → AreFlagged flags (map mark_in xs) → IsMarkedFrom (last_in why chains) why host xs xs flags
+pub mark_first : (why : Cause) (host : ServerState) (chains : Chains) (xs : List Observer) (flags : List Bool) → AreChainedTo (length xs) chains (map linked xs) → AllByRecursion IsTagged xs → AreFlagged flags (map mark_in xs) → IsMarkedFrom (last_in why chains) why host xs xs flags
 mark_first why host chains xs flags all tagged flagged =
     let is = all.last why in
     record {
@@ -199,7 +199,7 @@ mark_first why host chains xs flags all tagged flagged =
     }
 
 -- One iteration recomputes one more mark.
-pub mark_next : (k : ℕ) (why : Cause) (host : Host) (chains : Chains) (old now after : List Observer) (before flags : List Bool) (x : Observer) (mark : Option ℕ)
+pub mark_next : (k : ℕ) (why : Cause) (host : ServerState) (chains : Chains) (old now after : List Observer) (before flags : List Bool) (x : Observer) (mark : Option ℕ)
     → AreChainedTo (length old) chains (map linked old) → IsMarkedFrom (Some k) why host old now before → x ≡ get_or now k x → mark ≡ changed_mark host (observer_value x)
     → map observer_value after ≡ map observer_value now → map linked after ≡ map linked now → AllByRecursion IsTagged after → map mark_in after ≡ slice_set (map mark_in now) k mark → AreFlagged flags (map mark_in after)
     → (next_index (previous_in why (linked x)) ≤ k) × IsMarkedFrom (previous_in why (linked x)) why host old after flags
@@ -227,7 +227,7 @@ mark_next k why host chains old now after before flags x mark all so_far read ma
     )
 
 -- At the end, all affected marks are recomputed.
-pub all_marked : (why : Cause) (host : Host) (old now : List Observer) (flags : List Bool) → IsMarkedFrom None why host old now flags → map mark_in now ≡ marks_anew why host (map observer_value old) (map mark_in old)
+pub all_marked : (why : Cause) (host : ServerState) (old now : List Observer) (flags : List Bool) → IsMarkedFrom None why host old now flags → map mark_in now ≡ marks_anew why host (map observer_value old) (map mark_in old)
 unfolding marks_from
 all_marked why host old now flags all = all.marks
 

@@ -3,8 +3,8 @@ use Rattle.std.proofs.Common.{◌≡◌, ℕ, ◌+◌, ◌<◌, ◌≤◌, ◌^�
 use Rattle.coap_server_session.specs.Prelude.{AllByRecursion, list_any, filter_map, reduce, PendingEntryValue, Answer, Pong, due_moment}
 use Rattle.coap_server_session.specs.Prelude.{future_moment, next_moment, first_due, Path, Representation, StoreValue, kind_of_path}
 use Rattle.coap_server_session.specs.Prelude.{key_for, stored_at, state_at, is_dynamic, Root, Time, Async, Listing, Dynamic}
-use Rattle.coap_server_session.specs.Prelude.{IsStore, Host, ObserverValue, SessionValue, is_marked, is_stale, IsSettled}
-use Rattle.coap_server_session.specs.Prelude.{mark_of, state_on, changed_mark, sooner, tells_time, next_told, due_on}
+use Rattle.coap_server_session.specs.Prelude.{IsStore, ServerState, ObserverValue, SessionValue, is_marked, is_stale, IsSettled}
+use Rattle.coap_server_session.specs.Prelude.{mark_of, state_on, changed_mark, sooner, is_time_observer, next_told, due_on}
 use Rattle.coap_server_session.specs.Prelude.{IsBefore}
 use Rattle.std.proofs.lemmas.Bool.{not-false, false_from_ne_true, or_parts, ne_eqb}
 use Rattle.coap_conn.proofs.PendingLaws.{due_nothing, cons_parts}
@@ -14,7 +14,7 @@ use Rattle.coap_server_session.proofs.values.SettleLemmas.{settled_still}
 use Rattle.coap_model.proofs.world.EntryLemmas.{none_due}
 use Rattle.coap_model.proofs.world.SideLaws.{nothing_due_first}
 
-abbrev pub at_moment : Host → ℕ → Host
+abbrev pub at_moment : ServerState → ℕ → ServerState
 at_moment host later = record host { now = later }
 
 -- ---- the earlier of two times
@@ -70,7 +70,7 @@ marked_so : (now later mark : ℕ) (o : Option Representation) → ((r : Represe
 marked_so now later mark None numbered = refl
 marked_so now later mark (Some r) numbered = let some = numbered r refl in rw (ne_eqb r.version 0 (λ e. omega (arith, e, some))) refl
 
-stale_so : (host : Host) (later : ℕ) (o : ObserverValue) → IsStore host.store → tells_time o ≡ false → is_stale host o ≡ is_stale (at_moment host later) o
+stale_so : (host : ServerState) (later : ℕ) (o : ObserverValue) → IsStore host.store → is_time_observer o ≡ false → is_stale host o ≡ is_stale (at_moment host later) o
 unfolding is_stale
 stale_so host later o store stored =
     let key : Option Path = key_for o.path in
@@ -82,7 +82,7 @@ mark_so : (now later : ℕ) (o : Option Representation) → ((r : Representation
 mark_so now later None numbered = refl
 mark_so now later (Some r) numbered = let some = numbered r refl in rw (ne_eqb r.version 0 (λ e. omega (arith, e, some))) refl
 
-pub mark_later : (host : Host) (later : ℕ) (o : ObserverValue) → IsStore host.store → tells_time o ≡ false → changed_mark host o ≡ changed_mark (at_moment host later) o
+pub mark_later : (host : ServerState) (later : ℕ) (o : ObserverValue) → IsStore host.store → is_time_observer o ≡ false → changed_mark host o ≡ changed_mark (at_moment host later) o
 unfolding changed_mark
 mark_later host later o store stored =
     let key : Option Path = key_for o.path in
@@ -92,23 +92,23 @@ mark_later host later o store stored =
     ap (λ b. if b then Some (mark_of host.now (state_on host o.path)) else None) (stale_so host later o store stored)
     ∙ ap (λ (m : ℕ). if is_stale (at_moment host later) o then Some m else None) same
 
-none_stale : (host : Host) (later : ℕ) (os : List ObserverValue) → IsStore host.store → list_any tells_time os ≡ false → AllByRecursion (λ o. is_stale host o ≡ false) os → find (is_stale (at_moment host later)) os ≡ None
+none_stale : (host : ServerState) (later : ℕ) (os : List ObserverValue) → IsStore host.store → list_any is_time_observer os ≡ false → AllByRecursion (λ o. is_stale host o ≡ false) os → find (is_stale (at_moment host later)) os ≡ None
 none_stale host later [] store stored none = refl
 none_stale host later (o ∷ os) store stored none =
-    let parts = or_parts (tells_time o) (list_any tells_time os) stored in
+    let parts = or_parts (is_time_observer o) (list_any is_time_observer os) stored in
     rw (sym (stale_so host later o store parts.0) ∙ none.0) (none_stale host later os store parts.1 none.1)
 
 -- If an observer observes the time, no later second is before the next one.
-none_tells_time_before : (now later : ℕ) (observers : List ObserverValue) → now < later → later < 2 ^ 64 → IsBefore later (next_told now observers) → list_any tells_time observers ≡ false
+none_tells_time_before : (now later : ℕ) (observers : List ObserverValue) → now < later → later < 2 ^ 64 → IsBefore later (next_told now observers) → list_any is_time_observer observers ≡ false
 none_tells_time_before now later observers more fits before =
-    false_from_ne_true (list_any tells_time observers) (λ is.
+    false_from_ne_true (list_any is_time_observer observers) (λ is.
     let next : next_told now observers ≡ Some (now + 1) = rw (is, ne_eqb now 18446744073709551615 (λ e. omega (arith, e, more, fits))) refl in
     let soon : later < now + 1 = subst (IsBefore later) next before in
     omega (arith, more, soon))
 
 -- ---- a connection
 
-pub stays_settled : (host : Host) (later : ℕ) (v : SessionValue) → IsStore host.store → IsSettled host v → host.now < later → later < 2 ^ 64 → IsBefore later (due_on host.now v) → IsSettled (at_moment host later) v
+pub stays_settled : (host : ServerState) (later : ℕ) (v : SessionValue) → IsStore host.store → IsSettled host v → host.now < later → later < 2 ^ 64 → IsBefore later (due_on host.now v) → IsSettled (at_moment host later) v
 stays_settled host later v store settled more fits before =
     let parts = before_both later (next_moment host.now v.link.held) (next_told host.now v.observers) before in
     let stored = none_tells_time_before host.now later v.observers more fits parts.1 in

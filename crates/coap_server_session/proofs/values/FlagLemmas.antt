@@ -1,6 +1,6 @@
 -- Flags and the changed marks of observers.
 use Rattle.std.proofs.Common.{◌≡◌, ◌≢◌, ℕ, zero, suc, ◌+◌, ◌<◌, Bool, true, false, List, [], ◌∷◌, ◌++◌, length, map, take, set, get_or, replicate, Option, Some, None, is_some, refl, ap, subst, arith, slice_get}
-use Rattle.coap_server_session.specs.Prelude.{Stale, first_index, IsFirstMarked, flag_of, AreFlagged, mark_in}
+use Rattle.coap_server_session.specs.Prelude.{StaleObserver, first_index, IsFirstMarked, flag_of, AreFlagged, mark_in}
 use Rattle.coap_server_session.specs.declared.observer.Observer.{Observer}
 
 -- A list of default values has the default at every index.
@@ -77,7 +77,7 @@ first_flagged [] i is before = absurd cc
 first_flagged (m ∷ ms) zero is before = rw is refl
 first_flagged (m ∷ ms) (suc i) is before = rw (before 0 (omega arith), first_flagged ms i is (λ k less. before (suc k) (omega arith))) refl
 
-pub first_is : (found : Stale) (marks : List (Option ℕ)) → slice_get marks found.index ≡ Some (Some found.mark) → ((k : ℕ) → k < found.index → flag_of (slice_get marks k) ≡ false) → IsFirstMarked marks found
+pub first_is : (found : StaleObserver) (marks : List (Option ℕ)) → slice_get marks found.index ≡ Some (Some found.mark) → ((k : ℕ) → k < found.index → flag_of (slice_get marks k) ≡ false) → IsFirstMarked marks found
 first_is found marks there before = record { first = first_flagged marks found.index (ap flag_of there) before; mark = there }
 
 -- A flag is set only at the index of an entry.

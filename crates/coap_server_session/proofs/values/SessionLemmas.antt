@@ -6,11 +6,11 @@ use Rattle.coap_server_session.specs.Prelude.{Message, message_of, FramerValue, 
 use Rattle.coap_server_session.specs.Prelude.{framing_of, framer_after, without_last, taken_of, unread_after, raise_refusal}
 use Rattle.coap_server_session.specs.Prelude.{with_size, Verdict, LimitValues, AreInRange, verdict_value, PendingEntryValue, Answer}
 use Rattle.coap_server_session.specs.Prelude.{Pong, first_due, fits, LinkValue, IsReady, free_in, limit_in, own_csm}
-use Rattle.coap_server_session.specs.Prelude.{link_after, is_open, takes_messages, answers, is_request, IsPut, Host, Inside}
+use Rattle.coap_server_session.specs.Prelude.{link_after, is_open, takes_messages, answers, is_request, IsPut, ServerState, Inside}
 use Rattle.coap_server_session.specs.Prelude.{ObserverValue, ObserversValue, SessionValue, is_stale, session_ready}
 use Rattle.coap_server_session.specs.Prelude.{session_takes, sizes_of, frame_on, session_with, without_entry}
 use Rattle.coap_server_session.specs.Prelude.{hold_on, held_in, session_replied, asks_this, session_handled, change_by}
-use Rattle.coap_server_session.specs.Prelude.{Taking, taking_read, taking, RefusesPiece, notification_on, session_notified}
+use Rattle.coap_server_session.specs.Prelude.{TakeOutcome, taking_read, taking, RefusesPiece, notification_on, session_notified}
 use Rattle.coap_server_session.specs.Prelude.{next_held_in, next_stale, link_sent, session_settled_once, first_index}
 use Rattle.coap_server_session.specs.Prelude.{link_replied, entries_replied, entries_notified, framer_on, IsSession}
 use Rattle.coap_server_session.specs.Prelude.{session_value, observers_left}
@@ -54,11 +54,11 @@ announced_session s size f l is opened fit allowed f_is l_is =
 -- ---- a message
 
 -- The connection after a request, from its link and its entries.
-replied_as : (host : Host) (l : LinkValue) (others : List ObserverValue) (m : Message) (hold : Option ℕ) → session_with [] (link_replied host l l.limits.observers others m hold) (entries_replied host l l.limits.observers others m hold) ≡ session_replied host l others m hold
+replied_as : (host : ServerState) (l : LinkValue) (others : List ObserverValue) (m : Message) (hold : Option ℕ) → session_with [] (link_replied host l l.limits.observers others m hold) (entries_replied host l l.limits.observers others m hold) ≡ session_replied host l others m hold
 replied_as host l others m None = refl
 replied_as host l others m (Some seconds) = refl
 
-pub on_request : {T E : Type 0} (r : Result T E) (host : Host) (v : SessionValue) (m : Message) (l after : LinkValue) (o p : ObserversValue) → asks_this v.link m ≡ true → l ≡ link_after v.link (call.Handle m) → o.room ≡ v.link.limits.observers → o.entries ≡ v.observers
+pub on_request : {T E : Type 0} (r : Result T E) (host : ServerState) (v : SessionValue) (m : Message) (l after : LinkValue) (o p : ObserversValue) → asks_this v.link m ≡ true → l ≡ link_after v.link (call.Handle m) → o.room ≡ v.link.limits.observers → o.entries ≡ v.observers
     → OnOk r (after ≡ link_replied host l o.room (without_entry m.token o.entries) m (held_in l (hold_on host m))) → OnOk r (p.entries ≡ entries_replied host l o.room (without_entry m.token o.entries) m (held_in l (hold_on host m)))
     → OnOk r ((frame : List ℕ) → session_with [] after p.entries ≡ session_handled host (record v { frame = frame }) m)
 unfolding session_handled
@@ -74,7 +74,7 @@ pub no_request_told : (what : Verdict) → (what ≡ told.Request → ⊥) → i
 no_request_told told.Request other = absurd (other refl)
 no_request_told what other = refl
 
-pub message_handled : (host : Host) (v : SessionValue) (m : Message) (l : LinkValue) → asks_this v.link m ≡ false → l ≡ link_after v.link (call.Handle m) → session_with [] l v.observers ≡ session_handled host v m
+pub message_handled : (host : ServerState) (v : SessionValue) (m : Message) (l : LinkValue) → asks_this v.link m ≡ false → l ≡ link_after v.link (call.Handle m) → session_with [] l v.observers ≡ session_handled host v m
 unfolding session_handled
 message_handled host v m l other is = cc
 
@@ -94,15 +94,15 @@ module _ (s : Inside) (is : IsSession s) (piece frame : List ℕ) (found : (fram
       (whole_itself s.framer.max (s.framer.kept ++ piece) frame whole.0 whole.1) bytes in
       omega (arith, some, length-take frame_count piece)
 
-  pub put_refused : (host : Host) (m : Message) → session_takes (session_value s) ≡ true → message_of frame ≡ Ok m → IsPut (change_by host s.link m) → RefusesPiece host (session_value s) piece (frame_count - 1)
+  pub put_refused : (host : ServerState) (m : Message) → session_takes (session_value s) ≡ true → message_of frame ≡ Ok m → IsPut (change_by host s.link m) → RefusesPiece host (session_value s) piece (frame_count - 1)
   unfolding taking
   put_refused host m takes read put =
       let v : SessionValue = session_value s in
       let f : Framing = framing_of s.framer piece in
       let whole : taking host v piece ≡ taking_read host v f.taken (Ok m) = cc (takes, is.greatest, found, read) in
-      record { takes = takes; last = omega (arith, ap (λ (t : Taking). t.count) whole, frame_takes_some); stores = rw whole put }
+      record { takes = takes; last = omega (arith, ap (λ (t : TakeOutcome). t.count) whole, frame_takes_some); stores = rw whole put }
 
-  pub kept_but_last : (host : Host) → session_takes (session_value s) ≡ true → record (session_value s) { frame = (unread_after s.framer piece).kept } ≡ (taking host (session_value s) (take (frame_count - 1) piece)).session
+  pub kept_but_last : (host : ServerState) → session_takes (session_value s) ≡ true → record (session_value s) { frame = (unread_after s.framer piece).kept } ≡ (taking host (session_value s) (take (frame_count - 1) piece)).session
   unfolding framing taking
   kept_but_last host takes =
       let but_last : List ℕ = without_last (taken_of s.framer piece) in
@@ -136,7 +136,7 @@ given_up_seen s l g o p g_is p_is =
     cc
 
 -- A session whose first stale observer, at this index, was notified.
-module _ (host : Host) (s : Inside) (index : ℕ) (l : LinkValue) (o : ObserversValue) (ready : session_ready (session_value s) ≡ true) (first : first_index (is_stale host) s.observers.entries ≡ Some index)
+module _ (host : ServerState) (s : Inside) (index : ℕ) (l : LinkValue) (o : ObserversValue) (ready : session_ready (session_value s) ≡ true) (first : first_index (is_stale host) s.observers.entries ≡ Some index)
     (link : (e : ObserverValue) → slice_get s.observers.entries index ≡ Some e → l ≡ link_after s.link (call.Reply (notification_on host e)))
     (entries : (e : ObserverValue) → slice_get s.observers.entries index ≡ Some e → o.entries ≡ entries_notified host s.link s.observers.entries e) where
   abbrev session_is_notified : (e : ObserverValue) × (slice_get s.observers.entries index ≡ Some e)
@@ -168,7 +168,7 @@ sent_sizes l now (Answer token moment) = let due : LinkValue = link_after l (cal
 sent_sizes l now (Pong token) = refl
 
 -- A session whose first due entry was sent.
-module _ (host : Host) (s : Inside) (l : LinkValue) (ready : session_ready (session_value s) ≡ true) (some : is_some (first_due host.now s.link.held) ≡ true)
+module _ (host : ServerState) (s : Inside) (l : LinkValue) (ready : session_ready (session_value s) ≡ true) (some : is_some (first_due host.now s.link.held) ≡ true)
     (link : (e : PendingEntryValue) → first_due host.now s.link.held ≡ Some e → l ≡ link_sent s.link host.now e) where
   abbrev due : (e : PendingEntryValue) × (first_due host.now s.link.held ≡ Some e)
   due = there_is (first_due host.now s.link.held) some

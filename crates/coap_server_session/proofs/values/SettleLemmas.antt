@@ -4,7 +4,7 @@ use Rattle.std.proofs.lemmas.Bool.{eq-eqb, eqb-true, and_parts, or_parts, cond_b
 use Rattle.coap_server_session.specs.Prelude.{Message, answers, is_open, fit, bare_response, PendingEntryValue, Answer}
 use Rattle.coap_server_session.specs.Prelude.{Pong, first_due, without_due, send}
 use Rattle.coap_server_session.specs.Prelude.{standing_due, link_after, LinkValue, limit_in, standing_in, link_with}
-use Rattle.coap_server_session.specs.Prelude.{Representation, Response, notification_of, Host, held_message, goes_on}
+use Rattle.coap_server_session.specs.Prelude.{Representation, Response, notification_of, ServerState, held_message, goes_on}
 use Rattle.coap_server_session.specs.Prelude.{is_whole, first_becomes, ObserverValue, SessionValue, mark_at, mark_of}
 use Rattle.coap_server_session.specs.Prelude.{state_on, is_stale, session_ready, session_with, observers_on, entry_left}
 use Rattle.coap_server_session.specs.Prelude.{notification_on, session_notified, next_held_in, next_stale, link_sent}
@@ -38,12 +38,12 @@ fewer_held l now e found =
 -- ---- one iteration
 
 -- An observer that was sent the current state is not stale.
-pub marked_now : (host : Host) (o : ObserverValue) (r : Representation) → state_on host o.path ≡ Some r → is_stale host (record o { mark = mark_of host.now (state_on host o.path) }) ≡ false
+pub marked_now : (host : ServerState) (o : ObserverValue) (r : Representation) → state_on host o.path ≡ Some r → is_stale host (record o { mark = mark_of host.now (state_on host o.path) }) ≡ false
 unfolding is_stale
 marked_now host o r there = rw (there, eq-eqb (mark_at host.now r) (mark_at host.now r) refl) refl
 
 -- The entry that remains of a notified observer is not stale, since a 2.05 reports the current state.
-left_is_told : (host : Host) (o : ObserverValue) (whole stays : Bool) → stays ≡ (goes_on (notification_of host.store host.now o.path o.format) && whole) → count_due (is_stale host) (entry_left host o stays) ≡ 0
+left_is_told : (host : ServerState) (o : ObserverValue) (whole stays : Bool) → stays ≡ (goes_on (notification_of host.store host.now o.path o.format) && whole) → count_due (is_stale host) (entry_left host o stays) ≡ 0
 unfolding count_due
 left_is_told host o whole true is =
     let told : Response = notification_of host.store host.now o.path o.format in
@@ -52,12 +52,12 @@ left_is_told host o whole true is =
 left_is_told host o whole false is = refl
 
 -- Removing the observers of a connection that is not open adds no stale one.
-fewer_open : (host : Host) (l : LinkValue) (os : List ObserverValue) → count_due (is_stale host) (observers_on l os) ≤ count_due (is_stale host) os
+fewer_open : (host : ServerState) (l : LinkValue) (os : List ObserverValue) → count_due (is_stale host) (observers_on l os) ≤ count_due (is_stale host) os
 unfolding count_due
 fewer_open host l os = elim (is_open l.phase) as (λ b. count_due (is_stale host) (if b then os else []) ≤ count_due (is_stale host) os) [ true ↦ omega arith | false ↦ omega arith ]
 
 -- An iteration that finds a stale observer leaves fewer.
-fewer_stale : (host : Host) (v : SessionValue) (o : ObserverValue) → find (is_stale host) v.observers ≡ Some o → count_due (is_stale host) (session_notified host v (Some o)).observers + 1 ≤ count_due (is_stale host) v.observers
+fewer_stale : (host : ServerState) (v : SessionValue) (o : ObserverValue) → find (is_stale host) v.observers ≡ Some o → count_due (is_stale host) (session_notified host v (Some o)).observers + 1 ≤ count_due (is_stale host) v.observers
 fewer_stale host v o first =
     let m : Message = notification_on host o in
     let whole : Bool = is_whole (fit (limit_in v.link) m (bare_response m)) in
@@ -67,39 +67,39 @@ fewer_stale host v o first =
 -- ---- all iterations
 
 -- If nothing is left to settle, an iteration does nothing.
-pub stays_once : (host : Host) (v : SessionValue) → IsSettled host v → session_settled_once host v ≡ v
+pub stays_once : (host : ServerState) (v : SessionValue) → IsSettled host v → session_settled_once host v ≡ v
 unfolding session_settled_once
 stays_once host v settled = ap (session_settled_so host v) settled.0 ∙ ap (session_notified host v) settled.1
 
-pub stays_within : (host : Host) (v : SessionValue) (turns : ℕ) → IsSettled host v → session_settled_within turns host v ≡ v
+pub stays_within : (host : ServerState) (v : SessionValue) (turns : ℕ) → IsSettled host v → session_settled_within turns host v ≡ v
 unfolding session_settled_within
 stays_within host v zero settled = refl
 stays_within host v (suc turns) settled = ap (session_settled_within turns host) (stays_once host v settled) ∙ stays_within host v turns settled
 
 -- Settling a settled connection changes nothing.
-pub settled_stays : (host : Host) (v : SessionValue) → IsSettled host v → session_settled host v ≡ v
+pub settled_stays : (host : ServerState) (v : SessionValue) → IsSettled host v → session_settled host v ≡ v
 unfolding session_settled
 settled_stays host v settled = stays_within host v (length v.link.held + length v.observers) settled
 
 -- ---- conditions for a settled connection
 
 -- A connection is settled if no pending entry is due and no observer is stale.
-pub settled_quiet : (host : Host) (v : SessionValue) → first_due host.now v.link.held ≡ None → find (is_stale host) v.observers ≡ None → IsSettled host v
+pub settled_quiet : (host : ServerState) (v : SessionValue) → first_due host.now v.link.held ≡ None → find (is_stale host) v.observers ≡ None → IsSettled host v
 unfolding next_held_in next_stale
 settled_quiet host v none fresh = (none_made_where (session_ready v) _ none, none_made_where (session_ready v) _ fresh)
 
 -- A connection is settled if its queue has no room.
-pub settled_unready : (host : Host) (v : SessionValue) → session_ready v ≡ false → IsSettled host v
+pub settled_unready : (host : ServerState) (v : SessionValue) → session_ready v ≡ false → IsSettled host v
 unfolding next_held_in next_stale
 settled_unready host v full = rw full (refl, refl)
 
 -- If the queue has room, the first due entry and the first stale observer are found.
-pub found_ready : (host : Host) (v : SessionValue) → session_ready v ≡ true → (next_held_in host.now v ≡ first_due host.now v.link.held) × (next_stale host v ≡ find (is_stale host) v.observers)
+pub found_ready : (host : ServerState) (v : SessionValue) → session_ready v ≡ true → (next_held_in host.now v ≡ first_due host.now v.link.held) × (next_stale host v ≡ find (is_stale host) v.observers)
 unfolding next_held_in next_stale
 found_ready host v ready = rw ready (refl, refl)
 
 -- A settled connection stays settled in another server state in which nothing more is due or stale.
-pub settled_still : (host after : Host) (v : SessionValue) → (first_due host.now v.link.held ≡ None → first_due after.now v.link.held ≡ None)
+pub settled_still : (host after : ServerState) (v : SessionValue) → (first_due host.now v.link.held ≡ None → first_due after.now v.link.held ≡ None)
     → (find (is_stale host) v.observers ≡ None → find (is_stale after) v.observers ≡ None) → IsSettled host v → IsSettled after v
 settled_still host after v none fresh settled =
     elim (session_ready v) as (λ b. session_ready v ≡ b → IsSettled after v) [
@@ -108,7 +108,7 @@ settled_still host after v none fresh settled =
     ] refl
 
 -- If the queue had room, nothing was due, so nothing is due after the write either.
-pub settled_where_room : (host : Host) (v : SessionValue) (n : ℕ) → session_ready v ≡ true → IsSettled host v → IsSettled host (session_written v n)
+pub settled_where_room : (host : ServerState) (v : SessionValue) (n : ℕ) → session_ready v ≡ true → IsSettled host v → IsSettled host (session_written v n)
 settled_where_room host v n ready settled =
     settled_quiet host (session_written v n) (sym (found_ready host v ready).0 ∙ settled.0) (sym (found_ready host v ready).1 ∙ settled.1)
 
@@ -121,7 +121,7 @@ none_held now held few =
 -- ---- the number of iterations
 
 -- As many iterations as there are pending entries and stale observers suffice, since each leaves fewer of them.
-enough_turns : (host : Host) (turns : ℕ) (v : SessionValue) → length v.link.held + count_due (is_stale host) v.observers ≤ turns → IsSettled host (session_settled_within turns host v)
+enough_turns : (host : ServerState) (turns : ℕ) (v : SessionValue) → length v.link.held + count_due (is_stale host) v.observers ≤ turns → IsSettled host (session_settled_within turns host v)
 unfolding session_settled_within session_settled_once next_held_in next_stale
 enough_turns host zero v many =
     settled_quiet host v (none_held host.now v.link.held (omega (arith, many))) (none_counted (is_stale host) v.observers (omega (arith, many)))
@@ -140,14 +140,14 @@ enough_turns host (suc turns) v many =
     ] refl
 
 -- A connection that settled is settled.
-pub settled_is_settled : (host : Host) (v : SessionValue) → IsSettled host (session_settled host v)
+pub settled_is_settled : (host : ServerState) (v : SessionValue) → IsSettled host (session_settled host v)
 unfolding session_settled
 settled_is_settled host v = enough_turns host (length v.link.held + length v.observers) v (omega (arith, count_within (is_stale host) v.observers))
 
 -- ---- the loop
 
 -- If an iteration finds nothing, the remaining iterations change nothing.
-pub last_turn : (host : Host) (v after : SessionValue) (turns : ℕ) → after ≡ session_settled_once host v → false ≡ (is_some (next_held_in host.now v) || is_some (next_stale host v)) → after ≡ session_settled_within turns host v
+pub last_turn : (host : ServerState) (v after : SessionValue) (turns : ℕ) → after ≡ session_settled_once host v → false ≡ (is_some (next_held_in host.now v) || is_some (next_stale host v)) → after ≡ session_settled_within turns host v
 last_turn host v after turns is none =
     let parts = or_parts (is_some (next_held_in host.now v)) (is_some (next_stale host v)) (sym none) in
     let settled : IsSettled host v = (there_is_none (next_held_in host.now v) parts.0, there_is_none (next_stale host v) parts.1) in

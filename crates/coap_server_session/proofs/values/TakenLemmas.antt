@@ -4,8 +4,8 @@ use Rattle.coap_server_session.specs.Prelude.{AllByRecursion, Message, StreamPre
 use Rattle.coap_server_session.specs.Prelude.{FormatFault, message_of, Framing, FrameEventValue, AFrame, AFault, framing_at}
 use Rattle.coap_server_session.specs.Prelude.{framing, without_last, is_open, takes_messages, OfFrame, reject_of, fit}
 use Rattle.coap_server_session.specs.Prelude.{bare_response, LinkValue, limit_in, link_after, response_with_observe}
-use Rattle.coap_server_session.specs.Prelude.{same_bytes, Change, changes, IsPut, Host, moment_after, asks_entry, has_place}
-use Rattle.coap_server_session.specs.Prelude.{with_entry, is_whole, ObserverValue, SessionValue, Taking, is_stale}
+use Rattle.coap_server_session.specs.Prelude.{same_bytes, Change, changes, IsPut, ServerState, moment_after, asks_entry, has_place}
+use Rattle.coap_server_session.specs.Prelude.{with_entry, is_whole, ObserverValue, SessionValue, TakeOutcome, is_stale}
 use Rattle.coap_server_session.specs.Prelude.{session_ready, session_takes, session_max, without_entry, new_entry}
 use Rattle.coap_server_session.specs.Prelude.{session_with, answer_on, hold_on, held_in, session_replied, asks_this}
 use Rattle.coap_server_session.specs.Prelude.{session_handled, taking_read, taking_found, taking, host_changed}
@@ -29,11 +29,11 @@ use Rattle.coap_server_session.proofs.values.SettleLemmas.{none_held, settled_qu
 
 -- ---- no observer is stale
 
-abbrev NoneStale : Host → List ObserverValue → Type 0
+abbrev NoneStale : ServerState → List ObserverValue → Type 0
 NoneStale host os = AllByRecursion (λ o. is_stale host o ≡ false) os
 
 -- If no observer is stale, a connection settles only if an entry is pending.
-settled_held_none : (host : Host) (v : SessionValue) → NoneStale host v.observers → settled_held host v ≡ session_settled host v
+settled_held_none : (host : ServerState) (v : SessionValue) → NoneStale host v.observers → settled_held host v ≡ session_settled host v
 settled_held_none host v none =
     cond_both (length v.link.held == 0) v (session_settled host v) (λ w. w ≡ session_settled host v)
     (λ nothing. sym (settled_stays host v (settled_quiet host v (none_held host.now v.link.held (omega (arith, eqb-true (length v.link.held) 0 nothing))) (none_in (is_stale host) v.observers none))))
@@ -42,7 +42,7 @@ settled_held_none host v none =
 -- ---- a message
 
 -- The entry that a request adds is not stale.
-replied_none : (host : Host) (l : LinkValue) (others : List ObserverValue) (m : Message) (hold : Option ℕ) → NoneStale host others → NoneStale host (session_replied host l others m hold).observers
+replied_none : (host : ServerState) (l : LinkValue) (others : List ObserverValue) (m : Message) (hold : Option ℕ) → NoneStale host others → NoneStale host (session_replied host l others m hold).observers
 replied_none host l others m None none =
     let fresh : ObserverValue → Type 0 = λ o. is_stale host o ≡ false in
     let a : Answer = answer_on host m in
@@ -59,7 +59,7 @@ replied_none host l others m (Some seconds) none =
 
 -- ---- an input slice
 
-read_none : (host : Host) (v : SessionValue) (count : ℕ) (r : Result Message FormatFault) → NoneStale host v.observers → NoneStale host (taking_read host v count r).session.observers
+read_none : (host : ServerState) (v : SessionValue) (count : ℕ) (r : Result Message FormatFault) → NoneStale host v.observers → NoneStale host (taking_read host v count r).session.observers
 unfolding session_handled without_entry
 read_none host v count (Ok m) none =
     let l : LinkValue = link_after v.link (call.Handle m) in
@@ -70,18 +70,18 @@ read_none host v count (Ok m) none =
     (λ _. all_if fresh (is_open l.phase) v.observers none)
 read_none host v count (Err e) none = all_if (λ o. is_stale host o ≡ false) (is_open (link_after v.link (call.Reject reject.Format)).phase) v.observers none
 
-found_none : (host : Host) (v : SessionValue) (f : Framing) (what : FrameEventValue) → NoneStale host v.observers → NoneStale host (taking_found host v f what).session.observers
+found_none : (host : ServerState) (v : SessionValue) (f : Framing) (what : FrameEventValue) → NoneStale host v.observers → NoneStale host (taking_found host v f what).session.observers
 found_none host v f Nothing none = none
 found_none host v f (AFrame frame) none = read_none host v f.taken (message_of frame) none
 found_none host v f (AFault fault) none =
     all_if (λ o. is_stale host o ≡ false) (is_open (link_after v.link (call.Reject (reject_of (OfFrame fault)))).phase) v.observers none
 
 -- A connection that was settled has only its pending entries to settle, if the server state is unchanged.
-pub taking_settles_held : (host : Host) (v : SessionValue) (piece : List ℕ) → IsSettled host v → settled_held host (taking host v piece).session ≡ session_settled host (taking host v piece).session
+pub taking_settles_held : (host : ServerState) (v : SessionValue) (piece : List ℕ) → IsSettled host v → settled_held host (taking host v piece).session ≡ session_settled host (taking host v piece).session
 unfolding taking
 taking_settles_held host v piece settled =
     let f : Framing = framing (session_max v) v.frame piece in
-    let nothing : Taking = record { count = 0; handled = false; session = v; change = answer.Nothing } in
+    let nothing : TakeOutcome = record { count = 0; handled = false; session = v; change = answer.Nothing } in
     cond_both (session_takes v) (taking_found host v f f.finding) nothing (λ t. settled_held host t.session ≡ session_settled host t.session)
     (λ takes.
     let ready = (and_parts (takes_messages v.link.phase) (session_ready v) takes).1 in
@@ -101,10 +101,10 @@ before_whole M kept piece frame rest count whole taken =
     rw front (front_unfinished M frame (whole_itself M (kept ++ piece) frame rest whole))
 
 -- The effect of an input slice, from the result of `prefix_kind`.
-abbrev taking_begun : Host → SessionValue → List ℕ → StreamPrefix → Taking
+abbrev taking_begun : ServerState → SessionValue → List ℕ → StreamPrefix → TakeOutcome
 taking_begun host v piece b = taking_found host v (framing_at v.frame piece b) (framing_at v.frame piece b).finding
 
-put_is_whole : (host : Host) (v : SessionValue) (piece : List ℕ) (b : StreamPrefix) (count : ℕ) → (taking_begun host v piece b).count ≡ count + 1 → IsPut (taking_begun host v piece b).change
+put_is_whole : (host : ServerState) (v : SessionValue) (piece : List ℕ) (b : StreamPrefix) (count : ℕ) → (taking_begun host v piece b).count ≡ count + 1 → IsPut (taking_begun host v piece b).change
     → (frame : List ℕ) × (rest : List ℕ) × (b ≡ Whole frame rest) × (length piece - length rest ≡ count + 1)
 put_is_whole host v piece Unfinished count last puts = absurd puts
 put_is_whole host v piece (Faulty fault) count last puts = absurd puts
@@ -114,27 +114,27 @@ put_is_whole host v piece (Whole frame rest) count last puts = (frame, rest, ref
     counted (Ok m) = refl
     counted (Err e) = refl
 
-taking_where_takes : (host : Host) (v : SessionValue) (piece : List ℕ) → session_takes v ≡ true → taking host v piece ≡ taking_begun host v piece (prefix_kind (session_max v) (v.frame ++ piece))
+taking_where_takes : (host : ServerState) (v : SessionValue) (piece : List ℕ) → session_takes v ≡ true → taking host v piece ≡ taking_begun host v piece (prefix_kind (session_max v) (v.frame ++ piece))
 unfolding taking framing
 taking_where_takes host v piece takes = rw takes refl
 
 -- Without its last byte, the message is not processed, and its bytes are kept.
-module _ (host : Host) (v : SessionValue) (piece : List ℕ) (count : ℕ) (refuses : RefusesPiece host v piece count) where
+module _ (host : ServerState) (v : SessionValue) (piece : List ℕ) (count : ℕ) (refuses : RefusesPiece host v piece count) where
   front_taken : taking host v (take count piece) ≡ taking_begun host v (take count piece) Unfinished
   front_taken =
       let M : ℕ = session_max v in
       let all = taking_where_takes host v piece refuses.takes in
-      let whole = put_is_whole host v piece (prefix_kind M (v.frame ++ piece)) count (sym (ap (λ (t : Taking). t.count) all) ∙ refuses.last) (subst (λ (t : Taking). IsPut t.change) all refuses.stores) in
+      let whole = put_is_whole host v piece (prefix_kind M (v.frame ++ piece)) count (sym (ap (λ (t : TakeOutcome). t.count) all) ∙ refuses.last) (subst (λ (t : TakeOutcome). IsPut t.change) all refuses.stores) in
       taking_where_takes host v (take count piece) refuses.takes ∙ ap (taking_begun host v (take count piece)) (before_whole M v.frame piece whole.0 whole.1 count whole.2 whole.3)
 
   pub refused_changes_nothing : (taking host v (take count piece)).change ≡ answer.Nothing
-  refused_changes_nothing = ap (λ (t : Taking). t.change) front_taken
+  refused_changes_nothing = ap (λ (t : TakeOutcome). t.change) front_taken
 
   pub refused_stays_settled : IsSettled host v → IsSettled host (taking host v (take count piece)).session
   unfolding next_held_in next_stale
-  refused_stays_settled settled = subst (λ (t : Taking). IsSettled host t.session) (sym front_taken) settled
+  refused_stays_settled settled = subst (λ (t : TakeOutcome). IsSettled host t.session) (sym front_taken) settled
 
 -- ---- the server state
 
-pub host_stays : (host : Host) (c : Change) → changes c ≡ false → host_changed host c ≡ host
+pub host_stays : (host : ServerState) (c : Change) → changes c ≡ false → host_changed host c ≡ host
 host_stays host c quiet = ap (host_changed host) (nothing_changed c quiet)

@@ -5,7 +5,7 @@ use Rattle.std.proofs.Common.{refl, sym, ap, ◌∙◌, ◌&&◌, if◌then◌el
 use Rattle.coap_server_session.specs.Prelude.{Message, StreamFault, takes_messages, is_open, fit, bare_response, reject_of}
 use Rattle.coap_server_session.specs.Prelude.{release_refusal, stop, History, IsHistory, limit_now, after, link_of, Call}
 use Rattle.coap_server_session.specs.Prelude.{end_reason, link_after, LinkValue, link_with, standing_in, StoreValue, path_of}
-use Rattle.coap_server_session.specs.Prelude.{Nothing, answer_of, immediate_answer, response_with_observe, Host, is_cut}
+use Rattle.coap_server_session.specs.Prelude.{Nothing, answer_of, immediate_answer, response_with_observe, ServerState, is_cut}
 use Rattle.coap_server_session.specs.Prelude.{side_announced, may_raise, Connection, handles, waiting_on, has_room, side_with}
 use Rattle.coap_server_session.specs.Prelude.{with_history, moment_after, held_for, side_replied, asks_answer, side_after}
 use Rattle.coap_server_session.specs.Prelude.{change_after, side_faulted, side_written, side_ended, side_released, next_due}
@@ -33,7 +33,7 @@ use Rattle.coap_model.proofs.world.SideLaws.{next_known, once_known, AreKnown, I
 use Rattle.coap_conn.specs.PendingEntries as held
 
 -- The server state of a store and a time.
-abbrev pub host_of : StoreValue → ℕ → Host
+abbrev pub host_of : StoreValue → ℕ → ServerState
 host_of store now = record { store = store; now = now }
 
 -- ---- state that depends on the phase

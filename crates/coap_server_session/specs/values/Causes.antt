@@ -3,11 +3,11 @@ use Rattle.std.specs.Prelude.{◌≡◌, ◌≢◌, ℕ, ◌+◌, ◌*◌, ◌%�
 use Rattle.std.specs.List.{AllByRecursion, list_any}
 use Rattle.coap_store.specs.Paths.{Path}
 use Rattle.coap_store.specs.Answer.{Change, Nothing, Put, Delete}
-use Rattle.coap_server_session.specs.declared.host.Host.{Host}
+use Rattle.coap_server_session.specs.declared.server_state.ServerState.{ServerState}
 use Rattle.coap_server_session.specs.declared.cause.Cause.{Cause}
 use Rattle.coap_server_session.specs.declared.cause.Cause.TheVariants as cause
 use Rattle.coap_server_session.specs.values.Sessions.{ObserverValue, SessionValue, MarkedSession, changed_mark}
-use Rattle.coap_server_session.specs.values.Dues.{IsBefore, due_on, tells_time}
+use Rattle.coap_server_session.specs.values.Deadlines.{IsBefore, due_on, is_time_observer}
 
 -- ---- the hash of a path, below 256
 
@@ -50,41 +50,41 @@ has_come now (Some due) = nat_le due now
 -- due after the previous time.
 abbrev pub may_touch : Cause → ℕ → SessionValue → Bool
 may_touch (cause.Path hash) now s = list_any (observes_hash hash) s.observers
-may_touch (cause.Moment before) now s = list_any tells_time s.observers || has_come now (due_on before s)
+may_touch (cause.Moment before) now s = list_any is_time_observer s.observers || has_come now (due_on before s)
 
 -- Holds if a change cannot affect a connection. For a path, no observer's path has its hash. For the time, nothing
 -- became due after the previous time, up to `now`.
-abbrev pub IsUntouched : Cause → ℕ → SessionValue → Type 0
-IsUntouched (cause.Path hash) now s = ObservesNone hash s.observers
-IsUntouched (cause.Moment before) now s = IsBefore now (due_on before s)
+abbrev pub IsUnaffected : Cause → ℕ → SessionValue → Type 0
+IsUnaffected (cause.Path hash) now s = ObservesNone hash s.observers
+IsUnaffected (cause.Moment before) now s = IsBefore now (due_on before s)
 
 -- ---- the marks after a change
 
 -- `true` if a change may have made this observer stale.
 abbrev pub is_concerned : Cause → ObserverValue → Bool
 is_concerned (cause.Path hash) o = path_hash o.path == hash
-is_concerned (cause.Moment before) o = tells_time o
+is_concerned (cause.Moment before) o = is_time_observer o
 
 -- Holds if a change cannot have made any of the observers stale.
 abbrev pub ConcernsNone : Cause → List ObserverValue → Type 0
 ConcernsNone (cause.Path hash) observers = ObservesNone hash observers
-ConcernsNone (cause.Moment before) observers = list_any tells_time observers ≡ false
+ConcernsNone (cause.Moment before) observers = list_any is_time_observer observers ≡ false
 
 -- The changed mark of an observer after a change: recomputed if the change may affect it, otherwise `mark`.
-abbrev pub mark_anew : Cause → Host → ObserverValue → Option ℕ → Option ℕ
+abbrev pub mark_anew : Cause → ServerState → ObserverValue → Option ℕ → Option ℕ
 mark_anew why host o mark = if is_concerned why o then changed_mark host o else mark
 
 -- The changed marks of observers after a change, of which those are recomputed that the change may affect.
-unfoldable pub marks_anew : Cause → Host → List ObserverValue → List (Option ℕ) → List (Option ℕ)
+unfoldable pub marks_anew : Cause → ServerState → List ObserverValue → List (Option ℕ) → List (Option ℕ)
 marks_anew why host [] marks = marks
 marks_anew why host (o ∷ os) [] = []
 marks_anew why host (o ∷ os) (mark ∷ marks) = mark_anew why host o mark ∷ marks_anew why host os marks
 
 -- The changed marks after a change of a path with this hash, or unchanged if there was none.
-abbrev pub marks_after : Option ℕ → Host → List ObserverValue → List (Option ℕ) → List (Option ℕ)
+abbrev pub marks_after : Option ℕ → ServerState → List ObserverValue → List (Option ℕ) → List (Option ℕ)
 marks_after None host observers marks = marks
 marks_after (Some hash) host observers marks = marks_anew (cause.Path hash) host observers marks
 
 -- Holds if all changed marks are current after those are recomputed that the change may affect.
-abbrev pub IsMarkedBut : Cause → Host → MarkedSession → Type 0
+abbrev pub IsMarkedBut : Cause → ServerState → MarkedSession → Type 0
 IsMarkedBut why host s = marks_anew why host s.session.observers s.marks ≡ map (changed_mark host) s.session.observers

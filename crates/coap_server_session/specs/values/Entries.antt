@@ -10,8 +10,8 @@ use Rattle.coap_conn.specs.Calls.{link_after}
 use Rattle.coap_conn.specs.Calls as call
 use Rattle.coap_store.specs.Messages.{response_with_observe}
 use Rattle.coap_store.specs.Notifications.{notification_of}
-use Rattle.coap_server_session.specs.declared.host.Host.{Host}
-use Rattle.coap_server_session.specs.declared.observers.Stale.{Stale}
+use Rattle.coap_server_session.specs.declared.server_state.ServerState.{ServerState}
+use Rattle.coap_server_session.specs.declared.observers.StaleObserver.{StaleObserver}
 use Rattle.coap_model.specs.world.Connections.{moment_after}
 use Rattle.coap_model.specs.world.Observers.{has_place, is_whole, with_entry, goes_on, first_becomes}
 use Rattle.coap_server_session.specs.values.Sessions.{ObserverValue, SessionValue, new_entry, answer_on, entry_left, mark_of, state_on, is_stale, notification_on, session_settled}
@@ -22,12 +22,12 @@ first_index due [] = None
 first_index due (o ∷ os) = if due o then Some 0 else option_map (λ i. suc i) (first_index due os)
 
 -- Holds if `found` is the first stale observer, with the mark of the current state of its path.
-pub record IsFirstStale (host : Host) (observers : List ObserverValue) (found : Stale) : Type 0 where
+pub record IsFirstStale (host : ServerState) (observers : List ObserverValue) (found : StaleObserver) : Type 0 where
   pub first : first_index (is_stale host) observers ≡ Some found.index
   pub mark : (o : ObserverValue) → slice_get observers found.index ≡ Some o → found.mark ≡ mark_of host.now (state_on host o.path)
 
 -- Holds if `found` is the first observer with a changed mark, with that mark.
-pub record IsFirstMarked (marks : List (Option ℕ)) (found : Stale) : Type 0 where
+pub record IsFirstMarked (marks : List (Option ℕ)) (found : StaleObserver) : Type 0 where
   pub first : first_index is_some marks ≡ Some found.index
   pub mark : slice_get marks found.index ≡ Some (Some found.mark)
 
@@ -35,11 +35,11 @@ pub record IsFirstMarked (marks : List (Option ℕ)) (found : Stale) : Type 0 wh
 
 -- `true` if the response to a request has Observe: the request asks for an entry, and there are fewer than `room`
 -- others.
-abbrev pub is_observed : Host → ℕ → List ObserverValue → Message → Bool
+abbrev pub is_observed : ServerState → ℕ → List ObserverValue → Message → Bool
 is_observed host room others m = has_place room others (answer_on host m).watch
 
 -- The response to a request that is answered at once.
-abbrev pub response_on : Host → ℕ → List ObserverValue → Message → Message
+abbrev pub response_on : ServerState → ℕ → List ObserverValue → Message → Message
 response_on host room others m = response_with_observe m.token (is_observed host room others m) (answer_on host m).response
 
 -- `true` if a response is sent whole.
@@ -47,31 +47,31 @@ abbrev pub is_sent : LinkValue → Message → Bool
 is_sent l m = is_whole (fit (limit_in l) m (bare_response m))
 
 -- The entries after a request that is answered at once. `others` are the entries with other tokens.
-abbrev pub entries_asked : Host → LinkValue → ℕ → List ObserverValue → Message → List ObserverValue
+abbrev pub entries_asked : ServerState → LinkValue → ℕ → List ObserverValue → Message → List ObserverValue
 entries_asked host l room others m =
     with_entry (is_observed host room others m && is_sent l (response_on host room others m)) others (new_entry host m)
 
 -- The link after a request: its response is sent at once, or is delayed by `seconds`.
-abbrev pub link_replied : Host → LinkValue → ℕ → List ObserverValue → Message → Option ℕ → LinkValue
+abbrev pub link_replied : ServerState → LinkValue → ℕ → List ObserverValue → Message → Option ℕ → LinkValue
 link_replied host l room others m None = link_after l (call.Reply (response_on host room others m))
 link_replied host l room others m (Some seconds) = link_after l (call.Hold m.token (moment_after host.now seconds))
 
 -- The entries after a request. A request whose response is delayed has no entry.
-abbrev pub entries_replied : Host → LinkValue → ℕ → List ObserverValue → Message → Option ℕ → List ObserverValue
+abbrev pub entries_replied : ServerState → LinkValue → ℕ → List ObserverValue → Message → Option ℕ → List ObserverValue
 entries_replied host l room others m None = entries_asked host l room others m
 entries_replied host l room others m (Some seconds) = others
 
 -- ---- a notification (RFC 7641 section 4.2)
 
 -- The entries after a notification of `o`, the first stale observer among them.
-abbrev pub entries_notified : Host → LinkValue → List ObserverValue → ObserverValue → List ObserverValue
+abbrev pub entries_notified : ServerState → LinkValue → List ObserverValue → ObserverValue → List ObserverValue
 entries_notified host l entries o =
     first_becomes (is_stale host) (entry_left host o (goes_on (notification_of host.store host.now o.path o.format) && is_sent l (notification_on host o))) entries
 
 -- ---- pending entries
 
 -- The connection after it settles, which it does only if an entry is pending.
-abbrev pub settled_held : Host → SessionValue → SessionValue
+abbrev pub settled_held : ServerState → SessionValue → SessionValue
 settled_held host v = if length v.link.held == 0 then v else session_settled host v
 
 -- ---- a stop

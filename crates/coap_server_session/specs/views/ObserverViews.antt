@@ -3,7 +3,7 @@ use Rattle.std.specs.Prelude.{◌≡◌, ◌≤◌, Option, ℕ, length, map}
 use Rattle.std.specs.List.{AllByRecursion}
 use Rattle.std.specs.Vec.{vec_capacity}
 use Rattle.coap_server_session.specs.values.Sessions.{ObserverValue, ObserversValue}
-use Rattle.coap_server_session.specs.values.Dues.{tells_time}
+use Rattle.coap_server_session.specs.values.Deadlines.{is_time_observer}
 use Rattle.coap_server_session.specs.values.Causes.{path_hash}
 use Rattle.coap_server_session.specs.declared.observer.Observer.{Observer}
 use Rattle.coap_server_session.specs.declared.observers.Observers.TheInside.{Inside}
@@ -22,7 +22,7 @@ observers_value o = record { room = o.room; entries = map observer_value o.entri
 -- Holds if an observer stores the hash of its path, and whether the path is built in.
 pub record IsTagged (o : Observer) : Type 0 where
   pub hash : o.hash ≡ path_hash o.path
-  pub built_in : o.built_in ≡ tells_time (observer_value o)
+  pub built_in : o.built_in ≡ is_time_observer (observer_value o)
 
 -- The invariant of `Observers`: the capacity was allocated and is not exceeded. The chains link the observers, and the
 -- flags are set for those with a changed mark.

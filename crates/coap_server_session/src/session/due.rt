@@ -1,7 +1,7 @@
 //! The times and the changes that may make something due on a connection of a server.
 
 ghost use Rattle.std.specs.Prelude.{◌≡◌, ℕ, false, None, ◌+◌, ◌||◌, Some};
-ghost use Rattle.coap_server_session.specs.Prelude.{sooner as lesser, IsUntouched, ConcernsNone, due_on, IsBefore};
+ghost use Rattle.coap_server_session.specs.Prelude.{sooner as lesser, IsUnaffected, ConcernsNone, due_on, IsBefore};
 ghost use Rattle.coap_server_session.specs.Prelude.{next_told as next_told_of, has_come, may_touch};
 
 use super::Session;
@@ -15,13 +15,13 @@ impl Session {
     #[tactic(auto, using(crate::proofs::values::ChainLemmas::none_observes))]
     pub fn is_touched(&self, cause: Cause, now: u64) -> bool
         ensures exact { result ≡ may_touch cause now self.now.session }
-        ensures untouched { result ≡ false → IsUntouched cause now self.now.session }
+        ensures untouched { result ≡ false → IsUnaffected cause now self.now.session }
         ensures unmarked { result ≡ false → ConcernsNone cause self.now.session.observers }
     {
         match cause {
             Cause::Path(hash) => self.observers.may_observe(hash),
             Cause::Moment(before) => {
-                self.observers.tell_time() || (self.may_come_due() && self.comes_due(before, now))
+                self.observers.any_observes_time() || (self.may_come_due() && self.comes_due(before, now))
             }
         }
     }
@@ -30,7 +30,7 @@ impl Session {
     fn may_come_due(&self) -> bool
         ensures { result ≡ false → (now : ℕ) → due_on now self.now.session ≡ None }
     {
-        self.link.pending() > 0 || self.observers.tell_time()
+        self.link.pending() > 0 || self.observers.any_observes_time()
     }
 
     /// Returns `true` if something became due after the time `before`, up to `now`.
@@ -57,7 +57,7 @@ impl Session {
     fn next_told(&self, now: u64) -> Option<u64>
         ensures { result ≡ next_told_of now self.now.session.observers }
     {
-        if !self.observers.tell_time() || now == u64::MAX {
+        if !self.observers.any_observes_time() || now == u64::MAX {
             return None;
         }
         Some(now + 1)

@@ -1,9 +1,9 @@
 //! Settles a connection of a server: queues everything that is due, as long as the queue has room.
 
-use super::{Session, give_up};
+use super::{Session, discard_if_closed};
 use crate::answering::{notify, send_due};
 use crate::cause::Cause;
-use crate::host::Host;
+use crate::server_state::ServerState;
 
 impl Session {
     ghost use Rattle.std.specs.Prelude.{◌≡◌, false, ◌≤◌, ◌||◌, Some, length, is_some};
@@ -21,13 +21,13 @@ impl Session {
     ///
     /// The changed marks of the observers are current.
     #[inline]
-    pub fn settle(&mut self, host: &Host)
+    pub fn settle(&mut self, host: &ServerState)
         requires { IsMarked host.now self.old }
         ensures after { self.new.session ≡ session_settled host.entry.now self.old.session }
         ensures settled { IsSettled host.entry.now self.new.session }
         ensures marked { IsMarked host.entry.now self.new }
     {
-        if self.more() > 0 {
+        if self.settle_bound() > 0 {
             self.settle_each(host);
         }
     }
@@ -35,13 +35,13 @@ impl Session {
     /// Settles the connection as `settle` does, in at most `more` iterations.
     // Never inlined, so that `settle` costs one comparison on a connection with nothing to send.
     #[inline(never)]
-    fn settle_each(&mut self, host: &Host)
+    fn settle_each(&mut self, host: &ServerState)
         requires { IsMarked host.now self.old }
         ensures after { self.new.session ≡ session_settled host.entry.now self.old.session }
         ensures settled { IsSettled host.entry.now self.new.session }
         ensures marked { IsMarked host.entry.now self.new }
     {
-        for _ in 0..self.more() {
+        for _ in 0..self.settle_bound() {
             if !self.settle_once(host) {
                 return;
             }
@@ -53,7 +53,7 @@ impl Session {
     /// # Preconditions
     ///
     /// The changed marks of all other observers are current.
-    pub fn mark_and_settle(&mut self, host: &Host, cause: Cause)
+    pub fn mark_and_settle(&mut self, host: &ServerState, cause: Cause)
         requires { IsMarkedBut cause host.now self.old }
         ensures after { self.new.session ≡ session_settled host.entry.now self.old.session }
         ensures marked { IsMarked host.entry.now self.new }
@@ -67,7 +67,7 @@ impl Session {
     /// # Preconditions
     ///
     /// The changed marks of the observers are current.
-    pub fn settle_held(&mut self, host: &Host)
+    pub fn settle_if_pending(&mut self, host: &ServerState)
         requires { IsMarked host.now self.old }
         ensures after { self.new.session ≡ settled_held host.entry.now self.old.session }
         ensures marked { IsMarked host.entry.now self.new }
@@ -79,7 +79,7 @@ impl Session {
 
     /// Sends the first due entry, or notifies the first stale observer if none is due. Returns `false` if there was
     /// neither, or if the queue has no room.
-    fn settle_once(&mut self, host: &Host) -> bool
+    fn settle_once(&mut self, host: &ServerState) -> bool
         requires { IsMarked host.now self.old }
         ensures after { self.new.session ≡ session_settled_once host.entry.now self.old.session }
         ensures found { result ≡ (is_some (next_held_in host.entry.now.now self.old.session)
@@ -90,14 +90,14 @@ impl Session {
             return false;
         }
         if send_due(&mut self.link, host.now) {
-            give_up(&mut self.framer, &self.link, &mut self.observers);
+            discard_if_closed(&mut self.framer, &self.link, &mut self.observers);
             return true;
         }
         self.notify_once(host)
     }
 
     /// Notifies the first stale observer, and returns `true` if there was one. The queue must have room.
-    fn notify_once(&mut self, host: &Host) -> bool
+    fn notify_once(&mut self, host: &ServerState) -> bool
         requires ready { IsReady self.old.session.link }
         requires marked { IsMarked host.now self.old }
         ensures after { self.new.session
@@ -109,7 +109,7 @@ impl Session {
             return false;
         };
         notify(&mut self.link, &mut self.observers, host, stale);
-        give_up(&mut self.framer, &self.link, &mut self.observers);
+        discard_if_closed(&mut self.framer, &self.link, &mut self.observers);
         true
     }
 
@@ -122,7 +122,7 @@ impl Session {
     ///
     /// At least `count` bytes are queued, the connection is settled, and the changed marks of the observers are
     /// current.
-    pub fn written_and_settled(&mut self, host: &Host, count: usize)
+    pub fn written_and_settled(&mut self, host: &ServerState, count: usize)
         requires within { count ≤ length self.old.session.link.waiting }
         requires settled { IsSettled host.now self.old.session }
         requires marked { IsMarked host.now self.old }

@@ -3,7 +3,7 @@ use Rattle.std.proofs.Math.Bool.{not-not}
 use Rattle.coap_server_session.specs.Prelude.{StoreValue, Nothing, changed, IsPut, changes, asks_entry, is_whole, with_entry}
 use Rattle.coap_server_session.specs.Prelude.{ObserverValue, ObserversValue, answer_on, hold_on, held_in, host_changed}
 use Rattle.coap_server_session.specs.Prelude.{new_entry, without_entry, change_hash, is_observed, link_replied}
-use Rattle.coap_server_session.specs.Prelude.{entries_replied, AreMarked, changed_mark, marks_after, Host}
+use Rattle.coap_server_session.specs.Prelude.{entries_replied, AreMarked, changed_mark, marks_after, ServerState}
 use Rattle.coap_store.specs.Answer.{Answer}
 use Rattle.coap_server_session.proofs.values.AnsweringLemmas.{nothing_changed, late_link, late_entries, prompt_is, change_link, change_entries, may_watch, late_quiet, prompt_link, prompt_entries}
 use Rattle.coap_server_session.proofs.values.CauseLemmas.{marked_after}
@@ -24,17 +24,17 @@ returns-in-Some c =
     let quiet = late_quiet host m seconds room others holds in
     assumption (
       ap change_hash (sym quiet),
-      late_link host m seconds room others holds c.args.link.now _ c.saturating_add-moment.result at (rw c.answer-plan.ensures.answer at c.answer_late.ensures.link),
-      c.answer_late.ensures.entries ∙ late_entries host m seconds room others holds c.args.link.now,
-      c.answer_late.ensures.room,
-      c.answer_late.ensures.marks (changed_mark host) c.requires.marked,
+      late_link host m seconds room others holds c.args.link.now _ c.saturating_add-moment.result at (rw c.answer-plan.ensures.answer at c.delay_answer.ensures.link),
+      c.delay_answer.ensures.entries ∙ late_entries host m seconds room others holds c.args.link.now,
+      c.delay_answer.ensures.room,
+      c.delay_answer.ensures.marks (changed_mark host) c.requires.marked,
       ap (host_changed host) (sym quiet),
     )
 
 -- ---- a request that changes nothing
 
-pub enter-requires-clause-watched : goal.enter-requires-clause-watched
-enter-requires-clause-watched c =
+pub add_observer-requires-clause-watched : goal.add_observer-requires-clause-watched
+add_observer-requires-clause-watched c =
     let prompt = prompt_is c.args.host.now c.args.request.now c.answer-plan.result c.answer-plan.ensures.answer (sym c.hold.ensures.seconds ∙ c.in_default.is) in
     elim c.if-asks_entry.branch [
       | then-asks_entry w ↦ may_watch c.args.host.now c.args.request.now (cc (prompt.1, c.watch.ensures, c.asks_entry.ensures, w.if-asks_entry.true))
@@ -43,8 +43,8 @@ enter-requires-clause-watched c =
 
 -- The request changes nothing: its response is sent, and the entries after it are the defined ones.
 prompted : (c : After-respond-reply) (enters : Bool) (after : ObserversValue) → (c.if-asks_entry.observes && is_whole c.respond-reply.result) ≡ enters
-    → after.entries ≡ with_entry enters c.forget-2.new.self.entries (new_entry c.args.host.now c.args.request.now) → after.room ≡ c.forget-2.new.self.room
-    → (AreMarked c.args.host.now c.forget-2.new.self.entries c.forget-2.new.self.marks → AreMarked c.args.host.now after.entries after.marks)
+    → after.entries ≡ with_entry enters c.remove_token-2.new.self.entries (new_entry c.args.host.now c.args.request.now) → after.room ≡ c.remove_token-2.new.self.room
+    → (AreMarked c.args.host.now c.remove_token-2.new.self.entries c.remove_token-2.new.self.marks → AreMarked c.args.host.now after.entries after.marks)
     → let m = c.args.request.now in let before = c.args.observers.now in let hold = held_in c.args.link.now (hold_on c.args.host.now m) in
     (None ≡ change_hash (answer_on c.args.host.now m).change)
     × (c.respond-reply.new.link ≡ link_replied c.args.host.now c.args.link.now before.room (without_entry m.token before.entries) m hold)
@@ -63,25 +63,25 @@ prompted c enters after enters_is after_is room_is marked =
     let answer = prompt.1 in
     let quiet : (answer_on host m).change ≡ Nothing =
     nothing_changed _ (ap (λ (a : Answer). changes a.change) (sym answer) ∙ sym c.changes.ensures ∙ c.if-changes.false) in
-    let forgotten : c.forget-2.new.self.entries ≡ others = rw c.token-2.ensures at c.forget-2.ensures.entries in
+    let forgotten : c.remove_token-2.new.self.entries ≡ others = rw c.token-2.ensures at c.remove_token-2.ensures.entries in
     let asks = c.asks_entry.ensures ∙ ap asks_entry c.watch.ensures ∙ ap (λ (a : Answer). asks_entry a.watch) answer in
     let most = not-not (nat_lt (length others) before.room) in
     let observed : c.if-asks_entry.observes ≡ is_observed host before.room others m = elim c.if-asks_entry.branch [
-      | then-asks_entry w ↦ cc (asks, most, w.if-asks_entry.true, rw (forgotten, c.forget-2.ensures.room) at w.is_full.ensures, w.observes-is)
+      | then-asks_entry w ↦ cc (asks, most, w.if-asks_entry.true, rw (forgotten, c.remove_token-2.ensures.room) at w.is_full.ensures, w.observes-is)
       | else-asks_entry w ↦ cc (asks, w.if-asks_entry.false, w.observes-is)
     ] in
     let reply = rw (c.token-3.ensures, answer, observed) at c.respond-reply.ensures.reply in (
       ap change_hash (sym quiet),
       (rw (c.token-3.ensures, answer, observed) at c.respond-reply.ensures.after) ∙ prompt_link host m l before.room others none,
       (rw forgotten at after_is) ∙ prompt_entries host m l before.room others none enters (sym (rw (observed, reply) at enters_is)),
-      room_is ∙ c.forget-2.ensures.room,
-      marked (c.forget-2.ensures.marks (changed_mark host) c.requires.marked),
+      room_is ∙ c.remove_token-2.ensures.room,
+      marked (c.remove_token-2.ensures.marks (changed_mark host) c.requires.marked),
       ap (host_changed host) (sym quiet),
     )
 
 pub returns-then-is_whole : goal.returns-then-is_whole
 returns-then-is_whole c =
-    assumption (prompted (goal.at.returns-then-is_whole c).After-respond-reply true _ (ap (λ (b : Bool). b && is_whole c.respond-reply.result) c.if-observes.true ∙ sym c.is_whole.ensures ∙ c.if-is_whole.true) (ap (λ (o : ObserversValue). o.entries) c.enter.ensures.value) (ap (λ (o : ObserversValue). o.room) c.enter.ensures.value) c.enter.ensures.marked)
+    assumption (prompted (goal.at.returns-then-is_whole c).After-respond-reply true _ (ap (λ (b : Bool). b && is_whole c.respond-reply.result) c.if-observes.true ∙ sym c.is_whole.ensures ∙ c.if-is_whole.true) (ap (λ (o : ObserversValue). o.entries) c.add_observer.ensures.value) (ap (λ (o : ObserversValue). o.room) c.add_observer.ensures.value) c.add_observer.ensures.marked)
 
 pub returns-else-observes : goal.returns-else-observes
 returns-else-observes c =
@@ -112,20 +112,20 @@ returns-then-changes c =
     let bare = subst (λ (a : Answer). changes a.change ≡ true → a.response.payload ≡ []) answer c.answer-plan.ensures.bare in
     let hash_is = c.in_ok-changed.ensures.hash ∙ ap change_hash change in
     let host_is = ap (λ (s : StoreValue). record host { store = s }) (c.in_ok-changed.ensures.ok ∙ ap (changed host.store) change) in
-    let es = c.forget.new.self.entries in
-    let ms = c.forget.new.self.marks in
-    let after : Host = record host { store = c.change.new.store } in
+    let es = c.remove_token.new.self.entries in
+    let ms = c.remove_token.new.self.marks in
+    let after : ServerState = record host { store = c.change.new.store } in
     let marked : AreMarked after c.mark_changed.new.observers.entries c.mark_changed.new.observers.marks =
-    ap (λ (o : ObserversValue). o.marks) c.mark_changed.ensures ∙ ap (λ (hash : Option ℕ). marks_after hash after es ms) hash_is ∙ ap (λ (h : Host). marks_after (change_hash (answer_on host m).change) h es ms) host_is
-    ∙ marked_after host (answer_on host m).change es ms (c.forget.ensures.marks (changed_mark host) c.requires.marked)
-    ∙ ap (λ (h : Host). map (changed_mark h) es) (sym host_is) ∙ ap (λ (o : ObserversValue). map (changed_mark after) o.entries) (sym c.mark_changed.ensures) in
+    ap (λ (o : ObserversValue). o.marks) c.mark_changed.ensures ∙ ap (λ (hash : Option ℕ). marks_after hash after es ms) hash_is ∙ ap (λ (h : ServerState). marks_after (change_hash (answer_on host m).change) h es ms) host_is
+    ∙ marked_after host (answer_on host m).change es ms (c.remove_token.ensures.marks (changed_mark host) c.requires.marked)
+    ∙ ap (λ (h : ServerState). map (changed_mark h) es) (sym host_is) ∙ ap (λ (o : ObserversValue). map (changed_mark after) o.entries) (sym c.mark_changed.ensures) in
     assumption (
       hash_is,
       change_link host m c.args.link.now room others prompt.0 does _ (bare does)
           (rw (c.token-then-changes.ensures, c.without_payload-plan.ensures, answer) at c.respond.ensures.after),
-      ap (λ (o : ObserversValue). o.entries) c.mark_changed.ensures ∙ (rw c.token.ensures at c.forget.ensures.entries)
+      ap (λ (o : ObserversValue). o.entries) c.mark_changed.ensures ∙ (rw c.token.ensures at c.remove_token.ensures.entries)
           ∙ change_entries host m c.args.link.now room others prompt.0 does,
-      ap (λ (o : ObserversValue). o.room) c.mark_changed.ensures ∙ c.forget.ensures.room,
+      ap (λ (o : ObserversValue). o.room) c.mark_changed.ensures ∙ c.remove_token.ensures.room,
       marked,
       host_is,
     )

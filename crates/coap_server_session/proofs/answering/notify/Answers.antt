@@ -10,8 +10,8 @@ use Rattle.coap_server_session.proofs.answering.notify.Goals as goal
 pub get-observer-requires : goal.get-observer-requires
 get-observer-requires c = (is_first (is_stale c.args.host.now) c.args.observers.now.entries c.args.stale.index c.requires.first.first).within
 
-pub tell-requires : goal.tell-requires
-tell-requires c = (is_first (is_stale c.args.host.now) c.args.observers.now.entries c.args.stale.index c.requires.first.first).within
+pub set_mark-requires : goal.set_mark-requires
+set_mark-requires c = (is_first (is_stale c.args.host.now) c.args.observers.now.entries c.args.stale.index c.requires.first.first).within
 
 pub remove-requires : goal.remove-requires
 remove-requires c = (is_first (is_stale c.args.host.now) c.args.observers.now.entries c.args.stale.index c.requires.first.first).within
@@ -25,7 +25,7 @@ returns-then-is_whole-clause-entries c = λ o at.
     let stays = observer_stays_by host link entries index (observer_value c.get-observer.result.now) o _ _ _ _ c.get-observer.ensures at
     c.notification-plan.ensures.told c.code.ensures c.eq-goes_on.ensures (rw c.of.ensures at c.respond-reply.ensures.reply) in
     let both : true ≡ goes_whole host link o = cc (stays, c.if-goes_on.true, c.is_whole.ensures, c.if-is_whole.true) in
-    cc (ap (λ (k : ObserversValue). k.entries) (c.tell.ensures o at), c.requires.first.mark o at, notified_entries host link entries index o true c.requires.first.first both)
+    cc (ap (λ (k : ObserversValue). k.entries) (c.set_mark.ensures o at), c.requires.first.mark o at, notified_entries host link entries index o true c.requires.first.first both)
 
 pub returns-else-goes_on-clause-entries : goal.returns-else-goes_on-clause-entries
 returns-else-goes_on-clause-entries c = λ o at.
@@ -42,7 +42,7 @@ returns-else-goes_on-clause-entries c = λ o at.
     cc (ap (λ (k : ObserversValue). k.entries) c.remove.ensures, notified_entries host link entries index o false c.requires.first.first not_both)
 
 pub returns-then-is_whole-clause-room : goal.returns-then-is_whole-clause-room
-returns-then-is_whole-clause-room c = ap (λ (k : ObserversValue). k.room) (c.tell.ensures _ c.get-observer.ensures)
+returns-then-is_whole-clause-room c = ap (λ (k : ObserversValue). k.room) (c.set_mark.ensures _ c.get-observer.ensures)
 
 pub returns-then-is_whole-clause-marked : goal.returns-then-is_whole-clause-marked
 returns-then-is_whole-clause-marked c =
@@ -56,7 +56,7 @@ returns-then-is_whole-clause-marked c =
     c.notification-plan.ensures.told c.code.ensures c.eq-goes_on.ensures (rw c.of.ensures at c.respond-reply.ensures.reply) in
     let both : true ≡ goes_whole host link o = cc (stays, c.if-goes_on.true, c.is_whole.ensures, c.if-is_whole.true) in
     let told = told_unmarked host o c.args.stale.mark (and_parts _ _ (sym both)).0 (c.requires.first.mark o at) in
-    rw (c.tell.ensures o at) (told_marked host entries c.args.observers.now.marks index (record o { mark = c.args.stale.mark }) c.requires.marked told)
+    rw (c.set_mark.ensures o at) (told_marked host entries c.args.observers.now.marks index (record o { mark = c.args.stale.mark }) c.requires.marked told)
 
 pub returns-else-goes_on-clause-marked : goal.returns-else-goes_on-clause-marked
 returns-else-goes_on-clause-marked c =

@@ -7,14 +7,14 @@ use Rattle.coap_server_session.proofs.values.CauseLemmas.{but_none}
 use Rattle.coap_server_engine.proofs.values.ServerCauseLemmas.{others_untouched, all_settle}
 use Rattle.coap_server_engine.proofs.server.sessions.settle_after.Goals as goal
 
-pub settle_held-requires : goal.settle_held-requires
-settle_held-requires c = subst (λ (o : Option MarkedSession). IfSome o (IsMarked c.args.host.now)) c.index_mut.ensures.value c.requires.own
+pub settle_if_pending-requires : goal.settle_if_pending-requires
+settle_if_pending-requires c = subst (λ (o : Option MarkedSession). IfSome o (IsMarked c.args.host.now)) c.index_mut.ensures.value c.requires.own
 
 pub returns-in-None : goal.returns-in-None
 returns-in-None c =
     let host = c.args.host.now in
     let es = c.args.sessions.now.entries in
-    let e = c.settle_held.ensures in
+    let e = c.settle_if_pending.ensures in
     rw c.in-None.is (record {
       after = written_unmarked (settled_held host) es c.args.at _ _ c.index_mut.ensures.value e.after;
       marked = all_written (IsMarked host) es c.args.at _ (rw c.in-None.is at c.requires.marked) e.marked;

@@ -44,7 +44,7 @@ invariant_of-self-2 c =
     let marked = subst (IsMarked host) (sym c.self.view_is) c.requires.marked in
     let first = (marked_is_stale host s.observers.entries s.observers.marks _ marked c.in-Some.ensures.some).first in
     let e = rw c.first_changed.ensures.same at c.notify.ensures in
-    notified_session host s c.in-Some.stale.index c.notify.new.link c.notify.new.observers ready first e.link e.entries c.give_up.new.framer c.give_up.new.observers e.room c.self.invariant c.give_up.ensures.framer c.give_up.ensures.observers
+    notified_session host s c.in-Some.stale.index c.notify.new.link c.notify.new.observers ready first e.link e.entries c.discard_if_closed.new.framer c.discard_if_closed.new.observers e.room c.self.invariant c.discard_if_closed.ensures.framer c.discard_if_closed.ensures.observers
 
 pub returns : goal.returns
 returns c =
@@ -55,9 +55,9 @@ returns c =
     let first = (marked_is_stale host s.observers.entries s.observers.marks _ marked c.in-Some.ensures.some).first in
     let e = rw c.first_changed.ensures.same at c.notify.ensures in
     let after =
-    notified_once host s c.in-Some.stale.index c.notify.new.link c.notify.new.observers ready first e.link e.entries c.give_up.new.framer c.give_up.new.observers c.give_up.ensures.framer c.give_up.ensures.observers in
+    notified_once host s c.in-Some.stale.index c.notify.new.link c.notify.new.observers ready first e.link e.entries c.discard_if_closed.new.framer c.discard_if_closed.new.observers c.discard_if_closed.ensures.framer c.discard_if_closed.ensures.observers in
     record {
       after = after ∙ ap (λ (m : MarkedSession). session_notified host m.session (next_stale host m.session)) c.self.view_is;
       found = next_found host s c.in-Some.stale.index c.notify.new.link c.notify.new.observers ready first e.link e.entries ∙ ap (λ (m : MarkedSession). is_some (next_stale host m.session)) c.self.view_is;
-      marked = left_marked_by host c.notify.new.link c.notify.new.observers c.give_up.new.observers c.give_up.ensures.observers c.notify.ensures.marked;
+      marked = left_marked_by host c.notify.new.link c.notify.new.observers c.discard_if_closed.new.observers c.discard_if_closed.ensures.observers c.notify.ensures.marked;
     }

@@ -26,7 +26,7 @@ pub invariant_of-self : goal.invariant_of-self
 invariant_of-self c =
     let ready = ready_is c.self.inside.link c.ready.result c.ready.ensures ∙ c.if-not-ready.false in
     let some = sym c.send_due.ensures.found ∙ c.if-send_due.true in
-    sent_session c.args.host.now c.self.inside _ ready some c.send_due.ensures.sent c.give_up.new.framer c.give_up.new.observers c.self.invariant c.give_up.ensures.framer c.give_up.ensures.observers
+    sent_session c.args.host.now c.self.inside _ ready some c.send_due.ensures.sent c.discard_if_closed.new.framer c.discard_if_closed.new.observers c.self.invariant c.discard_if_closed.ensures.framer c.discard_if_closed.ensures.observers
 
 pub returns-then-send_due : goal.returns-then-send_due
 returns-then-send_due c =
@@ -36,12 +36,12 @@ returns-then-send_due c =
     let some = sym c.send_due.ensures.found ∙ c.if-send_due.true in
     record {
       after =
-          sent_once host s _ ready some c.send_due.ensures.sent c.give_up.new.framer c.give_up.new.observers c.give_up.ensures.framer c.give_up.ensures.observers
+          sent_once host s _ ready some c.send_due.ensures.sent c.discard_if_closed.new.framer c.discard_if_closed.new.observers c.discard_if_closed.ensures.framer c.discard_if_closed.ensures.observers
           ∙ ap (λ (m : MarkedSession). session_settled_once host m.session) c.self.view_is;
       found =
           held_found host s _ ready some c.send_due.ensures.sent
           ∙ ap (λ (m : MarkedSession). is_some (next_held_in host.now m.session) || is_some (next_stale host m.session)) c.self.view_is;
-      marked = left_marked_by host c.send_due.new.link s.observers c.give_up.new.observers c.give_up.ensures.observers (subst (IsMarked host) (sym c.self.view_is) c.requires);
+      marked = left_marked_by host c.send_due.new.link s.observers c.discard_if_closed.new.observers c.discard_if_closed.ensures.observers (subst (IsMarked host) (sym c.self.view_is) c.requires);
     }
 
 pub notify_once-requires-clause-marked : goal.notify_once-requires-clause-marked

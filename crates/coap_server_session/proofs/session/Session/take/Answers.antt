@@ -12,20 +12,20 @@ pub invariant_of-self-in-Err : goal.invariant_of-self-in-Err
 invariant_of-self-in-Err c =
     let s = c.self.inside in
     let sizes = ap sizes_of c.reject-in-Err.ensures.after ∙ stays_so sizes_of (takes_messages s.link.phase) s.link _ refl in
-    taken_session s c.args.piece.now c.reject-in-Err.new.self c.give_up-in-Err.new.framer s.observers c.give_up-in-Err.new.observers c.self.invariant sizes refl
-    (rw c.next-framed.follows.holds-at-none at c.give_up-in-Err.ensures.framer) c.give_up-in-Err.ensures.observers
+    taken_session s c.args.piece.now c.reject-in-Err.new.self c.discard_if_closed-in-Err.new.framer s.observers c.discard_if_closed-in-Err.new.observers c.self.invariant sizes refl
+    (rw c.next-framed.follows.holds-at-none at c.discard_if_closed-in-Err.ensures.framer) c.discard_if_closed-in-Err.ensures.observers
 
 pub invariant_of-self-in-Err-parse : goal.invariant_of-self-in-Err-parse
 invariant_of-self-in-Err-parse c =
     let s = c.self.inside in
     let sizes = ap sizes_of c.reject.ensures.after ∙ stays_so sizes_of (takes_messages s.link.phase) s.link _ refl in
-    taken_session s c.args.piece.now c.reject.new.self c.give_up.new.framer s.observers c.give_up.new.observers c.self.invariant sizes refl
-    (rw c.next-framed.follows.holds-at-none at c.give_up.ensures.framer) c.give_up.ensures.observers
+    taken_session s c.args.piece.now c.reject.new.self c.discard_if_closed.new.framer s.observers c.discard_if_closed.new.observers c.self.invariant sizes refl
+    (rw c.next-framed.follows.holds-at-none at c.discard_if_closed.ensures.framer) c.discard_if_closed.ensures.observers
 
 pub invariant_of-self-in-Ok-handle : goal.invariant_of-self-in-Ok-handle
 invariant_of-self-in-Ok-handle c =
-    taken_session c.self.inside c.args.piece.now c.handle.new.link c.give_up-in-Ok-handle.new.framer c.handle.new.observers c.give_up-in-Ok-handle.new.observers c.self.invariant c.in-Ok-handle.ensures.sizes c.in-Ok-handle.ensures.room
-    (rw c.next-framed.follows.holds-at-none at c.give_up-in-Ok-handle.ensures.framer) c.give_up-in-Ok-handle.ensures.observers
+    taken_session c.self.inside c.args.piece.now c.handle.new.link c.discard_if_closed-in-Ok-handle.new.framer c.handle.new.observers c.discard_if_closed-in-Ok-handle.new.observers c.self.invariant c.in-Ok-handle.ensures.sizes c.in-Ok-handle.ensures.room
+    (rw c.next-framed.follows.holds-at-none at c.discard_if_closed-in-Ok-handle.ensures.framer) c.discard_if_closed-in-Ok-handle.ensures.observers
 
 -- The framer found a frame.
 frame_found : (c : In-Ok-Some) → (framing_of c.self.inside.framer c.args.piece.now).finding ≡ AFrame c.in-Ok-Some.frame.now

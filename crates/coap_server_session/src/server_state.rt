@@ -9,14 +9,14 @@ use std::alloc::{AllocError, Global};
 
 /// Server state that all connections share: the resources and the time.
 #[derive(Drop)]
-pub struct Host {
+pub struct ServerState {
     /// Resources of the server.
     pub store: Store,
     /// Time of the server, in seconds.
     pub now: u64,
 }
 
-impl Host {
+impl ServerState {
     /// Returns the server state with an empty store at the time `now`, in seconds. `Store::new` explains the other
     /// numbers.
     ///
@@ -33,14 +33,14 @@ impl Host {
         rep_max: usize,
         versions_from: u64,
         now: u64,
-    ) -> Result<Host, AllocError>
+    ) -> Result<ServerState, AllocError>
         requires few { dynamic_max ≤ 1000 }
         requires small { rep_max ≤ LARGEST_MESSAGE }
         ensures value { IfOk result (λ h. h ≡ empty_host dynamic_max rep_max versions_from now) }
         ensures moment { now < 2 ^ 64 }
     {
         let store = Store::new(alloc, dynamic_max, rep_max, versions_from)?;
-        Ok(Host { store, now })
+        Ok(ServerState { store, now })
     }
 
     /// Sets the time, in seconds.

@@ -1,7 +1,7 @@
 use Rattle.coap_server_session.specs.Prelude.{new_entry}
 use Rattle.coap_server_session.proofs.values.MarkLemmas.{entered_marked, fresh_unmarked}
 use Rattle.coap_server_session.proofs.values.SettleLemmas.{marked_now}
-use Rattle.coap_server_session.proofs.answering.enter.Goals as goal
+use Rattle.coap_server_session.proofs.answering.add_observer.Goals as goal
 
 pub returns-clause-marked : goal.returns-clause-marked
 returns-clause-marked c = λ marked.
@@ -9,4 +9,4 @@ returns-clause-marked c = λ marked.
     let before = c.args.observers.now in
     let entry = new_entry host c.args.request.now in
     let fresh = fresh_unmarked host entry (marked_now host entry c.requires.watched.representation c.requires.watched.there) in
-    rw (c.enter.ensures, c.entry_for.ensures.entry) (entered_marked host before.entries before.marks entry marked fresh)
+    rw (c.add_observer.ensures, c.entry_for.ensures.entry) (entered_marked host before.entries before.marks entry marked fresh)

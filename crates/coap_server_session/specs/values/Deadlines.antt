@@ -18,12 +18,12 @@ abbrev pub next_second : ℕ → Option ℕ
 next_second now = if now == 18446744073709551615 then None else Some (now + 1)
 
 -- `true` if an observer's path is built in. It is `/time` then, since no other built-in resource is observable.
-abbrev pub tells_time : ObserverValue → Bool
-tells_time o = not (is_dynamic (kind_of_path o.path))
+abbrev pub is_time_observer : ObserverValue → Bool
+is_time_observer o = not (is_dynamic (kind_of_path o.path))
 
 -- The time of the next notification if an observer observes the time.
 abbrev pub next_told : ℕ → List ObserverValue → Option ℕ
-next_told now observers = if list_any tells_time observers then next_second now else None
+next_told now observers = if list_any is_time_observer observers then next_second now else None
 
 -- The next time after `now` at which time alone may make something due on a connection. A delayed response is due then,
 -- or an observer of the time must be notified.

@@ -4,7 +4,7 @@ use Rattle.coap_server_session.specs.Prelude.{observer_value, mark_in, IsTagged,
 use Rattle.coap_server_session.proofs.values.ChainLemmas.{entered_chained}
 use Rattle.coap_server_session.proofs.values.FlagLemmas.{entered_flagged}
 use Rattle.coap_model.proofs.world.EntryLemmas.{all_append}
-use Rattle.coap_server_session.proofs.observers.Observers.enter.Goals as goal
+use Rattle.coap_server_session.proofs.observers.Observers.add_observer.Goals as goal
 
 pub invariant_of-self : goal.invariant_of-self
 invariant_of-self c =

@@ -5,7 +5,7 @@ use Rattle.coap_server_session.specs.Prelude.{IsTagged, observer_value, mark_in,
 use Rattle.coap_server_session.specs.declared.observer.Observer.{Observer}
 use Rattle.coap_server_session.proofs.values.FlagLemmas.{put_flagged}
 use Rattle.coap_server_session.proofs.values.TagLemmas.{all_at, all_set, told_value}
-use Rattle.coap_server_session.proofs.observers.Observers.tell.Goals as goal
+use Rattle.coap_server_session.proofs.observers.Observers.set_mark.Goals as goal
 
 pub invariant_of-self : goal.invariant_of-self
 invariant_of-self c =
