@@ -62,8 +62,8 @@ pub use Rattle.coap_serve.specs.declared.serve.IoFault.{IoFault}
 pub use Rattle.coap_serve.specs.declared.serve.IoFault.TheVariants.{Memory, Read, Turns, Write}
 pub use Rattle.coap_serve.specs.declared.serve.Report.{Report}
 pub use Rattle.coap_serve.specs.declared.serve.Turn.{Turn}
-pub use Rattle.coap_server_engine.specs.declared.server.Outlook.{Outlook}
-pub use Rattle.coap_server_engine.specs.declared.server.Stamp.{Stamp}
+pub use Rattle.coap_server_engine.specs.declared.server.ConnectionWork.{ConnectionWork}
+pub use Rattle.coap_server_engine.specs.declared.server.ChangeStamp.{ChangeStamp}
 -- ---- coap_serve, streams
 pub use Rattle.coap_serve.specs.streams.DoorRun.{IsDoorRun, waited_behind, moved_to, EndsWith, HasTurnedSo, IsCutRun}
 pub use Rattle.coap_serve.specs.streams.DoorRun.{NoneYet, OneMore}
@@ -85,17 +85,17 @@ pub use Rattle.coap_serve.specs.streams.Turns.{IsTakenAndWritten, least_with, le
 pub use Rattle.coap_serve.specs.streams.Turns.{concerns_earlier, wait_for}
 -- ---- coap_serve, values
 pub use Rattle.coap_server_session.specs.values.Deadlines.{sooner}
-pub use Rattle.coap_server_engine.specs.values.Fed.{Fed, IsPartlyFed, ShowsMore, ShowsPartlyFed, fed, fed_more}
-pub use Rattle.coap_server_engine.specs.values.Fed.{took, where_there}
-unfoldable pub use Rattle.coap_server_engine.specs.values.Fed.{fed_turns, took_turns}
+pub use Rattle.coap_server_engine.specs.values.InResults.{InResult, IsPartialIn, ShowsMore, ShowsPartlyFed, in_result, fed_more}
+pub use Rattle.coap_server_engine.specs.values.InResults.{took, where_there}
+unfoldable pub use Rattle.coap_server_engine.specs.values.InResults.{fed_turns, took_turns}
 pub use Rattle.coap_server_engine.specs.values.Flushes.{IsFlushed, IsPartFlushed, waiting_at, more_at}
 pub use Rattle.coap_server_engine.specs.values.Flushes.{more_in, waiting_in}
 unfoldable pub use Rattle.coap_server_engine.specs.values.Flushes.{flush_turns}
 pub use Rattle.coap_server_engine.specs.values.ServerAnswers.{stop_on, open_refusal, IsNotTaken}
 pub use Rattle.coap_server_engine.specs.values.ServerAnswers.{written_refusal}
 pub use Rattle.coap_server_engine.specs.values.ServerAnswers.{RefusesPieceOn}
-pub use Rattle.coap_server_engine.specs.values.ServerDues.{same_stamp, stamp_of, outlook_of}
-pub use Rattle.coap_server_engine.specs.values.ServerDues.{session_outlook}
+pub use Rattle.coap_server_engine.specs.values.ServerDeadlines.{same_stamp, stamp_of, outlook_of}
+pub use Rattle.coap_server_engine.specs.values.ServerDeadlines.{session_outlook}
 pub use Rattle.coap_server_engine.specs.values.Servers.{new_server, server_put, server_removed, server_ticked, AreSettled}
 pub use Rattle.coap_server_engine.specs.values.Servers.{server_dropped, ServerValue, LiesAt, server_opened}
 pub use Rattle.coap_server_engine.specs.values.Servers.{is_there, server_written}

@@ -9,7 +9,7 @@ pub use coap_model::laws::{
 };
 pub use coap_server_engine::laws::{
     segmentation_is_irrelevant, each_message_taken_is_handled_once, no_change_is_lost,
-    only_what_is_stored_wants_memory, what_is_not_due_stays, where_a_script_cuts_does_not_matter,
+    only_stores_allocate, waiting_until_next_deadline_is_safe, script_segmentation_is_irrelevant,
 };
 pub use runs::{
     a_flush_leaves_nothing_waiting, stamps_never_come_back, what_has_nothing_to_do_is_passed_over,

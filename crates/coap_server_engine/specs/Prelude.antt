@@ -85,11 +85,11 @@ unfoldable pub use Rattle.coap_model.specs.world.World.{side_of, after_steps, ac
 pub use Rattle.coap_server_session.specs.declared.cause.Cause.{Cause}
 pub use Rattle.coap_server_session.specs.declared.server_state.ServerState.{ServerState}
 pub use Rattle.coap_server_engine.specs.declared.replay.Drained.{Drained}
-pub use Rattle.coap_server_engine.specs.declared.replay.Line.{Line}
+pub use Rattle.coap_server_engine.specs.declared.replay.OutputLine.{OutputLine}
 -- ---- this crate: script
 pub use Rattle.coap_server_engine.specs.script.Cuts.{DifferInCuts, AreInTime, other_lines, IsInTime}
 unfoldable pub use Rattle.coap_server_engine.specs.script.Cuts.{lines_of, in_before, joined}
-pub use Rattle.coap_server_engine.specs.script.Replay.{stop_number, drained, Ran, comes_to, drain_ran}
+pub use Rattle.coap_server_engine.specs.script.Replay.{stop_number, drained, EventResult, comes_to, drain_ran}
 pub use Rattle.coap_server_engine.specs.script.Replay.{in_ran, on_connection, open_number, release_number}
 pub use Rattle.coap_server_engine.specs.script.Replay.{status_ran, store_number, tick_refusal, unless_refused}
 unfoldable pub use Rattle.coap_server_engine.specs.script.Replay.{replayed, event_ran}
@@ -103,9 +103,9 @@ pub use Rattle.coap_server_session.specs.values.Causes.{IsUnaffected}
 pub use Rattle.coap_server_session.specs.values.Causes.{ConcernsNone, IsMarkedBut}
 pub use Rattle.coap_server_session.specs.values.Deadlines.{due_on, IsBefore}
 pub use Rattle.coap_server_session.specs.values.Entries.{settled_held}
-pub use Rattle.coap_server_engine.specs.values.Fed.{Fed, IsPartlyFed, ShowsMore, ShowsPartlyFed, fed, fed_more, fed_once}
-pub use Rattle.coap_server_engine.specs.values.Fed.{took, unfed, where_there}
-unfoldable pub use Rattle.coap_server_engine.specs.values.Fed.{fed_turns, took_turns}
+pub use Rattle.coap_server_engine.specs.values.InResults.{InResult, IsPartialIn, ShowsMore, ShowsPartlyFed, in_result, fed_more, fed_once}
+pub use Rattle.coap_server_engine.specs.values.InResults.{took, unfed, where_there}
+unfoldable pub use Rattle.coap_server_engine.specs.values.InResults.{fed_turns, took_turns}
 pub use Rattle.coap_server_engine.specs.values.Flushes.{IsFlushed, IsPartFlushed, waiting_at, more_at, IsFlushedOnce}
 pub use Rattle.coap_server_engine.specs.values.Flushes.{IsFlushedAt, flush_once}
 unfoldable pub use Rattle.coap_server_engine.specs.values.Flushes.{flush_turns}
@@ -117,9 +117,9 @@ pub use Rattle.coap_server_engine.specs.values.ServerAnswers.{handled_on}
 pub use Rattle.coap_server_engine.specs.values.ServerAnswers.{session_status, written_refusal_on}
 unfoldable pub use Rattle.coap_server_engine.specs.values.ServerAnswers.{handled_by}
 pub use Rattle.coap_server_session.specs.values.SessionAnswers.{IsAnnounced, announced_refusal_on, session_refusal}
-pub use Rattle.coap_server_engine.specs.values.ServerCauses.{AreSettledUntouched, AreOthersSettled, AreUntouched}
+pub use Rattle.coap_server_engine.specs.values.ServerCauses.{UnaffectedAreSettled, AreOthersSettled, AreUntouched}
 pub use Rattle.coap_server_engine.specs.values.ServerCauses.{AreMarkedBut, AreMarkedAfter}
-pub use Rattle.coap_server_engine.specs.values.ServerDues.{stamp_of, WaitsForDeadlines, outlook_of}
+pub use Rattle.coap_server_engine.specs.values.ServerDeadlines.{stamp_of, WaitsForDeadlines, outlook_of}
 pub use Rattle.coap_server_engine.specs.values.Servers.{new_server, server_put, server_removed, server_ticked, AreSettled}
 pub use Rattle.coap_server_engine.specs.values.Servers.{server_dropped, ServerValue, LiesAt, server_opened}
 pub use Rattle.coap_server_engine.specs.values.Servers.{is_there, server_written, server_ended, server_released}

@@ -3,6 +3,6 @@
 pub mod Servers
 pub mod ServerAnswers
 pub mod Flushes
-pub mod Fed
-pub mod ServerDues
+pub mod InResults
+pub mod ServerDeadlines
 pub mod ServerCauses

@@ -7,7 +7,7 @@ ghost use Rattle.coap_server_engine.specs.Prelude.{WrittenFault, ReleaseFault, W
 ghost use Rattle.coap_server_engine.specs.Prelude.{World, new_world, side_of, after_steps, AcceptedCall, Took, stream_on};
 ghost use Rattle.coap_server_engine.specs.Prelude.{steps_of, world_after, AreAccepted, Shows, server_of, normalised_step};
 ghost use Rattle.coap_server_engine.specs.Prelude.{normalised_steps, kept_at, IsRefusedStored, StoresNothing, ScriptEventValue};
-ghost use Rattle.coap_server_engine.specs.Prelude.{fed, replayed, DifferInCuts, AreInTime, lines_of, other_lines};
+ghost use Rattle.coap_server_engine.specs.Prelude.{in_result, replayed, DifferInCuts, AreInTime, lines_of, other_lines};
 ghost use Rattle.coap_conn.specs.declared.phase.Phase.TheVariants.{Stopped};
 ghost use Rattle.coap_model.specs.declared.answers.TakeFault.TheVariants.{Memory};
 ghost use Rattle.coap_model.specs.declared.answers.WrittenFault.TheVariants as writing;
@@ -67,11 +67,11 @@ pub fn segmentation_is_irrelevant()
 /// - The written text is all lines in order (`text`).
 ///
 /// Moving an `in` past an `in` of another connection is not covered.
-pub fn where_a_script_cuts_does_not_matter()
+pub fn script_segmentation_is_irrelevant()
     ensures taken { (v : ServerValue) (before : List AcceptedCall) (id : ℕ) (xs ys : List ℕ) → Shows v before →
-        (fed v id (xs ++ ys)).count ≡ (fed v id xs).count + (fed (fed v id xs).server id ys).count }
+        (in_result v id (xs ++ ys)).count ≡ (in_result v id xs).count + (in_result (in_result v id xs).server id ys).count }
     ensures after { (v : ServerValue) (before : List AcceptedCall) (id : ℕ) (xs ys : List ℕ) → Shows v before →
-        (fed v id (xs ++ ys)).server ≡ (fed (fed v id xs).server id ys).server }
+        (in_result v id (xs ++ ys)).server ≡ (in_result (in_result v id xs).server id ys).server }
     ensures servers { (v : ServerValue) (before : List AcceptedCall) (events others : List ScriptEventValue) → Shows v before →
         v.ids < 2 ^ 64 → AreInTime events → AreInTime others → DifferInCuts events others →
         (replayed v events).server ≡ (replayed v others).server }
@@ -89,7 +89,7 @@ pub fn where_a_script_cuts_does_not_matter()
 /// - `announce` returns it only for a larger message size, as its own contract states.
 /// - `written` and `release` have other errors (`written`, `released`). `ended` and `drop_conn` have `NoSuch` alone;
 ///   `front` and `status` have none.
-pub fn only_what_is_stored_wants_memory()
+pub fn only_stores_allocate()
     ensures stored { (v after : ServerValue) (events : List AcceptedCall) (id : ℕ) (piece : List ℕ) (bytes : ℕ) →
         Shows v events →
         IsNotTaken v id piece (Memory bytes) after →
@@ -108,7 +108,7 @@ pub fn only_what_is_stored_wants_memory()
 /// States that nothing happens before it is due. If every connection is settled and the time advances to one before
 /// each deadline, only the time changes. The queued bytes, the pending entries and the observers of every connection
 /// stay the same.
-pub fn what_is_not_due_stays()
+pub fn waiting_until_next_deadline_is_safe()
     ensures { (v : ServerValue) (later : ℕ) → IsStore v.host.store → AreSettled v.host v.sessions → v.host.now ≤ later →
         later < 2 ^ 64 → WaitsForDeadlines v later }
 {}

@@ -4,7 +4,7 @@
 //!   passes, or a resource is stored or removed. The server queues the responses and notifications that the event
 //!   causes.
 //! - `Server::replay` runs the events of a script (`coap_script`) and writes a line for each.
-//! - `Outlook` is the work left on a connection. `Stamp` changes with everything that may affect all connections.
+//! - `ConnectionWork` is the work left on a connection. `ChangeStamp` changes with everything that may affect all connections.
 //! - `laws` has the theorems on servers and on scripts.
 //!
 //! The contracts name the definitions of `specs/values/Servers.antt`, and those of `specs/world/Shows.antt` for the
@@ -19,4 +19,4 @@ mod replay;
 mod server;
 
 pub use replay::ReplayFault;
-pub use server::{Flushed, Outlook, Server, Stamp};
+pub use server::{FlushStep, ConnectionWork, Server, ChangeStamp};

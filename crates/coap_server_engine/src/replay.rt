@@ -49,21 +49,21 @@ impl ReplayFault {
 
 /// Output line of an event.
 #[derive(Drop)]
-enum Line {
+enum OutputLine {
     /// Line built without allocation.
     Short(ShortLine),
     /// Line allocated before the event ran.
     Long(Vec<u8>),
 }
 
-impl Line {
+impl OutputLine {
     /// Returns the bytes of the line.
     fn as_slice(&self) -> &[u8]
         ensures { result.now ≡ line_bytes self.now }
     {
         match self {
-            Line::Short(line) => line.as_slice(),
-            Line::Long(line) => line.as_slice(),
+            OutputLine::Short(line) => line.as_slice(),
+            OutputLine::Long(line) => line.as_slice(),
         }
     }
 }
@@ -152,7 +152,7 @@ impl Server {
     ///
     /// Returns `AllocError` if allocation fails. The event did not run then, but an `in` accepted all bytes before the
     /// last one of the message that needed memory.
-    fn run_event(&mut self, event: &Event) -> Result<Line, AllocError>
+    fn run_event(&mut self, event: &Event) -> Result<OutputLine, AllocError>
         ensures run { IsRun self.old (event_value event.now) self.new result }
         ensures shows { ShowsRun self.old (event_value event.now) self.new result }
     {
@@ -175,30 +175,30 @@ impl Server {
     }
 
     /// Runs an `open` event.
-    fn run_open(&mut self) -> Result<Line, AllocError>
+    fn run_open(&mut self) -> Result<OutputLine, AllocError>
         ensures run { IsRun self.old event.Open self.new result }
         ensures shows { ShowsRun self.old event.Open self.new result }
     {
         match self.open() {
-            Ok(id) => Ok(Line::Short(open_line(id))),
+            Ok(id) => Ok(OutputLine::Short(open_line(id))),
             Err(fault) => match open_refused(fault) {
-                Some(number) => Ok(Line::Short(fault_line("open", None, number))),
+                Some(number) => Ok(OutputLine::Short(fault_line("open", None, number))),
                 None => Err(AllocError),
             },
         }
     }
 
     /// Runs an `in` event.
-    fn run_in(&mut self, id: ConnId, bytes: &[u8]) -> Result<Line, AllocError>
+    fn run_in(&mut self, id: ConnId, bytes: &[u8]) -> Result<OutputLine, AllocError>
         ensures run { IsRun self.old (event.In id bytes.now) self.new result }
         ensures shows { ShowsRun self.old (event.In id bytes.now) self.new result }
     {
         if self.status(id).is_none() {
-            return Ok(Line::Short(fault_line("in", Some(id), 1)));
+            return Ok(OutputLine::Short(fault_line("in", Some(id), 1)));
         }
         let taken = self.take_all(id, bytes)?;
         let stop = self.stop_number(id);
-        Ok(Line::Short(in_line(id, taken as u64, stop)))
+        Ok(OutputLine::Short(in_line(id, taken as u64, stop)))
     }
 
     /// Returns the number of the reason for which a connection no longer accepts messages, if there is one.
@@ -211,17 +211,17 @@ impl Server {
     }
 
     /// Runs a `drain` event.
-    fn run_drain(&mut self, id: ConnId, most: Option<u64>) -> Result<Line, AllocError>
+    fn run_drain(&mut self, id: ConnId, most: Option<u64>) -> Result<OutputLine, AllocError>
         ensures run { IsRun self.old (event.Drain id most) self.new result }
         ensures shows { ShowsRun self.old (event.Drain id most) self.new result }
     {
         let Some(drained) = self.drain(id, most)? else {
-            return Ok(Line::Short(fault_line("drain", Some(id), 1)));
+            return Ok(OutputLine::Short(fault_line("drain", Some(id), 1)));
         };
         let Ok(()) = self.written(id, drained.count) else {
             unreachable!()
         };
-        Ok(Line::Long(drained.line))
+        Ok(OutputLine::Long(drained.line))
     }
 
     /// Returns the line with the queued bytes of a connection, at most `most`, or `None` if no connection has this id.
@@ -245,14 +245,14 @@ impl Server {
     }
 
     /// Runs a `tick` event.
-    fn run_tick(&mut self, moment: u64) -> Line
+    fn run_tick(&mut self, moment: u64) -> OutputLine
         ensures server { self.new ≡ (event_ran self.old (event.Tick moment)).server }
         ensures line { line_bytes result ≡ (event_ran self.old (event.Tick moment)).text }
         ensures shows { ShowsMore self.old self.new (events_made self.old (event.Tick moment)) }
     {
         match self.tick(moment) {
-            Ok(()) => Line::Short(tick_line(moment)),
-            Err(_) => Line::Short(fault_line("tick", None, 1)),
+            Ok(()) => OutputLine::Short(tick_line(moment)),
+            Err(_) => OutputLine::Short(fault_line("tick", None, 1)),
         }
     }
 
@@ -262,78 +262,78 @@ impl Server {
         path: &PathKey,
         format: Option<u16>,
         payload: &[u8],
-    ) -> Result<Line, AllocError>
+    ) -> Result<OutputLine, AllocError>
         ensures run { IsRun self.old (event.Put path.now format payload.now) self.new result }
         ensures shows { ShowsRun self.old (event.Put path.now format payload.now) self.new result }
     {
         match self.put(path, format, payload) {
-            Ok(version) => Ok(Line::Short(put_line(version))),
+            Ok(version) => Ok(OutputLine::Short(put_line(version))),
             Err(fault) => match store_refused(fault) {
-                Some(number) => Ok(Line::Short(fault_line("put", None, number))),
+                Some(number) => Ok(OutputLine::Short(fault_line("put", None, number))),
                 None => Err(AllocError),
             },
         }
     }
 
     /// Runs a `remove` event.
-    fn run_remove(&mut self, path: &PathKey, text: &[u8]) -> Result<Line, AllocError>
+    fn run_remove(&mut self, path: &PathKey, text: &[u8]) -> Result<OutputLine, AllocError>
         ensures run { IsRun self.old (event.Remove path.now text.now) self.new result }
         ensures shows { ShowsRun self.old (event.Remove path.now text.now) self.new result }
     {
         if !self.can_remove(path) {
             let number = store_number(StoreFault::NoSuch);
-            return Ok(Line::Short(fault_line("remove", None, number)));
+            return Ok(OutputLine::Short(fault_line("remove", None, number)));
         }
         let line = remove_line(self.alloc(), text)?;
         let Ok(()) = self.remove(path) else {
             unreachable!()
         };
-        Ok(Line::Long(line))
+        Ok(OutputLine::Long(line))
     }
 
     /// Runs an `end` event.
-    fn run_end(&mut self, id: ConnId) -> Line
+    fn run_end(&mut self, id: ConnId) -> OutputLine
         ensures server { self.new ≡ (event_ran self.old (event.End id)).server }
         ensures line { line_bytes result ≡ (event_ran self.old (event.End id)).text }
         ensures shows { ShowsMore self.old self.new (events_made self.old (event.End id)) }
     {
         match self.ended(id) {
-            Ok(()) => Line::Short(word_line("end", id)),
-            Err(_) => Line::Short(fault_line("end", Some(id), 1)),
+            Ok(()) => OutputLine::Short(word_line("end", id)),
+            Err(_) => OutputLine::Short(fault_line("end", Some(id), 1)),
         }
     }
 
     /// Runs a `release` event.
-    fn run_release(&mut self, id: ConnId) -> Line
+    fn run_release(&mut self, id: ConnId) -> OutputLine
         ensures server { self.new ≡ (event_ran self.old (event.Release id)).server }
         ensures line { line_bytes result ≡ (event_ran self.old (event.Release id)).text }
         ensures shows { ShowsMore self.old self.new (events_made self.old (event.Release id)) }
     {
         match self.release(id) {
-            Ok(()) => Line::Short(word_line("release", id)),
-            Err(fault) => Line::Short(fault_line("release", Some(id), release_number(fault))),
+            Ok(()) => OutputLine::Short(word_line("release", id)),
+            Err(fault) => OutputLine::Short(fault_line("release", Some(id), release_number(fault))),
         }
     }
 
     /// Runs a `drop` event.
-    fn run_drop(&mut self, id: ConnId) -> Line
+    fn run_drop(&mut self, id: ConnId) -> OutputLine
         ensures server { self.new ≡ (event_ran self.old (event.Drop id)).server }
         ensures line { line_bytes result ≡ (event_ran self.old (event.Drop id)).text }
         ensures shows { ShowsMore self.old self.new (events_made self.old (event.Drop id)) }
     {
         match self.drop_conn(id) {
-            Ok(()) => Line::Short(word_line("drop", id)),
-            Err(_) => Line::Short(fault_line("drop", Some(id), 1)),
+            Ok(()) => OutputLine::Short(word_line("drop", id)),
+            Err(_) => OutputLine::Short(fault_line("drop", Some(id), 1)),
         }
     }
 
     /// Runs a `status` event.
-    fn run_status(&mut self, id: ConnId) -> Result<Line, AllocError>
+    fn run_status(&mut self, id: ConnId) -> Result<OutputLine, AllocError>
         ensures run { IsRun self.old (event.Status id) self.new result }
         ensures shows { ShowsRun self.old (event.Status id) self.new result }
     {
         let Some(status) = self.status(id) else {
-            return Ok(Line::Short(fault_line("status", Some(id), 1)));
+            return Ok(OutputLine::Short(fault_line("status", Some(id), 1)));
         };
         let line = status_line(
             self.alloc(),
@@ -344,7 +344,7 @@ impl Server {
             status.pending,
             status.observers,
         )?;
-        Ok(Line::Long(line))
+        Ok(OutputLine::Long(line))
     }
 }
 

@@ -23,7 +23,7 @@ use std::marker::Model;
 
 /// Change stamp of a server: if it is unchanged, nothing happened that may affect every connection.
 #[derive(Clone, Copy, PartialEq, Eq)]
-pub struct Stamp {
+pub struct ChangeStamp {
     /// Time of the server, in seconds.
     pub moment: u64,
     /// Number of representations stored so far.
@@ -34,7 +34,7 @@ pub struct Stamp {
 
 /// Work left on a connection.
 #[derive(Clone, Copy, PartialEq, Eq)]
-pub struct Outlook {
+pub struct ConnectionWork {
     /// `true` if the connection accepts bytes.
     pub takes: bool,
     /// `true` if the connection no longer accepts messages.
@@ -49,7 +49,7 @@ pub struct Outlook {
 
 /// Result of `Server::flush_once`.
 #[derive(Clone, Copy)]
-pub struct Flushed {
+pub struct FlushStep {
     /// `true` if bytes were queued before.
     pub waited: bool,
     /// Number of pending entries plus the number of observers, before the call.

@@ -10,7 +10,7 @@ fn calls_laws(_rt: HostRuntime) {
     laws::own_announcement_comes_first();
     laws::peer_announces_before_requests();
     server_laws::segmentation_is_irrelevant();
-    server_laws::only_what_is_stored_wants_memory();
+    server_laws::only_stores_allocate();
     server_laws::a_pong_with_custody_follows_all_answers();
     server_laws::connections_interact_only_through_store();
 }

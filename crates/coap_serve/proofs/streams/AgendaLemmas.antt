@@ -1,8 +1,8 @@
 -- The work that remains on the connections visited so far in a turn.
 use Rattle.std.proofs.Common.{◌≡◌, ◌⊎◌, ℕ, suc, ◌+◌, ◌≤◌, Bool, true, false, List, [], ◌∷◌, ◌++◌, length, map, take, drop, Option, Some, None, refl, sym, ap, subst, ◌∙◌, inl, inr, arith, ◌||◌, slice_get, IfSome, ◌<◌, remove, nat_eq, append_assoc, add-one}
 use Rattle.std.proofs.lemmas.Bool.Decides.{nat_tests}
-use Rattle.coap_serve.specs.Prelude.{AllByRecursion, keys_of, values_of, Agenda, Course, Over, Wants, ServerState, Outlook}
-use Rattle.coap_serve.specs.Prelude.{Stamp, sooner, stamp_of, outlook_of, ServerValue, server_opened}
+use Rattle.coap_serve.specs.Prelude.{AllByRecursion, keys_of, values_of, Agenda, Course, Over, Wants, ServerState, ConnectionWork}
+use Rattle.coap_serve.specs.Prelude.{ChangeStamp, sooner, stamp_of, outlook_of, ServerValue, server_opened}
 use Rattle.coap_serve.specs.Prelude.{server_dropped, FarEnd, agenda_with, agenda_past, IsAsked, IsServed, CanGoOn}
 use Rattle.coap_serve.specs.Prelude.{IsAtRest, IsInTurn, IsAgendaOf, least_with, wants_in, wants_of, end_of}
 use Rattle.coap_serve.specs.Prelude.{insert_entry, Peer, open_refusal, HasGoneOn, HasOneMore, AreServed, NoMore}
@@ -19,11 +19,11 @@ use Rattle.coap_model.proofs.OptionLemmas.{one_made}
 -- ---- stamps
 
 -- The I/O interest of a connection has the stamp of the server.
-pub stamp_in : (o : Option Outlook) (is_empty : Bool) (stamp : Stamp) → (wants_in o is_empty stamp).stamp ≡ stamp
+pub stamp_in : (o : Option ConnectionWork) (is_empty : Bool) (stamp : ChangeStamp) → (wants_in o is_empty stamp).stamp ≡ stamp
 stamp_in o is_empty stamp = grind arith
 
 -- If no earlier connection is affected, there is none, or the stamp is the same.
-none_or_same : (i : ℕ) (stamp later : Stamp) → concerns_earlier i stamp later ≡ false → (i ≡ 0) ⊎ (later ≡ stamp)
+none_or_same : (i : ℕ) (stamp later : ChangeStamp) → concerns_earlier i stamp later ≡ false → (i ≡ 0) ⊎ (later ≡ stamp)
 none_or_same i stamp later e = grind (arith, nat_tests)
 
 -- ---- readiness
@@ -57,11 +57,11 @@ can_both [] ys one other none can = rw none can
 can_both (e ∷ es) ys one other can more = (can.0, can.1 || other, can.2, can_both es ys can.1 other can.3 more, rw can.4 (or_assoc can.0 can.1 other))
 
 -- Nothing can be done on idle connections.
-none_at_rest : (stamp : Stamp) (all : List FarEnd) → AllByRecursion (IsAtRest stamp) all → CanAnyGoOn all false
+none_at_rest : (stamp : ChangeStamp) (all : List FarEnd) → AllByRecursion (IsAtRest stamp) all → CanAnyGoOn all false
 none_at_rest stamp [] rests = refl
 none_at_rest stamp (e ∷ es) rests = (false, false, rests.0.1, none_at_rest stamp es rests.1, refl)
 
-fresh_at_rest : (stamp : Stamp) (all : List FarEnd) → AllByRecursion (IsAtRest stamp) all → AllByRecursion (λ e. e.wants.stamp ≡ stamp) all
+fresh_at_rest : (stamp : ChangeStamp) (all : List FarEnd) → AllByRecursion (IsAtRest stamp) all → AllByRecursion (λ e. e.wants.stamp ≡ stamp) all
 fresh_at_rest stamp [] rests = tt
 fresh_at_rest stamp (e ∷ es) rests = (rests.0.0, fresh_at_rest stamp es rests.1)
 
@@ -108,7 +108,7 @@ module _ {P : Type 0} (far : P → FarEnd) where
   more_ends es from i p order at = let there = value_at es i p at in rw (more_between es from i there.0 order there.1, map-append, there.2) refl
 
   -- One connection was served and stays open.
-  pub open_step : (es : List (ℕ × P)) (i : ℕ) (p : P) {a b : Agenda} {changed : Bool} {stamp : Stamp} {ready : Bool} → slice_get (values_of es) i ≡ Some p
+  pub open_step : (es : List (ℕ × P)) (i : ℕ) (p : P) {a b : Agenda} {changed : Bool} {stamp : ChangeStamp} {ready : Bool} → slice_get (values_of es) i ≡ Some p
       → IsAgendaOf a changed stamp (far_ends (take i es)) → CanGoOn (far p) ready → (far p).wants.stamp ≡ stamp → b ≡ agenda_with a ready (far p).wants.due
       → IsAgendaOf b changed stamp (far_ends (take (i + 1) es))
   open_step es i p {a} {b} {changed} {stamp} {ready} at seen can same is = rw (more_ends es 0 i p (omega arith) at, is) (record {
@@ -120,7 +120,7 @@ module _ {P : Type 0} (far : P → FarEnd) where
   })
 
   -- Serving a connection may affect those before it, as the stamps of the server before and after show.
-  pub served_later : (es fs : List (ℕ × P)) (i : ℕ) {a b : Agenda} {changed : Bool} (was is : ServerState) {stamp later : Stamp} {concerns : Bool} → IsAgendaOf a changed (stamp_of was) (far_ends (take i es))
+  pub served_later : (es fs : List (ℕ × P)) (i : ℕ) {a b : Agenda} {changed : Bool} (was is : ServerState) {stamp later : ChangeStamp} {concerns : Bool} → IsAgendaOf a changed (stamp_of was) (far_ends (take i es))
       → take i fs ≡ take i es → stamp ≡ stamp_of was → later ≡ stamp_of is → concerns ≡ concerns_earlier i stamp later → b ≡ agenda_with a concerns None
       → IsAgendaOf b (changed || concerns_earlier i (stamp_of was) (stamp_of is)) (stamp_of is) (far_ends (take i fs))
   served_later es fs i {a} {changed = changed} was is seen same_front before after is_so is_with = rw (same_front, is_with, is_so, before, after) (record {
@@ -136,16 +136,16 @@ module _ {P : Type 0} (far : P → FarEnd) where
   -- ---- skipped connections
 
   -- The connections between two indices are idle, and the deadline includes theirs.
-  pub record ArePassed (es : List (ℕ × P)) (from to : ℕ) (stamp : Stamp) (before now : Option ℕ) : Type 0 where
+  pub record ArePassed (es : List (ℕ × P)) (from to : ℕ) (stamp : ChangeStamp) (before now : Option ℕ) : Type 0 where
     pub rest : AllByRecursion (IsAtRest stamp) (far_ends (drop from (take to es)))
     pub due : now ≡ least_with before (far_ends (drop from (take to es)))
 
-  pub none_passed : (es : List (ℕ × P)) (from : ℕ) (stamp : Stamp) (before : Option ℕ) → ArePassed es from from stamp before before
+  pub none_passed : (es : List (ℕ × P)) (from : ℕ) (stamp : ChangeStamp) (before : Option ℕ) → ArePassed es from from stamp before before
   none_passed es from stamp before =
       let none = drop_all from (take from es) (omega (arith, length-take from es)) in
       record { rest = rw none tt; due = rw none refl }
 
-  pub one_more_passed : (es : List (ℕ × P)) (from i : ℕ) (p q : P) (stamp : Stamp) (before due later : Option ℕ) → from ≤ i → slice_get (values_of es) i ≡ Some p → slice_get (values_of es) i ≡ Some q
+  pub one_more_passed : (es : List (ℕ × P)) (from i : ℕ) (p q : P) (stamp : ChangeStamp) (before due later : Option ℕ) → from ≤ i → slice_get (values_of es) i ≡ Some p → slice_get (values_of es) i ≡ Some q
       → ArePassed es from i stamp before due → IsAtRest stamp (far q) → later ≡ sooner due (far p).wants.due → ArePassed es from (i + 1) stamp before later
   one_more_passed es from i p q stamp before due later order at again passed rests is =
       let more = more_ends es from i p order at in
@@ -156,11 +156,11 @@ module _ {P : Type 0} (far : P → FarEnd) where
       }
 
   -- The next connection is not idle.
-  pub one_next : (es : List (ℕ × P)) (i : ℕ) (p : P) (stamp : Stamp) → slice_get (values_of es) i ≡ Some p → IsInTurn stamp (far p) → IfSome (slice_get es i) (λ e. IsInTurn stamp (far e.1))
+  pub one_next : (es : List (ℕ × P)) (i : ℕ) (p : P) (stamp : ChangeStamp) → slice_get (values_of es) i ≡ Some p → IsInTurn stamp (far p) → IfSome (slice_get es i) (λ e. IsInTurn stamp (far e.1))
   one_next es i p stamp at in_turn = let there = value_at es i p at in rw (there.1, there.2) in_turn
 
   -- Connections that were visited, followed by those that were skipped then.
-  pub past_on : (es : List (ℕ × P)) (from to : ℕ) {a b : Agenda} {changed : Bool} (host : ServerState) {stamp : Stamp} → stamp ≡ stamp_of host → from ≤ to → IsAgendaOf a changed (stamp_of host) (far_ends (take from es))
+  pub past_on : (es : List (ℕ × P)) (from to : ℕ) {a b : Agenda} {changed : Bool} (host : ServerState) {stamp : ChangeStamp} → stamp ≡ stamp_of host → from ≤ to → IsAgendaOf a changed (stamp_of host) (far_ends (take from es))
       → AllByRecursion (IsAtRest stamp) (far_ends (drop from (take to es))) → b ≡ agenda_past a (far_ends (drop from (take to es))) → IsAgendaOf b changed (stamp_of host) (far_ends (take to es))
   past_on es from to {changed = changed} host on order seen rest is =
       let passed = far_ends (drop from (take to es)) in
@@ -210,7 +210,7 @@ module _ {W : Type 0} (readable writable : W → Option Bool) (trace : W → Wir
     pub served : AreServed readable writable trace 0 u done changed v (take at now)
 
   -- The connections up to another index were skipped.
-  pub passed_on : {u v : ServerValue} {all now : List (ℕ × Peer W)} (from to : ℕ) {changed : Bool} {stamp : Stamp} → stamp ≡ stamp_of v.host → from ≤ to → to ≤ length now → AllByRecursion (IsAtRest stamp) (map (λ e. end_of readable writable e.1) (drop from (take to now)))
+  pub passed_on : {u v : ServerValue} {all now : List (ℕ × Peer W)} (from to : ℕ) {changed : Bool} {stamp : ChangeStamp} → stamp ≡ stamp_of v.host → from ≤ to → to ≤ length now → AllByRecursion (IsAtRest stamp) (map (λ e. end_of readable writable e.1) (drop from (take to now)))
       → AreServedTo u all v now from changed → AreServedTo u all v now to changed
   passed_on {u} {v} {all} {now} from to {changed = changed} is order within rests before = record {
     done = before.done ++ drop from (take to now);

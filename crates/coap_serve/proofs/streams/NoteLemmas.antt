@@ -6,12 +6,12 @@ use Rattle.std.proofs.lemmas.Bool.Decides.{nat_tests}
 use Rattle.std.proofs.lemmas.Cmp.{nat_eq_equiv}
 use Rattle.std.proofs.lemmas.Map.{NonePasses, lookup-none}
 use Rattle.std.proofs.lemmas.Map.Entries.{none_past_head, lookup_from_place}
-use Rattle.coap_serve.specs.Prelude.{Path, Resource, removed_at, Change, Nothing, Put, Delete, ServerState, Stamp, Outlook}
+use Rattle.coap_serve.specs.Prelude.{Path, Resource, removed_at, Change, Nothing, Put, Delete, ServerState, ChangeStamp, ConnectionWork}
 use Rattle.coap_serve.specs.Prelude.{Course, Wants, Got, Bytes, End, SessionValue, taking, host_changed}
 use Rattle.coap_serve.specs.Prelude.{session_written, session_ended, session_settled, ServerValue, LiesAt}
 use Rattle.coap_serve.specs.Prelude.{AreSettled, session_of, session_becomes, settled_entry, server_settled}
 use Rattle.coap_serve.specs.Prelude.{server_opened, server_ticked, server_taken, server_taken_on, server_dropped}
-use Rattle.coap_serve.specs.Prelude.{is_there, stamp_of, outlook_of, Fed, fed_turns, fed, fed_more, IsServedOnce}
+use Rattle.coap_serve.specs.Prelude.{is_there, stamp_of, outlook_of, InResult, fed_turns, in_result, fed_more, IsServedOnce}
 use Rattle.coap_serve.specs.Prelude.{IsCarriedOn, ComesToNothing, server_heard, server_wrote, has_failed, is_over_in}
 use Rattle.coap_serve.specs.Prelude.{wants_in, wants_of, can_go_on, end_of, IsNoEarlier, FarEnd, CanAnyGoOn}
 use Rattle.coap_serve.specs.Prelude.{Agenda, IsAgendaOf, IsWaitAfter, agenda_with, wait_of, wait_for, least_with}
@@ -20,7 +20,7 @@ use Rattle.coap_serve.specs.streams.Turns.{wait_until}
 use Rattle.coap_serve.specs.Prelude.{KeepsNotes, WhilePassedOver, AtFirst, Served, IsNoted, AreNoted, true_end}
 use Rattle.coap_serve.specs.Prelude.{AllByRecursion, IsDistinct, keys_of, set_value_at, insert_entry, Peer, IoFault}
 use Rattle.coap_serve.specs.Prelude.{No}
-use Rattle.coap_server_engine.specs.values.Fed.{goes_on}
+use Rattle.coap_server_engine.specs.values.InResults.{goes_on}
 use Rattle.coap_serve.specs.streams.Notes.{Dropped, Opened, Ticked}
 use Rattle.coap_serve.proofs.streams.PassedLemmas.{passed_over}
 use Rattle.coap_server_engine.proofs.values.ServerLemmas.{Entries, is_other, all_are_settled, all_settled_stay}
@@ -30,17 +30,17 @@ use Rattle.coap_serve.proofs.streams.AgendaLemmas.{stamp_in, an_answer, can_with
 
 -- ---- stamps
 
-pub no_earlier_itself : (one : Stamp) → IsNoEarlier one one
+pub no_earlier_itself : (one : ChangeStamp) → IsNoEarlier one one
 no_earlier_itself one = omega arith
 
-pub no_earlier_on : (one other third : Stamp) → IsNoEarlier one other → IsNoEarlier other third → IsNoEarlier one third
+pub no_earlier_on : (one other third : ChangeStamp) → IsNoEarlier one other → IsNoEarlier other third → IsNoEarlier one third
 no_earlier_on one other third first later = omega arith
 
-pub no_earlier_either_way : (one other : Stamp) → IsNoEarlier one other → IsNoEarlier other one → one ≡ other
+pub no_earlier_either_way : (one other : ChangeStamp) → IsNoEarlier one other → IsNoEarlier other one → one ≡ other
 no_earlier_either_way one other on back = grind arith
 
 -- A stamp never repeats after it has changed.
-pub never_back : (one other third : Stamp) → IsNoEarlier one other → IsNoEarlier other third → third ≡ one → other ≡ one
+pub never_back : (one other third : ChangeStamp) → IsNoEarlier one other → IsNoEarlier other third → third ≡ one → other ≡ one
 never_back one other third first later back = no_earlier_either_way other one (rw back at later) first
 
 -- ---- the host
@@ -54,7 +54,7 @@ follows_itself : (host : ServerState) → Follows host host
 follows_itself host = record { no_earlier = omega arith; same = λ e. refl }
 
 pub moment_follows : (host : ServerState) (later : ℕ) → host.now ≤ later → Follows host (record host { now = later })
-moment_follows host later on = record { no_earlier = omega arith; same = λ e. ap (λ (s : Stamp). record host { now = s.moment }) e }
+moment_follows host later on = record { no_earlier = omega arith; same = λ e. ap (λ (s : ChangeStamp). record host { now = s.moment }) e }
 
 -- A removal that removes no resource changes nothing.
 none_removed : (rs : List Resource) (path : Path) → length (removed_at rs path) ≡ length rs → removed_at rs path ≡ rs
@@ -65,10 +65,10 @@ none_removed (r ∷ rs) path as_many = grind (arith, none_removed rs path)
 -- A change of the store either makes the stamp later or changes nothing.
 pub change_follows : (host : ServerState) (c : Change) → Follows host (host_changed host c)
 change_follows host Nothing = follows_itself host
-change_follows host (Put path format bytes) = record { no_earlier = omega arith; same = λ e. absurd (omega (arith, ap (λ (s : Stamp). s.versions) e)) }
+change_follows host (Put path format bytes) = record { no_earlier = omega arith; same = λ e. absurd (omega (arith, ap (λ (s : ChangeStamp). s.versions) e)) }
 change_follows host (Delete path) = record {
   no_earlier = omega (arith, removed_few host.store.resources path);
-  same = λ e. rw (none_removed host.store.resources path (ap (λ (s : Stamp). s.resources) e)) refl;
+  same = λ e. rw (none_removed host.store.resources path (ap (λ (s : ChangeStamp). s.resources) e)) refl;
 }
 
 -- ---- the other connections
@@ -151,7 +151,7 @@ takes_sparing : (turns : ℕ) (v : ServerValue) (id : ℕ) (bytes : List ℕ) �
 unfolding fed_turns
 takes_sparing zero v id bytes = nothing_happens
 takes_sparing (suc turns) v id bytes =
-    let f : Fed = fed_turns turns v id bytes in
+    let f : InResult = fed_turns turns v id bytes in
     let so_far = takes_sparing turns v id bytes in
     elim (goes_on bytes f) as (λ b. GoesOnSparing (But id) v (if b then fed_more id (drop f.count bytes) f else f).server) [
       | true ↦ one_then_another so_far (takes_once f.server id (drop f.count bytes))
@@ -171,7 +171,7 @@ writes v id wrote = nothing_happens
 is_carried_on : (failed may_write : Bool) (v : ServerValue) (id : ℕ) (bytes : List ℕ) (wire : WireTrace) (after : ServerValue) (left : List ℕ) (told : WireTrace) (course : Course) → IsCarriedOn failed may_write v id bytes wire after left told course → GoesOnSparing (But id) v after
 is_carried_on true may_write v id bytes wire after left told course carried = rw carried.0 nothing_happens
 is_carried_on false may_write v id bytes wire after left told course carried =
-    rw carried.server (one_then_another (takes_sparing (length bytes) v id bytes) (writes (fed v id bytes).server id carried.wrote))
+    rw carried.server (one_then_another (takes_sparing (length bytes) v id bytes) (writes (in_result v id bytes).server id carried.wrote))
 
 module _ (may_read may_write : Bool) (v : ServerValue) (id : ℕ) (rest : List ℕ) {wire : WireTrace} (after : ServerValue) (left : List ℕ) {told : WireTrace} (course : Course) (part : IsServedOnce may_read may_write v id rest wire after left told course) where
   served_on : GoesOnSparing (But id) v after
@@ -194,7 +194,7 @@ ticked_no_earlier v later on = (moment_follows v.host later on).no_earlier
 -- If the stamp is the same, the time is the same.
 pub ticked_to_the_same : (v : ServerValue) (later : ℕ) → AreSettled v.host v.sessions → stamp_of (server_ticked v later).host ≡ stamp_of v.host → server_ticked v later ≡ v
 ticked_to_the_same v later settled same =
-    ap (λ (s : Stamp). server_ticked v s.moment) same ∙ ap (λ (es : Entries). record v { sessions = es }) (all_settled_stay v.host v.sessions settled)
+    ap (λ (s : ChangeStamp). server_ticked v s.moment) same ∙ ap (λ (es : Entries). record v { sessions = es }) (all_settled_stay v.host v.sessions settled)
 
 -- ---- recorded interests
 
@@ -205,7 +205,7 @@ module _ {Spared : ℕ → Type 0} {v after : ServerValue} (on : GoesOnSparing S
 
     wants_stay : (rest : List ℕ) → wants_of after id rest ≡ wants_of v id rest
     wants_stay rest =
-        ap (λ (o : Option Outlook). wants_in o (length rest == 0) (stamp_of after.host)) outlook_stays ∙ ap (wants_in (outlook_of v id) (length rest == 0)) same
+        ap (λ (o : Option ConnectionWork). wants_in o (length rest == 0) (stamp_of after.host)) outlook_stays ∙ ap (wants_in (outlook_of v id) (length rest == 0)) same
 
   pub stays_noted : {W : Type 0} (e : ℕ × Peer W) → Spared e.0 → IsNoted v e → IsNoted after e
   stays_noted e is noted = record {

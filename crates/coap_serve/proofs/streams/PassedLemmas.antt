@@ -5,11 +5,11 @@ use Rattle.std.proofs.lemmas.Bool.{or_parts}
 use Rattle.std.proofs.lemmas.Bool.Decides.{nat_tests}
 use Rattle.std.proofs.lemmas.List.{nil_from_length}
 use Rattle.coap_serve.specs.Prelude.{stop_of, is_over, Later, SessionValue, session_takes, ServerValue, LiesAt}
-use Rattle.coap_serve.specs.Prelude.{AreSettled, session_of, server_taken, count_taken, count_on, stop_on, Fed}
-use Rattle.coap_serve.specs.Prelude.{fed_turns, fed, fed_more, IsTakenAndWritten, ComesToNothing, is_heard}
+use Rattle.coap_serve.specs.Prelude.{AreSettled, session_of, server_taken, count_taken, count_on, stop_on, InResult}
+use Rattle.coap_serve.specs.Prelude.{fed_turns, in_result, fed_more, IsTakenAndWritten, ComesToNothing, is_heard}
 use Rattle.coap_serve.specs.Prelude.{waiting_once, server_wrote, is_over_in, left_behind, rest_left, wants_of}
 use Rattle.coap_serve.specs.Prelude.{can_go_on, session_outlook, outlook_of, Wants}
-use Rattle.coap_server_engine.specs.values.Fed.{goes_on}
+use Rattle.coap_server_engine.specs.values.InResults.{goes_on}
 use Rattle.coap_server_engine.proofs.values.ServerLemmas.{changed_one, written_at_index, written_back, all_settled_stay}
 use Rattle.coap_model.proofs.OptionLemmas.{there_is_none}
 use Rattle.coap_server_engine.proofs.world.ShowLaws.{taking_stopped}
@@ -24,7 +24,7 @@ untouched v id i s piece lies here settled closed =
     let same = sym (changed_one id (λ _. s) v.sessions i lies.distinct lies.index lies.within) ∙ written in
     rw (here, taking_stopped v.host s piece closed, same, all_settled_stay v.host v.sessions settled) refl
 
-record IsUnaffected (v : ServerValue) (f : Fed) : Type 0 where
+record IsUnaffected (v : ServerValue) (f : InResult) : Type 0 where
   server : f.server ≡ v
   count : f.count ≡ 0
 
@@ -32,7 +32,7 @@ untouched_where_stopped : (v : ServerValue) (id i : ℕ) (s : SessionValue) (byt
 unfolding fed_turns count_taken
 untouched_where_stopped v id i s bytes zero lies here settled closed = record { server = refl; count = refl }
 untouched_where_stopped v id i s bytes (suc turns) lies here settled closed =
-    let f : Fed = fed_turns turns v id bytes in
+    let f : InResult = fed_turns turns v id bytes in
     let so_far = untouched_where_stopped v id i s bytes turns lies here settled closed in
     elim (goes_on bytes f) as (λ b. IsUnaffected v (if b then fed_more id (drop f.count bytes) f else f)) [
       | true ↦ record {
@@ -50,7 +50,7 @@ takes_nothing : (v : ServerValue) (id : ℕ) (s : SessionValue) (b : ℕ) (rest 
 takes_nothing v id s b rest here idle = or_parts (session_takes s) (is_over s.link.phase) (rw eqb-suc-zero at (rw here at idle))
 
 -- Bytes that were read before and that do not fit stay; without such bytes, none are accepted.
-still_fed : (v : ServerValue) (id i : ℕ) (s : SessionValue) (rest : List ℕ) → LiesAt id i v.sessions → session_of id v.sessions ≡ Some s → AreSettled v.host v.sessions → (wants_of v id rest).take ≡ false → IsUnaffected v (fed v id rest)
+still_fed : (v : ServerValue) (id i : ℕ) (s : SessionValue) (rest : List ℕ) → LiesAt id i v.sessions → session_of id v.sessions ≡ Some s → AreSettled v.host v.sessions → (wants_of v id rest).take ≡ false → IsUnaffected v (in_result v id rest)
 unfolding fed_turns
 still_fed v id i s [] lies here settled idle = record { server = refl; count = refl }
 still_fed v id i s (b ∷ rest) lies here settled idle =
@@ -98,7 +98,7 @@ nothing_done v id i s rest may_read may_write lies here settled idle on =
           let laid : (part.heard ≡ Later) × (part.bytes ≡ rest) × (part.between ≡ wire) = rw unread at part.laid in
           let carried : IsTakenAndWritten may_write v id rest wire after left told course = rw (laid.0, laid.1, laid.2) at part.carried in
           let wrote = carried.offered.idle (rw same.server unwritten) in
-          let server : after ≡ v = carried.server ∙ ap (server_wrote (fed v id rest).server id) wrote.0 ∙ same.server in
+          let server : after ≡ v = carried.server ∙ ap (server_wrote (in_result v id rest).server id) wrote.0 ∙ same.server in
           (server, carried.rest ∙ left_so, wrote.1, carried.outcome ∙ rw (wrote.0, server, on) refl);
     }
 

@@ -1,9 +1,9 @@
 -- The events of the parts of a turn.
 use Rattle.std.proofs.Common.{◌≡◌, ℕ, zero, suc, ◌+◌, true, false, List, [], ◌∷◌, ◌++◌, length, Option, Result, Ok, Err, OnOk, OnErr, append_assoc, arith}
-use Rattle.coap_serve.specs.Prelude.{AllByRecursion, Fed, fed_turns, where_there, took_turns, took, ShowsMore}
+use Rattle.coap_serve.specs.Prelude.{AllByRecursion, InResult, fed_turns, where_there, took_turns, took, ShowsMore}
 use Rattle.coap_serve.specs.Prelude.{ShowsPartlyFed, IsServing, HasServed, HasTurned, opening, ServerValue, session_of}
 use Rattle.coap_serve.specs.Prelude.{SessionValue, AcceptedCall, Opened, Took, Wrote, Dropped}
-use Rattle.coap_server_engine.specs.values.Fed.{goes_on}
+use Rattle.coap_server_engine.specs.values.InResults.{goes_on}
 use Rattle.coap_server_engine.proofs.scripting.ShownLemmas.{shows_same, shows_then}
 use Rattle.coap_model.proofs.world.EntryLemmas.{all_append, all_if}
 
@@ -41,7 +41,7 @@ takes_serving : (turns : ℕ) (v : ServerValue) (id : ℕ) (bytes : List ℕ) �
 unfolding took_turns
 takes_serving zero v id bytes = tt
 takes_serving (suc turns) v id bytes =
-    let f : Fed = fed_turns turns v id bytes in
+    let f : InResult = fed_turns turns v id bytes in
     all_append IsServing (took_turns turns v id bytes) _ (takes_serving turns v id bytes)
     (all_if IsServing (goes_on bytes f) _ (there_serving id _ (session_of id f.server.sessions)))
 
@@ -51,7 +51,7 @@ takes_served v after id bytes shows = record { events = took v id bytes; serving
 pub part_served : (v after : ServerValue) (id : ℕ) (bytes : List ℕ) → ShowsPartlyFed v id bytes after → HasServed v after
 part_served v after id bytes part =
     let made = part.part in
-    let serving = all_append IsServing (took_turns made.fed.turns v id bytes) _ (takes_serving made.fed.turns v id bytes) (tt, tt) in
+    let serving = all_append IsServing (took_turns made.in_result.turns v id bytes) _ (takes_serving made.in_result.turns v id bytes) (tt, tt) in
     record { events = part.more; serving = rw made.made serving; shows = part.shows }
 
 -- ---- a turn

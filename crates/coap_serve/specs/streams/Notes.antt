@@ -2,16 +2,16 @@
 use Rattle.std.specs.Prelude.{◌≡◌, ◌≢◌, ◌≤◌, ◌+◌, ℕ, Bool, List, Option}
 use Rattle.std.specs.List.{AllByRecursion}
 use Rattle.coap_server_engine.specs.values.Servers.{ServerValue, AreSettled, server_opened, server_ticked, server_dropped}
-use Rattle.coap_server_engine.specs.values.ServerDues.{stamp_of}
+use Rattle.coap_server_engine.specs.values.ServerDeadlines.{stamp_of}
 use Rattle.coap_serve.specs.streams.Turns.{IsServedOnce, wants_of, FarEnd}
 use Rattle.coap_io.specs.streams.Wires.{WireTrace}
 use Rattle.coap_serve.specs.declared.door.peer.Course.{Course}
 use Rattle.coap_serve.specs.declared.door.peer.Peer.{Peer}
-use Rattle.coap_server_engine.specs.declared.server.Stamp.{Stamp}
+use Rattle.coap_server_engine.specs.declared.server.ChangeStamp.{ChangeStamp}
 
 -- The stamp `other` is equal to or later than `one`. Its time is not earlier. If the times are equal, no fewer versions
 -- were stored. If these are equal too, no more resources are stored.
-pub record IsNoEarlier (one other : Stamp) : Type 0 where
+pub record IsNoEarlier (one other : ChangeStamp) : Type 0 where
   pub moment : one.moment ≤ other.moment
   pub versions : one.moment ≡ other.moment → one.versions ≤ other.versions
   pub resources : one.moment ≡ other.moment → one.versions ≡ other.versions → other.resources ≤ one.resources

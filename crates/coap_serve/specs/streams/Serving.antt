@@ -6,8 +6,8 @@ use Rattle.coap_io.specs.streams.DeviceTraces.{DoorCall, Asked}
 use Rattle.coap_serve.specs.streams.Notes.{true_end}
 use Rattle.coap_serve.specs.streams.Turns.{IsServed, IsAtRest, IsInTurn, IsAgendaOf, IsWaitAfter, concerns_earlier, end_of}
 use Rattle.coap_io.specs.streams.Wires.{WireTrace}
-use Rattle.coap_server_engine.specs.values.Fed.{ShowsMore}
-use Rattle.coap_server_engine.specs.values.ServerDues.{stamp_of}
+use Rattle.coap_server_engine.specs.values.InResults.{ShowsMore}
+use Rattle.coap_server_engine.specs.values.ServerDeadlines.{stamp_of}
 use Rattle.coap_server_engine.specs.values.ServerAnswers.{open_refusal}
 use Rattle.coap_server_engine.specs.values.Servers.{ServerValue, server_opened, server_dropped}
 use Rattle.coap_model.specs.world.Events.{AcceptedCall, Opened, Took, Wrote, Ticked, Stored, Removed, Ended, Released, Announced, Dropped}

@@ -5,8 +5,8 @@ use Rattle.coap_conn.specs.declared.reason.Reason.{Reason}
 use Rattle.coap_server_engine.specs.values.Servers.{ServerValue, session_of, server_ended, server_written}
 use Rattle.coap_server_engine.specs.values.ServerAnswers.{can_take_on, stop_on}
 use Rattle.coap_server_session.specs.values.Deadlines.{sooner}
-use Rattle.coap_server_engine.specs.values.Fed.{fed}
-use Rattle.coap_server_engine.specs.values.ServerDues.{outlook_of, stamp_of, same_stamp}
+use Rattle.coap_server_engine.specs.values.InResults.{in_result}
+use Rattle.coap_server_engine.specs.values.ServerDeadlines.{outlook_of, stamp_of, same_stamp}
 use Rattle.coap_server_engine.specs.values.Flushes.{waiting_at}
 use Rattle.coap_io.specs.streams.Wires.{MatchesTrace, WireTrace, IsReadOnce, IsWrittenOnce}
 use Rattle.coap_serve.specs.declared.door.peer.Course.{Course}
@@ -16,8 +16,8 @@ use Rattle.coap_serve.specs.declared.door.peer.Peer.{Peer}
 use Rattle.coap_serve.specs.declared.door.agenda.Agenda.{Agenda}
 use Rattle.coap_io.specs.declared.wire.Wait.{Wait}
 use Rattle.coap_io.specs.declared.wire.Wait.TheVariants.{No, Until, Forever}
-use Rattle.coap_server_engine.specs.declared.server.Outlook.{Outlook}
-use Rattle.coap_server_engine.specs.declared.server.Stamp.{Stamp}
+use Rattle.coap_server_engine.specs.declared.server.ConnectionWork.{ConnectionWork}
+use Rattle.coap_server_engine.specs.declared.server.ChangeStamp.{ChangeStamp}
 use Rattle.coap_io.specs.declared.wire.Got.{Got}
 use Rattle.coap_io.specs.declared.wire.Got.TheVariants.{Bytes, Later, End, Failed}
 use Rattle.coap_io.specs.declared.read_buffer.TheConstants.{READ_SIZE}
@@ -51,10 +51,10 @@ left_behind (Some why) rest = []
 
 -- The bytes that are kept after the connection accepted all that it accepts of these.
 abbrev pub rest_left : ServerValue → ℕ → List ℕ → List ℕ
-rest_left v id rest = left_behind (stop_on (session_of id (fed v id rest).server.sessions)) (drop (fed v id rest).count rest)
+rest_left v id rest = left_behind (stop_on (session_of id (in_result v id rest).server.sessions)) (drop (in_result v id rest).count rest)
 
 -- Nothing more will be written on a connection with this work left, or there is no connection.
-abbrev pub is_over_in : Option Outlook → Bool
+abbrev pub is_over_in : Option ConnectionWork → Bool
 is_over_in None = true
 is_over_in (Some o) = o.finished
 
@@ -85,8 +85,8 @@ pub record IsOffered (bytes : List ℕ) (wire : WireTrace) (wrote : Got) (after 
 -- wire may be written.
 pub record IsTakenAndWritten (may_write : Bool) (v : ServerValue) (id : ℕ) (bytes : List ℕ) (wire : WireTrace) (after : ServerValue) (left : List ℕ) (told : WireTrace) (course : Course) : Type 0 where
   pub wrote : Got
-  pub offered : IsOffered (waiting_once may_write id (fed v id bytes).server) wire wrote told
-  pub server : after ≡ server_wrote (fed v id bytes).server id wrote
+  pub offered : IsOffered (waiting_once may_write id (in_result v id bytes).server) wire wrote told
+  pub server : after ≡ server_wrote (in_result v id bytes).server id wrote
   pub rest : left ≡ rest_left v id bytes
   pub outcome : course ≡ course_of wrote (is_over_in (outlook_of after id))
 
@@ -127,7 +127,7 @@ pub record IsServed (readable writable : Option Bool) (v : ServerValue) (id : �
 
 -- The I/O interest of a connection with this work left. It states if bytes read before can be accepted or must be
 -- discarded, and if the wire must be read and written. Without a connection it is empty.
-abbrev pub wants_in : Option Outlook → (is_empty : Bool) → Stamp → Wants
+abbrev pub wants_in : Option ConnectionWork → (is_empty : Bool) → ChangeStamp → Wants
 wants_in None is_empty stamp = record { take = false; read = false; write = false; due = None; stamp = stamp }
 wants_in (Some o) is_empty stamp = record {
   take = not is_empty && (o.takes || o.stopped);
@@ -170,17 +170,17 @@ pub record CanGoOn (e : FarEnd) (result : Bool) : Type 0 where
   pub is : result ≡ e.wants.take || reads || writes
 
 -- The connection is idle: it was last served when the server had this stamp, and nothing can be done now.
-abbrev pub IsAtRest : Stamp → FarEnd → Type 0
+abbrev pub IsAtRest : ChangeStamp → FarEnd → Type 0
 IsAtRest stamp e = (e.wants.stamp ≡ stamp) × CanGoOn e false
 
 -- The connection is not idle: it was last served when the server had another stamp, or something can be done.
-pub record IsInTurn (stamp : Stamp) (e : FarEnd) : Type 0 where
+pub record IsInTurn (stamp : ChangeStamp) (e : FarEnd) : Type 0 where
   pub ready : Bool
   pub can : CanGoOn e ready
   pub is : (same_stamp e.wants.stamp stamp && not ready) ≡ false
 
 -- The connection is idle if the last argument is `true`, and not idle if it is `false`.
-abbrev pub IsRestAnswer : Stamp → FarEnd → Bool → Type 0
+abbrev pub IsRestAnswer : ChangeStamp → FarEnd → Bool → Type 0
 IsRestAnswer stamp e true = IsAtRest stamp e
 IsRestAnswer stamp e false = IsInTurn stamp e
 
@@ -193,7 +193,7 @@ least_due all = least_with None all
 
 -- `true` if serving a connection may affect the `earlier` connections before it, which were served earlier in the turn.
 -- There must be at least one, and the stamp of the server must have changed.
-abbrev pub concerns_earlier : (earlier : ℕ) (before after : Stamp) → Bool
+abbrev pub concerns_earlier : (earlier : ℕ) (before after : ChangeStamp) → Bool
 concerns_earlier earlier before after = nat_lt 0 earlier && not (same_stamp after before)
 
 -- `result` is `true` if something can be done at once on any of these connections.
@@ -205,7 +205,7 @@ CanAnyGoOn (e ∷ es) result = (first others : Bool) × CanGoOn e first × CanAn
 -- of them may have affected others before it. Another turn must follow at once if and only if `changed` is `true` or
 -- something can be done at once. The deadline is the earliest of all. If `changed` is `false`, all were last served
 -- when the server had this stamp.
-pub record IsAgendaOf (a : Agenda) (changed : Bool) (stamp : Stamp) (all : List FarEnd) : Type 0 where
+pub record IsAgendaOf (a : Agenda) (changed : Bool) (stamp : ChangeStamp) (all : List FarEnd) : Type 0 where
   pub due : a.due ≡ least_due all
   pub ready : Bool
   pub can : CanAnyGoOn all ready

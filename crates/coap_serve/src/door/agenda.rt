@@ -6,7 +6,7 @@ ghost use Rattle.coap_serve.specs.Prelude.{agenda_with, wait_of};
 
 use super::peer::Peers;
 use coap_io::{Ready, Wait};
-use coap_server_engine::Stamp;
+use coap_server_engine::ChangeStamp;
 use coap_server_session::sooner;
 
 /// Work that remains after a turn has visited some connections.
@@ -70,7 +70,7 @@ impl Seen {
 
 /// Skips idle connections from the next one on, up to the first that is not idle or to the end. Their deadlines are
 /// added to the agenda.
-pub(super) fn pass_over<W: Ready>(peers: &Peers<W>, seen: Seen, stamp: Stamp) -> Seen
+pub(super) fn pass_over<W: Ready>(peers: &Peers<W>, seen: Seen, stamp: ChangeStamp) -> Seen
     requires { seen.at ≤ length peers.now.entries }
     ensures from { seen.at ≤ result.at }
     ensures within { result.at ≤ length peers.now.entries }
@@ -99,7 +99,7 @@ pub(super) fn pass_over<W: Ready>(peers: &Peers<W>, seen: Seen, stamp: Stamp) ->
 
 /// Returns `true` if serving the connection at an index may affect those before it, which were served earlier in the
 /// turn. `before` and `after` are the server's stamps before and after serving it.
-pub(super) fn concerns_others(at: usize, before: Stamp, after: Stamp) -> bool
+pub(super) fn concerns_others(at: usize, before: ChangeStamp, after: ChangeStamp) -> bool
     ensures { result ≡ concerns_earlier at before after }
 {
     at > 0 && after != before

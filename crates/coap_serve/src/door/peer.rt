@@ -1,7 +1,7 @@
 //! The transport side of a connection, and how a turn serves it.
 
 ghost use Rattle.std.specs.Prelude.{◌≡◌, ◌≢◌, false, [], length, is_some, OnOk, OnErr, IfOk, IfErr};
-ghost use Rattle.coap_serve.specs.Prelude.{IsPartlyFed, fed, AddsBytes, HasServed, TellsMore, IsServedOnce, trace_by};
+ghost use Rattle.coap_serve.specs.Prelude.{IsPartialIn, in_result, AddsBytes, HasServed, TellsMore, IsServedOnce, trace_by};
 ghost use Rattle.coap_serve.specs.Prelude.{IsLaidOut, is_heard, server_heard, server_wrote, waiting_once, rest_left};
 ghost use Rattle.coap_serve.specs.Prelude.{is_over_in, has_failed, course_of, wants_of, IsWithin, IsMemory, IsOneWrite};
 ghost use Rattle.coap_serve.specs.Prelude.{bytes_passed, stop_on, session_of, IsAsked, CanGoOn, IsRestAnswer, end_of};
@@ -13,7 +13,7 @@ use crate::serve::IoFault;
 use coap_conn::first_part;
 use coap_io::{Got, Ready, ReadBuffer, Wire};
 use coap_model::ConnId;
-use coap_server_engine::{Outlook, Server, Stamp};
+use coap_server_engine::{ConnectionWork, Server, ChangeStamp};
 use indexmap::IndexMap;
 
 /// Transport side of a connection.
@@ -52,7 +52,7 @@ impl<W: Ready> Peer<W> {
 
     /// Returns `true` if the connection was last served when the server had this stamp, and nothing can be done on it
     /// now.
-    pub(super) fn is_at_rest(&self, stamp: Stamp) -> bool
+    pub(super) fn is_at_rest(&self, stamp: ChangeStamp) -> bool
         ensures { IsRestAnswer stamp (end_of W.readable W.writable self.now) result }
     {
         self.wants.stamp == stamp && !self.is_ready()
@@ -164,11 +164,11 @@ fn hear<W: Wire>(server: &mut Server, id: ConnId, peer: &mut Peer<W>, may_read: 
 /// - `Memory`: an allocation failed for a representation that a message stores.
 #[tactic(auto, using(crate::proofs::streams::ServingLemmas::part_served))]
 fn take_rest(server: &mut Server, id: ConnId, rest: &mut ReadBuffer) -> Result<(), IoFault>
-    ensures server { OnOk result (server.new ≡ (fed server.old id rest.old).server) }
+    ensures server { OnOk result (server.new ≡ (in_result server.old id rest.old).server) }
     ensures shows { HasServed server.old server.new }
     ensures rest { OnOk result (rest.new ≡ rest_left server.old id rest.old) }
     ensures fault { IfErr result IsMemory }
-    ensures err { OnErr result (IsPartlyFed server.old id rest.old server.new) }
+    ensures err { OnErr result (IsPartialIn server.old id rest.old server.new) }
 {
     let Ok(count) = server.take_all(id, rest.bytes()) else {
         return Err(IoFault::Memory);
@@ -232,7 +232,7 @@ fn has_stopped(server: &Server, id: ConnId) -> bool
 }
 
 /// Returns `true` if nothing more will be written on a connection with this work left, or if there is no connection.
-fn is_over(outlook: Option<Outlook>) -> bool
+fn is_over(outlook: Option<ConnectionWork>) -> bool
     ensures { result ≡ is_over_in outlook }
 {
     match outlook {

@@ -5,7 +5,7 @@ ghost use Rattle.coap_serve.specs.Prelude.{wants_in, wants_of};
 
 use coap_io::ReadBuffer;
 use coap_model::ConnId;
-use coap_server_engine::{Outlook, Server, Stamp};
+use coap_server_engine::{ConnectionWork, Server, ChangeStamp};
 
 /// I/O interest of a connection, recorded when the connection was last served.
 #[derive(Clone, Copy, PartialEq, Eq)]
@@ -19,7 +19,7 @@ pub(super) struct Wants {
     /// Next time, in seconds, at which time alone may queue something.
     pub(super) due: Option<u64>,
     /// Stamp of the server when this was recorded. After the stamp has changed, any field may be out of date.
-    pub(super) stamp: Stamp,
+    pub(super) stamp: ChangeStamp,
 }
 
 /// Returns the I/O interest of a connection with these bytes left from its reads.
@@ -31,7 +31,7 @@ pub(super) fn wants_on(server: &Server, id: ConnId, rest: &ReadBuffer) -> Wants
 
 /// Returns the I/O interest of a connection with this work left. `is_empty` is `true` if all bytes that were read are
 /// accepted. The interest is empty if there is no connection.
-pub(super) fn wants_by(outlook: Option<Outlook>, is_empty: bool, stamp: Stamp) -> Wants
+pub(super) fn wants_by(outlook: Option<ConnectionWork>, is_empty: bool, stamp: ChangeStamp) -> Wants
     ensures { result ≡ wants_in outlook is_empty stamp }
 {
     match outlook {

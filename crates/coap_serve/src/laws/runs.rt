@@ -4,7 +4,7 @@ ghost use Rattle.std.specs.Prelude.{◌≡◌, ℕ, Bool, Option, Result, ◌+�
 ghost use Rattle.coap_serve.specs.Prelude.{ConfigValues, ServerValue, AreSettled, LiesAt, server_opened};
 ghost use Rattle.coap_serve.specs.Prelude.{server_ticked, server_dropped, ComesToNothing, IsServedOnce, can_go_on};
 ghost use Rattle.coap_serve.specs.Prelude.{is_over_in, wants_of, IsNoEarlier, KeepsNotes, WhilePassedOver, WireTrace};
-ghost use Rattle.coap_serve.specs.Prelude.{Course, Stamp, outlook_of, stamp_of, AcceptedCall, Shows, IsFlushed, AddsBytes};
+ghost use Rattle.coap_serve.specs.Prelude.{Course, ChangeStamp, outlook_of, stamp_of, AcceptedCall, Shows, IsFlushed, AddsBytes};
 ghost use Rattle.coap_serve.specs.Prelude.{waiting_at, Report, IoFault, IsStdioRun, LeavesNothingWaiting};
 
 /// States that an idle connection may be skipped.
@@ -25,10 +25,10 @@ pub fn what_has_nothing_to_do_is_passed_over()
 /// where fewer is later. The operations of an event loop never make the stamp of the server earlier. To serve a
 /// connection leaves it equal or later. To drop or open a connection leaves it equal. The time does not go back.
 pub fn stamps_never_come_back()
-    ensures itself { (one : Stamp) → IsNoEarlier one one }
-    ensures on { (one other third : Stamp) → IsNoEarlier one other → IsNoEarlier other third → IsNoEarlier one third }
-    ensures same { (one other : Stamp) → IsNoEarlier one other → IsNoEarlier other one → one ≡ other }
-    ensures back { (one other third : Stamp) → IsNoEarlier one other → IsNoEarlier other third → third ≡ one →
+    ensures itself { (one : ChangeStamp) → IsNoEarlier one one }
+    ensures on { (one other third : ChangeStamp) → IsNoEarlier one other → IsNoEarlier other third → IsNoEarlier one third }
+    ensures same { (one other : ChangeStamp) → IsNoEarlier one other → IsNoEarlier other one → one ≡ other }
+    ensures back { (one other third : ChangeStamp) → IsNoEarlier one other → IsNoEarlier other third → third ≡ one →
         other ≡ one }
     ensures served { (v after : ServerValue) (id : ℕ) (rest left : List ℕ) (wire told : WireTrace)
         (may_read may_write : Bool) (course : Course) →

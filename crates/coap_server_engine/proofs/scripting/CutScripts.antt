@@ -2,8 +2,8 @@
 -- those of the `in`s.
 use Rattle.std.proofs.Common.{◌≡◌, ℕ, ◌+◌, ◌<◌, ◌≤◌, ◌^◌, ◌==◌, nat_le, map, List, [], ◌∷◌, ◌++◌, length, drop, Option, Some, None, option_map, codes, refl, sym, ◌∙◌, arith}
 use Rattle.coap_server_engine.specs.Prelude.{concat, release_refusal, put_refusal, remove_refusal, ScriptEventValue, Open, In}
-use Rattle.coap_server_engine.specs.Prelude.{Drain, Tick, Remove, Release, Drop, Status, Ran, comes_to, open_number}
-use Rattle.coap_server_engine.specs.Prelude.{store_number, release_number, tick_refusal, unless_refused, on_connection, fed}
+use Rattle.coap_server_engine.specs.Prelude.{Drain, Tick, Remove, Release, Drop, Status, EventResult, comes_to, open_number}
+use Rattle.coap_server_engine.specs.Prelude.{store_number, release_number, tick_refusal, unless_refused, on_connection, in_result}
 use Rattle.coap_server_engine.specs.Prelude.{in_ran, drained, drain_ran, status_ran, event_ran, replayed, open_line}
 use Rattle.coap_server_engine.specs.Prelude.{tick_line, put_line, remove_line, word_line, in_before, joined, DifferInCuts}
 use Rattle.coap_server_engine.specs.Prelude.{lines_of, other_lines, IsInTime, AreInTime, SessionValue, ServerValue}
@@ -29,11 +29,11 @@ pub record IsShown (v : ServerValue) : Type 0 where
   pub shows : Shows v events
   pub ids : v.ids < 2 ^ 64
 
-unless_shown : (v : ServerValue) (word : List ℕ) (id : Option ℕ) (does : Ran) (refusal : Option ℕ) → IsShown v → (refusal ≡ None → IsShown does.server) → IsShown (unless_refused v word id does refusal).server
+unless_shown : (v : ServerValue) (word : List ℕ) (id : Option ℕ) (does : EventResult) (refusal : Option ℕ) → IsShown v → (refusal ≡ None → IsShown does.server) → IsShown (unless_refused v word id does refusal).server
 unless_shown v word id does None shown next = next refl
 unless_shown v word id does (Some number) shown next = shown
 
-connection_shown : (v : ServerValue) (word : List ℕ) (id : ℕ) (does : SessionValue → Ran) (found : Option SessionValue) → IsShown v → ((s : SessionValue) → found ≡ Some s → IsShown (does s).server) → IsShown (on_connection v word id does found).server
+connection_shown : (v : ServerValue) (word : List ℕ) (id : ℕ) (does : SessionValue → EventResult) (found : Option SessionValue) → IsShown v → ((s : SessionValue) → found ≡ Some s → IsShown (does s).server) → IsShown (on_connection v word id does found).server
 connection_shown v word id does None shown next = shown
 connection_shown v word id does (Some s) shown next = next s refl
 
@@ -63,7 +63,7 @@ event_shown v Open in_time shown =
     unless_shown v (codes "open") None (comes_to (server_opened v) (open_line (v.ids + 1))) (option_map open_number (open_refusal v)) shown
     (λ none. open_shown v shown (none_made open_number (open_refusal v) none))
 event_shown v (In id bytes) in_time shown =
-    connection_shown v (codes "in") id (λ s. in_ran id (fed v id bytes)) (session_of id v.sessions) shown (λ s at.
+    connection_shown v (codes "in") id (λ s. in_ran id (in_result v id bytes)) (session_of id v.sessions) shown (λ s at.
     turns_keep (λ f. IsShown f.server) id bytes
     (λ f now. take_shown_by f.server id (drop f.count bytes) (session_of id f.server.sessions) refl now) v shown (length bytes))
 event_shown v (Drain id most) in_time shown =
@@ -97,11 +97,11 @@ event_shown v (Status id) in_time shown = connection_shown v (codes "status") id
 
 -- ---- a divided `in`
 
-in_by : (v : ServerValue) (id : ℕ) (bytes : List ℕ) (found : Option SessionValue) → session_of id v.sessions ≡ found → (on_connection v (codes "in") id (λ s. in_ran id (fed v id bytes)) found).server ≡ (fed v id bytes).server
+in_by : (v : ServerValue) (id : ℕ) (bytes : List ℕ) (found : Option SessionValue) → session_of id v.sessions ≡ found → (on_connection v (codes "in") id (λ s. in_ran id (in_result v id bytes)) found).server ≡ (in_result v id bytes).server
 in_by v id bytes None at = sym (stuck_turns v id (absent_stuck v id at) bytes (length bytes)).server
 in_by v id bytes (Some s) at = refl
 
-in_server : (v : ServerValue) (id : ℕ) (bytes : List ℕ) → (event_ran v (In id bytes)).server ≡ (fed v id bytes).server
+in_server : (v : ServerValue) (id : ℕ) (bytes : List ℕ) → (event_ran v (In id bytes)).server ≡ (in_result v id bytes).server
 unfolding event_ran
 in_server v id bytes = in_by v id bytes (session_of id v.sessions) refl
 

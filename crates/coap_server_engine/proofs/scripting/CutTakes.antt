@@ -5,7 +5,7 @@ use Rattle.std.proofs.lemmas.Bool.{ne_eqb}
 use Rattle.std.proofs.lemmas.List.{append-nil, length-append, length-drop, drop-append-le, drop-drop, take-append-le, length-take}
 use Rattle.std.proofs.Math.Seq.{drop-length, drop-append-add, take-append-add, take-length}
 use Rattle.coap_server_engine.specs.Prelude.{Stream, StreamPrefix, Unfinished, Faulty, prefix_kind, fault_bytes, framing_at}
-use Rattle.coap_server_engine.specs.Prelude.{framing, ConfigValues, Fed, unfed, fed_once, fed_turns, fed, SessionValue}
+use Rattle.coap_server_engine.specs.Prelude.{framing, ConfigValues, InResult, unfed, fed_once, fed_turns, in_result, SessionValue}
 use Rattle.coap_server_engine.specs.Prelude.{ServerValue, session_of, server_taken, count_taken, Connection, handles, World}
 use Rattle.coap_server_engine.specs.Prelude.{side_of, AcceptedCall, Took, stream_on, world_after, size_on, session_shown}
 use Rattle.coap_server_engine.specs.Prelude.{server_shown, server_of, Shows}
@@ -13,7 +13,7 @@ use Rattle.coap_wire.specs.StreamPrefix.{Whole}
 use Rattle.coap_wire.proofs.StreamSteps.{whole_more, faulty_more, fault_bytes_more}
 use Rattle.coap_frame.proofs.FrontLaws.{some_in_front}
 use Rattle.coap_frame.proofs.GivenLaws.{taken_within, nothing_taken, frame_taken, fault_taken}
-use Rattle.coap_server_engine.specs.values.Fed.{goes_on}
+use Rattle.coap_server_engine.specs.values.InResults.{goes_on}
 use Rattle.coap_model.specs.world.Events.{front_of}
 use Rattle.coap_model.proofs.world.StepLaws.{world_same, size_then, rest_unfinished, spelled_same}
 use Rattle.coap_model.proofs.world.CutLaws.{cut_worlds, SpellAlike, stream_alike, spelled_twice}
@@ -144,10 +144,10 @@ module _ (M : ℕ) (kept xs zs : List ℕ) (unfinished : prefix_kind M kept ≡ 
 -- ---- consecutive takes
 
 -- The same value after `n` bytes were accepted before.
-abbrev shifted : ℕ → Fed → Fed
+abbrev shifted : ℕ → InResult → InResult
 shifted n f = record f { count = n + f.count }
 
-once_shifted : (id : ℕ) (bytes : List ℕ) (n : ℕ) (f : Fed) → n ≤ length bytes → fed_once id bytes (shifted n f) ≡ shifted n (fed_once id (drop n bytes) f)
+once_shifted : (id : ℕ) (bytes : List ℕ) (n : ℕ) (f : InResult) → n ≤ length bytes → fed_once id bytes (shifted n f) ≡ shifted n (fed_once id (drop n bytes) f)
 once_shifted id bytes n f within = grind (arith, nat_tests, length-drop n bytes, drop-drop f.count n bytes)
 
 turns_shifted : (v : ServerValue) (id : ℕ) (bytes : List ℕ) (n turns : ℕ) → count_taken v id bytes ≡ n → 1 ≤ n → n ≤ length bytes
@@ -161,7 +161,7 @@ turns_shifted v id bytes n (suc turns) counted some within =
     rw (turns_shifted v id bytes n turns counted some within) (once_shifted id bytes n (fed_turns turns (server_taken v id bytes) id (drop n bytes)) within)
 
 -- Each iteration that continues has accepted a byte.
-turn_takes : (id : ℕ) (bytes : List ℕ) (turns : ℕ) (f : Fed) → (goes_on bytes f ≡ true → turns ≤ f.count)
+turn_takes : (id : ℕ) (bytes : List ℕ) (turns : ℕ) (f : InResult) → (goes_on bytes f ≡ true → turns ≤ f.count)
     → goes_on bytes (fed_once id bytes f) ≡ true → suc turns ≤ (fed_once id bytes f).count
 turn_takes id bytes turns f few goes = grind (arith, nat_tests)
 
@@ -170,11 +170,11 @@ unfolding fed_turns
 turns_take v id bytes zero goes = omega arith
 turns_take v id bytes (suc turns) goes = turn_takes id bytes turns (fed_turns turns v id bytes) (turns_take v id bytes turns) goes
 
-is_over : (v : ServerValue) (id : ℕ) (bytes : List ℕ) → goes_on bytes (fed v id bytes) ≡ false
+is_over : (v : ServerValue) (id : ℕ) (bytes : List ℕ) → goes_on bytes (in_result v id bytes) ≡ false
 is_over v id bytes = grind (arith, nat_tests, turns_take v id bytes (length bytes))
 
 -- The first take, followed by those of the remaining bytes.
-fed_by : (v : ServerValue) (id : ℕ) (bytes : List ℕ) (n : ℕ) → count_taken v id bytes ≡ n → 1 ≤ n → n ≤ length bytes → fed v id bytes ≡ shifted n (fed (server_taken v id bytes) id (drop n bytes))
+fed_by : (v : ServerValue) (id : ℕ) (bytes : List ℕ) (n : ℕ) → count_taken v id bytes ≡ n → 1 ≤ n → n ≤ length bytes → in_result v id bytes ≡ shifted n (in_result (server_taken v id bytes) id (drop n bytes))
 fed_by v id bytes n counted some within =
     let all : length bytes ≡ suc (length bytes - 1) = omega (arith, some, within) in
     let left : length (drop n bytes) ≤ length bytes - 1 = omega (arith, length-drop n bytes, some, within) in
@@ -185,8 +185,8 @@ fed_by v id bytes n counted some within =
 -- ---- a divided `in`
 
 pub record IsFedInParts (v : ServerValue) (id : ℕ) (xs ys : List ℕ) : Type 0 where
-  pub server : (fed v id (xs ++ ys)).server ≡ (fed (fed v id xs).server id ys).server
-  pub count : (fed v id (xs ++ ys)).count ≡ (fed v id xs).count + (fed (fed v id xs).server id ys).count
+  pub server : (in_result v id (xs ++ ys)).server ≡ (in_result (in_result v id xs).server id ys).server
+  pub count : (in_result v id (xs ++ ys)).count ≡ (in_result v id xs).count + (in_result (in_result v id xs).server id ys).count
 
 -- If the connection accepts no byte, it accepts none of the whole and none of the parts.
 stuck_parts : (v : ServerValue) (id : ℕ) (xs ys : List ℕ) → IsStuck v id → IsFedInParts v id xs ys
@@ -229,7 +229,7 @@ module _ (v : ServerValue) (es : List AcceptedCall) (id : ℕ) (xs ys : List ℕ
       same_where_alike whole_taken part_taken _ _ (config_stays v id (xs ++ ys) ∙ sym (config_stays v id xs))
       (rw (take-append-le n xs ys within) at (took_shows (xs ++ ys) n whole_count)) part_shows (λ id. refl) refl in
       let parts = again part_taken _ (drop n xs) part_shows (omega (arith, length-drop n xs, takes_some, some)) in
-      let whole : fed v id (xs ++ ys) ≡ shifted n (fed part_taken id (drop n xs ++ ys)) =
+      let whole : in_result v id (xs ++ ys) ≡ shifted n (in_result part_taken id (drop n xs ++ ys)) =
       cc (fed_by v id (xs ++ ys) n whole_count takes_some (omega (arith, within, length-append xs ys)), server_same, drop-append-le n xs ys within) in
       let first = fed_by v id xs n (goes.counts xs) takes_some within in
       record { server = rw (whole, parts.server, first); count = rw (whole, parts.count, first, add_assoc n) }
@@ -260,13 +260,13 @@ module _ (v : ServerValue) (es : List AcceptedCall) (id : ℕ) (xs ys : List ℕ
       same_where_alike whole_taken next_taken _ _ (config_stays v id (xs ++ ys) ∙ sym next_config)
       (rw (take-append-add xs ys n) at (took_shows (xs ++ ys) (length xs + n) whole_count)) next_shows
       (spelled_twice next_taken.config.limits.max_message es id xs (take n ys)) (rw append_assoc (cut_worlds next_taken.config es [] id xs (take n ys))) in
-      let whole : fed v id (xs ++ ys) ≡ shifted (length xs + n) (fed next_taken id (drop n ys)) =
+      let whole : in_result v id (xs ++ ys) ≡ shifted (length xs + n) (in_result next_taken id (drop n ys)) =
       let longer : length xs + n ≤ length (xs ++ ys) = omega (arith, within, length-append xs ys) in
       cc (fed_by v id (xs ++ ys) (length xs + n) whole_count (omega (arith, some)) longer, server_same, drop-append-add xs ys n) in
-      let nothing : fed part_taken id [] ≡ unfed part_taken = unfold fed_turns in refl in
-      let first : fed v id xs ≡ shifted (length xs) (unfed part_taken) =
+      let nothing : in_result part_taken id [] ≡ unfed part_taken = unfold fed_turns in refl in
+      let first : in_result v id xs ≡ shifted (length xs) (unfed part_taken) =
       cc (fed_by v id xs (length xs) part_count (omega (arith, some)) (omega arith), drop-length xs, nothing) in
-      let second : fed (fed v id xs).server id ys ≡ shifted n (fed next_taken id (drop n ys)) =
+      let second : in_result (in_result v id xs).server id ys ≡ shifted n (in_result next_taken id (drop n ys)) =
       rw first (fed_by part_taken id ys n next_count takes_some within) in
       record { server = rw (whole, second); count = rw (whole, second, first, add-zero (length xs), add_assoc (length xs) n) }
 

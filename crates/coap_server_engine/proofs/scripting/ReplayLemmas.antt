@@ -6,14 +6,14 @@ use Rattle.std.proofs.Math.Seq.{take-suc, drop-cons}
 use Rattle.std.proofs.Math.ListN.{get_or-map}
 use Rattle.std.proofs.Math.Bool.{and-false}
 use Rattle.coap_server_engine.specs.Prelude.{IsErr, AllocError, Path, StoreValue, remove_refusal, NoSuch, ScriptEventValue}
-use Rattle.coap_server_engine.specs.Prelude.{event_value, Ran, fed_turns, fed, event_ran, replayed, IsPartlyFed, IsUnrun}
+use Rattle.coap_server_engine.specs.Prelude.{event_value, EventResult, fed_turns, in_result, event_ran, replayed, IsPartialIn, IsUnrun}
 use Rattle.coap_server_engine.specs.Prelude.{IsRefusedAt, IsCutAt, where_there, took_turns, took, events_ran, ShowsMore}
 use Rattle.coap_server_engine.specs.Prelude.{ShowsPart, ShowsPartlyFed, events_made, ShowsRefusedAt, AddsBytes, WritesPart, SessionValue}
-use Rattle.coap_server_engine.specs.Prelude.{Fed, ServerValue, server_taken, count_taken, is_there, session_of, IsNotTaken, IsRun}
-use Rattle.coap_server_engine.specs.Prelude.{IsDrainable, Took, Drained, Line, Shows}
+use Rattle.coap_server_engine.specs.Prelude.{InResult, ServerValue, server_taken, count_taken, is_there, session_of, IsNotTaken, IsRun}
+use Rattle.coap_server_engine.specs.Prelude.{IsDrainable, Took, Drained, OutputLine, Shows}
 use Rattle.coap_script.specs.declared.event.Event.{Event}
 use Rattle.coap_server_engine.specs.script.Replay.{behind}
-use Rattle.coap_server_engine.specs.values.Fed.{goes_on}
+use Rattle.coap_server_engine.specs.values.InResults.{goes_on}
 use Rattle.coap_io.proofs.streams.DeviceLemmas.{bytes_then}
 use Rattle.coap_server_engine.proofs.scripting.ShownLemmas.{shows_same, shows_then, shows_as, events_ran_on}
 use Rattle.coap_model.specs.world.Events as world
@@ -22,11 +22,11 @@ use Rattle.coap_model.specs.declared.answers.TakeFault.TheVariants as taking
 -- ---- one event
 
 -- The server and the line are the result of an event.
-abbrev pub IsWhat : Ran → ServerValue → List ℕ → Type 0
+abbrev pub IsWhat : EventResult → ServerValue → List ℕ → Type 0
 IsWhat r after line = (after ≡ r.server) × (line ≡ r.text)
 
 -- Allocation failed for an event.
-pub unrun : (v : ServerValue) (e : ScriptEventValue) (after : ServerValue) (r : Result Line AllocError) → IsErr r → IsUnrun v e after → IsRun v e after r
+pub unrun : (v : ServerValue) (e : ScriptEventValue) (after : ServerValue) (r : Result OutputLine AllocError) → IsErr r → IsUnrun v e after → IsRun v e after r
 unrun v e after (Ok line) is so = absurd cc
 unrun v e after (Err fault) is so = so
 
@@ -102,20 +102,20 @@ module _ (v : ServerValue) (id : ℕ) (bytes : List ℕ) (now : ServerValue) (ta
 
   -- A take accepted none.
   stops_there : (after : ServerValue) → count_taken now id (drop taken bytes) ≡ 0 → after ≡ server_taken now id (drop taken bytes)
-      → (fed v id bytes ≡ record { server = after; count = taken; done = true }) × (took v id bytes ≡ took_turns (feeds.turns + 1) v id bytes)
+      → (in_result v id bytes ≡ record { server = after; count = taken; done = true }) × (took v id bytes ≡ took_turns (feeds.turns + 1) v id bytes)
   stops_there after none is =
       let turn : fed_turns (feeds.turns + 1) v id bytes ≡ record { server = after; count = taken; done = true } = cc (turn_more_feeds, add-zero taken) in
       let all = all_turns_made v id bytes (feeds.turns + 1) (rw (turn, and-false)) (length bytes) (omega (arith, feeds.few, left)) in
       (all.0 ∙ turn, all.1)
 
-  pub fed_and_stopped : (after : ServerValue) → count_taken now id (drop taken bytes) ≡ 0 → after ≡ server_taken now id (drop taken bytes) → fed v id bytes ≡ record { server = after; count = taken; done = true }
+  pub fed_and_stopped : (after : ServerValue) → count_taken now id (drop taken bytes) ≡ 0 → after ≡ server_taken now id (drop taken bytes) → in_result v id bytes ≡ record { server = after; count = taken; done = true }
   fed_and_stopped after none is = (stops_there after none is).0
 
   pub stopped_shows : (after : ServerValue) → count_taken now id (drop taken bytes) ≡ 0 → after ≡ server_taken now id (drop taken bytes) → ShowsTake now id (drop taken bytes) after → ShowsMore v after (took v id bytes)
   stopped_shows after none is more = shows_as v after _ _ (sym (stops_there after none is).1) (shows_more after more)
 
   -- Allocation failed.
-  pub short : (count : ℕ) (after : ServerValue) → IsNotTaken now id (drop taken bytes) (taking.Memory count) after → IsPartlyFed v id bytes after
+  pub short : (count : ℕ) (after : ServerValue) → IsNotTaken now id (drop taken bytes) (taking.Memory count) after → IsPartialIn v id bytes after
   short count after refused = record {
     turns = feeds.turns;
     count = count;
@@ -127,7 +127,7 @@ module _ (v : ServerValue) (id : ℕ) (bytes : List ℕ) (now : ServerValue) (ta
   unfolding short
   short_shows count after refused more = record {
     more = _;
-    part = record { fed = short count after refused; made = rw feeds.so_far };
+    part = record { in_result = short count after refused; made = rw feeds.so_far };
     shows = shows_then v now after (took_turns feeds.turns v id bytes) _ feeds.shows more;
   }
 
@@ -136,7 +136,7 @@ module _ (v : ServerValue) (id : ℕ) (bytes : List ℕ) (now : ServerValue) (ta
   all_used : AreTurnsOf v id bytes (length bytes) feeds.turns
   all_used = all_turns_made v id bytes feeds.turns (rw (feeds.so_far, le-ltb taken (length bytes) none)) (length bytes) (omega (arith, feeds.few, feeds.within))
 
-  pub used_up : fed v id bytes ≡ record { server = now; count = taken; done = false }
+  pub used_up : in_result v id bytes ≡ record { server = now; count = taken; done = false }
   used_up = all_used.0 ∙ feeds.so_far
 
   pub used_up_shows : ShowsMore v now (took v id bytes)
@@ -156,20 +156,20 @@ module _ (v : ServerValue) (id : ℕ) (none : session_of id v.sessions ≡ None)
   unfolding server_taken
   stays_as_it_is bytes = rw none refl
 
-  pub fed_nothing : (bytes : List ℕ) → ((fed v id bytes).count ≡ 0) × ((fed v id bytes).server ≡ v) × ShowsMore v v (took v id bytes)
+  pub fed_nothing : (bytes : List ℕ) → ((in_result v id bytes).count ≡ 0) × ((in_result v id bytes).server ≡ v) × ShowsMore v v (took v id bytes)
   fed_nothing bytes = fed_cases (length bytes) refl
     where
-      fed_cases : (n : ℕ) → length bytes ≡ n → ((fed v id bytes).count ≡ 0) × ((fed v id bytes).server ≡ v) × ShowsMore v v (took v id bytes)
+      fed_cases : (n : ℕ) → length bytes ≡ n → ((in_result v id bytes).count ≡ 0) × ((in_result v id bytes).server ≡ v) × ShowsMore v v (took v id bytes)
       fed_cases zero is =
           let none_left : length bytes ≤ 0 = omega (arith, is) in
           let all = used_up v id bytes v 0 (feeds_nothing bytes) none_left in
-          (ap (λ (f : Fed). f.count) all, ap (λ (f : Fed). f.server) all, used_up_shows v id bytes v 0 (feeds_nothing bytes) none_left)
+          (ap (λ (f : InResult). f.count) all, ap (λ (f : InResult). f.server) all, used_up_shows v id bytes v 0 (feeds_nothing bytes) none_left)
       fed_cases (suc n) is =
           let left : 0 < length bytes = omega (arith, is) in
           let rest = drop 0 bytes in
           let all = fed_and_stopped v id bytes v 0 (feeds_nothing bytes) left v (takes_nothing rest) (stays_as_it_is rest) in (
-            ap (λ (f : Fed). f.count) all,
-            ap (λ (f : Fed). f.server) all,
+            ap (λ (f : InResult). f.count) all,
+            ap (λ (f : InResult). f.server) all,
             stopped_shows v id bytes v 0 (feeds_nothing bytes) left v (takes_nothing rest) (stays_as_it_is rest) (rw none (shows_same v v refl)),
           )
 

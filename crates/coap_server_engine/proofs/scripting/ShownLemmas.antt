@@ -2,10 +2,10 @@
 use Rattle.std.proofs.Common.{[], ◌≡◌, ℕ, false, List, ◌∷◌, ◌++◌, Option, Some, None, Result, Ok, Err, refl, subst, append_assoc, zero, suc, drop, arith}
 use Rattle.std.proofs.lemmas.List.{append-nil}
 use Rattle.std.proofs.lemmas.Bool.{cond_both}
-use Rattle.coap_server_engine.specs.Prelude.{IsErr, AllocError, ScriptEventValue, In, event_ran, replayed, Fed, unfed, fed_more}
+use Rattle.coap_server_engine.specs.Prelude.{IsErr, AllocError, ScriptEventValue, In, event_ran, replayed, InResult, unfed, fed_more}
 use Rattle.coap_server_engine.specs.Prelude.{fed_turns, events_ran, ShowsMore, IsPartlyMade, ShowsPart, ShowsPartlyFed, ShowsRun, took_turns}
 use Rattle.coap_server_engine.specs.Prelude.{ServerValue, session_of, is_there, server_taken, server_taken_on, count_taken, AcceptedCall, Shows}
-use Rattle.coap_server_engine.specs.values.Fed.{goes_on}
+use Rattle.coap_server_engine.specs.values.InResults.{goes_on}
 
 -- ---- servers
 
@@ -55,7 +55,7 @@ run_refused v e after (Err fault) is part = part
 -- ---- consecutive takes
 
 -- A property of the value before all takes holds after each, if each take keeps it.
-pub turns_keep : (P : Fed → Type 0) (id : ℕ) (bytes : List ℕ) → ((f : Fed) → P f → P (fed_more id (drop f.count bytes) f))
+pub turns_keep : (P : InResult → Type 0) (id : ℕ) (bytes : List ℕ) → ((f : InResult) → P f → P (fed_more id (drop f.count bytes) f))
     → (v : ServerValue) → P (unfed v) → (turns : ℕ) → P (fed_turns turns v id bytes)
 unfolding fed_turns
 turns_keep P id bytes next v first zero = first
@@ -72,7 +72,7 @@ pub absent_stuck : (v : ServerValue) (id : ℕ) → session_of id v.sessions ≡
 unfolding count_taken server_taken
 absent_stuck v id none = record { none = λ bytes. rw none; stays = λ bytes. rw none }
 
-pub record IsAt (v : ServerValue) (f : Fed) : Type 0 where
+pub record IsAt (v : ServerValue) (f : InResult) : Type 0 where
   pub server : f.server ≡ v
   pub count : f.count ≡ 0
 
@@ -87,7 +87,7 @@ pub none_taken_there : (v : ServerValue) (id : ℕ) → is_there (session_of id 
 unfolding took_turns
 none_taken_there v id none bytes zero = refl
 none_taken_there v id none bytes (suc turns) =
-    let f : Fed = fed_turns turns v id bytes in
+    let f : InResult = fed_turns turns v id bytes in
     let absent = absent_is_none (session_of id v.sessions) none in
     let same = (stuck_turns v id (absent_stuck v id absent) bytes turns).server in
     rw (none_taken_there v id none bytes turns)

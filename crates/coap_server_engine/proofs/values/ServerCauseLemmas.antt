@@ -4,7 +4,7 @@ use Rattle.coap_server_engine.specs.Prelude.{map, nat_lt, slice_get, AllByRecurs
 use Rattle.coap_server_engine.specs.Prelude.{StoreValue, put_in, removed_in, Change, Nothing, Put, Delete, IsStore, ServerState}
 use Rattle.coap_server_engine.specs.Prelude.{Cause, SessionValue, host_changed, session_settled, IsSettled, AreSettled}
 use Rattle.coap_server_engine.specs.Prelude.{changed_at, settled_entry, path_hash, change_hash, IsUnaffected}
-use Rattle.coap_server_engine.specs.Prelude.{AreSettledUntouched, AreOthersSettled, AreUntouched, unmarked, unmarked_entry}
+use Rattle.coap_server_engine.specs.Prelude.{UnaffectedAreSettled, AreOthersSettled, AreUntouched, unmarked, unmarked_entry}
 use Rattle.coap_server_engine.specs.Prelude.{MarkedSession, IsMarked, ConcernsNone, IsMarkedBut, AreMarkedBut}
 use Rattle.coap_server_engine.specs.Prelude.{AreAllMarked, AreMarkedAfter}
 use Rattle.std.proofs.lemmas.Bool.{ltb-true, ltb-false}
@@ -82,19 +82,19 @@ one_passed why now from n es s here calm before i t first last at =
 
 -- ---- all connections
 
-pub untouched_by_change : (host : ServerState) (c : Change) (hash : ℕ) (es : Entries) → change_hash c ≡ Some hash → AreSettled host es → AreSettledUntouched (cause.Path hash) (host_changed host c) es
+pub untouched_by_change : (host : ServerState) (c : Change) (hash : ℕ) (es : Entries) → change_hash c ≡ Some hash → AreSettled host es → UnaffectedAreSettled (cause.Path hash) (host_changed host c) es
 untouched_by_change host c hash [] is settled = tt
 untouched_by_change host c hash (e ∷ es) is settled = (λ others. settled_elsewhere host c hash e.1 is others settled.0, untouched_by_change host c hash es is settled.1)
 
-pub untouched_by_moment : (host : ServerState) (later : ℕ) (es : Entries) → IsStore host.store → host.now < later → later < 2 ^ 64 → AreSettled host es → AreSettledUntouched (cause.Moment host.now) (at_moment host later) es
+pub untouched_by_moment : (host : ServerState) (later : ℕ) (es : Entries) → IsStore host.store → host.now < later → later < 2 ^ 64 → AreSettled host es → UnaffectedAreSettled (cause.Moment host.now) (at_moment host later) es
 untouched_by_moment host later [] store more fits settled = tt
 untouched_by_moment host later (e ∷ es) store more fits settled = (λ before. stays_settled host later e.1 store settled.0 more fits before, untouched_by_moment host later es store more fits settled.1)
 
 -- The same after a `put`, a `remove` and a `tick`.
-pub untouched_by_put : (host : ServerState) (path : Path) (format : Option ℕ) (bytes : List ℕ) (hash : ℕ) (es : Entries) (store : StoreValue) → store ≡ put_in host.store path format bytes → hash ≡ path_hash path → AreSettled host es → AreSettledUntouched (cause.Path hash) (record host { store = store }) es
+pub untouched_by_put : (host : ServerState) (path : Path) (format : Option ℕ) (bytes : List ℕ) (hash : ℕ) (es : Entries) (store : StoreValue) → store ≡ put_in host.store path format bytes → hash ≡ path_hash path → AreSettled host es → UnaffectedAreSettled (cause.Path hash) (record host { store = store }) es
 untouched_by_put host path format bytes hash es store is same settled = rw is (untouched_by_change host (Put path format bytes) hash es (ap Some (sym same)) settled)
 
-pub untouched_by_removal : (host : ServerState) (path : Path) (hash : ℕ) (es : Entries) (store : StoreValue) → store ≡ removed_in host.store path → hash ≡ path_hash path → AreSettled host es → AreSettledUntouched (cause.Path hash) (record host { store = store }) es
+pub untouched_by_removal : (host : ServerState) (path : Path) (hash : ℕ) (es : Entries) (store : StoreValue) → store ≡ removed_in host.store path → hash ≡ path_hash path → AreSettled host es → UnaffectedAreSettled (cause.Path hash) (record host { store = store }) es
 untouched_by_removal host path hash es store is same settled = rw is (untouched_by_change host (Delete path) hash es (ap Some (sym same)) settled)
 
 -- ---- the loop that settles
@@ -106,7 +106,7 @@ not_yet_settled (suc n) host [] = refl
 not_yet_settled (suc n) host (e ∷ es) = not_yet_settled n host es
 
 -- The next connection is settled if the change does not affect it.
-pub next_untouched : (why : Cause) (n : ℕ) (host : ServerState) (es now : Entries) (s : SessionValue) → now ≡ settled_up_to n host es → AreSettledUntouched why host es → slice_get (values_of now) n ≡ Some s → IsUnaffected why host.now s → IsSettled host s
+pub next_untouched : (why : Cause) (n : ℕ) (host : ServerState) (es now : Entries) (s : SessionValue) → now ≡ settled_up_to n host es → UnaffectedAreSettled why host es → slice_get (values_of now) n ≡ Some s → IsUnaffected why host.now s → IsSettled host s
 next_untouched why n host es now s is all at untouched =
     let before : slice_get (values_of es) n ≡ Some s = sym (ap (λ (fs : Entries). slice_get (values_of fs) n) is ∙ not_yet_settled n host es) ∙ at in
     one_of_all (λ u. IsUnaffected why host.now u → IsSettled host u) n es s all before untouched
@@ -116,7 +116,7 @@ abbrev pub AreUpTo : ℕ → Cause → ServerState → MarkedEntries → MarkedE
 AreUpTo n why host es now = (unmarked now ≡ settled_up_to n host (unmarked es)) × AreMarkedUpTo n why host now
 
 -- The change does not affect the next connection.
-pass_one : (n : ℕ) (why : Cause) (host : ServerState) (es now : MarkedEntries) (s : MarkedSession) → AreUpTo n why host es now → AreSettledUntouched why host (unmarked es) → slice_get (values_of now) n ≡ Some s → IsUnaffected why host.now s.session × ConcernsNone why s.session.observers
+pass_one : (n : ℕ) (why : Cause) (host : ServerState) (es now : MarkedEntries) (s : MarkedSession) → AreUpTo n why host es now → UnaffectedAreSettled why host (unmarked es) → slice_get (values_of now) n ≡ Some s → IsUnaffected why host.now s.session × ConcernsNone why s.session.observers
     → AreUpTo (n + 1) why host es now
 pass_one n why host es now s before untouched at calm =
     let here = unmarked_at now n s at in
@@ -127,7 +127,7 @@ pass_one n why host es now s before untouched at calm =
     )
 
 -- The change does not affect the next connections.
-pass_some : (k n : ℕ) (why : Cause) (host : ServerState) (es now : MarkedEntries) → n + k ≤ length now → AreUpTo n why host es now → AreSettledUntouched why host (unmarked es) → AreUntouched why host.now n (n + k) now → AreUpTo (n + k) why host es now
+pass_some : (k n : ℕ) (why : Cause) (host : ServerState) (es now : MarkedEntries) → n + k ≤ length now → AreUpTo n why host es now → UnaffectedAreSettled why host (unmarked es) → AreUntouched why host.now n (n + k) now → AreUpTo (n + k) why host es now
 pass_some zero n why host es now within before untouched calm = rw add-zero before
 pass_some (suc k) n why host es now within before untouched calm =
     let up = pass_some k n why host es now (omega (arith, within)) before untouched (λ i s from to at. calm i s from (omega (arith, to)) at) in
@@ -135,7 +135,7 @@ pass_some (suc k) n why host es now within before untouched calm =
     let one = pass_one (n + k) why host es now there.0 up untouched there.1 (calm (n + k) there.0 (omega arith) (omega arith) there.1) in
     subst (λ (m : ℕ). AreUpTo m why host es now) (let next : n + k + 1 ≡ n + suc k = omega arith in next) one
 
-pub passed : (n m : ℕ) (why : Cause) (host : ServerState) (es now : MarkedEntries) → n ≤ m → m ≤ length now → AreUpTo n why host es now → AreSettledUntouched why host (unmarked es) → AreUntouched why host.now n m now → AreUpTo m why host es now
+pub passed : (n m : ℕ) (why : Cause) (host : ServerState) (es now : MarkedEntries) → n ≤ m → m ≤ length now → AreUpTo n why host es now → UnaffectedAreSettled why host (unmarked es) → AreUntouched why host.now n m now → AreUpTo m why host es now
 passed n m why host es now from within before untouched calm =
     let to : n + (m - n) ≡ m = omega (arith, from) in
     subst (λ (k : ℕ). AreUpTo k why host es now) to
@@ -155,7 +155,7 @@ none_left n why host es now all up =
     (all_settled n host (unmarked es) (unmarked now) up.0 (omega (arith, all, many, length-map es unmarked_entry)), all_up n why host now (omega (arith, all)) up.1)
 
 -- A change that affects no connection.
-pub none_touched : (why : Cause) (host : ServerState) (es : MarkedEntries) → AreSettledUntouched why host (unmarked es) → AreMarkedBut why host es → AreUntouched why host.now 0 (length es) es → (unmarked es ≡ map (settled_entry host) (unmarked es)) × AreAllMarked host es
+pub none_touched : (why : Cause) (host : ServerState) (es : MarkedEntries) → UnaffectedAreSettled why host (unmarked es) → AreMarkedBut why host es → AreUntouched why host.now 0 (length es) es → (unmarked es ≡ map (settled_entry host) (unmarked es)) × AreAllMarked host es
 none_touched why host es untouched marked calm =
     none_left (length es) why host es es refl (passed 0 (length es) why host es es (omega arith) (omega arith) (none_settled host (unmarked es), marked) untouched calm)
 
@@ -172,8 +172,8 @@ module _ (host : ServerState) (i hash : ℕ) (es : Entries) (s after : SessionVa
   settled_at_index : set_value_at es i after ≡ changed_at i (λ _. session_settled host s) es
   settled_at_index = ap (set_value_at es i) settles ∙ written_at_index (λ _. session_settled host s) es i s at
 
-  pub others_untouched : AreOthersSettled (Some hash) i host es → AreSettledUntouched (cause.Path hash) host (set_value_at es i after)
-  others_untouched others = subst (AreSettledUntouched (cause.Path hash) host) (sym settled_at_index) (others (session_settled host s) (settled_is_settled host s))
+  pub others_untouched : AreOthersSettled (Some hash) i host es → UnaffectedAreSettled (cause.Path hash) host (set_value_at es i after)
+  others_untouched others = subst (UnaffectedAreSettled (cause.Path hash) host) (sym settled_at_index) (others (session_settled host s) (settled_is_settled host s))
 
   pub all_settle : map (settled_entry host) (set_value_at es i after) ≡ map (settled_entry host) es
   all_settle = ap (map (settled_entry host)) settled_at_index ∙ settled_first host i es s at

@@ -7,7 +7,7 @@ use Rattle.coap_store.specs.declared.fault.StoreFault.{StoreFault}
 use Rattle.coap_store.specs.declared.fault.StoreFault.TheVariants as storing
 use Rattle.coap_script.specs.script.Events.{ScriptEventValue, Open, In, Drain, Tick, Put, Remove, End, Release, Drop, Status}
 use Rattle.coap_script.specs.script.Lines.{open_line, in_line, out_line, tick_line, put_line, remove_line, word_line, status_line, fault_line}
-use Rattle.coap_server_engine.specs.values.Fed.{Fed, fed}
+use Rattle.coap_server_engine.specs.values.InResults.{InResult, in_result}
 use Rattle.coap_server_session.specs.values.Sessions.{SessionValue}
 use Rattle.coap_server_engine.specs.values.Servers.{ServerValue, session_of, server_opened, server_written, server_ticked, server_put, server_removed, server_ended, server_released, server_dropped}
 use Rattle.coap_server_engine.specs.values.ServerAnswers.{open_refusal, released_refusal}
@@ -17,12 +17,12 @@ use Rattle.coap_model.specs.declared.answers.ReleaseFault.{ReleaseFault}
 use Rattle.coap_model.specs.declared.answers.ReleaseFault.TheVariants as releasing
 
 -- The result of events: the server after them, and the text that they write.
-pub record Ran : Type 0 where
+pub record EventResult : Type 0 where
   pub server : ServerValue
   pub text : List ℕ
 
 -- The result with this server and this text.
-abbrev pub comes_to : ServerValue → List ℕ → Ran
+abbrev pub comes_to : ServerValue → List ℕ → EventResult
 comes_to v line = record { server = v; text = line }
 
 -- ---- the numbers of errors
@@ -53,16 +53,16 @@ tick_refusal v now = if nat_le v.host.now now then None else Some 1
 -- ---- events that fail
 
 -- The result of an event that fails with this number: the server is unchanged.
-abbrev pub refused : ServerValue → List ℕ → Option ℕ → ℕ → Ran
+abbrev pub refused : ServerValue → List ℕ → Option ℕ → ℕ → EventResult
 refused v word id number = comes_to v (fault_line word id number)
 
 -- The result of an event, unless it fails with a number.
-abbrev pub unless_refused : ServerValue → List ℕ → Option ℕ → Ran → Option ℕ → Ran
+abbrev pub unless_refused : ServerValue → List ℕ → Option ℕ → EventResult → Option ℕ → EventResult
 unless_refused v word id does None = does
 unless_refused v word id does (Some number) = refused v word id number
 
 -- The result of an event on a connection. It fails with 1 if there is no connection.
-abbrev pub on_connection : ServerValue → List ℕ → ℕ → (SessionValue → Ran) → Option SessionValue → Ran
+abbrev pub on_connection : ServerValue → List ℕ → ℕ → (SessionValue → EventResult) → Option SessionValue → EventResult
 on_connection v word id does None = refused v word (Some id) 1
 on_connection v word id does (Some s) = does s
 
@@ -74,7 +74,7 @@ stop_number None = None
 stop_number (Some s) = option_map reason_number (stop_of s.link.phase)
 
 -- The result of an `in` after the takes of its bytes.
-abbrev pub in_ran : ℕ → Fed → Ran
+abbrev pub in_ran : ℕ → InResult → EventResult
 in_ran id f = comes_to f.server (in_line id f.count (stop_number (session_of id f.server.sessions)))
 
 -- ---- `drain` and `status`
@@ -85,19 +85,19 @@ drained None waiting = waiting
 drained (Some most) waiting = take most waiting
 
 -- The result of a `drain` of these bytes.
-abbrev pub drain_ran : ServerValue → ℕ → List ℕ → Ran
+abbrev pub drain_ran : ServerValue → ℕ → List ℕ → EventResult
 drain_ran v id bytes = comes_to (server_written v id (length bytes)) (out_line id bytes)
 
 -- The result of a `status`.
-abbrev pub status_ran : ServerValue → ℕ → SessionValue → Ran
+abbrev pub status_ran : ServerValue → ℕ → SessionValue → EventResult
 status_ran v id s = comes_to v (status_line id s.link.phase (length s.frame) (length s.link.waiting) (length s.link.held) (length s.observers))
 
 -- ---- events
 
 -- The result of an event: the server after it, and its line.
-unfoldable pub event_ran : ServerValue → ScriptEventValue → Ran
+unfoldable pub event_ran : ServerValue → ScriptEventValue → EventResult
 event_ran v Open = unless_refused v (codes "open") None (comes_to (server_opened v) (open_line (v.ids + 1))) (option_map open_number (open_refusal v))
-event_ran v (In id bytes) = on_connection v (codes "in") id (λ s. in_ran id (fed v id bytes)) (session_of id v.sessions)
+event_ran v (In id bytes) = on_connection v (codes "in") id (λ s. in_ran id (in_result v id bytes)) (session_of id v.sessions)
 event_ran v (Drain id most) = on_connection v (codes "drain") id (λ s. drain_ran v id (drained most s.link.waiting)) (session_of id v.sessions)
 event_ran v (Tick now) = unless_refused v (codes "tick") None (comes_to (server_ticked v now) (tick_line now)) (tick_refusal v now)
 event_ran v (Put path format bytes) =
@@ -109,10 +109,10 @@ event_ran v (Drop id) = on_connection v (codes "drop") id (λ s. comes_to (serve
 event_ran v (Status id) = on_connection v (codes "status") id (status_ran v id) (session_of id v.sessions)
 
 -- The result `r` with its text after the text `before`.
-abbrev pub behind : List ℕ → Ran → Ran
+abbrev pub behind : List ℕ → EventResult → EventResult
 behind before r = comes_to r.server (before ++ r.text)
 
 -- The server after all events in order, and all their lines.
-unfoldable pub replayed : ServerValue → List ScriptEventValue → Ran
+unfoldable pub replayed : ServerValue → List ScriptEventValue → EventResult
 replayed v [] = comes_to v []
 replayed v (e ∷ es) = behind (event_ran v e).text (replayed (event_ran v e).server es)

@@ -4,7 +4,7 @@ use Rattle.coap_store.specs.Refusals.{put_refusal, remove_refusal}
 use Rattle.coap_script.specs.script.Events.{ScriptEventValue, Open, In, Drain, Tick, Put, Remove, End, Release, Drop, Status}
 use Rattle.coap_server_engine.specs.script.Replay.{event_ran, replayed}
 use Rattle.coap_server_engine.specs.script.Shown.{events_ran}
-use Rattle.coap_server_engine.specs.values.Fed.{IsPartlyFed, ShowsMore}
+use Rattle.coap_server_engine.specs.values.InResults.{IsPartialIn, ShowsMore}
 use Rattle.coap_server_engine.specs.values.Servers.{ServerValue, session_of, is_there}
 use Rattle.coap_server_engine.specs.values.ServerAnswers.{open_refusal}
 use Rattle.coap_server_engine.specs.declared.replay.ReplayFault.{ReplayFault}
@@ -20,7 +20,7 @@ replay_number (Memory event) = 2
 -- bytes before the last one of the message that needed memory.
 abbrev pub IsUnrun : ServerValue → ScriptEventValue → ServerValue → Type 0
 IsUnrun v Open after = (open_refusal v ≡ None) × (after ≡ v)
-IsUnrun v (In id bytes) after = IsPartlyFed v id bytes after
+IsUnrun v (In id bytes) after = IsPartialIn v id bytes after
 IsUnrun v (Drain id most) after = (is_there (session_of id v.sessions) ≡ true) × (after ≡ v)
 IsUnrun v (Tick now) after = ⊥
 IsUnrun v (Put path format bytes) after = (put_refusal v.host.store path bytes ≡ None) × (after ≡ v)

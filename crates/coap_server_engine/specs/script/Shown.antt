@@ -4,7 +4,7 @@ use Rattle.std.specs.declared.alloc.AllocError.{AllocError}
 use Rattle.coap_store.specs.Refusals.{put_refusal, remove_refusal}
 use Rattle.coap_script.specs.script.Events.{ScriptEventValue, Open, In, Drain, Tick, Put, Remove, End, Release, Drop, Status}
 use Rattle.coap_server_engine.specs.script.Replay.{drained, tick_refusal, event_ran, replayed}
-use Rattle.coap_server_engine.specs.values.Fed.{where_there, took, ShowsMore, IsPartlyTaken}
+use Rattle.coap_server_engine.specs.values.InResults.{where_there, took, ShowsMore, IsPartlyTaken}
 use Rattle.coap_server_engine.specs.values.Servers.{ServerValue, session_of}
 use Rattle.coap_server_engine.specs.values.ServerAnswers.{open_refusal, released_refusal}
 use Rattle.coap_model.specs.world.Events.{AcceptedCall, Opened, Wrote, Ticked, Stored, Removed, Ended, Released, Dropped}

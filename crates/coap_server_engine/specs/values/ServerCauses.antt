@@ -11,14 +11,14 @@ use Rattle.coap_server_session.specs.values.Causes.{IsUnaffected, ConcernsNone, 
 use Rattle.coap_server_engine.specs.values.Servers.{changed_at, AreAllMarked}
 
 -- Holds if every connection that a change cannot affect is settled.
-abbrev pub AreSettledUntouched : Cause → ServerState → List (ℕ × SessionValue) → Type 0
-AreSettledUntouched why host sessions = AllByRecursion (λ e. IsUnaffected why host.now e.1 → IsSettled host e.1) sessions
+abbrev pub UnaffectedAreSettled : Cause → ServerState → List (ℕ × SessionValue) → Type 0
+UnaffectedAreSettled why host sessions = AllByRecursion (λ e. IsUnaffected why host.now e.1 → IsSettled host e.1) sessions
 
 -- The same for a change of a path with this hash, if there was any, after the connection at an index is settled too.
 abbrev pub AreOthersSettled : Option ℕ → ℕ → ServerState → List (ℕ × SessionValue) → Type 0
 AreOthersSettled None at host sessions = Unit {0}
 AreOthersSettled (Some hash) at host sessions =
-    (s : SessionValue) → IsSettled host s → AreSettledUntouched (cause.Path hash) host (changed_at at (λ _. s) sessions)
+    (s : SessionValue) → IsSettled host s → UnaffectedAreSettled (cause.Path hash) host (changed_at at (λ _. s) sessions)
 
 -- Holds if a change affects no connection from the index `from` up to, but not including, `to`.
 abbrev pub AreUntouched : Cause → ℕ → ℕ → ℕ → List (ℕ × MarkedSession) → Type 0

@@ -7,16 +7,16 @@ use Rattle.coap_server_engine.specs.script.Replay.{event_ran, drained}
 use Rattle.coap_server_engine.specs.script.Replayed.{IsUnrun}
 use Rattle.coap_server_session.specs.values.Sessions.{SessionValue}
 use Rattle.coap_server_engine.specs.values.Servers.{ServerValue}
-use Rattle.coap_server_engine.specs.declared.replay.Line.{Line}
-use Rattle.coap_server_engine.specs.declared.replay.Line.TheVariants.{Short, Long}
+use Rattle.coap_server_engine.specs.declared.replay.OutputLine.{OutputLine}
+use Rattle.coap_server_engine.specs.declared.replay.OutputLine.TheVariants.{Short, Long}
 use Rattle.coap_server_engine.specs.declared.replay.Drained.{Drained}
 
-abbrev pub line_bytes : Line → List ℕ
+abbrev pub line_bytes : OutputLine → List ℕ
 line_bytes (Short line) = line.items
 line_bytes (Long line) = line.items
 
 -- States the results that the run of an event may have: its line, or the failure of an allocation.
-abbrev pub IsRun : ServerValue → ScriptEventValue → ServerValue → Result Line AllocError → Type 0
+abbrev pub IsRun : ServerValue → ScriptEventValue → ServerValue → Result OutputLine AllocError → Type 0
 IsRun v e after (Ok line) = (after ≡ (event_ran v e).server) × (line_bytes line ≡ (event_ran v e).text)
 IsRun v e after (Err fault) = IsUnrun v e after
 

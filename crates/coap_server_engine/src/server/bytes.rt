@@ -1,7 +1,7 @@
 //! The input and the output of a server's connections.
 
 use super::sessions::{find, flush_at, settle_after, what_was_handled, written_at};
-use super::{Flushed, Server};
+use super::{FlushStep, Server};
 use coap_io::{Outlet, WriteFailed};
 use coap_model::{ConnId, TakeFault, Taken, WrittenFault};
 use std::alloc::AllocError;
@@ -9,7 +9,7 @@ use std::alloc::AllocError;
 impl Server {
     ghost use Rattle.std.specs.Prelude.{◌≡◌, ◌+◌, ◌≤◌, ◌++◌, ◌∷◌, ⊤, List, [], length, take, true, false, is_err};
     ghost use Rattle.std.specs.Prelude.{is_some, IfOk, IfErr, IfSome, OnOk, OnErr, option_copied};
-    ghost use Rattle.coap_server_engine.specs.Prelude.{sem, follows_so, none, RefusedBy, IsPartlyFed, fed, took};
+    ghost use Rattle.coap_server_engine.specs.Prelude.{sem, follows_so, none, RefusedBy, IsPartialIn, in_result, took};
     ghost use Rattle.coap_server_engine.specs.Prelude.{ShowsMore, ShowsPartlyFed, AddsBytes, WritesPart, waiting_at};
     ghost use Rattle.coap_server_engine.specs.Prelude.{more_at, IsFlushedOnce, session_of, is_there, count_taken};
     ghost use Rattle.coap_server_engine.specs.Prelude.{server_taken, server_written, can_take_on, handled_by};
@@ -115,11 +115,11 @@ impl Server {
     ///
     /// Returns `AllocError` if allocation fails. The messages before the failure were processed then.
     pub fn take_all(&mut self, id: ConnId, bytes: &[u8]) -> Result<usize, AllocError>
-        ensures count { IfOk result (λ n. n ≡ (fed self.old id bytes.now).count) }
+        ensures count { IfOk result (λ n. n ≡ (in_result self.old id bytes.now).count) }
         ensures within { IfOk result (λ n. n ≤ length bytes.now) }
-        ensures after { OnOk result (self.new ≡ (fed self.old id bytes.now).server) }
+        ensures after { OnOk result (self.new ≡ (in_result self.old id bytes.now).server) }
         ensures shows { OnOk result (ShowsMore self.old self.new (took self.old id bytes.now)) }
-        ensures err { OnErr result (IsPartlyFed self.old id bytes.now self.new) }
+        ensures err { OnErr result (IsPartialIn self.old id bytes.now self.new) }
         ensures shows_refused { OnErr result (ShowsPartlyFed self.old id bytes.now self.new) }
     {
         let Some(at) = find(&self.sessions, id) else {
@@ -207,7 +207,7 @@ impl Server {
         &mut self,
         id: ConnId,
         writer: &mut W,
-    ) -> Result<Flushed, WriteFailed>
+    ) -> Result<FlushStep, WriteFailed>
         requires { W.is_failed writer.old ≡ false }
         ensures ok { IfOk result (λ f. IsFlushedOnce id self.old self.new
             (AddsBytes (W.written writer.old) (W.written writer.new)) f.waited) }
@@ -218,7 +218,7 @@ impl Server {
         ensures failure { W.is_failed writer.new ≡ is_err result }
     {
         let Some(at) = find(&self.sessions, id) else {
-            return Ok(Flushed {
+            return Ok(FlushStep {
                 waited: false,
                 more: 0,
                 stop: None,
@@ -227,6 +227,6 @@ impl Server {
         let more = self.sessions[at].settle_bound();
         let waited = flush_at(&mut self.sessions, at, &self.host, writer)?;
         let stop = self.sessions[at].phase().stop();
-        Ok(Flushed { waited, more, stop })
+        Ok(FlushStep { waited, more, stop })
     }
 }

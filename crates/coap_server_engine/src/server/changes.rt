@@ -1,7 +1,7 @@
 //! The changes that may affect every connection of a server: of the time, and of the store.
 
 use super::sessions::{next_touched, settle_touched};
-use super::{Server, Stamp};
+use super::{Server, ChangeStamp};
 use coap_model::Backwards;
 use coap_server_session::{Cause, hash_of};
 use coap_store::{PathKey, StoreFault};
@@ -104,12 +104,12 @@ impl Server {
 
     /// Returns the change stamp of the server. Its contract also states that every connection is settled, as after
     /// every call.
-    pub fn stamp(&self) -> Stamp
+    pub fn stamp(&self) -> ChangeStamp
         ensures stamp { result ≡ stamp_of self.now.host }
         ensures store { IsStore self.now.host.store }
         ensures settled { AreSettled self.now.host self.now.sessions }
     {
-        Stamp {
+        ChangeStamp {
             moment: self.host.now,
             versions: self.host.store.versions(),
             resources: self.host.store.count(),

@@ -1,7 +1,7 @@
 //! The connections of a server: opened, ended, released, dropped, and their status.
 
 use super::sessions::{announce_at, end_at, find, release_at};
-use super::{Outlook, Server};
+use super::{ConnectionWork, Server};
 use coap_model::{AnnounceFault, ConnId, NoSuch, OpenFault, ReleaseFault, Status};
 use coap_server_session::Session;
 
@@ -171,11 +171,11 @@ impl Server {
     }
 
     /// Returns the work left on a connection, or `None` if no connection has this id.
-    pub fn outlook(&self, id: ConnId) -> Option<Outlook>
+    pub fn outlook(&self, id: ConnId) -> Option<ConnectionWork>
         ensures { result ≡ outlook_of self.now id }
     {
         let session = self.sessions.get(&id)?;
-        Some(Outlook {
+        Some(ConnectionWork {
             takes: session.takes(),
             stopped: session.phase().stop().is_some(),
             waits: session.waiting() > 0,

@@ -6,7 +6,7 @@ ghost use Rattle.coap_server_engine.specs.Prelude.{values, values_of, SessionVal
 ghost use Rattle.coap_server_engine.specs.Prelude.{AreMarkedBut, AreMarkedAfter, RefusedBy, AddsBytes, WritesPart};
 ghost use Rattle.coap_server_engine.specs.Prelude.{IsFlushedAt, session_written, session_ended, session_released};
 ghost use Rattle.coap_server_engine.specs.Prelude.{session_announced, session_settled, LiesAt, session_of, changed_at};
-ghost use Rattle.coap_server_engine.specs.Prelude.{settled_entry, AreSettled, AreSettledUntouched, AreUntouched};
+ghost use Rattle.coap_server_engine.specs.Prelude.{settled_entry, AreSettled, UnaffectedAreSettled, AreUntouched};
 ghost use Rattle.coap_server_engine.specs.Prelude.{AreOthersSettled, settled_held, released_refusal_on, IsAnnounced};
 ghost use Rattle.coap_server_engine.specs.Prelude.{handled_so};
 
@@ -49,7 +49,7 @@ pub(super) fn next_touched(
 /// Recomputes the marks on every connection that a change may affect, and settles these connections. The others are
 /// settled already.
 pub(super) fn settle_touched(sessions: &mut Sessions, host: &ServerState, cause: Cause)
-    requires settled { AreSettledUntouched cause host.now (unmarked sessions.old.entries) }
+    requires settled { UnaffectedAreSettled cause host.now (unmarked sessions.old.entries) }
     requires marked { AreMarkedBut cause host.now sessions.old.entries }
     ensures after { unmarked sessions.new.entries
         ≡ map (settled_entry host.entry.now) (unmarked sessions.old.entries) }

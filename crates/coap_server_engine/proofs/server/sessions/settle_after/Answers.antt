@@ -1,5 +1,5 @@
 use Rattle.std.proofs.Common.{IfSome, Option, refl, sym, ap, subst, ◌∙◌, map}
-use Rattle.coap_server_engine.specs.Prelude.{MarkedSession, IsMarked, IsMarkedBut, AreSettledUntouched, settled_entry}
+use Rattle.coap_server_engine.specs.Prelude.{MarkedSession, IsMarked, IsMarkedBut, UnaffectedAreSettled, settled_entry}
 use Rattle.coap_server_engine.specs.Prelude.{settled_held}
 use Rattle.coap_server_session.specs.declared.cause.Cause.TheVariants as cause
 use Rattle.coap_server_engine.proofs.values.ServerLemmas.{written_unmarked, set_unmarked, unmarked_at, all_written}
@@ -32,7 +32,7 @@ settle_touched-requires c =
     let e = c.settle.ensures in
     let others = others_untouched host c.args.at c.in-Some.hash _ _ _ (unmarked_at es c.args.at _ c.index_mut-in-Some.ensures.value) e.after (rw c.in-Some.is at c.requires.others) in
     record {
-      settled = subst (AreSettledUntouched why host) (sym (set_unmarked es c.args.at now now.session refl)) others;
+      settled = subst (UnaffectedAreSettled why host) (sym (set_unmarked es c.args.at now now.session refl)) others;
       marked = all_written (IsMarkedBut why host) es c.args.at now (rw c.in-Some.is at c.requires.marked) (but_none why host now e.marked);
     }
 

@@ -1,6 +1,6 @@
 use Rattle.coap_server_engine.proofs.scripting.CutTakes.{fed_in_parts}
 use Rattle.coap_server_engine.proofs.scripting.CutScripts.{text_of_lines, cuts_alike_servers, same_lines}
-use Rattle.coap_server_engine.proofs.laws.where_a_script_cuts_does_not_matter.Goals as goal
+use Rattle.coap_server_engine.proofs.laws.script_segmentation_is_irrelevant.Goals as goal
 
 pub returns : goal.returns
 returns c = record {
