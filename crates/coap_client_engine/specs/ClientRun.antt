@@ -68,7 +68,7 @@ pub record IsClientRun (plan : ClientPlan) (start now : Seen) (status : ℕ) : T
 
 -- The contract of a run for which allocation fails: the clock recorded one time, and the other devices recorded
 -- nothing.
-pub record IsUnbegun (plan : ClientPlan) (start now : Seen) : Type 0 where
+pub record FailedBeforeStart (plan : ClientPlan) (start now : Seen) : Type 0 where
   pub moment : ℕ
   pub told : IsTold plan start now (Begins moment)
 

@@ -79,7 +79,7 @@ pub use Rattle.coap_request.specs.declared.request.Method.{Method}
 pub use Rattle.coap_request.specs.declared.request.Method.TheVariants.{Get}
 -- ---- coap_client_engine
 pub use Rattle.coap_client_engine.specs.ClientLaws.{AreDifferent, tokens_given, token_given, tokens_behind}
-pub use Rattle.coap_client_engine.specs.ClientRun.{IsReady, IsClientRun, IsUnbegun, seen, with_outlets, with_wire}
+pub use Rattle.coap_client_engine.specs.ClientRun.{IsReady, IsClientRun, FailedBeforeStart, seen, with_outlets, with_wire}
 pub use Rattle.coap_client_engine.specs.ClientRun.{with_all, HasLooked, IsHeard, IsTaken, IsFinished, IsFlushed, Leads}
 pub use Rattle.coap_client_engine.specs.ClientRun.{LeadsAll, Flushes, IsAsked, IsEnded, IsOutOfTurns, LeadsOn, Seen}
 pub use Rattle.coap_client_engine.specs.ClientRun.{Stands, most_turns, token_of}

@@ -2,7 +2,7 @@
 
 ghost use Rattle.std.specs.Prelude.{◌≡◌, ◌||◌, false, is_err, IfOk, IfSome};
 ghost use Rattle.coap_client_engine.specs.Prelude.{is_output_fault, IfMemory, IsStatus, IsFresh, IsClientRun};
-ghost use Rattle.coap_client_engine.specs.Prelude.{IsUnbegun, seen, with_outlets, with_all, HasLooked, IsFinished};
+ghost use Rattle.coap_client_engine.specs.Prelude.{FailedBeforeStart, seen, with_outlets, with_all, HasLooked, IsFinished};
 ghost use Rattle.coap_client_engine.specs.Prelude.{IsFlushed, Leads};
 
 mod deadlines;
@@ -61,7 +61,7 @@ pub fn run_client<W: Wire, C: Clock, O: Outlet, E: Outlet>(
         (E.written err.new))) }
     ensures status { IfOk result IsStatus }
     // If allocation fails, nothing was read or written before.
-    ensures memory { IfMemory result (IsUnbegun plan.now
+    ensures memory { IfMemory result (FailedBeforeStart plan.now
         (seen (W.given wire.old) (W.written wire.old) (W.answers wire.old) (C.moments clock.old) (O.written out.old)
         (E.written err.old)) (seen (W.given wire.new) (W.written wire.new) (W.answers wire.new) (C.moments clock.new)
         (O.written out.new) (E.written err.new))) }

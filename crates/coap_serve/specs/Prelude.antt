@@ -52,11 +52,11 @@ unfoldable pub use Rattle.coap_model.specs.world.Connections.{settled}
 pub use Rattle.coap_model.specs.world.World.{World, Step}
 unfoldable pub use Rattle.coap_model.specs.world.World.{side_of, step}
 -- ---- coap_serve, declared
-pub use Rattle.coap_serve.specs.declared.door.agenda.Agenda.{Agenda}
-pub use Rattle.coap_serve.specs.declared.door.peer.Course.{Course}
-pub use Rattle.coap_serve.specs.declared.door.peer.Course.TheVariants.{Over}
+pub use Rattle.coap_serve.specs.declared.door.next_wakeup.NextWakeup.{NextWakeup}
+pub use Rattle.coap_serve.specs.declared.door.peer.PeerOutcome.{PeerOutcome}
+pub use Rattle.coap_serve.specs.declared.door.peer.PeerOutcome.TheVariants.{Over}
 pub use Rattle.coap_serve.specs.declared.door.peer.Peer.{Peer}
-pub use Rattle.coap_serve.specs.declared.door.wants.Wants.{Wants}
+pub use Rattle.coap_serve.specs.declared.door.peer_interest.PeerInterest.{PeerInterest}
 pub use Rattle.coap_server_session.specs.declared.server_state.ServerState.{ServerState}
 pub use Rattle.coap_serve.specs.declared.serve.IoFault.{IoFault}
 pub use Rattle.coap_serve.specs.declared.serve.IoFault.TheVariants.{Memory, Read, Turns, Write}
@@ -68,19 +68,19 @@ pub use Rattle.coap_server_engine.specs.declared.server.ChangeStamp.{ChangeStamp
 pub use Rattle.coap_serve.specs.streams.DoorRun.{IsDoorRun, waited_behind, moved_to, EndsWith, HasTurnedSo, IsCutRun}
 pub use Rattle.coap_serve.specs.streams.DoorRun.{NoneYet, OneMore}
 pub use Rattle.coap_serve.specs.streams.Faults.{is_read_fault, is_write_fault, IsMemory, IsMemoryOrTurns}
-pub use Rattle.coap_serve.specs.streams.Notes.{true_end, AreNoted, IsNoEarlier, KeepsNotes, WhilePassedOver, AtFirst}
-pub use Rattle.coap_serve.specs.streams.Notes.{IsNoted, Served}
+pub use Rattle.coap_serve.specs.streams.RecordedInterests.{true_end, AreNoted, IsNoEarlier, KeepsNotes, WhilePassedOver, AtFirst}
+pub use Rattle.coap_serve.specs.streams.RecordedInterests.{IsNoted, Served}
 pub use Rattle.coap_serve.specs.streams.Serving.{HasServed, HasTurned, IsAskedOnce, IsTurnOf, HasGoneOn, AreServed}
 pub use Rattle.coap_serve.specs.streams.Serving.{asked_by, HadItsPart, HasOneMore, IsOpening, IsRound, IsServing}
 pub use Rattle.coap_serve.specs.streams.Serving.{NoMore, PassedOver, opening}
-pub use Rattle.coap_serve.specs.streams.Standing.{Stands, IsGoing, IsTurn, HasRead, IsCut, IsRefused, IsWhole, Says}
+pub use Rattle.coap_serve.specs.streams.StdioProgress.{IsAtBytes, IsRunningAt, IsTurn, HasRead, IsCut, IsRefused, IsWhole, Says}
 pub use Rattle.coap_serve.specs.streams.StdioRun.{IsStdioRun, AreNotEmpty, EndsRun, GoesOn, IsLastByte, LeavesNothing}
 pub use Rattle.coap_serve.specs.streams.StdioRun.{LeavesNothingWaiting}
-pub use Rattle.coap_serve.specs.streams.Turns.{end_of, agenda_past, IsAtRest, IsInTurn, agenda_with, wait_of}
+pub use Rattle.coap_serve.specs.streams.Turns.{end_of, agenda_past, IsIdle, IsInTurn, agenda_with, wait_of}
 pub use Rattle.coap_serve.specs.streams.Turns.{IsServedOnce, IsLaidOut, is_heard, server_heard, server_wrote}
 pub use Rattle.coap_serve.specs.streams.Turns.{waiting_once, rest_left, is_over_in, has_failed, course_of, wants_of}
 pub use Rattle.coap_serve.specs.streams.Turns.{IsAsked, CanGoOn, IsRestAnswer, IsServed, IsAgendaOf, IsWaitAfter}
-pub use Rattle.coap_serve.specs.streams.Turns.{wants_in, ComesToNothing, can_go_on, FarEnd, IsCarriedOn}
+pub use Rattle.coap_serve.specs.streams.Turns.{wants_in, IsNoOp, can_go_on, PeerStatus, IsCarriedOn}
 pub use Rattle.coap_serve.specs.streams.Turns.{IsTakenAndWritten, least_with, left_behind, IsOffered, CanAnyGoOn}
 pub use Rattle.coap_serve.specs.streams.Turns.{concerns_earlier, wait_for}
 -- ---- coap_serve, values

@@ -1,9 +1,9 @@
 -- Runs of `serve_one` and `serve_door`: their errors, progress, turns and recorded interests, and the definition of
 -- each run.
 pub mod StdioRun
-pub mod Standing
+pub mod StdioProgress
 pub mod Faults
 pub mod Turns
-pub mod Notes
+pub mod RecordedInterests
 pub mod Serving
 pub mod DoorRun

@@ -2,11 +2,11 @@
 
 ghost use Rattle.coap_serve.specs.Prelude.{IsDoorRun, waited_behind, TellsMore, trace_by, IsMemoryOrTurns};
 
-mod agenda;
+mod next_wakeup;
 mod peer;
 mod service;
 mod turn;
-mod wants;
+mod peer_interest;
 
 use crate::serve::IoFault;
 use coap_io::{Clock, Door, Wait};
@@ -68,7 +68,7 @@ pub fn serve_door<D: Door, C: Clock>(
     };
     let mut wait = Wait::No;
     for turn in 0..config.turns() {
-        wait_behind(door, turn, wait, service.can_open());
+        wait_after_turn(door, turn, wait, service.can_open());
         let _ = service.tick(clock.now());
         wait = service.turn(door)?;
     }
@@ -76,7 +76,7 @@ pub fn serve_door<D: Door, C: Clock>(
 }
 
 /// Lets the listener wait after a turn; `turns` is the number of turns made. There is no wait before the first turn.
-fn wait_behind<D: Door>(door: &mut D, turns: u64, wait: Wait, opens: bool)
+fn wait_after_turn<D: Door>(door: &mut D, turns: u64, wait: Wait, opens: bool)
     ensures { TellsMore (D.calls door.old) (D.calls door.new) (waited_behind turns wait opens) }
 {
     if turns > 0 {

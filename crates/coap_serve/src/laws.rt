@@ -12,6 +12,6 @@ pub use coap_server_engine::laws::{
     only_stores_allocate, waiting_until_next_deadline_is_safe, script_segmentation_is_irrelevant,
 };
 pub use runs::{
-    a_flush_leaves_nothing_waiting, stamps_never_come_back, what_has_nothing_to_do_is_passed_over,
-    what_was_noted_holds,
+    a_flush_leaves_nothing_waiting, stamps_do_not_repeat, idle_connections_may_be_skipped,
+    recorded_interests_stay_valid,
 };

@@ -3,8 +3,8 @@
 ghost use Rattle.std.specs.Prelude.{◌≡◌, ◌+◌, ◌<◌, ◌≤◌, ◌^◌, ℕ, false, List, [], ◌++◌, length, Some, IfOk};
 ghost use Rattle.coap_serve.specs.Prelude.{AllByRecursion, end_reason, AreInRange, ConfigValues, session_of, stop_on};
 ghost use Rattle.coap_serve.specs.Prelude.{count_of, is_cut, HasGiven, AddsBytes, only_id, stream_of, stdio_output};
-ghost use Rattle.coap_serve.specs.Prelude.{Stands, IsGoing, IsTurn, IsStdioRun, is_read_fault, is_write_fault};
-ghost use Rattle.coap_serve.specs.streams.Standing.{IsServed};
+ghost use Rattle.coap_serve.specs.Prelude.{IsAtBytes, IsRunningAt, IsTurn, IsStdioRun, is_read_fault, is_write_fault};
+ghost use Rattle.coap_serve.specs.streams.StdioProgress.{IsServed};
 
 use crate::output::flush;
 use coap_conn::Reason;
@@ -130,7 +130,7 @@ fn run<R: Source, W: Outlet>(
 ) -> Result<Report, IoFault>
     requires reader_works { R.is_failed reader.old ≡ false }
     requires writer_works { W.is_failed writer.old ≡ false }
-    requires stands { IsGoing config.now server.old id [] }
+    requires stands { IsRunningAt config.now server.old id [] }
     ensures run { (pieces : List (List ℕ)) × (output : List ℕ)
         × HasGiven (R.told reader.old) (R.told reader.new) pieces
         × AllByRecursion (λ p. length p ≤ 4096) pieces
@@ -167,9 +167,9 @@ fn take_turn<R: Source, W: Outlet>(
 ) -> Result<Turn, IoFault>
     requires reader_works { R.is_failed reader.old ≡ false }
     requires writer_works { W.is_failed writer.old ≡ false }
-    requires stands { (c : ConfigValues) × (bytes : List ℕ) × IsGoing c server.old id bytes }
+    requires stands { (c : ConfigValues) × (bytes : List ℕ) × IsRunningAt c server.old id bytes }
     requires room { length buffer.old ≡ 4096 }
-    ensures turn { (c : ConfigValues) (bytes : List ℕ) → IsGoing c server.old id bytes → IsTurn c bytes server.new
+    ensures turn { (c : ConfigValues) (bytes : List ℕ) → IsRunningAt c server.old id bytes → IsTurn c bytes server.new
         (HasGiven (R.told reader.old) (R.told reader.new))
         (AddsBytes (W.written writer.old) (W.written writer.new)) result }
     ensures few { IfOk result (λ t. t.read ≤ 4096) }
@@ -209,8 +209,8 @@ fn serve_piece<W: Outlet>(
     piece: &[u8],
 ) -> Result<u64, IoFault>
     requires works { W.is_failed writer.old ≡ false }
-    requires stands { (c : ConfigValues) × (bytes : List ℕ) × IsGoing c server.old id bytes }
-    ensures served { (c : ConfigValues) (bytes : List ℕ) → IsGoing c server.old id bytes →
+    requires stands { (c : ConfigValues) × (bytes : List ℕ) × IsRunningAt c server.old id bytes }
+    ensures served { (c : ConfigValues) (bytes : List ℕ) → IsRunningAt c server.old id bytes →
         IsServed c bytes piece.now server.new (AddsBytes (W.written writer.old) (W.written writer.new)) result }
     ensures few { IfOk result (λ messages. messages ≤ length piece.now) }
     ensures failure { W.is_failed writer.new ≡ is_write_fault result }
@@ -256,8 +256,8 @@ fn stop(server: &Server, id: ConnId) -> Option<Reason>
 
 /// Reports the end of input to a connection, and returns the reason why it processes no further message.
 fn end(server: &mut Server, id: ConnId) -> Option<Reason>
-    requires stands { (c : ConfigValues) × (bytes : List ℕ) × IsGoing c server.old id bytes }
-    ensures { (c : ConfigValues) (bytes : List ℕ) → IsGoing c server.old id bytes →
+    requires stands { (c : ConfigValues) × (bytes : List ℕ) × IsRunningAt c server.old id bytes }
+    ensures { (c : ConfigValues) (bytes : List ℕ) → IsRunningAt c server.old id bytes →
         result ≡ Some (end_reason (is_cut (stream_of c bytes).rest)) }
 {
     let Ok(()) = server.ended(id) else {

@@ -1,10 +1,10 @@
 -- The work that remains on the connections visited so far in a turn.
 use Rattle.std.proofs.Common.{◌≡◌, ◌⊎◌, ℕ, suc, ◌+◌, ◌≤◌, Bool, true, false, List, [], ◌∷◌, ◌++◌, length, map, take, drop, Option, Some, None, refl, sym, ap, subst, ◌∙◌, inl, inr, arith, ◌||◌, slice_get, IfSome, ◌<◌, remove, nat_eq, append_assoc, add-one}
 use Rattle.std.proofs.lemmas.Bool.Decides.{nat_tests}
-use Rattle.coap_serve.specs.Prelude.{AllByRecursion, keys_of, values_of, Agenda, Course, Over, Wants, ServerState, ConnectionWork}
+use Rattle.coap_serve.specs.Prelude.{AllByRecursion, keys_of, values_of, NextWakeup, PeerOutcome, Over, PeerInterest, ServerState, ConnectionWork}
 use Rattle.coap_serve.specs.Prelude.{ChangeStamp, sooner, stamp_of, outlook_of, ServerValue, server_opened}
-use Rattle.coap_serve.specs.Prelude.{server_dropped, FarEnd, agenda_with, agenda_past, IsAsked, IsServed, CanGoOn}
-use Rattle.coap_serve.specs.Prelude.{IsAtRest, IsInTurn, IsAgendaOf, least_with, wants_in, wants_of, end_of}
+use Rattle.coap_serve.specs.Prelude.{server_dropped, PeerStatus, agenda_with, agenda_past, IsAsked, IsServed, CanGoOn}
+use Rattle.coap_serve.specs.Prelude.{IsIdle, IsInTurn, IsAgendaOf, least_with, wants_in, wants_of, end_of}
 use Rattle.coap_serve.specs.Prelude.{insert_entry, Peer, open_refusal, HasGoneOn, HasOneMore, AreServed, NoMore}
 use Rattle.coap_serve.specs.Prelude.{PassedOver, HadItsPart, CanAnyGoOn, WireTrace, concerns_earlier}
 use Rattle.std.proofs.lemmas.List.{map-append, length-map, length-append, length-take, length-take-le, append-nil, append_cancel_left, take_all, take_at, take_more, take-take, take-append-drop, drop_all, drop_at, drop_more, drop-append-le}
@@ -12,7 +12,7 @@ use Rattle.std.proofs.lemmas.List.Sums.{fold-append}
 use Rattle.std.proofs.lemmas.Option.{same_Some, slice_get_cases, slice_get-map, slice_get_within, get_or_from_slice_get}
 use Rattle.std.proofs.lemmas.Bool.{or_parts, or_left}
 use Rattle.std.proofs.Math.Bool.{or_assoc, or-false}
-use Rattle.coap_serve.specs.declared.door.peer.Course.TheVariants.{Open}
+use Rattle.coap_serve.specs.declared.door.peer.PeerOutcome.TheVariants.{Open}
 use Rattle.coap_model.proofs.world.EntryLemmas.{all_append}
 use Rattle.coap_model.proofs.OptionLemmas.{one_made}
 
@@ -35,12 +35,12 @@ an_answer true (Some told) = (told, refl)
 an_answer false told = (false, refl)
 
 -- The readiness of a connection whose wire returned `reads` for a read.
-pub can_with : (e : FarEnd) (reads : Bool) → IsAsked e.wants.read e.readable reads → CanGoOn e (e.wants.take || reads || (an_answer e.wants.write e.writable).0)
+pub can_with : (e : PeerStatus) (reads : Bool) → IsAsked e.wants.read e.readable reads → CanGoOn e (e.wants.take || reads || (an_answer e.wants.write e.writable).0)
 can_with e reads asked = let writes = an_answer e.wants.write e.writable in record { reads = reads; writes = writes.0; read = asked; write = writes.1; is = refl }
 
 -- The connection is ready: bytes that were read can be accepted or must be discarded, or its wire must be read and may
 -- be.
-pub can_go_on_so : (e : FarEnd) (reads result : Bool) → IsAsked e.wants.read e.readable reads → (e.wants.take || reads) ≡ true → result ≡ true → CanGoOn e result
+pub can_go_on_so : (e : PeerStatus) (reads result : Bool) → IsAsked e.wants.read e.readable reads → (e.wants.take || reads) ≡ true → result ≡ true → CanGoOn e result
 can_go_on_so e reads result asked may is = subst (CanGoOn e) (or_left (e.wants.take || reads) _ may ∙ sym is) (can_with e reads asked)
 
 -- ---- the agenda
@@ -52,16 +52,16 @@ or_turned : (a b c : Bool) → ((a || b) || c) ≡ ((a || c) || b)
 or_turned a b c = grind arith
 
 -- The readiness of two lists together is that of either.
-can_both : (xs ys : List FarEnd) (one other : Bool) → CanAnyGoOn xs one → CanAnyGoOn ys other → CanAnyGoOn (xs ++ ys) (one || other)
+can_both : (xs ys : List PeerStatus) (one other : Bool) → CanAnyGoOn xs one → CanAnyGoOn ys other → CanAnyGoOn (xs ++ ys) (one || other)
 can_both [] ys one other none can = rw none can
 can_both (e ∷ es) ys one other can more = (can.0, can.1 || other, can.2, can_both es ys can.1 other can.3 more, rw can.4 (or_assoc can.0 can.1 other))
 
 -- Nothing can be done on idle connections.
-none_at_rest : (stamp : ChangeStamp) (all : List FarEnd) → AllByRecursion (IsAtRest stamp) all → CanAnyGoOn all false
+none_at_rest : (stamp : ChangeStamp) (all : List PeerStatus) → AllByRecursion (IsIdle stamp) all → CanAnyGoOn all false
 none_at_rest stamp [] rests = refl
 none_at_rest stamp (e ∷ es) rests = (false, false, rests.0.1, none_at_rest stamp es rests.1, refl)
 
-fresh_at_rest : (stamp : ChangeStamp) (all : List FarEnd) → AllByRecursion (IsAtRest stamp) all → AllByRecursion (λ e. e.wants.stamp ≡ stamp) all
+fresh_at_rest : (stamp : ChangeStamp) (all : List PeerStatus) → AllByRecursion (IsIdle stamp) all → AllByRecursion (λ e. e.wants.stamp ≡ stamp) all
 fresh_at_rest stamp [] rests = tt
 fresh_at_rest stamp (e ∷ es) rests = (rests.0.0, fresh_at_rest stamp es rests.1)
 
@@ -98,9 +98,9 @@ front_stays xs i within = take_at (take i xs) (drop (suc i) xs) i (length-take-l
 
 -- ---- an iteration of the loop
 
-module _ {P : Type 0} (far : P → FarEnd) where
+module _ {P : Type 0} (far : P → PeerStatus) where
   -- The states of the connections that decide whether they can be served.
-  abbrev pub far_ends : List (ℕ × P) → List FarEnd
+  abbrev pub far_ends : List (ℕ × P) → List PeerStatus
   far_ends es = map (λ e. far e.1) es
 
   more_ends : (es : List (ℕ × P)) (from i : ℕ) (p : P) → from ≤ i → slice_get (values_of es) i ≡ Some p
@@ -108,7 +108,7 @@ module _ {P : Type 0} (far : P → FarEnd) where
   more_ends es from i p order at = let there = value_at es i p at in rw (more_between es from i there.0 order there.1, map-append, there.2) refl
 
   -- One connection was served and stays open.
-  pub open_step : (es : List (ℕ × P)) (i : ℕ) (p : P) {a b : Agenda} {changed : Bool} {stamp : ChangeStamp} {ready : Bool} → slice_get (values_of es) i ≡ Some p
+  pub open_step : (es : List (ℕ × P)) (i : ℕ) (p : P) {a b : NextWakeup} {changed : Bool} {stamp : ChangeStamp} {ready : Bool} → slice_get (values_of es) i ≡ Some p
       → IsAgendaOf a changed stamp (far_ends (take i es)) → CanGoOn (far p) ready → (far p).wants.stamp ≡ stamp → b ≡ agenda_with a ready (far p).wants.due
       → IsAgendaOf b changed stamp (far_ends (take (i + 1) es))
   open_step es i p {a} {b} {changed} {stamp} {ready} at seen can same is = rw (more_ends es 0 i p (omega arith) at, is) (record {
@@ -120,7 +120,7 @@ module _ {P : Type 0} (far : P → FarEnd) where
   })
 
   -- Serving a connection may affect those before it, as the stamps of the server before and after show.
-  pub served_later : (es fs : List (ℕ × P)) (i : ℕ) {a b : Agenda} {changed : Bool} (was is : ServerState) {stamp later : ChangeStamp} {concerns : Bool} → IsAgendaOf a changed (stamp_of was) (far_ends (take i es))
+  pub served_later : (es fs : List (ℕ × P)) (i : ℕ) {a b : NextWakeup} {changed : Bool} (was is : ServerState) {stamp later : ChangeStamp} {concerns : Bool} → IsAgendaOf a changed (stamp_of was) (far_ends (take i es))
       → take i fs ≡ take i es → stamp ≡ stamp_of was → later ≡ stamp_of is → concerns ≡ concerns_earlier i stamp later → b ≡ agenda_with a concerns None
       → IsAgendaOf b (changed || concerns_earlier i (stamp_of was) (stamp_of is)) (stamp_of is) (far_ends (take i fs))
   served_later es fs i {a} {changed = changed} was is seen same_front before after is_so is_with = rw (same_front, is_with, is_so, before, after) (record {
@@ -137,7 +137,7 @@ module _ {P : Type 0} (far : P → FarEnd) where
 
   -- The connections between two indices are idle, and the deadline includes theirs.
   pub record ArePassed (es : List (ℕ × P)) (from to : ℕ) (stamp : ChangeStamp) (before now : Option ℕ) : Type 0 where
-    pub rest : AllByRecursion (IsAtRest stamp) (far_ends (drop from (take to es)))
+    pub rest : AllByRecursion (IsIdle stamp) (far_ends (drop from (take to es)))
     pub due : now ≡ least_with before (far_ends (drop from (take to es)))
 
   pub none_passed : (es : List (ℕ × P)) (from : ℕ) (stamp : ChangeStamp) (before : Option ℕ) → ArePassed es from from stamp before before
@@ -146,12 +146,12 @@ module _ {P : Type 0} (far : P → FarEnd) where
       record { rest = rw none tt; due = rw none refl }
 
   pub one_more_passed : (es : List (ℕ × P)) (from i : ℕ) (p q : P) (stamp : ChangeStamp) (before due later : Option ℕ) → from ≤ i → slice_get (values_of es) i ≡ Some p → slice_get (values_of es) i ≡ Some q
-      → ArePassed es from i stamp before due → IsAtRest stamp (far q) → later ≡ sooner due (far p).wants.due → ArePassed es from (i + 1) stamp before later
+      → ArePassed es from i stamp before due → IsIdle stamp (far q) → later ≡ sooner due (far p).wants.due → ArePassed es from (i + 1) stamp before later
   one_more_passed es from i p q stamp before due later order at again passed rests is =
       let more = more_ends es from i p order at in
       let same : q ≡ p = cc in
       record {
-        rest = rw more (all_append (IsAtRest stamp) (far_ends (drop from (take i es))) (far p ∷ []) passed.rest (rw same at rests, tt));
+        rest = rw more (all_append (IsIdle stamp) (far_ends (drop from (take i es))) (far p ∷ []) passed.rest (rw same at rests, tt));
         due = rw (more, is, passed.due, fold-append) refl;
       }
 
@@ -160,11 +160,11 @@ module _ {P : Type 0} (far : P → FarEnd) where
   one_next es i p stamp at in_turn = let there = value_at es i p at in rw (there.1, there.2) in_turn
 
   -- Connections that were visited, followed by those that were skipped then.
-  pub past_on : (es : List (ℕ × P)) (from to : ℕ) {a b : Agenda} {changed : Bool} (host : ServerState) {stamp : ChangeStamp} → stamp ≡ stamp_of host → from ≤ to → IsAgendaOf a changed (stamp_of host) (far_ends (take from es))
-      → AllByRecursion (IsAtRest stamp) (far_ends (drop from (take to es))) → b ≡ agenda_past a (far_ends (drop from (take to es))) → IsAgendaOf b changed (stamp_of host) (far_ends (take to es))
+  pub past_on : (es : List (ℕ × P)) (from to : ℕ) {a b : NextWakeup} {changed : Bool} (host : ServerState) {stamp : ChangeStamp} → stamp ≡ stamp_of host → from ≤ to → IsAgendaOf a changed (stamp_of host) (far_ends (take from es))
+      → AllByRecursion (IsIdle stamp) (far_ends (drop from (take to es))) → b ≡ agenda_past a (far_ends (drop from (take to es))) → IsAgendaOf b changed (stamp_of host) (far_ends (take to es))
   past_on es from to {changed = changed} host on order seen rest is =
       let passed = far_ends (drop from (take to es)) in
-      let rests : AllByRecursion (IsAtRest (stamp_of host)) passed = rw on at rest in
+      let rests : AllByRecursion (IsIdle (stamp_of host)) passed = rw on at rest in
       rw (← front_between es from to order, map-append, is) (record {
         due = rw (fold-append, seen.due) refl;
         ready = seen.ready || false;
@@ -174,12 +174,12 @@ module _ {P : Type 0} (far : P → FarEnd) where
       })
 
 -- The interest that was recorded when the connection was served has the stamp of the server.
-pub stamp_noted : {W : Type 0} (es : List (ℕ × Peer W)) (i : ℕ) {p : Peer W} (v : ServerValue) {course : Course} → slice_get (values_of es) i ≡ Some p
+pub stamp_noted : {W : Type 0} (es : List (ℕ × Peer W)) (i : ℕ) {p : Peer W} (v : ServerValue) {course : PeerOutcome} → slice_get (values_of es) i ≡ Some p
     → IfSome (slice_get es i) (λ is. course ≡ Open → is.1.wants ≡ wants_of v is.0 is.1.rest) → course ≡ Open → p.wants.stamp ≡ stamp_of v.host
 stamp_noted es i {p} v at noted open_now =
     let there = value_at es i p at in
     let note = rw there.1 at noted in
-    rw (← there.2, ap (λ (w : Wants). w.stamp) (note open_now)) (stamp_in (outlook_of v there.0.0) _ (stamp_of v.host))
+    rw (← there.2, ap (λ (w : PeerInterest). w.stamp) (note open_now)) (stamp_in (outlook_of v there.0.0) _ (stamp_of v.host))
 
 -- Another connection was opened.
 pub one_more_opened : {W : Type 0} (v after : ServerValue) (id : ℕ) (p : Peer W) (es now : List (ℕ × Peer W)) → open_refusal v ≡ None → id ≡ v.ids + 1 → after ≡ server_opened v → now ≡ insert_entry nat_eq es id p → p.rest ≡ [] → HasOneMore p.wire v es after now
@@ -199,7 +199,7 @@ module _ {W : Type 0} (readable writable : W → Option Bool) (trace : W → Wir
       (HadItsPart n start e _ between its _ _ _ in_turn part (both_served m (omega (arith, many, length-append its left)) rest two))
 
   -- Idle connections only.
-  all_passed : (n : ℕ) (v : ServerValue) (es : List (ℕ × Peer W)) → AllByRecursion (IsAtRest (stamp_of v.host)) (map (λ e. end_of readable writable e.1) es) → AreServed readable writable trace n v es false v es
+  all_passed : (n : ℕ) (v : ServerValue) (es : List (ℕ × Peer W)) → AllByRecursion (IsIdle (stamp_of v.host)) (map (λ e. end_of readable writable e.1) es) → AreServed readable writable trace n v es false v es
   all_passed n v [] rests = NoMore n v
   all_passed n v (e ∷ es) rests = PassedOver n v e es false v es rests.0 (all_passed (n + 1) v es rests.1)
 
@@ -210,7 +210,7 @@ module _ {W : Type 0} (readable writable : W → Option Bool) (trace : W → Wir
     pub served : AreServed readable writable trace 0 u done changed v (take at now)
 
   -- The connections up to another index were skipped.
-  pub passed_on : {u v : ServerValue} {all now : List (ℕ × Peer W)} (from to : ℕ) {changed : Bool} {stamp : ChangeStamp} → stamp ≡ stamp_of v.host → from ≤ to → to ≤ length now → AllByRecursion (IsAtRest stamp) (map (λ e. end_of readable writable e.1) (drop from (take to now)))
+  pub passed_on : {u v : ServerValue} {all now : List (ℕ × Peer W)} (from to : ℕ) {changed : Bool} {stamp : ChangeStamp} → stamp ≡ stamp_of v.host → from ≤ to → to ≤ length now → AllByRecursion (IsIdle stamp) (map (λ e. end_of readable writable e.1) (drop from (take to now)))
       → AreServedTo u all v now from changed → AreServedTo u all v now to changed
   passed_on {u} {v} {all} {now} from to {changed = changed} is order within rests before = record {
     done = before.done ++ drop from (take to now);
@@ -235,7 +235,7 @@ module _ {W : Type 0} (readable writable : W → Option Bool) (trace : W → Wir
   all_are_served {now = now} {at = at} most before = rw (before.all_of_them, drop_all at now most, append-nil) (rw (take_all at now most) at before.served)
 
   -- The progress of a turn through the connections, with the work that remains on those before an index.
-  pub record IsRoundTo (u : ServerValue) (all : List (ℕ × Peer W)) (a : Agenda) (v : ServerValue) (now : List (ℕ × Peer W)) (at : ℕ) : Type 0 where
+  pub record IsRoundTo (u : ServerValue) (all : List (ℕ × Peer W)) (a : NextWakeup) (v : ServerValue) (now : List (ℕ × Peer W)) (at : ℕ) : Type 0 where
     pub changed : Bool
     pub served : AreServedTo u all v now at changed
     pub agenda : IsAgendaOf a changed (stamp_of v.host) (map (λ e. end_of readable writable e.1) (take at now))
@@ -258,7 +258,7 @@ module _ {W : Type 0} (readable writable : W → Option Bool) (trace : W → Wir
     back_same : drop (suc i) mid ≡ drop (suc i) es
     back_same = append_cancel_left (take i es) (drop (suc i) mid) (drop (suc i) es) (rw before at beside)
 
-    module _ (course : Course)
+    module _ (course : PeerOutcome)
         (part : IfSome (slice_get es i) (λ was. IfSome (slice_get mid i) (λ is. IsServed (readable was.1.wire) (writable was.1.wire) v was.0 was.1.rest (trace was.1.wire) between is.1.rest (trace is.1.wire) course))) where
       its_part : IsServed (readable entry_was_there.0.1.wire) (writable entry_was_there.0.1.wire) v entry_was_there.0.0 entry_was_there.0.1.rest (trace entry_was_there.0.1.wire) between is_there.0.rest (trace is_there.0.wire) course
       its_part = rw is_there.1 at (rw entry_was_there.1 at part)

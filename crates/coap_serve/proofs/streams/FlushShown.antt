@@ -9,7 +9,7 @@ use Rattle.coap_serve.specs.Prelude.{settled_entry, server_written, waiting_in, 
 use Rattle.coap_serve.specs.Prelude.{more_in, more_at, flush_turns, IsFlushed, Connection, waiting_on, side_written}
 use Rattle.coap_serve.specs.Prelude.{settled, World, side_of, AcceptedCall, Wrote, stream_on, steps_by, world_after}
 use Rattle.coap_serve.specs.Prelude.{spelled_on, Shows, session_shown, only_id, stream_of, more_of, written_times}
-use Rattle.coap_serve.specs.Prelude.{flushed, world_for, Outcome, stdio_output, Stands}
+use Rattle.coap_serve.specs.Prelude.{flushed, world_for, Outcome, stdio_output, IsAtBytes}
 use Rattle.coap_model.specs.world.World as world
 use Rattle.coap_model.proofs.world.StepLaws.{world_step, spelled_same}
 use Rattle.coap_model.proofs.world.HearingLaws.{world_hears}
@@ -51,7 +51,7 @@ pub record LeadsTo (c : ConfigValues) (v : ServerValue) (s : Connection) (bytes 
 
 -- The server has accepted these bytes. After the prefix `front` of their output, the whole rest of it was written.
 pub record StandsBehind (c : ConfigValues) (bytes front : List ℕ) (after : ServerValue) (wrote : List ℕ → Type 0) : Type 0 where
-  pub stands : Stands c after bytes
+  pub stands : IsAtBytes c after bytes
   pub text : List ℕ
   pub says : stdio_output c bytes ≡ front ++ text
   pub written : wrote text
@@ -163,7 +163,7 @@ module _ (c : ConfigValues) (v : ServerValue) (s : Connection) (bytes : List ℕ
 
   -- After all iterations, or those after which no byte is queued, the world is that for the bytes.
   pub turns_stand : (turns : ℕ) → turns ≤ suc (more_at id v) → (waiting_at id (flush_turns turns id v).server ≡ []) ⊎ (turns ≡ suc (more_at id v))
-      → Stands c (flush_turns turns id v).server bytes × (stdio_output c bytes ≡ front_written s ++ (flush_turns turns id v).text)
+      → IsAtBytes c (flush_turns turns id v).server bytes × (stdio_output c bytes ≡ front_written s ++ (flush_turns turns id v).text)
   turns_stand turns within done =
       let f = flushing c v id s from turns in
       let ends = f.world ∙ whole c v id s from turns within done ∙ leads.flushes in

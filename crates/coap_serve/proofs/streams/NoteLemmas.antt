@@ -7,25 +7,25 @@ use Rattle.std.proofs.lemmas.Cmp.{nat_eq_equiv}
 use Rattle.std.proofs.lemmas.Map.{NonePasses, lookup-none}
 use Rattle.std.proofs.lemmas.Map.Entries.{none_past_head, lookup_from_place}
 use Rattle.coap_serve.specs.Prelude.{Path, Resource, removed_at, Change, Nothing, Put, Delete, ServerState, ChangeStamp, ConnectionWork}
-use Rattle.coap_serve.specs.Prelude.{Course, Wants, Got, Bytes, End, SessionValue, taking, host_changed}
+use Rattle.coap_serve.specs.Prelude.{PeerOutcome, PeerInterest, Got, Bytes, End, SessionValue, taking, host_changed}
 use Rattle.coap_serve.specs.Prelude.{session_written, session_ended, session_settled, ServerValue, LiesAt}
 use Rattle.coap_serve.specs.Prelude.{AreSettled, session_of, session_becomes, settled_entry, server_settled}
 use Rattle.coap_serve.specs.Prelude.{server_opened, server_ticked, server_taken, server_taken_on, server_dropped}
 use Rattle.coap_serve.specs.Prelude.{is_there, stamp_of, outlook_of, InResult, fed_turns, in_result, fed_more, IsServedOnce}
-use Rattle.coap_serve.specs.Prelude.{IsCarriedOn, ComesToNothing, server_heard, server_wrote, has_failed, is_over_in}
-use Rattle.coap_serve.specs.Prelude.{wants_in, wants_of, can_go_on, end_of, IsNoEarlier, FarEnd, CanAnyGoOn}
-use Rattle.coap_serve.specs.Prelude.{Agenda, IsAgendaOf, IsWaitAfter, agenda_with, wait_of, wait_for, least_with}
+use Rattle.coap_serve.specs.Prelude.{IsCarriedOn, IsNoOp, server_heard, server_wrote, has_failed, is_over_in}
+use Rattle.coap_serve.specs.Prelude.{wants_in, wants_of, can_go_on, end_of, IsNoEarlier, PeerStatus, CanAnyGoOn}
+use Rattle.coap_serve.specs.Prelude.{NextWakeup, IsAgendaOf, IsWaitAfter, agenda_with, wait_of, wait_for, least_with}
 use Rattle.coap_serve.specs.Prelude.{WireTrace}
 use Rattle.coap_serve.specs.streams.Turns.{wait_until}
 use Rattle.coap_serve.specs.Prelude.{KeepsNotes, WhilePassedOver, AtFirst, Served, IsNoted, AreNoted, true_end}
 use Rattle.coap_serve.specs.Prelude.{AllByRecursion, IsDistinct, keys_of, set_value_at, insert_entry, Peer, IoFault}
 use Rattle.coap_serve.specs.Prelude.{No}
 use Rattle.coap_server_engine.specs.values.InResults.{goes_on}
-use Rattle.coap_serve.specs.streams.Notes.{Dropped, Opened, Ticked}
+use Rattle.coap_serve.specs.streams.RecordedInterests.{Dropped, Opened, Ticked}
 use Rattle.coap_serve.proofs.streams.PassedLemmas.{passed_over}
 use Rattle.coap_server_engine.proofs.values.ServerLemmas.{Entries, is_other, all_are_settled, all_settled_stay}
 use Rattle.coap_store.proofs.StoreLemmas.{removed_few}
-use Rattle.coap_serve.specs.declared.door.peer.Course.TheVariants.{Open}
+use Rattle.coap_serve.specs.declared.door.peer.PeerOutcome.TheVariants.{Open}
 use Rattle.coap_serve.proofs.streams.AgendaLemmas.{stamp_in, an_answer, can_with, sooner_never}
 
 -- ---- stamps
@@ -168,12 +168,12 @@ writes : (v : ServerValue) (id : ℕ) (wrote : Got) → GoesOnSparing (But id) v
 writes v id (Bytes n) = one_happens v id (λ s. session_written s n) v.host (follows_itself v.host)
 writes v id wrote = nothing_happens
 
-is_carried_on : (failed may_write : Bool) (v : ServerValue) (id : ℕ) (bytes : List ℕ) (wire : WireTrace) (after : ServerValue) (left : List ℕ) (told : WireTrace) (course : Course) → IsCarriedOn failed may_write v id bytes wire after left told course → GoesOnSparing (But id) v after
+is_carried_on : (failed may_write : Bool) (v : ServerValue) (id : ℕ) (bytes : List ℕ) (wire : WireTrace) (after : ServerValue) (left : List ℕ) (told : WireTrace) (course : PeerOutcome) → IsCarriedOn failed may_write v id bytes wire after left told course → GoesOnSparing (But id) v after
 is_carried_on true may_write v id bytes wire after left told course carried = rw carried.0 nothing_happens
 is_carried_on false may_write v id bytes wire after left told course carried =
     rw carried.server (one_then_another (takes_sparing (length bytes) v id bytes) (writes (in_result v id bytes).server id carried.wrote))
 
-module _ (may_read may_write : Bool) (v : ServerValue) (id : ℕ) (rest : List ℕ) {wire : WireTrace} (after : ServerValue) (left : List ℕ) {told : WireTrace} (course : Course) (part : IsServedOnce may_read may_write v id rest wire after left told course) where
+module _ (may_read may_write : Bool) (v : ServerValue) (id : ℕ) (rest : List ℕ) {wire : WireTrace} (after : ServerValue) (left : List ℕ) {told : WireTrace} (course : PeerOutcome) (part : IsServedOnce may_read may_write v id rest wire after left told course) where
   served_on : GoesOnSparing (But id) v after
   served_on = one_then_another (takes_input v id part.heard) (is_carried_on (has_failed part.heard) may_write _ id part.bytes part.between after left told course part.carried)
 
@@ -219,7 +219,7 @@ keeps_notes : {id : ℕ} {v after : ServerValue} → AreSettled v.host v.session
 keeps_notes settled on =
     record { settled = on.settled settled; no_earlier = on.follows.no_earlier; noted = λ other rest apart same. wants_stay on settled other apart same rest }
 
-pub noted_where_served : (may_read may_write : Bool) (v : ServerValue) (id : ℕ) (rest : List ℕ) {wire : WireTrace} (after : ServerValue) (left : List ℕ) {told : WireTrace} (course : Course) → AreSettled v.host v.sessions → IsServedOnce may_read may_write v id rest wire after left told course → KeepsNotes id v after
+pub noted_where_served : (may_read may_write : Bool) (v : ServerValue) (id : ℕ) (rest : List ℕ) {wire : WireTrace} (after : ServerValue) (left : List ℕ) {told : WireTrace} (course : PeerOutcome) → AreSettled v.host v.sessions → IsServedOnce may_read may_write v id rest wire after left told course → KeepsNotes id v after
 noted_where_served may_read may_write v id rest after left course settled part = keeps_notes settled (served_on may_read may_write v id rest after left course part)
 
 pub noted_where_dropped : (v : ServerValue) (id : ℕ) → AreSettled v.host v.sessions → KeepsNotes id v (server_dropped v id)
@@ -251,11 +251,11 @@ module _ (id : ℕ) (v after : ServerValue) (rest : List ℕ) (settled : AreSett
   noted_throughout = wants_stay (passed_on_sparing passed) settled id refl same rest
 
   -- If nothing could be done then, nothing can be done now.
-  pub still_nothing_to_do : (i : ℕ) (may_read may_write : Bool) → LiesAt id i after.sessions → can_go_on (wants_of v id rest) may_read may_write ≡ false → is_over_in (outlook_of v id) ≡ false → ComesToNothing may_read may_write after id rest
+  pub still_nothing_to_do : (i : ℕ) (may_read may_write : Bool) → LiesAt id i after.sessions → can_go_on (wants_of v id rest) may_read may_write ≡ false → is_over_in (outlook_of v id) ≡ false → IsNoOp may_read may_write after id rest
   still_nothing_to_do i may_read may_write lies idle on =
       let spared = passed_on_sparing passed in
       passed_over after id i rest may_read may_write lies (spared.settled settled)
-      (ap (λ (w : Wants). can_go_on w may_read may_write) noted_throughout ∙ idle)
+      (ap (λ (w : PeerInterest). can_go_on w may_read may_write) noted_throughout ∙ idle)
       (ap is_over_in (outlook_stays spared settled id refl same) ∙ on)
 
 -- ---- recorded interests of other connections
@@ -289,7 +289,7 @@ module _ {W : Type 0} (P Q : ℕ × Peer W → Type 0) (id : ℕ) (each : (e : �
 -- An interest that was just recorded is correct.
 noted_now : {W : Type 0} (v : ServerValue) (id : ℕ) (p : Peer W) → p.wants ≡ wants_of v id p.rest → IsNoted v (id, p)
 noted_now v id p is = record {
-  no_earlier = rw (ap (λ (w : Wants). w.stamp) is ∙ stamp_in (outlook_of v id) _ (stamp_of v.host)) (no_earlier_itself (stamp_of v.host));
+  no_earlier = rw (ap (λ (w : PeerInterest). w.stamp) is ∙ stamp_in (outlook_of v id) _ (stamp_of v.host)) (no_earlier_itself (stamp_of v.host));
   truth = λ same. is;
 }
 
@@ -306,12 +306,12 @@ noted_with v (e ∷ es) (suc i) id p q at beside noted = (beside.0, noted_with v
 module _ {W : Type 0} (may_read may_write : Bool) (v : ServerValue) (id : ℕ) (rest : List ℕ) (wire : WireTrace) (after : ServerValue) (left : List ℕ) (told : WireTrace) (es : List (ℕ × Peer W)) (i : ℕ) (p q : Peer W)
     (settled : AreSettled v.host v.sessions) (distinct : IsDistinct nat_eq (keys_of es)) (at : slice_get es i ≡ Some (id, p)) (noted : AreNoted v es) where
   -- The recorded interests of the connections beside it are correct.
-  pub beside_served : (course : Course) → IsServedOnce may_read may_write v id rest wire after left told course → AreNoted after (remove es i)
+  pub beside_served : (course : PeerOutcome) → IsServedOnce may_read may_write v id rest wire after left told course → AreNoted after (remove es i)
   beside_served course part =
       beside_become (IsNoted v) (IsNoted after) id (stays_noted (served_on may_read may_write v id rest after left course part) settled) es i p distinct at noted
 
   -- All are correct, if the connection stays open.
-  pub all_noted : (r : Result Course IoFault) → IfOk r (λ course. IsServedOnce may_read may_write v id rest wire after left told course) → IfOk r (λ course. course ≡ Open → q.wants ≡ wants_of after id q.rest)
+  pub all_noted : (r : Result PeerOutcome IoFault) → IfOk r (λ course. IsServedOnce may_read may_write v id rest wire after left told course) → IfOk r (λ course. course ≡ Open → q.wants ≡ wants_of after id q.rest)
       → IfOk r (λ course. course ≡ Open → AreNoted after (set_value_at es i q))
   all_noted (Ok course) part wants = λ open_now. noted_with after es i id p q at (beside_served course part) (noted_now after id q (wants open_now))
   all_noted (Err fault) part wants = tt
@@ -338,7 +338,7 @@ noted_with_one_more v after id p es now settled noted given opened wants is dist
 -- ---- the wait of the listener
 
 -- Some result that is possible for these connections.
-some_answer : (all : List FarEnd) → (ready : Bool) × CanAnyGoOn all ready
+some_answer : (all : List PeerStatus) → (ready : Bool) × CanAnyGoOn all ready
 some_answer [] = (false, refl)
 some_answer (e ∷ es) =
     let reads = an_answer e.wants.read e.readable in
@@ -347,10 +347,10 @@ some_answer (e ∷ es) =
     let can : CanAnyGoOn (e ∷ es) (first || others.0) = (first, others.0, can_with e reads.0 reads.1, others.1, refl) in
     (first || others.0, can)
 
-wait_where_changed : (a : Agenda) (opens ready noted : Bool) (all : List FarEnd) → a.at_once ≡ (true || noted) → wait_of (agenda_with a opens None) ≡ wait_for ((opens || true) || ready) all
+wait_where_changed : (a : NextWakeup) (opens ready noted : Bool) (all : List PeerStatus) → a.at_once ≡ (true || noted) → wait_of (agenda_with a opens None) ≡ wait_for ((opens || true) || ready) all
 wait_where_changed a opens ready noted all once = grind arith
 
-wait_where_fresh : (a : Agenda) (opens ready : Bool) (all : List FarEnd) → a.at_once ≡ (false || ready) → a.due ≡ least_with None all → wait_of (agenda_with a opens None) ≡ wait_for ((opens || false) || ready) all
+wait_where_fresh : (a : NextWakeup) (opens ready : Bool) (all : List PeerStatus) → a.at_once ≡ (false || ready) → a.due ≡ least_with None all → wait_of (agenda_with a opens None) ≡ wait_for ((opens || false) || ready) all
 wait_where_fresh a opens ready all once due = rw (once, due, sooner_never) (elim ready as (λ r. (if r || opens then No else wait_until (least_with None all)) ≡ (if (opens || false) || r then No else wait_until (least_with None all))) [ true ↦ grind arith | false ↦ grind arith ])
 
 -- If no recorded stamp is older, the recorded interests are the present ones.
@@ -360,7 +360,7 @@ ends_are_true readable writable v [] noted fresh = refl
 ends_are_true readable writable v (e ∷ es) noted fresh = rw (noted.0.truth fresh.0, ends_are_true readable writable v es noted.1 fresh.1) refl
 
 -- The wait that the agenda computes from recorded interests is the wait for the present ones.
-pub wait_so : {W : Type 0} (readable writable : W → Option Bool) (v : ServerValue) (es : List (ℕ × Peer W)) (a b : Agenda) (opens changed : Bool) → AreNoted v es
+pub wait_so : {W : Type 0} (readable writable : W → Option Bool) (v : ServerValue) (es : List (ℕ × Peer W)) (a b : NextWakeup) (opens changed : Bool) → AreNoted v es
     → IsAgendaOf a changed (stamp_of v.host) (map (λ e. end_of readable writable e.1) es) → b ≡ agenda_with a opens None
     → IsWaitAfter (opens || changed) (map (λ e. true_end readable writable v e) es) (wait_of b)
 wait_so readable writable v es a b opens true noted of is =

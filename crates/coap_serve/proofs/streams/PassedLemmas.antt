@@ -6,9 +6,9 @@ use Rattle.std.proofs.lemmas.Bool.Decides.{nat_tests}
 use Rattle.std.proofs.lemmas.List.{nil_from_length}
 use Rattle.coap_serve.specs.Prelude.{stop_of, is_over, Later, SessionValue, session_takes, ServerValue, LiesAt}
 use Rattle.coap_serve.specs.Prelude.{AreSettled, session_of, server_taken, count_taken, count_on, stop_on, InResult}
-use Rattle.coap_serve.specs.Prelude.{fed_turns, in_result, fed_more, IsTakenAndWritten, ComesToNothing, is_heard}
+use Rattle.coap_serve.specs.Prelude.{fed_turns, in_result, fed_more, IsTakenAndWritten, IsNoOp, is_heard}
 use Rattle.coap_serve.specs.Prelude.{waiting_once, server_wrote, is_over_in, left_behind, rest_left, wants_of}
-use Rattle.coap_serve.specs.Prelude.{can_go_on, session_outlook, outlook_of, Wants}
+use Rattle.coap_serve.specs.Prelude.{can_go_on, session_outlook, outlook_of, PeerInterest}
 use Rattle.coap_server_engine.specs.values.InResults.{goes_on}
 use Rattle.coap_server_engine.proofs.values.ServerLemmas.{changed_one, written_at_index, written_back, all_settled_stay}
 use Rattle.coap_model.proofs.OptionLemmas.{there_is_none}
@@ -69,9 +69,9 @@ not_written : (may_write : Bool) (waiting : List ℕ) → (nat_lt 0 (length wait
 not_written may_write waiting e = grind (arith, nat_tests, nil_from_length)
 
 nothing_done : (v : ServerValue) (id i : ℕ) (s : SessionValue) (rest : List ℕ) (may_read may_write : Bool) → LiesAt id i v.sessions → session_of id v.sessions ≡ Some s → AreSettled v.host v.sessions
-    → can_go_on (wants_of v id rest) may_read may_write ≡ false → is_over_in (outlook_of v id) ≡ false → ComesToNothing may_read may_write v id rest
+    → can_go_on (wants_of v id rest) may_read may_write ≡ false → is_over_in (outlook_of v id) ≡ false → IsNoOp may_read may_write v id rest
 nothing_done v id i s rest may_read may_write lies here settled idle on =
-    let w : Wants = wants_of v id rest in
+    let w : PeerInterest = wants_of v id rest in
     let write = or_parts (w.take || (w.read && may_read)) (w.write && may_write) idle in
     let read = or_parts w.take (w.read && may_read) write.0 in
     let unread : is_heard may_read v id rest ≡ false = rw here (not_heard may_read (length rest == 0) (session_takes s) (rw here at read.1)) in
@@ -103,9 +103,9 @@ nothing_done v id i s rest may_read may_write lies here settled idle on =
     }
 
 -- A connection on which nothing can be done may be skipped.
-pub passed_over : (v : ServerValue) (id i : ℕ) (rest : List ℕ) (may_read may_write : Bool) → LiesAt id i v.sessions → AreSettled v.host v.sessions → can_go_on (wants_of v id rest) may_read may_write ≡ false → is_over_in (outlook_of v id) ≡ false → ComesToNothing may_read may_write v id rest
+pub passed_over : (v : ServerValue) (id i : ℕ) (rest : List ℕ) (may_read may_write : Bool) → LiesAt id i v.sessions → AreSettled v.host v.sessions → can_go_on (wants_of v id rest) may_read may_write ≡ false → is_over_in (outlook_of v id) ≡ false → IsNoOp may_read may_write v id rest
 passed_over v id i rest may_read may_write lies settled idle on =
-    elim (session_of id v.sessions) as (λ o. session_of id v.sessions ≡ o → is_over_in (option_map (session_outlook v.host.now) o) ≡ false → ComesToNothing may_read may_write v id rest) [
+    elim (session_of id v.sessions) as (λ o. session_of id v.sessions ≡ o → is_over_in (option_map (session_outlook v.host.now) o) ≡ false → IsNoOp may_read may_write v id rest) [
       | None ↦ λ here over. absurd cc
       | Some s ↦ λ here over. nothing_done v id i s rest may_read may_write lies here settled idle on
     ] refl on

@@ -3,7 +3,7 @@ use Rattle.std.proofs.Common.{◌≡◌, ℕ, ◌+◌, ◌<◌, List, [], ◌++�
 use Rattle.std.proofs.lemmas.Bool.{eqb-true, eqb-false}
 use Rattle.std.proofs.lemmas.List.{append-nil, take-append-drop, nil_from_length}
 use Rattle.coap_serve.specs.Prelude.{Reason, ConfigValues, ServerValue, session_of, stop_on, IsNotTaken, TakeFault}
-use Rattle.coap_serve.specs.Prelude.{AddsBytes, world_for, Outcome, outcome, IsGoing, Says, IsWhole, IsCut}
+use Rattle.coap_serve.specs.Prelude.{AddsBytes, world_for, Outcome, outcome, IsRunningAt, Says, IsWhole, IsCut}
 use Rattle.coap_serve.specs.Prelude.{IsRefused}
 use Rattle.coap_model.specs.declared.answers.TakeFault.TheVariants as taking
 use Rattle.coap_io.proofs.streams.DeviceLemmas.{bytes_none, bytes_then}
@@ -15,13 +15,13 @@ use Rattle.coap_serve.proofs.streams.TakeLemmas.{front_of_nothing, FrontServed, 
 pub record Serves (c : ConfigValues) (id : ℕ) (bytes piece : List ℕ) (v : ServerValue) (rest : List ℕ) (x y : Option (List ℕ)) (messages : ℕ) : Type 0 where
   pub taken : List ℕ
   pub all : piece ≡ taken ++ rest
-  pub goes : IsGoing c v id (bytes ++ taken)
+  pub goes : IsRunningAt c v id (bytes ++ taken)
   pub text : List ℕ
   pub says : Says c bytes taken text
   pub written : AddsBytes x y text
   pub counted : (outcome c (bytes ++ taken)).messages ≡ (outcome c bytes).messages + messages
 
-pub serves_none : (c : ConfigValues) (v : ServerValue) (id : ℕ) (bytes piece : List ℕ) (x : Option (List ℕ)) → IsGoing c v id bytes → Serves c id bytes piece v piece x x 0
+pub serves_none : (c : ConfigValues) (v : ServerValue) (id : ℕ) (bytes piece : List ℕ) (x : Option (List ℕ)) → IsRunningAt c v id bytes → Serves c id bytes piece v piece x x 0
 serves_none c v id bytes piece x goes = record {
   taken = [];
   all = refl;

@@ -6,11 +6,11 @@ use Rattle.coap_serve.specs.Prelude.{concat, AllByRecursion, Reason, end_reason,
 use Rattle.coap_serve.specs.Prelude.{ConfigValues, IoFault, Read, Write, Memory, Turns, Report, Turn, IsFlushed}
 use Rattle.coap_serve.specs.Prelude.{IsPartFlushed, ServerValue, session_of, new_server, server_opened, is_there}
 use Rattle.coap_serve.specs.Prelude.{stop_on, DeviceTrace, HasGiven, pieces_read, AddsBytes, WritesPart, only_id, outcome}
-use Rattle.coap_serve.specs.Prelude.{stream_of, stdio_output, IsGoing, IsWhole, Says, HasRead, IsTurn, AreNotEmpty}
+use Rattle.coap_serve.specs.Prelude.{stream_of, stdio_output, IsRunningAt, IsWhole, Says, HasRead, IsTurn, AreNotEmpty}
 use Rattle.coap_serve.specs.Prelude.{GoesOn, EndsRun, IsStdioRun, AcceptedCall, Opened, steps_by, world_after, Ended}
 use Rattle.coap_serve.specs.Prelude.{stream_on, Shows, is_cut, new_side, Connection, side_ended, settled, World, side_of}
 use Rattle.coap_serve.specs.Prelude.{step}
-use Rattle.coap_serve.specs.streams.Standing.{IsServed}
+use Rattle.coap_serve.specs.streams.StdioProgress.{IsServed}
 use Rattle.coap_model.specs.world.World as world
 use Rattle.coap_model.proofs.world.AcrossLaws.{ended_there}
 use Rattle.coap_model.proofs.world.EntryLemmas.{all_append}
@@ -37,7 +37,7 @@ turn_fault c bytes piece after gave wrote Write has did = (piece, has, did)
 turn_fault c bytes piece after gave wrote Memory has did = (piece, has, did)
 turn_fault c bytes piece after gave wrote Turns has did = absurd did
 
-pub turn_piece : (c : ConfigValues) (v : ServerValue) (id : ℕ) (bytes piece : List ℕ) (after : ServerValue) (gave : List (List ℕ) → Type 0) (wrote : List ℕ → Type 0) (t : Turn) → IsGoing c v id bytes → HasRead gave piece → IsWhole c bytes piece after wrote t.messages → t.read ≡ length piece → t.stop ≡ stop_on (session_of id after.sessions)
+pub turn_piece : (c : ConfigValues) (v : ServerValue) (id : ℕ) (bytes piece : List ℕ) (after : ServerValue) (gave : List (List ℕ) → Type 0) (wrote : List ℕ → Type 0) (t : Turn) → IsRunningAt c v id bytes → HasRead gave piece → IsWhole c bytes piece after wrote t.messages → t.read ≡ length piece → t.stop ≡ stop_on (session_of id after.sessions)
     → IsTurn c bytes after gave wrote (Ok t)
 turn_piece c v id bytes piece after gave wrote t goes has did read_is stop_is =
     inr (record { piece = piece; has = has; served = did; read = read_is; reason = rw goes.number at stop_is ∙ stop_told c after (bytes ++ piece) did.stands })
@@ -58,7 +58,7 @@ pub record RunsOn (c : ConfigValues) (id turns read messages : ℕ) (v : ServerV
   pub written : AddsBytes x y output
   pub counted : length pieces ≡ turns
   pub given : AreNotEmpty pieces
-  pub goes : IsGoing c v id (concat pieces)
+  pub goes : IsRunningAt c v id (concat pieces)
   pub read_is : read ≡ length (concat pieces)
   pub messages_are : messages ≡ (outcome c (concat pieces)).messages
   pub text : stdio_output c [] ++ output ≡ stdio_output c (concat pieces)
@@ -67,7 +67,7 @@ pub record RunsOn (c : ConfigValues) (id turns read messages : ℕ) (v : ServerV
 abbrev pub Ran : ConfigValues → List ℕ → DeviceTrace → DeviceTrace → Option (List ℕ) → Option (List ℕ) → Result Report IoFault → Type 0
 Ran c front a b x y result = (pieces : List (List ℕ)) × (output : List ℕ) × HasGiven a b pieces × AllByRecursion (λ p. length p ≤ 4096) pieces × AddsBytes x y output × IsStdioRun c pieces (front ++ output) result
 
-pub run_begins : (c : ConfigValues) (id : ℕ) (v : ServerValue) (a : DeviceTrace) (x : Option (List ℕ)) → IsGoing c v id [] → RunsOn c id 0 0 0 v a a x x
+pub run_begins : (c : ConfigValues) (id : ℕ) (v : ServerValue) (a : DeviceTrace) (x : Option (List ℕ)) → IsRunningAt c v id [] → RunsOn c id 0 0 0 v a a x x
 run_begins c id v a x goes = record {
   pieces = [];
   output = [];
@@ -240,7 +240,7 @@ module _ (c : ConfigValues) (new v : ServerValue) (id : ℕ) (opens : Opens c ne
       }
 
   -- The state in which a run begins.
-  pub goes_at_first : (after : ServerValue) (wrote : List ℕ → Type 0) → IsFlushed id v after wrote → IsGoing c after id [] × wrote (stdio_output c [])
+  pub goes_at_first : (after : ServerValue) (wrote : List ℕ → Type 0) → IsFlushed id v after wrote → IsRunningAt c after id [] × wrote (stdio_output c [])
   goes_at_first after wrote did =
       let now = flush_stands c v (new_side c.limits) [] opening_leads after wrote (rw number at did) in
       (record { number = number; ranges = rw opens.new_is at opens.ranges; stands = now.stands; going = (outcome_at_first c).1 }, rw now.says now.written)
@@ -254,7 +254,7 @@ module _ (c : ConfigValues) (new v : ServerValue) (id : ℕ) (opens : Opens c ne
 -- ---- the end of input
 
 -- The connection processes messages, so the end of input stops it, and pending entries are discarded.
-pub end_stops : (c : ConfigValues) (v v1 : ServerValue) (id : ℕ) (bytes : List ℕ) → IsGoing c v id bytes → v1.config ≡ v.config → ((events : List AcceptedCall) → Shows v events → Shows v1 (events ++ Ended id ∷ [])) → stop_on (session_of id v1.sessions) ≡ Some (end_reason (is_cut (stream_of c bytes).rest))
+pub end_stops : (c : ConfigValues) (v v1 : ServerValue) (id : ℕ) (bytes : List ℕ) → IsRunningAt c v id bytes → v1.config ≡ v.config → ((events : List AcceptedCall) → Shows v events → Shows v1 (events ++ Ended id ∷ [])) → stop_on (session_of id v1.sessions) ≡ Some (end_reason (is_cut (stream_of c bytes).rest))
 unfolding steps_by side_ended
 end_stops c v v1 id bytes goes config shows =
     let n : ℕ = only_id c in
@@ -272,5 +272,5 @@ end_stops c v v1 id bytes goes config shows =
     ∙ ap (λ (s : Stream × ℕ). Some (end_reason (is_cut s.0.rest))) (goes.stands.spelled goes.going))
 
 -- The connection exists.
-pub not_there : (c : ConfigValues) (v : ServerValue) (id : ℕ) (bytes : List ℕ) → IsGoing c v id bytes → false ≡ is_there (session_of id v.sessions) → ⊥
+pub not_there : (c : ConfigValues) (v : ServerValue) (id : ℕ) (bytes : List ℕ) → IsRunningAt c v id bytes → false ≡ is_there (session_of id v.sessions) → ⊥
 not_there c v id bytes goes none = let bad : false ≡ true = none ∙ ap is_there (session_going c v id bytes goes).1 in cc

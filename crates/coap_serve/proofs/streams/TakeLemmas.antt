@@ -6,7 +6,7 @@ use Rattle.coap_serve.specs.Prelude.{Stream, split_on, LimitValues, ConfigValues
 use Rattle.coap_serve.specs.Prelude.{session_of, server_taken, server_taken_on, stop_on, RefusesPieceOn, waiting_at}
 use Rattle.coap_serve.specs.Prelude.{more_at, flush_turns, IsFlushed, IsPartFlushed, Taken, AddsBytes, WritesPart}
 use Rattle.coap_serve.specs.Prelude.{only_id, stream_of, flushed, flushed_after, world_for, Outcome, outcome_on}
-use Rattle.coap_serve.specs.Prelude.{outcome, stdio_output, IsLastByte, Stands, IsGoing, Says, IsWhole, IsCut, Connection}
+use Rattle.coap_serve.specs.Prelude.{outcome, stdio_output, IsLastByte, IsAtBytes, IsRunningAt, Says, IsWhole, IsCut, Connection}
 use Rattle.coap_serve.specs.Prelude.{has_room, handles, World, Step, side_of, step, AcceptedCall, Took, stream_on, beyond}
 use Rattle.coap_serve.specs.Prelude.{steps_by, world_after, takes, size_on, Shows, session_shown, handled_in}
 use Rattle.coap_serve.specs.Prelude.{count_of}
@@ -62,7 +62,7 @@ flush_counts c v s bytes leads =
     ap (λ (o : Outcome). o.messages) (outcome_there c bytes left.0.side is_there) ∙ ap length left.0.handled
 
 -- The server returns the reason for which the bytes stop its connection.
-pub stop_told : (c : ConfigValues) (v : ServerValue) (bytes : List ℕ) → Stands c v bytes → stop_on (session_of (only_id c) v.sessions) ≡ (outcome c bytes).stop
+pub stop_told : (c : ConfigValues) (v : ServerValue) (bytes : List ℕ) → IsAtBytes c v bytes → stop_on (session_of (only_id c) v.sessions) ≡ (outcome c bytes).stop
 stop_told c v bytes stands =
     let all = world_for_written c bytes in
     let is_there : side_of (only_id c) (world_after v.config stands.events).sides ≡ Some all.side = rw (stands.config, stands.world) all.there in
@@ -91,7 +91,7 @@ pub record WasTaken (v after : ServerValue) (id : ℕ) (piece : List ℕ) (t : T
   pub says : (events : List AcceptedCall) → Shows v events → t.handled ≡ handled_in v.config events (Took id (take t.bytes piece)) id
   pub shows : (events : List AcceptedCall) → Shows v events → Shows after (events ++ Took id (take t.bytes piece) ∷ [])
 
-module _ (v : ServerValue) (bytes : List ℕ) (goes : IsGoing v.config v (only_id v.config) bytes) where
+module _ (v : ServerValue) (bytes : List ℕ) (goes : IsRunningAt v.config v (only_id v.config) bytes) where
   abbrev c : ConfigValues
   c = v.config
 
@@ -226,18 +226,18 @@ module _ (v : ServerValue) (bytes : List ℕ) (goes : IsGoing v.config v (only_i
 
 -- ---- any name of the configuration and of the number
 
-module _ (c : ConfigValues) (v : ServerValue) (id : ℕ) (bytes : List ℕ) (goes : IsGoing c v id bytes) where
+module _ (c : ConfigValues) (v : ServerValue) (id : ℕ) (bytes : List ℕ) (goes : IsRunningAt c v id bytes) where
   -- A statement about the configuration and number of the server holds for any equal ones.
-  pub by_any_name : (P : ConfigValues → ℕ → Type 0) → (IsGoing v.config v (only_id v.config) bytes → P v.config (only_id v.config)) → P c id
+  pub by_any_name : (P : ConfigValues → ℕ → Type 0) → (IsRunningAt v.config v (only_id v.config) bytes → P v.config (only_id v.config)) → P c id
   by_any_name P holds =
       subst (P c) (sym goes.number)
-      (subst (λ (k : ConfigValues). IsGoing k v (only_id k) bytes → P k (only_id k)) goes.stands.config holds (subst (λ (n : ℕ). IsGoing c v n bytes) goes.number goes))
+      (subst (λ (k : ConfigValues). IsRunningAt k v (only_id k) bytes → P k (only_id k)) goes.stands.config holds (subst (λ (n : ℕ). IsRunningAt c v n bytes) goes.number goes))
 
   -- The connection exists.
   pub session_going : (s : SessionValue) × (session_of id v.sessions ≡ Some s)
   session_going = by_any_name (λ k n. (s : SessionValue) × (session_of n v.sessions ≡ Some s)) (λ so. (_, session_was v bytes so))
 
-module _ (c : ConfigValues) (v : ServerValue) (id : ℕ) (bytes piece : List ℕ) (goes : IsGoing c v id bytes) where
+module _ (c : ConfigValues) (v : ServerValue) (id : ℕ) (bytes piece : List ℕ) (goes : IsRunningAt c v id bytes) where
   pub is_not_missing : session_of id v.sessions ≡ None → ⊥
   is_not_missing none = let there = (session_going c v id bytes goes).1 in cc
 

@@ -65,15 +65,15 @@ pub record IsCutRun {W : Type 0} (readable writable : W → Option Bool) (trace 
   pub door_tells : door ((calls ++ waited_behind (length moments) wait (is_none (open_refusal server))) ++ asked_by (moved_to server moment) handed)
 
 -- A run in which an allocation failed before the first turn: neither the clock nor the listener was called.
-abbrev pub IsUnbegun : {W : Type 0} → (clock : List ℕ → Type 0) (door : List (DoorCall W) → Type 0) → Type 0
-IsUnbegun clock door = clock [] × door []
+abbrev pub FailedBeforeStart : {W : Type 0} → (clock : List ℕ → Type 0) (door : List (DoorCall W) → Type 0) → Type 0
+FailedBeforeStart clock door = clock [] × door []
 
 -- The error that ends a run with these traces. It is `Turns` if every turn was made. It is `Memory` if an allocation
 -- failed, before the first turn or in one of them.
 abbrev pub EndsWith : {W : Type 0} (readable writable : W → Option Bool) (trace : W → WireTrace) → ConfigValues → (clock : List ℕ → Type 0) (door : List (DoorCall W) → Type 0) → IoFault → Type 0
 EndsWith readable writable trace c clock door Read = ⊥
 EndsWith readable writable trace c clock door Write = ⊥
-EndsWith readable writable trace c clock door Memory = IsUnbegun clock door ⊎ IsCutRun readable writable trace c clock door
+EndsWith readable writable trace c clock door Memory = FailedBeforeStart clock door ⊎ IsCutRun readable writable trace c clock door
 EndsWith readable writable trace c clock door Turns = IsWholeRun readable writable trace c clock door
 
 -- A run over the connections of a listener, which always ends with an error.

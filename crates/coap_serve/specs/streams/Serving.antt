@@ -3,18 +3,18 @@ use Rattle.std.specs.Prelude.{◌≡◌, ℕ, ◌+◌, Bool, true, false, List, 
 use Rattle.std.specs.List.{AllByRecursion}
 use Rattle.indexmap.specs.IndexMap.{insert_entry}
 use Rattle.coap_io.specs.streams.DeviceTraces.{DoorCall, Asked}
-use Rattle.coap_serve.specs.streams.Notes.{true_end}
-use Rattle.coap_serve.specs.streams.Turns.{IsServed, IsAtRest, IsInTurn, IsAgendaOf, IsWaitAfter, concerns_earlier, end_of}
+use Rattle.coap_serve.specs.streams.RecordedInterests.{true_end}
+use Rattle.coap_serve.specs.streams.Turns.{IsServed, IsIdle, IsInTurn, IsAgendaOf, IsWaitAfter, concerns_earlier, end_of}
 use Rattle.coap_io.specs.streams.Wires.{WireTrace}
 use Rattle.coap_server_engine.specs.values.InResults.{ShowsMore}
 use Rattle.coap_server_engine.specs.values.ServerDeadlines.{stamp_of}
 use Rattle.coap_server_engine.specs.values.ServerAnswers.{open_refusal}
 use Rattle.coap_server_engine.specs.values.Servers.{ServerValue, server_opened, server_dropped}
 use Rattle.coap_model.specs.world.Events.{AcceptedCall, Opened, Took, Wrote, Ticked, Stored, Removed, Ended, Released, Announced, Dropped}
-use Rattle.coap_serve.specs.declared.door.peer.Course.{Course}
-use Rattle.coap_serve.specs.declared.door.peer.Course.TheVariants.{Open, Over}
+use Rattle.coap_serve.specs.declared.door.peer.PeerOutcome.{PeerOutcome}
+use Rattle.coap_serve.specs.declared.door.peer.PeerOutcome.TheVariants.{Open, Over}
 use Rattle.coap_serve.specs.declared.door.peer.Peer.{Peer}
-use Rattle.coap_serve.specs.declared.door.agenda.Agenda.{Agenda}
+use Rattle.coap_serve.specs.declared.door.next_wakeup.NextWakeup.{NextWakeup}
 use Rattle.coap_io.specs.declared.wire.Wait.{Wait}
 
 -- ---- events
@@ -55,20 +55,20 @@ pub record HasTurned (v after : ServerValue) : Type 0 where
 -- ---- each connection in order
 
 -- The server and the entry of a connection after it was served. If the outcome is `Over`, the connection is dropped.
-abbrev pub server_left : Course → ServerValue → ℕ → ServerValue
+abbrev pub server_left : PeerOutcome → ServerValue → ℕ → ServerValue
 server_left Open v id = v
 server_left Over v id = server_dropped v id
 
-abbrev pub end_left : {W : Type 0} → Course → ℕ → Peer W → List (ℕ × Peer W)
+abbrev pub end_left : {W : Type 0} → PeerOutcome → ℕ → Peer W → List (ℕ × Peer W)
 end_left Open id p = (id, p) ∷ []
 end_left Over id p = []
 
 -- A connection was served in a turn, and was dropped if its outcome is `Over`. Its wire was read and written at no
 -- other time.
-pub record HasHadItsPart {W : Type 0} (readable writable : W → Option Bool) (trace : W → WireTrace) (v : ServerValue) (e : ℕ × Peer W) (after : ServerValue) (left : List (ℕ × Peer W)) : Type 0 where
+pub record IsServedInTurn {W : Type 0} (readable writable : W → Option Bool) (trace : W → WireTrace) (v : ServerValue) (e : ℕ × Peer W) (after : ServerValue) (left : List (ℕ × Peer W)) : Type 0 where
   pub served : ServerValue
   pub peer : Peer W
-  pub course : Course
+  pub course : PeerOutcome
   pub part : IsServed (readable e.1.wire) (writable e.1.wire) v e.0 e.1.rest (trace e.1.wire) served peer.rest (trace peer.wire) course
   pub server : after ≡ server_left course served e.0
   pub far_end : left ≡ end_left course e.0 peer
@@ -79,7 +79,7 @@ pub record HasGoneOn {W : Type 0} (readable writable : W → Option Bool) (trace
   pub e : ℕ × Peer W
   pub its : List (ℕ × Peer W)
   pub there : slice_get es i ≡ Some e
-  pub part : HasHadItsPart readable writable trace v e after its
+  pub part : IsServedInTurn readable writable trace v e after its
   pub front : take at left ≡ take i es ++ its
   pub back : drop at left ≡ drop (i + 1) es
 
@@ -88,14 +88,14 @@ pub record HasGoneOn {W : Type 0} (readable writable : W → Option Bool) (trace
 -- `earlier` ones.
 pub data AreServed {W : Type 0} (readable writable : W → Option Bool) (trace : W → WireTrace) : (earlier : ℕ) → ServerValue → List (ℕ × Peer W) → (changed : Bool) → ServerValue → List (ℕ × Peer W) → Type 0 where
   NoMore : (earlier : ℕ) (v : ServerValue) → AreServed readable writable trace earlier v [] false v []
-  PassedOver : (earlier : ℕ) (v : ServerValue) (e : ℕ × Peer W) (es : List (ℕ × Peer W)) (changed : Bool) (after : ServerValue) (left : List (ℕ × Peer W)) → IsAtRest (stamp_of v.host) (end_of readable writable e.1)
+  PassedOver : (earlier : ℕ) (v : ServerValue) (e : ℕ × Peer W) (es : List (ℕ × Peer W)) (changed : Bool) (after : ServerValue) (left : List (ℕ × Peer W)) → IsIdle (stamp_of v.host) (end_of readable writable e.1)
       → AreServed readable writable trace (earlier + 1) v es changed after left → AreServed readable writable trace earlier v (e ∷ es) changed after (e ∷ left)
   HadItsPart : (earlier : ℕ) (v : ServerValue) (e : ℕ × Peer W) (es : List (ℕ × Peer W)) (between : ServerValue) (its : List (ℕ × Peer W)) (changed : Bool) (after : ServerValue) (left : List (ℕ × Peer W)) → IsInTurn (stamp_of v.host) (end_of readable writable e.1)
-      → HasHadItsPart readable writable trace v e between its → AreServed readable writable trace (earlier + length its) between es changed after left
+      → IsServedInTurn readable writable trace v e between its → AreServed readable writable trace (earlier + length its) between es changed after left
       → AreServed readable writable trace earlier v (e ∷ es) (concerns_earlier earlier (stamp_of v.host) (stamp_of between.host) || changed) after (its ++ left)
 
 -- Each connection in order was served, except those that are idle, and the agenda describes the work that remains.
-pub record IsRound {W : Type 0} (readable writable : W → Option Bool) (trace : W → WireTrace) (v : ServerValue) (es : List (ℕ × Peer W)) (a : Agenda) (after : ServerValue) (left : List (ℕ × Peer W)) : Type 0 where
+pub record IsRound {W : Type 0} (readable writable : W → Option Bool) (trace : W → WireTrace) (v : ServerValue) (es : List (ℕ × Peer W)) (a : NextWakeup) (after : ServerValue) (left : List (ℕ × Peer W)) : Type 0 where
   pub changed : Bool
   pub served : AreServed readable writable trace 0 v es changed after left
   pub agenda : IsAgendaOf a changed (stamp_of after.host) (map (λ e. end_of readable writable e.1) left)

@@ -9,11 +9,11 @@ use Rattle.coap_server_engine.specs.values.InResults.{in_result}
 use Rattle.coap_server_engine.specs.values.ServerDeadlines.{outlook_of, stamp_of, same_stamp}
 use Rattle.coap_server_engine.specs.values.Flushes.{waiting_at}
 use Rattle.coap_io.specs.streams.Wires.{MatchesTrace, WireTrace, IsReadOnce, IsWrittenOnce}
-use Rattle.coap_serve.specs.declared.door.peer.Course.{Course}
-use Rattle.coap_serve.specs.declared.door.peer.Course.TheVariants.{Open, Over}
-use Rattle.coap_serve.specs.declared.door.wants.Wants.{Wants}
+use Rattle.coap_serve.specs.declared.door.peer.PeerOutcome.{PeerOutcome}
+use Rattle.coap_serve.specs.declared.door.peer.PeerOutcome.TheVariants.{Open, Over}
+use Rattle.coap_serve.specs.declared.door.peer_interest.PeerInterest.{PeerInterest}
 use Rattle.coap_serve.specs.declared.door.peer.Peer.{Peer}
-use Rattle.coap_serve.specs.declared.door.agenda.Agenda.{Agenda}
+use Rattle.coap_serve.specs.declared.door.next_wakeup.NextWakeup.{NextWakeup}
 use Rattle.coap_io.specs.declared.wire.Wait.{Wait}
 use Rattle.coap_io.specs.declared.wire.Wait.TheVariants.{No, Until, Forever}
 use Rattle.coap_server_engine.specs.declared.server.ConnectionWork.{ConnectionWork}
@@ -67,7 +67,7 @@ has_failed End = false
 has_failed Failed = true
 
 -- The outcome for a connection, by the result of its write and by whether nothing more will be written.
-abbrev pub course_of : (wrote : Got) (is_over : Bool) → Course
+abbrev pub course_of : (wrote : Got) (is_over : Bool) → PeerOutcome
 course_of wrote is_over = if has_failed wrote || is_over then Over else Open
 
 -- The bytes to be processed, and the trace of the wire. If a read is due, the wire was read once and gave these bytes.
@@ -83,7 +83,7 @@ pub record IsOffered (bytes : List ℕ) (wire : WireTrace) (wrote : Got) (after 
 
 -- The connection accepted all that it accepts of these bytes. Then its queued bytes were offered to one write, if the
 -- wire may be written.
-pub record IsTakenAndWritten (may_write : Bool) (v : ServerValue) (id : ℕ) (bytes : List ℕ) (wire : WireTrace) (after : ServerValue) (left : List ℕ) (told : WireTrace) (course : Course) : Type 0 where
+pub record IsTakenAndWritten (may_write : Bool) (v : ServerValue) (id : ℕ) (bytes : List ℕ) (wire : WireTrace) (after : ServerValue) (left : List ℕ) (told : WireTrace) (course : PeerOutcome) : Type 0 where
   pub wrote : Got
   pub offered : IsOffered (waiting_once may_write id (in_result v id bytes).server) wire wrote told
   pub server : after ≡ server_wrote (in_result v id bytes).server id wrote
@@ -91,14 +91,14 @@ pub record IsTakenAndWritten (may_write : Bool) (v : ServerValue) (id : ℕ) (by
   pub outcome : course ≡ course_of wrote (is_over_in (outlook_of after id))
 
 -- The steps that follow a read. If the read failed, there is none, and the outcome is `Over`.
-abbrev pub IsCarriedOn : (failed may_write : Bool) → ServerValue → ℕ → List ℕ → WireTrace → ServerValue → List ℕ → WireTrace → Course → Type 0
+abbrev pub IsCarriedOn : (failed may_write : Bool) → ServerValue → ℕ → List ℕ → WireTrace → ServerValue → List ℕ → WireTrace → PeerOutcome → Type 0
 IsCarriedOn true may_write v id bytes wire after left told course = (after ≡ v) × (told ≡ wire) × (course ≡ Over)
 IsCarriedOn false may_write v id bytes wire after left told course = IsTakenAndWritten may_write v id bytes wire after left told course
 
 -- One connection was served: a read if one is due, then processing, then a write if bytes are queued. `may_read` and
 -- `may_write` are the readiness of its wire. A failed read ends this. The wire was read and written at no other time,
 -- and `told` is its trace afterwards.
-pub record IsServedOnce (may_read may_write : Bool) (v : ServerValue) (id : ℕ) (rest : List ℕ) (wire : WireTrace) (after : ServerValue) (left : List ℕ) (told : WireTrace) (course : Course) : Type 0 where
+pub record IsServedOnce (may_read may_write : Bool) (v : ServerValue) (id : ℕ) (rest : List ℕ) (wire : WireTrace) (after : ServerValue) (left : List ℕ) (told : WireTrace) (course : PeerOutcome) : Type 0 where
   pub heard : Got
   pub bytes : List ℕ
   pub between : WireTrace
@@ -108,15 +108,15 @@ pub record IsServedOnce (may_read may_write : Bool) (v : ServerValue) (id : ℕ)
 -- To serve the connection has no effect, whatever its wire does: the wire is neither read nor written. There is an
 -- outcome. Every outcome leaves the server, the bytes left from its reads and the trace of its wire unchanged, and the
 -- connection open.
-pub record ComesToNothing (may_read may_write : Bool) (v : ServerValue) (id : ℕ) (rest : List ℕ) : Type 0 where
+pub record IsNoOp (may_read may_write : Bool) (v : ServerValue) (id : ℕ) (rest : List ℕ) : Type 0 where
   pub unread : is_heard may_read v id rest ≡ false
   pub unwritten : waiting_once may_write id v ≡ []
   pub there_is_one : (wire : WireTrace) → IsServedOnce may_read may_write v id rest wire v rest wire Open
-  pub always : (wire : WireTrace) (after : ServerValue) (left : List ℕ) (told : WireTrace) (course : Course) → IsServedOnce may_read may_write v id rest wire after left told course → (after ≡ v) × (left ≡ rest) × (told ≡ wire) × (course ≡ Open)
+  pub always : (wire : WireTrace) (after : ServerValue) (left : List ℕ) (told : WireTrace) (course : PeerOutcome) → IsServedOnce may_read may_write v id rest wire after left told course → (after ≡ v) × (left ≡ rest) × (told ≡ wire) × (course ≡ Open)
 
 -- The connection was served once, with the results of `may_read` and `may_write` of its wire. If the wire records them,
 -- they are `readable` and `writable`.
-pub record IsServed (readable writable : Option Bool) (v : ServerValue) (id : ℕ) (rest : List ℕ) (wire : WireTrace) (after : ServerValue) (left : List ℕ) (told : WireTrace) (course : Course) : Type 0 where
+pub record IsServed (readable writable : Option Bool) (v : ServerValue) (id : ℕ) (rest : List ℕ) (wire : WireTrace) (after : ServerValue) (left : List ℕ) (told : WireTrace) (course : PeerOutcome) : Type 0 where
   pub may_read : Bool
   pub may_write : Bool
   pub read : MatchesTrace readable may_read
@@ -127,7 +127,7 @@ pub record IsServed (readable writable : Option Bool) (v : ServerValue) (id : �
 
 -- The I/O interest of a connection with this work left. It states if bytes read before can be accepted or must be
 -- discarded, and if the wire must be read and written. Without a connection it is empty.
-abbrev pub wants_in : Option ConnectionWork → (is_empty : Bool) → ChangeStamp → Wants
+abbrev pub wants_in : Option ConnectionWork → (is_empty : Bool) → ChangeStamp → PeerInterest
 wants_in None is_empty stamp = record { take = false; read = false; write = false; due = None; stamp = stamp }
 wants_in (Some o) is_empty stamp = record {
   take = not is_empty && (o.takes || o.stopped);
@@ -138,21 +138,21 @@ wants_in (Some o) is_empty stamp = record {
 }
 
 -- The I/O interest of the connection with this number, for these bytes left from its reads.
-abbrev pub wants_of : ServerValue → ℕ → List ℕ → Wants
+abbrev pub wants_of : ServerValue → ℕ → List ℕ → PeerInterest
 wants_of v id rest = wants_in (outlook_of v id) (length rest == 0) (stamp_of v.host)
 
 -- Something in this I/O interest can be done at once.
-abbrev pub can_go_on : Wants → (may_read may_write : Bool) → Bool
+abbrev pub can_go_on : PeerInterest → (may_read may_write : Bool) → Bool
 can_go_on w may_read may_write = w.take || (w.read && may_read) || (w.write && may_write)
 
 -- The state that decides whether a connection can be served: its I/O interest and, if its wire records them, the wire's
 -- `may_read` and `may_write`.
-pub record FarEnd : Type 0 where
+pub record PeerStatus : Type 0 where
   pub readable : Option Bool
   pub writable : Option Bool
-  pub wants : Wants
+  pub wants : PeerInterest
 
-abbrev pub end_of : {W : Type 0} (readable writable : W → Option Bool) → Peer W → FarEnd
+abbrev pub end_of : {W : Type 0} (readable writable : W → Option Bool) → Peer W → PeerStatus
 end_of readable writable p = record { readable = readable p.wire; writable = writable p.wire; wants = p.wants }
 
 -- `answer` is the readiness of a wire if that is wanted, and otherwise `false`.
@@ -162,7 +162,7 @@ IsAsked false told answer = answer ≡ false
 
 -- `result` is `true` if something can be done at once. The connection has bytes to accept or to discard, its wire must
 -- be read and may be, or it must be written and may be.
-pub record CanGoOn (e : FarEnd) (result : Bool) : Type 0 where
+pub record CanGoOn (e : PeerStatus) (result : Bool) : Type 0 where
   pub reads : Bool
   pub writes : Bool
   pub read : IsAsked e.wants.read e.readable reads
@@ -170,25 +170,25 @@ pub record CanGoOn (e : FarEnd) (result : Bool) : Type 0 where
   pub is : result ≡ e.wants.take || reads || writes
 
 -- The connection is idle: it was last served when the server had this stamp, and nothing can be done now.
-abbrev pub IsAtRest : ChangeStamp → FarEnd → Type 0
-IsAtRest stamp e = (e.wants.stamp ≡ stamp) × CanGoOn e false
+abbrev pub IsIdle : ChangeStamp → PeerStatus → Type 0
+IsIdle stamp e = (e.wants.stamp ≡ stamp) × CanGoOn e false
 
 -- The connection is not idle: it was last served when the server had another stamp, or something can be done.
-pub record IsInTurn (stamp : ChangeStamp) (e : FarEnd) : Type 0 where
+pub record IsInTurn (stamp : ChangeStamp) (e : PeerStatus) : Type 0 where
   pub ready : Bool
   pub can : CanGoOn e ready
   pub is : (same_stamp e.wants.stamp stamp && not ready) ≡ false
 
 -- The connection is idle if the last argument is `true`, and not idle if it is `false`.
-abbrev pub IsRestAnswer : ChangeStamp → FarEnd → Bool → Type 0
-IsRestAnswer stamp e true = IsAtRest stamp e
+abbrev pub IsRestAnswer : ChangeStamp → PeerStatus → Bool → Type 0
+IsRestAnswer stamp e true = IsIdle stamp e
 IsRestAnswer stamp e false = IsInTurn stamp e
 
 -- The earliest of this time and of all times at which time alone may queue something on one of these connections.
-abbrev pub least_with : Option ℕ → List FarEnd → Option ℕ
+abbrev pub least_with : Option ℕ → List PeerStatus → Option ℕ
 least_with due all = fold (λ due e. sooner due e.wants.due) due all
 
-abbrev pub least_due : List FarEnd → Option ℕ
+abbrev pub least_due : List PeerStatus → Option ℕ
 least_due all = least_with None all
 
 -- `true` if serving a connection may affect the `earlier` connections before it, which were served earlier in the turn.
@@ -197,7 +197,7 @@ abbrev pub concerns_earlier : (earlier : ℕ) (before after : ChangeStamp) → B
 concerns_earlier earlier before after = nat_lt 0 earlier && not (same_stamp after before)
 
 -- `result` is `true` if something can be done at once on any of these connections.
-abbrev pub CanAnyGoOn : List FarEnd → Bool → Type 0
+abbrev pub CanAnyGoOn : List PeerStatus → Bool → Type 0
 CanAnyGoOn [] result = result ≡ false
 CanAnyGoOn (e ∷ es) result = (first others : Bool) × CanGoOn e first × CanAnyGoOn es others × (result ≡ (first || others))
 
@@ -205,7 +205,7 @@ CanAnyGoOn (e ∷ es) result = (first others : Bool) × CanGoOn e first × CanAn
 -- of them may have affected others before it. Another turn must follow at once if and only if `changed` is `true` or
 -- something can be done at once. The deadline is the earliest of all. If `changed` is `false`, all were last served
 -- when the server had this stamp.
-pub record IsAgendaOf (a : Agenda) (changed : Bool) (stamp : ChangeStamp) (all : List FarEnd) : Type 0 where
+pub record IsAgendaOf (a : NextWakeup) (changed : Bool) (stamp : ChangeStamp) (all : List PeerStatus) : Type 0 where
   pub due : a.due ≡ least_due all
   pub ready : Bool
   pub can : CanAnyGoOn all ready
@@ -213,28 +213,28 @@ pub record IsAgendaOf (a : Agenda) (changed : Bool) (stamp : ChangeStamp) (all :
   pub fresh : changed ≡ false → AllByRecursion (λ e. e.wants.stamp ≡ stamp) all
 
 -- The agenda after idle connections were skipped.
-abbrev pub agenda_past : Agenda → List FarEnd → Agenda
+abbrev pub agenda_past : NextWakeup → List PeerStatus → NextWakeup
 agenda_past a all = record a { due = least_with a.due all }
 
 -- The agenda after one more connection was visited, by whether something can be done on it at once and by its deadline.
-abbrev pub agenda_with : Agenda → Bool → Option ℕ → Agenda
+abbrev pub agenda_with : NextWakeup → Bool → Option ℕ → NextWakeup
 agenda_with a ready due = record { at_once = a.at_once || ready; due = sooner a.due due }
 
 abbrev pub wait_until : Option ℕ → Wait
 wait_until None = Forever
 wait_until (Some moment) = Until moment
 
-abbrev pub wait_of : Agenda → Wait
+abbrev pub wait_of : NextWakeup → Wait
 wait_of a = if a.at_once then No else wait_until a.due
 
 -- The wait is zero if something must be done at once. Otherwise it ends at the earliest time at which time alone may
 -- queue something, or never if there is none.
-abbrev pub wait_for : (at_once : Bool) → List FarEnd → Wait
+abbrev pub wait_for : (at_once : Bool) → List PeerStatus → Wait
 wait_for at_once all = if at_once then No else wait_until (least_due all)
 
 -- The wait after a turn is zero if and only if the turn itself requires another one or a connection can be served at
 -- once.
-pub record IsWaitAfter (calls_again : Bool) (all : List FarEnd) (wait : Wait) : Type 0 where
+pub record IsWaitAfter (calls_again : Bool) (all : List PeerStatus) (wait : Wait) : Type 0 where
   pub ready : Bool
   pub can : CanAnyGoOn all ready
   pub is : wait ≡ wait_for (calls_again || ready) all

@@ -5,10 +5,10 @@ ghost use Rattle.coap_serve.specs.Prelude.{IsPartialIn, in_result, AddsBytes, Ha
 ghost use Rattle.coap_serve.specs.Prelude.{IsLaidOut, is_heard, server_heard, server_wrote, waiting_once, rest_left};
 ghost use Rattle.coap_serve.specs.Prelude.{is_over_in, has_failed, course_of, wants_of, IsWithin, IsMemory, IsOneWrite};
 ghost use Rattle.coap_serve.specs.Prelude.{bytes_passed, stop_on, session_of, IsAsked, CanGoOn, IsRestAnswer, end_of};
-ghost use Rattle.coap_serve.specs.declared.door.peer.Course.TheVariants.{Open};
+ghost use Rattle.coap_serve.specs.declared.door.peer.PeerOutcome.TheVariants.{Open};
 ghost use Rattle.coap_io.specs.declared.wire.Got.TheVariants.{Later, End};
 
-use super::wants::{Wants, wants_by};
+use super::wants::{PeerInterest, wants_by};
 use crate::serve::IoFault;
 use coap_conn::first_part;
 use coap_io::{Got, Ready, ReadBuffer, Wire};
@@ -24,7 +24,7 @@ pub(super) struct Peer<W> {
     /// Bytes that were read and that the server has not accepted yet.
     pub(super) rest: ReadBuffer,
     /// I/O interest, recorded when the connection was last served.
-    pub(super) wants: Wants,
+    pub(super) wants: PeerInterest,
 }
 
 impl<W: Ready> Peer<W> {
@@ -52,7 +52,7 @@ impl<W: Ready> Peer<W> {
 
     /// Returns `true` if the connection was last served when the server had this stamp, and nothing can be done on it
     /// now.
-    pub(super) fn is_at_rest(&self, stamp: ChangeStamp) -> bool
+    pub(super) fn is_idle(&self, stamp: ChangeStamp) -> bool
         ensures { IsRestAnswer stamp (end_of W.readable W.writable self.now) result }
     {
         self.wants.stamp == stamp && !self.is_ready()
@@ -64,7 +64,7 @@ pub(super) type Peers<W> = IndexMap<u64, Peer<W>>;
 
 /// Outcome for a connection after a turn has served it.
 #[derive(Clone, Copy, PartialEq, Eq)]
-pub(super) enum Course {
+pub(super) enum PeerOutcome {
     /// Connection that stays open.
     Open,
     /// Connection to be dropped: its wire has failed, or nothing more will be written on it.
@@ -86,7 +86,7 @@ pub(super) fn serve_peer<W: Wire>(
     peer: &mut Peer<W>,
     may_read: bool,
     may_write: bool,
-) -> Result<Course, IoFault>
+) -> Result<PeerOutcome, IoFault>
     // The wire is read once if a read is due, and written once if bytes are queued and `may_write` is `true`. Otherwise
     // it is not touched.
     ensures part { IfOk result (λ course. IsServedOnce may_read may_write server.old id peer.old.rest
@@ -96,11 +96,11 @@ pub(super) fn serve_peer<W: Wire>(
     ensures wants { IfOk result (λ course. course ≡ Open → peer.new.wants ≡ wants_of server.new id peer.new.rest) }
     ensures fault { IfErr result IsMemory }
 {
-    let heard = hear(server, id, peer, may_read);
+    let heard = read_wire(server, id, peer, may_read);
     if failed(heard) {
-        return Ok(Course::Over);
+        return Ok(PeerOutcome::Over);
     }
-    take_rest(server, id, &mut peer.rest)?;
+    take_buffered(server, id, &mut peer.rest)?;
     let wrote = write_once(server, id, &mut peer.wire, may_write);
     let outlook = server.outlook(id);
     peer.wants = wants_by(outlook, peer.rest.is_empty(), server.stamp());
@@ -121,19 +121,19 @@ fn failed(got: Got) -> bool
 
 /// Returns the outcome from the result of the write. `is_over` is `true` if nothing more will be written on the
 /// connection.
-fn outcome(wrote: Got, is_over: bool) -> Course
+fn outcome(wrote: Got, is_over: bool) -> PeerOutcome
     ensures { result ≡ course_of wrote is_over }
 {
     if is_over || failed(wrote) {
-        return Course::Over;
+        return PeerOutcome::Over;
     }
-    Course::Open
+    PeerOutcome::Open
 }
 
 /// Reads once if `may_read` is `true`, all bytes of earlier reads were accepted, and the connection accepts bytes.
 /// Returns the result of the read, or `Later` if there was none. The end of input is reported to the connection.
 #[tactic(auto, using(crate::proofs::streams::ServingLemmas::none_served))]
-fn hear<W: Wire>(server: &mut Server, id: ConnId, peer: &mut Peer<W>, may_read: bool) -> Got
+fn read_wire<W: Wire>(server: &mut Server, id: ConnId, peer: &mut Peer<W>, may_read: bool) -> Got
     ensures server { server.new ≡ server_heard server.old id result }
     ensures shows { HasServed server.old server.new }
     // If a read is due, the wire is read once, into a buffer of 16,384 bytes, and `peer.rest` has the bytes of that
@@ -163,7 +163,7 @@ fn hear<W: Wire>(server: &mut Server, id: ConnId, peer: &mut Peer<W>, may_read: 
 ///
 /// - `Memory`: an allocation failed for a representation that a message stores.
 #[tactic(auto, using(crate::proofs::streams::ServingLemmas::part_served))]
-fn take_rest(server: &mut Server, id: ConnId, rest: &mut ReadBuffer) -> Result<(), IoFault>
+fn take_buffered(server: &mut Server, id: ConnId, rest: &mut ReadBuffer) -> Result<(), IoFault>
     ensures server { OnOk result (server.new ≡ (in_result server.old id rest.old).server) }
     ensures shows { HasServed server.old server.new }
     ensures rest { OnOk result (rest.new ≡ rest_left server.old id rest.old) }

@@ -1,7 +1,7 @@
 //! A server over the connections of a listener, for a program that embeds it and runs the event loop.
 
 ghost use Rattle.std.specs.Prelude.{◌≡◌, false, All};
-ghost use Rattle.coap_serve.specs.streams.Notes.{IsNoted};
+ghost use Rattle.coap_serve.specs.streams.RecordedInterests.{IsNoted};
 
 use super::peer::Peers;
 use super::turn::take_turn;

@@ -6,10 +6,10 @@ ghost use Rattle.coap_serve.specs.Prelude.{keys_of, AreNoted, HasServed, HasTurn
 ghost use Rattle.coap_serve.specs.Prelude.{IsAskedOnce, IsTurnOf, asked_by, TellsMore, trace_by, IsServed, IsAgendaOf};
 ghost use Rattle.coap_serve.specs.Prelude.{concerns_earlier, end_of, wants_of, IsMemory, stamp_of, open_refusal};
 ghost use Rattle.coap_serve.specs.Prelude.{AreSettled, server_dropped};
-ghost use Rattle.coap_serve.specs.declared.door.peer.Course.TheVariants.{Open};
+ghost use Rattle.coap_serve.specs.declared.door.peer.PeerOutcome.TheVariants.{Open};
 
-use super::agenda::{Agenda, Seen, concerns_others, pass_over};
-use super::peer::{Course, Peer, Peers, serve_peer};
+use super::agenda::{NextWakeup, TurnProgress, affects_served_peers, skip_idle};
+use super::peer::{PeerOutcome, Peer, Peers, serve_peer};
 use super::wants::wants_on;
 use crate::serve::IoFault;
 use coap_io::{Door, Ready, ReadBuffer, Wait, Wire};
@@ -99,7 +99,7 @@ fn accept<D: Door>(
 fn serve_each<W: Wire + Ready + Drop>(
     server: &mut Server,
     peers: &mut Peers<W>,
-) -> Result<Agenda, IoFault>
+) -> Result<NextWakeup, IoFault>
     requires { AreNoted server.old peers.old.entries }
     ensures shows { HasServed server.old server.new }
     // Each connection in order is served, except those that are idle, and the result is the work that remains.
@@ -110,10 +110,10 @@ fn serve_each<W: Wire + Ready + Drop>(
     ensures settled { OnOk result (AreSettled server.new.host server.new.sessions) }
     ensures fault { IfErr result IsMemory }
 {
-    let mut seen = pass_over(peers, Seen::none(), server.stamp());
+    let mut seen = skip_idle(peers, TurnProgress::none(), server.stamp());
     while seen.at < peers.len() {
         let served = serve_next(server, peers, seen)?;
-        seen = pass_over(peers, served, server.stamp());
+        seen = skip_idle(peers, served, server.stamp());
     }
     Ok(seen.agenda)
 }
@@ -126,8 +126,8 @@ fn serve_each<W: Wire + Ready + Drop>(
 fn serve_next<W: Wire + Ready + Drop>(
     server: &mut Server,
     peers: &mut Peers<W>,
-    seen: Seen,
-) -> Result<Seen, IoFault>
+    seen: TurnProgress,
+) -> Result<TurnProgress, IoFault>
     requires there { seen.at < length peers.old.entries }
     requires fits { length peers.old.entries < 2 ^ 64 }
     requires noted { AreNoted server.old peers.old.entries }
@@ -152,16 +152,16 @@ fn serve_next<W: Wire + Ready + Drop>(
 {
     let before = server.stamp();
     let course = serve_at(server, peers, seen.at)?;
-    let concerned = concerns_others(seen.at, before, server.stamp());
+    let concerned = affects_served_peers(seen.at, before, server.stamp());
     let agenda = seen.agenda.with(concerned, None);
     match course {
-        Course::Over => {
+        PeerOutcome::Over => {
             drop_at(server, peers, seen.at);
-            Ok(Seen { agenda, ..seen })
+            Ok(TurnProgress { agenda, ..seen })
         }
-        Course::Open => {
+        PeerOutcome::Open => {
             let peer = &peers[seen.at];
-            Ok(Seen {
+            Ok(TurnProgress {
                 at: seen.at + 1,
                 agenda: agenda.with(peer.is_ready(), peer.wants.due),
             })
@@ -178,7 +178,7 @@ fn serve_at<W: Wire + Ready>(
     server: &mut Server,
     peers: &mut Peers<W>,
     at: usize,
-) -> Result<Course, IoFault>
+) -> Result<PeerOutcome, IoFault>
     requires there { at < length peers.old.entries }
     requires settled { AreSettled server.old.host server.old.sessions }
     requires noted { AreNoted server.old peers.old.entries }

@@ -2,9 +2,9 @@
 
 ghost use Rattle.std.specs.Prelude.{◌≡◌, ℕ, Bool, Option, Result, ◌+◌, ◌≤◌, List, [], false};
 ghost use Rattle.coap_serve.specs.Prelude.{ConfigValues, ServerValue, AreSettled, LiesAt, server_opened};
-ghost use Rattle.coap_serve.specs.Prelude.{server_ticked, server_dropped, ComesToNothing, IsServedOnce, can_go_on};
+ghost use Rattle.coap_serve.specs.Prelude.{server_ticked, server_dropped, IsNoOp, IsServedOnce, can_go_on};
 ghost use Rattle.coap_serve.specs.Prelude.{is_over_in, wants_of, IsNoEarlier, KeepsNotes, WhilePassedOver, WireTrace};
-ghost use Rattle.coap_serve.specs.Prelude.{Course, ChangeStamp, outlook_of, stamp_of, AcceptedCall, Shows, IsFlushed, AddsBytes};
+ghost use Rattle.coap_serve.specs.Prelude.{PeerOutcome, ChangeStamp, outlook_of, stamp_of, AcceptedCall, Shows, IsFlushed, AddsBytes};
 ghost use Rattle.coap_serve.specs.Prelude.{waiting_at, Report, IoFault, IsStdioRun, LeavesNothingWaiting};
 
 /// States that an idle connection may be skipped.
@@ -13,10 +13,10 @@ ghost use Rattle.coap_serve.specs.Prelude.{waiting_at, Report, IoFault, IsStdioR
 /// nothing in its I/O interest can be done, serving it has no effect, whatever its wire does. The wire is neither read
 /// nor written. There is an outcome. Every outcome leaves the server, the bytes left from its reads, and the trace of
 /// its wire unchanged, and the connection stays open.
-pub fn what_has_nothing_to_do_is_passed_over()
+pub fn idle_connections_may_be_skipped()
     ensures { (v : ServerValue) (id i : ℕ) (rest : List ℕ) (may_read may_write : Bool) → LiesAt id i v.sessions →
         AreSettled v.host v.sessions → can_go_on (wants_of v id rest) may_read may_write ≡ false →
-        is_over_in (outlook_of v id) ≡ false → ComesToNothing may_read may_write v id rest }
+        is_over_in (outlook_of v id) ≡ false → IsNoOp may_read may_write v id rest }
 {}
 
 /// States that a stamp never repeats after it has changed.
@@ -24,14 +24,14 @@ pub fn what_has_nothing_to_do_is_passed_over()
 /// Stamps are ordered by time, then by the number of versions stored so far, then by the number of stored resources,
 /// where fewer is later. The operations of an event loop never make the stamp of the server earlier. To serve a
 /// connection leaves it equal or later. To drop or open a connection leaves it equal. The time does not go back.
-pub fn stamps_never_come_back()
+pub fn stamps_do_not_repeat()
     ensures itself { (one : ChangeStamp) → IsNoEarlier one one }
     ensures on { (one other third : ChangeStamp) → IsNoEarlier one other → IsNoEarlier other third → IsNoEarlier one third }
     ensures same { (one other : ChangeStamp) → IsNoEarlier one other → IsNoEarlier other one → one ≡ other }
     ensures back { (one other third : ChangeStamp) → IsNoEarlier one other → IsNoEarlier other third → third ≡ one →
         other ≡ one }
     ensures served { (v after : ServerValue) (id : ℕ) (rest left : List ℕ) (wire told : WireTrace)
-        (may_read may_write : Bool) (course : Course) →
+        (may_read may_write : Bool) (course : PeerOutcome) →
         IsServedOnce may_read may_write v id rest wire after left told course →
         IsNoEarlier (stamp_of v.host) (stamp_of after.host) }
     ensures dropped { (v : ServerValue) (id : ℕ) → stamp_of (server_dropped v id).host ≡ stamp_of v.host }
@@ -46,9 +46,9 @@ pub fn stamps_never_come_back()
 /// The interest is the same after another connection was served, dropped or opened. If the time advances and the stamp
 /// is the same, the whole server is unchanged. The interest is also the same after any sequence of these. An idle
 /// connection may therefore be skipped without a look at the server: to serve it would have no effect.
-pub fn what_was_noted_holds()
+pub fn recorded_interests_stay_valid()
     ensures served { (v after : ServerValue) (id : ℕ) (rest left : List ℕ) (wire told : WireTrace)
-        (may_read may_write : Bool) (course : Course) →
+        (may_read may_write : Bool) (course : PeerOutcome) →
         AreSettled v.host v.sessions → IsServedOnce may_read may_write v id rest wire after left told course →
         KeepsNotes id v after }
     ensures dropped { (v : ServerValue) (id : ℕ) → AreSettled v.host v.sessions →
@@ -62,7 +62,7 @@ pub fn what_was_noted_holds()
     ensures passed_over { (v after : ServerValue) (id i : ℕ) (rest : List ℕ) (may_read may_write : Bool) →
         AreSettled v.host v.sessions → WhilePassedOver id v after → stamp_of after.host ≡ stamp_of v.host →
         LiesAt id i after.sessions → can_go_on (wants_of v id rest) may_read may_write ≡ false →
-        is_over_in (outlook_of v id) ≡ false → ComesToNothing may_read may_write after id rest }
+        is_over_in (outlook_of v id) ≡ false → IsNoOp may_read may_write after id rest }
 {}
 
 /// States that a flush leaves no byte queued.

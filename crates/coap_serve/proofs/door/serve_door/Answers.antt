@@ -23,9 +23,9 @@ loop-turn-preserved g c =
     turned_once_more g.D.Wire.Ready.readable g.D.Wire.Ready.writable
     (trace_by g.D.Wire.Wire.given g.D.Wire.Wire.written g.D.Wire.Wire.answers g.D.Wire.Wire.rooms) c.args.config
     (g.C.Clock.moments c.args.clock.now) (g.C.Clock.moments c.loop-turn.clock) (g.C.Clock.moments c.now.new.self)
-    (g.D.Door.calls c.args.door.now) (g.D.Door.calls c.loop-turn.door) (g.D.Door.calls c.wait_behind.new.door) (g.D.Door.calls c.turn.new.door)
+    (g.D.Door.calls c.args.door.now) (g.D.Door.calls c.loop-turn.door) (g.D.Door.calls c.wait_after_turn.new.door) (g.D.Door.calls c.turn.new.door)
     c.loop-turn.service.server c.loop-turn.service.peers.entries c.loop-turn.service.is_spent c.loop-turn.wait c.loop-turn.turn c.loop-turn.invariant
-    c.can_open.result c.can_open.ensures c.wait_behind.ensures c.now.result c.now.ensures c.tick.new.self.server c.tick.ensures.moved
+    c.can_open.result c.can_open.ensures c.wait_after_turn.ensures c.now.result c.now.ensures c.tick.new.self.server c.tick.ensures.moved
     c.tick.new.self.peers.entries c.turn.new.self.server c.turn.new.self.peers.entries c.turn.new.self.is_spent c.in_ok-wait.wait
     (ap (λ peers. peers.entries) c.tick.ensures.peers) c.in_ok-wait.ensures.turn c.in_ok-wait.ensures.ready
 
@@ -38,9 +38,9 @@ returns-in_err-wait-clause-run g c =
     (cut_in_a_turn g.D.Wire.Ready.readable g.D.Wire.Ready.writable
     (trace_by g.D.Wire.Wire.given g.D.Wire.Wire.written g.D.Wire.Wire.answers g.D.Wire.Wire.rooms) c.args.config
     (g.C.Clock.moments c.args.clock.now) (g.C.Clock.moments c.loop-turn.clock) (g.C.Clock.moments c.now.new.self)
-    (g.D.Door.calls c.args.door.now) (g.D.Door.calls c.loop-turn.door) (g.D.Door.calls c.wait_behind.new.door) (g.D.Door.calls c.turn.new.door)
+    (g.D.Door.calls c.args.door.now) (g.D.Door.calls c.loop-turn.door) (g.D.Door.calls c.wait_after_turn.new.door) (g.D.Door.calls c.turn.new.door)
     c.loop-turn.service.server c.loop-turn.service.peers.entries c.loop-turn.service.is_spent c.loop-turn.wait c.loop-turn.turn c.loop-turn.invariant
-    c.can_open.result c.can_open.ensures c.wait_behind.ensures c.now.result c.now.ensures c.tick.new.self.server c.tick.ensures.moved
+    c.can_open.result c.can_open.ensures c.wait_after_turn.ensures c.now.result c.now.ensures c.tick.new.self.server c.tick.ensures.moved
     (c.turn.ensures.asks (c.tick.ensures.spent ∙ c.loop-turn.invariant.ready)) (omega (arith, c.loop-turn-test.true, c.turns-turn-end.ensures.value))))
 
 pub returns-clause-run : goal.returns-clause-run

@@ -5,19 +5,19 @@ use Rattle.coap_serve.proofs.streams.ServingLemmas.{served_further}
 use Rattle.coap_serve.proofs.door.peer.serve_peer.Goals as goal
 
 pub returns-in_err-take_rest-clause-shows : goal.returns-in_err-take_rest-clause-shows
-returns-in_err-take_rest-clause-shows g c = served_further c.hear-heard.ensures.shows c.take_rest.ensures.shows
+returns-in_err-take_rest-clause-shows g c = served_further c.read_wire-heard.ensures.shows c.take_buffered.ensures.shows
 
 pub returns-clause-shows : goal.returns-clause-shows
-returns-clause-shows g c = served_further (served_further c.hear-heard.ensures.shows c.take_rest.ensures.shows) c.write_once-wrote.ensures.shows
+returns-clause-shows g c = served_further (served_further c.read_wire-heard.ensures.shows c.take_buffered.ensures.shows) c.write_once-wrote.ensures.shows
 
 pub returns-clause-part : goal.returns-clause-part
 returns-clause-part g c =
     let trace = trace_by g.W.Wire.given g.W.Wire.written g.W.Wire.answers g.W.Wire.rooms in
     let wrote = c.write_once-wrote.ensures in
-    steps_are_a_part c.args.may_read c.args.may_write c.args.server.now c.hear-heard.new.server c.take_rest.new.server c.write_once-wrote.new.server c.args.id
-    c.args.peer.now.rest c.hear-heard.new.peer.rest c.take_rest.new.rest
-    (trace c.args.peer.now.wire) (trace c.hear-heard.new.peer.wire) (trace c.write_once-wrote.new.wire) c.hear-heard.result c.write_once-wrote.result c.outcome.result
-    c.hear-heard.ensures.server c.hear-heard.ensures.laid (sym c.failed.ensures ∙ c.if-failed.false)
+    steps_are_a_part c.args.may_read c.args.may_write c.args.server.now c.read_wire-heard.new.server c.take_buffered.new.server c.write_once-wrote.new.server c.args.id
+    c.args.peer.now.rest c.read_wire-heard.new.peer.rest c.take_buffered.new.rest
+    (trace c.args.peer.now.wire) (trace c.read_wire-heard.new.peer.wire) (trace c.write_once-wrote.new.wire) c.read_wire-heard.result c.write_once-wrote.result c.outcome.result
+    c.read_wire-heard.ensures.server c.read_wire-heard.ensures.laid (sym c.failed.ensures ∙ c.if-failed.false)
     c.in_ok-take_rest.ensures.server c.in_ok-take_rest.ensures.rest
     (record {
       idle = λ none. let same = wrote.idle none in (same.1, ap trace same.0);

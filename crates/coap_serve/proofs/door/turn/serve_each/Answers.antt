@@ -8,39 +8,39 @@ use Rattle.coap_serve.proofs.door.turn.serve_each.Goals as goal
 pub loop-seen-init : goal.loop-seen-init
 loop-seen-init g c =
     let trace = trace_by g.W.Wire.given g.W.Wire.written g.W.Wire.answers g.W.Wire.rooms in (
-      c.pass_over-seen.ensures.within,
+      c.skip_idle-seen.ensures.within,
       record {
         changed = false;
-        served = passed_on g.W.Ready.readable g.W.Ready.writable trace c.none.result.at c.pass_over-seen.result.at c.stamp.ensures.stamp c.pass_over-seen.ensures.from
-            c.pass_over-seen.ensures.within c.pass_over-seen.ensures.rest (rw c.none.ensures (record { done = []; all_of_them = refl; served = NoMore 0 c.args.server.now }));
-        agenda = past_on (end_of g.W.Ready.readable g.W.Ready.writable) c.args.peers.now.entries c.none.result.at c.pass_over-seen.result.at c.args.server.now.host
-            c.stamp.ensures.stamp c.pass_over-seen.ensures.from (rw c.none.ensures (record { due = refl; ready = false; can = refl; at_once = refl; fresh = λ none. tt }))
-            c.pass_over-seen.ensures.rest c.pass_over-seen.ensures.agenda;
+        served = passed_on g.W.Ready.readable g.W.Ready.writable trace c.none.result.at c.skip_idle-seen.result.at c.stamp.ensures.stamp c.skip_idle-seen.ensures.from
+            c.skip_idle-seen.ensures.within c.skip_idle-seen.ensures.rest (rw c.none.ensures (record { done = []; all_of_them = refl; served = NoMore 0 c.args.server.now }));
+        agenda = past_on (end_of g.W.Ready.readable g.W.Ready.writable) c.args.peers.now.entries c.none.result.at c.skip_idle-seen.result.at c.args.server.now.host
+            c.stamp.ensures.stamp c.skip_idle-seen.ensures.from (rw c.none.ensures (record { due = refl; ready = false; can = refl; at_once = refl; fresh = λ none. tt }))
+            c.skip_idle-seen.ensures.rest c.skip_idle-seen.ensures.agenda;
       },
       c.requires,
       c.stamp.ensures.settled,
       none_served c.args.server.now c.args.server.now refl,
-      rw c.stamp.ensures.stamp at c.pass_over-seen.ensures.next,
+      rw c.stamp.ensures.stamp at c.skip_idle-seen.ensures.next,
     )
 
 pub loop-seen-preserved : goal.loop-seen-preserved
 loop-seen-preserved g c =
     let trace = trace_by g.W.Wire.given g.W.Wire.written g.W.Wire.answers g.W.Wire.rooms in
     let before = c.loop-seen.invariant.1 in (
-      c.pass_over-seen-in-loop-seen.ensures.within,
+      c.skip_idle-seen-in-loop-seen.ensures.within,
       record {
         changed = before.changed || concerns_earlier c.loop-seen.seen.at (stamp_of c.loop-seen.server.host) (stamp_of c.serve_next.new.server.host);
-        served = passed_on g.W.Ready.readable g.W.Ready.writable trace c.in_ok-served.served.at c.pass_over-seen-in-loop-seen.result.at c.stamp-in-loop-seen.ensures.stamp
-            c.pass_over-seen-in-loop-seen.ensures.from c.pass_over-seen-in-loop-seen.ensures.within c.pass_over-seen-in-loop-seen.ensures.rest
+        served = passed_on g.W.Ready.readable g.W.Ready.writable trace c.in_ok-served.served.at c.skip_idle-seen-in-loop-seen.result.at c.stamp-in-loop-seen.ensures.stamp
+            c.skip_idle-seen-in-loop-seen.ensures.from c.skip_idle-seen-in-loop-seen.ensures.within c.skip_idle-seen-in-loop-seen.ensures.rest
             (one_further g.W.Ready.readable g.W.Ready.writable trace c.loop-seen.invariant.5 c.in_ok-served.ensures.part before.served);
-        agenda = past_on (end_of g.W.Ready.readable g.W.Ready.writable) c.serve_next.new.peers.entries c.in_ok-served.served.at c.pass_over-seen-in-loop-seen.result.at
-            c.serve_next.new.server.host c.stamp-in-loop-seen.ensures.stamp c.pass_over-seen-in-loop-seen.ensures.from (c.in_ok-served.ensures.agenda before.changed before.agenda)
-            c.pass_over-seen-in-loop-seen.ensures.rest c.pass_over-seen-in-loop-seen.ensures.agenda;
+        agenda = past_on (end_of g.W.Ready.readable g.W.Ready.writable) c.serve_next.new.peers.entries c.in_ok-served.served.at c.skip_idle-seen-in-loop-seen.result.at
+            c.serve_next.new.server.host c.stamp-in-loop-seen.ensures.stamp c.skip_idle-seen-in-loop-seen.ensures.from (c.in_ok-served.ensures.agenda before.changed before.agenda)
+            c.skip_idle-seen-in-loop-seen.ensures.rest c.skip_idle-seen-in-loop-seen.ensures.agenda;
       },
       c.in_ok-served.ensures.noted,
       c.stamp-in-loop-seen.ensures.settled,
       served_further c.loop-seen.invariant.4 c.serve_next.ensures.shows,
-      rw c.stamp-in-loop-seen.ensures.stamp at c.pass_over-seen-in-loop-seen.ensures.next,
+      rw c.stamp-in-loop-seen.ensures.stamp at c.skip_idle-seen-in-loop-seen.ensures.next,
     )
 
 pub returns-in_err-served-clause-shows : goal.returns-in_err-served-clause-shows

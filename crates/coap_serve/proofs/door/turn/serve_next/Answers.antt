@@ -14,7 +14,7 @@ returns-in-Over-clause-agenda g c changed seen =
     rw (c.drop_at.ensures.host, c.drop_at.ensures.peers, front_stays c.serve_at.new.peers.entries c.args.seen.at (omega (arith, as_many, c.requires.there)))
     (served_later (end_of g.W.Ready.readable g.W.Ready.writable) c.args.peers.now.entries c.serve_at.new.peers.entries c.args.seen.at
     c.args.server.now.host c.serve_at.new.server.host seen c.serve_at.ensures.before c.stamp-before.ensures.stamp c.stamp.ensures.stamp
-    c.concerns_others-concerned.ensures c.with-agenda.ensures)
+    c.affects_served_peers-concerned.ensures c.with-agenda.ensures)
 
 pub returns-in-Over-clause-fewer : goal.returns-in-Over-clause-fewer
 returns-in-Over-clause-fewer g c =
@@ -27,7 +27,7 @@ returns-in-Open-clause-agenda g c changed seen =
     open_step (end_of g.W.Ready.readable g.W.Ready.writable) c.serve_at.new.peers.entries c.args.seen.at c.index-peer.result.now c.index-peer.ensures
     (served_later (end_of g.W.Ready.readable g.W.Ready.writable) c.args.peers.now.entries c.serve_at.new.peers.entries c.args.seen.at
     c.args.server.now.host c.serve_at.new.server.host seen c.serve_at.ensures.before c.stamp-before.ensures.stamp c.stamp.ensures.stamp
-    c.concerns_others-concerned.ensures c.with-agenda.ensures)
+    c.affects_served_peers-concerned.ensures c.with-agenda.ensures)
     c.is_ready.ensures
     (stamp_noted c.serve_at.new.peers.entries c.args.seen.at c.serve_at.new.server c.index-peer.ensures c.in_ok-course.ensures.wants c.in-Open.is) c.with.ensures
 

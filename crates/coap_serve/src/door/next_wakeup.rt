@@ -1,7 +1,7 @@
 //! The work that remains after a turn has visited some connections, and the skipping of idle connections.
 
 ghost use Rattle.std.specs.Prelude.{◌≡◌, ◌≤◌, drop, length, map, slice_get, take, IfSome, false, None};
-ghost use Rattle.coap_serve.specs.Prelude.{AllByRecursion, end_of, agenda_past, IsAtRest, IsInTurn, concerns_earlier};
+ghost use Rattle.coap_serve.specs.Prelude.{AllByRecursion, end_of, agenda_past, IsIdle, IsInTurn, concerns_earlier};
 ghost use Rattle.coap_serve.specs.Prelude.{agenda_with, wait_of};
 
 use super::peer::Peers;
@@ -11,20 +11,20 @@ use coap_server_session::sooner;
 
 /// Work that remains after a turn has visited some connections.
 #[derive(Clone, Copy, PartialEq, Eq)]
-pub(super) struct Agenda {
+pub(super) struct NextWakeup {
     /// `true` if another turn must follow without a wait.
     pub(super) at_once: bool,
     /// Earliest time, in seconds, at which time alone may queue something on one of the connections.
     pub(super) due: Option<u64>,
 }
 
-impl Agenda {
+impl NextWakeup {
     /// Returns the agenda after one more connection. If `is_ready` is `true`, something can be done on it at once.
     /// `due` is the time at which time alone may queue something on it, if any.
-    pub(super) fn with(self, is_ready: bool, due: Option<u64>) -> Agenda
+    pub(super) fn with(self, is_ready: bool, due: Option<u64>) -> NextWakeup
         ensures { result ≡ agenda_with self is_ready due }
     {
-        Agenda {
+        NextWakeup {
             at_once: self.at_once || is_ready,
             due: sooner(self.due, due),
         }
@@ -46,21 +46,21 @@ impl Agenda {
 
 /// Progress of a turn through the connections.
 #[derive(Clone, Copy, PartialEq, Eq)]
-pub(super) struct Seen {
+pub(super) struct TurnProgress {
     /// Number of connections visited, which is the index of the next one.
     pub(super) at: usize,
     /// Work that remains on the connections visited.
-    pub(super) agenda: Agenda,
+    pub(super) agenda: NextWakeup,
 }
 
-impl Seen {
+impl TurnProgress {
     /// Returns the progress at the beginning of a turn: no connection was visited.
-    pub(super) fn none() -> Seen
+    pub(super) fn none() -> TurnProgress
         ensures { result ≡ record { at = 0; agenda = record { at_once = false; due = None } } }
     {
-        Seen {
+        TurnProgress {
             at: 0,
-            agenda: Agenda {
+            agenda: NextWakeup {
                 at_once: false,
                 due: None,
             },
@@ -70,11 +70,11 @@ impl Seen {
 
 /// Skips idle connections from the next one on, up to the first that is not idle or to the end. Their deadlines are
 /// added to the agenda.
-pub(super) fn pass_over<W: Ready>(peers: &Peers<W>, seen: Seen, stamp: ChangeStamp) -> Seen
+pub(super) fn skip_idle<W: Ready>(peers: &Peers<W>, seen: TurnProgress, stamp: ChangeStamp) -> TurnProgress
     requires { seen.at ≤ length peers.now.entries }
     ensures from { seen.at ≤ result.at }
     ensures within { result.at ≤ length peers.now.entries }
-    ensures rest { AllByRecursion (IsAtRest stamp) (map (λ e. end_of W.readable W.writable e.1)
+    ensures rest { AllByRecursion (IsIdle stamp) (map (λ e. end_of W.readable W.writable e.1)
         (drop seen.at (take result.at peers.now.entries))) }
     ensures agenda { result.agenda
         ≡ agenda_past seen.agenda (map (λ e. end_of W.readable W.writable e.1)
@@ -84,22 +84,22 @@ pub(super) fn pass_over<W: Ready>(peers: &Peers<W>, seen: Seen, stamp: ChangeSta
 {
     let mut at = seen.at;
     let mut due = seen.agenda.due;
-    while at < peers.len() && peers[at].is_at_rest(stamp) {
+    while at < peers.len() && peers[at].is_idle(stamp) {
         let moment = peers[at].wants.due;
         if moment.is_some() {
             due = sooner(due, moment);
         }
         at += 1;
     }
-    Seen {
+    TurnProgress {
         at,
-        agenda: Agenda { due, ..seen.agenda },
+        agenda: NextWakeup { due, ..seen.agenda },
     }
 }
 
 /// Returns `true` if serving the connection at an index may affect those before it, which were served earlier in the
 /// turn. `before` and `after` are the server's stamps before and after serving it.
-pub(super) fn concerns_others(at: usize, before: ChangeStamp, after: ChangeStamp) -> bool
+pub(super) fn affects_served_peers(at: usize, before: ChangeStamp, after: ChangeStamp) -> bool
     ensures { result ≡ concerns_earlier at before after }
 {
     at > 0 && after != before

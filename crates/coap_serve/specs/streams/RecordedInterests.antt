@@ -3,9 +3,9 @@ use Rattle.std.specs.Prelude.{◌≡◌, ◌≢◌, ◌≤◌, ◌+◌, ℕ, Boo
 use Rattle.std.specs.List.{AllByRecursion}
 use Rattle.coap_server_engine.specs.values.Servers.{ServerValue, AreSettled, server_opened, server_ticked, server_dropped}
 use Rattle.coap_server_engine.specs.values.ServerDeadlines.{stamp_of}
-use Rattle.coap_serve.specs.streams.Turns.{IsServedOnce, wants_of, FarEnd}
+use Rattle.coap_serve.specs.streams.Turns.{IsServedOnce, wants_of, PeerStatus}
 use Rattle.coap_io.specs.streams.Wires.{WireTrace}
-use Rattle.coap_serve.specs.declared.door.peer.Course.{Course}
+use Rattle.coap_serve.specs.declared.door.peer.PeerOutcome.{PeerOutcome}
 use Rattle.coap_serve.specs.declared.door.peer.Peer.{Peer}
 use Rattle.coap_server_engine.specs.declared.server.ChangeStamp.{ChangeStamp}
 
@@ -28,7 +28,7 @@ AreNoted v es = AllByRecursion (λ e. IsNoted v e) es
 
 -- The state of a connection that decides whether it can be served, with its present interest in place of the recorded
 -- one.
-abbrev pub true_end : {W : Type 0} (readable writable : W → Option Bool) → ServerValue → ℕ × Peer W → FarEnd
+abbrev pub true_end : {W : Type 0} (readable writable : W → Option Bool) → ServerValue → ℕ × Peer W → PeerStatus
 true_end readable writable v e = record { readable = readable e.1.wire; writable = writable e.1.wire; wants = wants_of v e.0 e.1.rest }
 
 -- The server became `after` by something that happened on the connection with this number. Every connection is settled,
@@ -43,7 +43,7 @@ pub record KeepsNotes (id : ℕ) (v after : ServerValue) : Type 0 where
 -- Then, in any order, other connections are served, dropped and opened, and the time advances.
 pub data WhilePassedOver (id : ℕ) (v : ServerValue) : ServerValue → Type 0 where
   AtFirst : WhilePassedOver id v v
-  Served : (before after : ServerValue) (other : ℕ) (rest left : List ℕ) (wire told : WireTrace) (may_read may_write : Bool) (course : Course) → WhilePassedOver id v before → id ≢ other → IsServedOnce may_read may_write before other rest wire after left told course → WhilePassedOver id v after
+  Served : (before after : ServerValue) (other : ℕ) (rest left : List ℕ) (wire told : WireTrace) (may_read may_write : Bool) (course : PeerOutcome) → WhilePassedOver id v before → id ≢ other → IsServedOnce may_read may_write before other rest wire after left told course → WhilePassedOver id v after
   Dropped : (before : ServerValue) (other : ℕ) → WhilePassedOver id v before → id ≢ other → WhilePassedOver id v (server_dropped before other)
   Opened : (before : ServerValue) → WhilePassedOver id v before → id ≢ before.ids + 1 → WhilePassedOver id v (server_opened before)
   Ticked : (before : ServerValue) (later : ℕ) → WhilePassedOver id v before → before.host.now ≤ later → WhilePassedOver id v (server_ticked before later)

@@ -9,7 +9,7 @@ use coap_server_engine::{ConnectionWork, Server, ChangeStamp};
 
 /// I/O interest of a connection, recorded when the connection was last served.
 #[derive(Clone, Copy, PartialEq, Eq)]
-pub(super) struct Wants {
+pub(super) struct PeerInterest {
     /// `true` if bytes that were read can be accepted or must be discarded.
     pub(super) take: bool,
     /// `true` if the wire must be read as soon as it has input.
@@ -23,7 +23,7 @@ pub(super) struct Wants {
 }
 
 /// Returns the I/O interest of a connection with these bytes left from its reads.
-pub(super) fn wants_on(server: &Server, id: ConnId, rest: &ReadBuffer) -> Wants
+pub(super) fn wants_on(server: &Server, id: ConnId, rest: &ReadBuffer) -> PeerInterest
     ensures { result ≡ wants_of server.now id rest.now }
 {
     wants_by(server.outlook(id), rest.is_empty(), server.stamp())
@@ -31,18 +31,18 @@ pub(super) fn wants_on(server: &Server, id: ConnId, rest: &ReadBuffer) -> Wants
 
 /// Returns the I/O interest of a connection with this work left. `is_empty` is `true` if all bytes that were read are
 /// accepted. The interest is empty if there is no connection.
-pub(super) fn wants_by(outlook: Option<ConnectionWork>, is_empty: bool, stamp: ChangeStamp) -> Wants
+pub(super) fn wants_by(outlook: Option<ConnectionWork>, is_empty: bool, stamp: ChangeStamp) -> PeerInterest
     ensures { result ≡ wants_in outlook is_empty stamp }
 {
     match outlook {
-        Some(outlook) => Wants {
+        Some(outlook) => PeerInterest {
             take: !is_empty && (outlook.takes || outlook.stopped),
             read: is_empty && outlook.takes,
             write: outlook.waits,
             due: outlook.due,
             stamp,
         },
-        None => Wants {
+        None => PeerInterest {
             take: false,
             read: false,
             write: false,

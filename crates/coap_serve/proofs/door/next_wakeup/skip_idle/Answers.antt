@@ -2,7 +2,7 @@ use Rattle.std.proofs.Common.{◌≡◌, ap, arith, rules}
 use Rattle.std.proofs.lemmas.Option.{slice_get_past}
 use Rattle.coap_serve.specs.Prelude.{sooner, end_of}
 use Rattle.coap_serve.proofs.streams.AgendaLemmas.{none_passed, one_more_passed, one_next}
-use Rattle.coap_serve.proofs.door.agenda.pass_over.Goals as goal
+use Rattle.coap_serve.proofs.door.next_wakeup.skip_idle.Goals as goal
 
 pub loop-at-init : goal.loop-at-init
 loop-at-init g c = (omega arith, c.requires, none_passed (end_of g.W.Ready.readable g.W.Ready.writable) c.args.peers.now.entries c.args.seen.at c.args.stamp c.args.seen.agenda.due)

@@ -2,7 +2,7 @@ use Rattle.std.proofs.Common.{◌≡◌, false, arith}
 use Rattle.std.proofs.lemmas.Bool.{and_left}
 use Rattle.coap_serve.specs.Prelude.{same_stamp, end_of}
 use Rattle.coap_serve.proofs.streams.AgendaLemmas.{an_answer, can_with}
-use Rattle.coap_serve.proofs.door.peer.Peer.is_at_rest.Goals as goal
+use Rattle.coap_serve.proofs.door.peer.Peer.is_idle.Goals as goal
 
 pub returns-else-eq : goal.returns-else-eq
 returns-else-eq g c =

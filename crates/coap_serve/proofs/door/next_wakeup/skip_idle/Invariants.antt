@@ -1,7 +1,7 @@
 use Rattle.std.proofs.Common.{◌-◌, ◌≤◌, length}
 use Rattle.coap_serve.specs.Prelude.{end_of}
 use Rattle.coap_serve.proofs.streams.AgendaLemmas.{ArePassed}
-use Rattle.coap_serve.proofs.door.agenda.pass_over.Given as goal
+use Rattle.coap_serve.proofs.door.next_wakeup.skip_idle.Given as goal
 
 -- The connections skipped so far are idle.
 abbrev pub invariant-loop-at : goal.invariant-loop-at

@@ -17,7 +17,7 @@ use Rattle.coap_serve.specs.streams.StdioRun.{IsLastByte}
 -- A server of this configuration has accepted these bytes. It shows events that lead to the world for these bytes. If
 -- nothing stops the connection, then in these events it received the stream that the bytes encode, and it announced no
 -- other size.
-pub record Stands (c : ConfigValues) (v : ServerValue) (bytes : List ℕ) : Type 0 where
+pub record IsAtBytes (c : ConfigValues) (v : ServerValue) (bytes : List ℕ) : Type 0 where
   pub config : v.config ≡ c
   pub events : List AcceptedCall
   pub shows : Shows v events
@@ -25,10 +25,10 @@ pub record Stands (c : ConfigValues) (v : ServerValue) (bytes : List ℕ) : Type
   pub spelled : (outcome c bytes).stop ≡ None → spelled_on c.limits.max_message (only_id c) events ≡ (stream_of c bytes, c.limits.max_message)
 
 -- The server has accepted these bytes, and its only connection processes further messages.
-pub record IsGoing (c : ConfigValues) (v : ServerValue) (id : ℕ) (bytes : List ℕ) : Type 0 where
+pub record IsRunningAt (c : ConfigValues) (v : ServerValue) (id : ℕ) (bytes : List ℕ) : Type 0 where
   pub number : id ≡ only_id c
   pub ranges : AreInRange c.limits
-  pub stands : Stands c v bytes
+  pub stands : IsAtBytes c v bytes
   pub going : (outcome c bytes).stop ≡ None
 
 -- ---- a chunk
@@ -39,7 +39,7 @@ Says c bytes more text = stdio_output c (bytes ++ more) ≡ stdio_output c bytes
 
 -- A chunk was processed, its output was written, and the number of its messages is `messages`.
 pub record IsWhole (c : ConfigValues) (bytes piece : List ℕ) (after : ServerValue) (wrote : List ℕ → Type 0) (messages : ℕ) : Type 0 where
-  pub stands : Stands c after (bytes ++ piece)
+  pub stands : IsAtBytes c after (bytes ++ piece)
   pub text : List ℕ
   pub says : Says c bytes piece text
   pub written : wrote text

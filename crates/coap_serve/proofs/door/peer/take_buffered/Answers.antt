@@ -1,5 +1,5 @@
 use Rattle.coap_serve.proofs.streams.ServingLemmas.{takes_served}
-use Rattle.coap_serve.proofs.door.peer.take_rest.Goals as goal
+use Rattle.coap_serve.proofs.door.peer.take_buffered.Goals as goal
 
 pub returns-then-has_stopped-clause-shows : goal.returns-then-has_stopped-clause-shows
 returns-then-has_stopped-clause-shows c = takes_served c.args.server.now c.take_all.new.self c.args.id c.bytes.result.now c.in-Ok.ensures.shows

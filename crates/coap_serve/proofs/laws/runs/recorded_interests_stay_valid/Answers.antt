@@ -1,5 +1,5 @@
 use Rattle.coap_serve.proofs.streams.NoteLemmas.{noted_where_served, noted_where_dropped, noted_where_opened, ticked_to_the_same, noted_throughout, still_nothing_to_do}
-use Rattle.coap_serve.proofs.laws.runs.what_was_noted_holds.Goals as goal
+use Rattle.coap_serve.proofs.laws.runs.recorded_interests_stay_valid.Goals as goal
 
 pub returns : goal.returns
 returns c = search (noted_where_served, noted_where_dropped, noted_where_opened, ticked_to_the_same, noted_throughout, still_nothing_to_do)

@@ -1,6 +1,6 @@
 use Rattle.coap_serve.specs.Prelude.{Ended}
 use Rattle.coap_serve.proofs.streams.ServingLemmas.{one_served}
-use Rattle.coap_serve.proofs.door.peer.hear.Goals as goal
+use Rattle.coap_serve.proofs.door.peer.read_wire.Goals as goal
 
 pub returns-in-Ok-clause-shows : goal.returns-in-Ok-clause-shows
 returns-in-Ok-clause-shows g c = one_served c.args.server.now c.ended.new.self (Ended c.args.id) tt c.in-Ok.ensures.shows
