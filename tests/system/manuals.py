@@ -43,7 +43,7 @@ SOURCES = {
     "coap-server": ["coap_server/src/*.rt", "coap_serve/src/*.rt", "coap_script/src/*.rt", "coap_model/src/*.rt",
                     "coap_server_engine/src/*.rt"] + LIBRARIES,
     "coap-client": ["coap_client_main/src/*.rt", "coap_client_engine/src/run.rt", "coap_client_engine/src/run/*.rt",
-                    "coap_client_engine/src/say.rt"] + LIBRARIES,
+                    "coap_client_engine/src/error_lines.rt"] + LIBRARIES,
 }
 
 # what a plan that the words cannot ask for would be told, which is no matter of a manual

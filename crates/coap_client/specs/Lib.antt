@@ -13,5 +13,5 @@ pub use Rattle.coap_client_engine.specs.EventViews
 pub use Rattle.coap_client_engine.specs.RunFaults
 pub use Rattle.coap_client_engine.specs.RunTexts
 pub use Rattle.coap_client_engine.specs.RunSteps
-pub use Rattle.coap_client_engine.specs.RunCourse
+pub use Rattle.coap_client_engine.specs.RunTrace
 pub use Rattle.coap_client_engine.specs.ClientRun

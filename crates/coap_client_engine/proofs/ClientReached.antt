@@ -5,7 +5,7 @@ use Rattle.coap_client_engine.specs.Prelude.{fault_bytes, FormatFault, Framing, 
 use Rattle.coap_client_engine.specs.Prelude.{Phase, Reject, Client, LimitValues, takes_messages, reject_of}
 use Rattle.coap_client_engine.specs.Prelude.{OutstandingValue, History, IsHistory, new_history, after, after_asking}
 use Rattle.coap_client_engine.specs.Prelude.{link_of, LinkValue, free_in, link_after, Method, TargetValue, ExtrasValue}
-use Rattle.coap_client_engine.specs.Prelude.{request_of, cancel_of, ClientValue, Taking, taking_rejected, taking_read}
+use Rattle.coap_client_engine.specs.Prelude.{request_of, cancel_of, ClientValue, ClientTakeOutcome, taking_rejected, taking_read}
 use Rattle.coap_client_engine.specs.Prelude.{taking_found, taking, is_cut, client_written, client_ended, client_sent}
 use Rattle.coap_client_engine.specs.Prelude.{client_cancelled, client_pinged, ClientCall, Took, Sent, Cancelled, Pinged}
 use Rattle.coap_client_engine.specs.Prelude.{Wrote, Ended, ClientStep, Handles, Faults, Requests, Cancels, Pings, Writes}
@@ -113,7 +113,7 @@ abbrev left : History → List ℕ → ClientValue
 left h rest = record { frame = kept_after h rest; link = link_of h }
 
 -- The result of a `take`, given the steps and the stream that its bytes add to a history.
-record IsTaken (h : History) (taken : Taking) (n : ℕ) (ss : List ClientStep) (added : Stream) : Type 0 where
+record IsTaken (h : History) (taken : ClientTakeOutcome) (n : ℕ) (ss : List ClientStep) (added : Stream) : Type 0 where
   count : taken.count ≡ n
   event : taken.event ≡ event_by h ss
   client : taken.client ≡ left (after_steps h ss) added.rest
@@ -303,9 +303,9 @@ module _ (limits : LimitValues) (tokens : ℕ) (calls : List ClientCall) where
   told_front : (before : CallsReach limits tokens calls) (piece : List ℕ) (does : handles h ≡ true) → IsTakenAndTold piece (front limits.max_message calls_stream.rest piece)
   unfolding event_of
   told_front before piece does = record {
-    count = ap (λ (t : Taking). t.count) (taking_is before piece does) ∙ (found_taken before piece does).count ∙ sym (takes_is before piece does piece);
-    event = ap (λ (t : Taking). t.event) (taking_is before piece does) ∙ (found_taken before piece does).event ∙ ap (event_by h) (sym (found_steps before piece does));
-    client = ap (λ (t : Taking). t.client) (taking_is before piece does) ∙ (found_taken before piece does).client ∙ sym (found_left before piece does);
+    count = ap (λ (t : ClientTakeOutcome). t.count) (taking_is before piece does) ∙ (found_taken before piece does).count ∙ sym (takes_is before piece does piece);
+    event = ap (λ (t : ClientTakeOutcome). t.event) (taking_is before piece does) ∙ (found_taken before piece does).event ∙ ap (event_by h) (sym (found_steps before piece does));
+    client = ap (λ (t : ClientTakeOutcome). t.client) (taking_is before piece does) ∙ (found_taken before piece does).client ∙ sym (found_left before piece does);
     accepted = front_is_accepted before piece does;
   }
 
@@ -330,11 +330,11 @@ module _ (limits : LimitValues) (tokens : ℕ) (calls : List ClientCall) where
   nothing_taken_is_told : (piece : List ℕ) → handles h ≡ false → IsTakenAndTold piece []
   unfolding event_of IsAccepted
   nothing_taken_is_told piece not = record {
-    count = ap (λ (t : Taking). t.count) (taking_without_room piece not) ∙ sym (takes_nothing piece not);
+    count = ap (λ (t : ClientTakeOutcome). t.count) (taking_without_room piece not) ∙ sym (takes_nothing piece not);
     event =
-        ap (λ (t : Taking). t.event) (taking_without_room piece not)
+        ap (λ (t : ClientTakeOutcome). t.event) (taking_without_room piece not)
         ∙ ap (event_by h) (sym (empty_take_steps max_taken calls));
-    client = ap (λ (t : Taking). t.client) (taking_without_room piece not) ∙ sym empty_take_left;
+    client = ap (λ (t : ClientTakeOutcome). t.client) (taking_without_room piece not) ∙ sym empty_take_left;
     accepted = takes_nothing [] not;
   }
 

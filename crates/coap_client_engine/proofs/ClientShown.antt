@@ -4,7 +4,7 @@ use Rattle.coap_client_engine.specs.Prelude.{IfOk, OnOk, Message, RefusedBy, els
 use Rattle.coap_client_engine.specs.Prelude.{observation_refusal, cancel_refusal, next_token, with_token, TooBig}
 use Rattle.coap_client_engine.specs.Prelude.{RequestFault, Client, LimitValues, LinkValue, asking_in, link_of, link_after}
 use Rattle.coap_client_engine.specs.Prelude.{Method, TargetValue, ExtrasValue, request_of, cancel_of, is_too_long}
-use Rattle.coap_client_engine.specs.Prelude.{has_long_extra, ClientValue, EventValue, taking, new_client, client_written}
+use Rattle.coap_client_engine.specs.Prelude.{has_long_extra, ClientValue, ClientEventValue, taking, new_client, client_written}
 use Rattle.coap_client_engine.specs.Prelude.{client_ended, client_sent, client_cancelled, client_pinged, send_refusal}
 use Rattle.coap_client_engine.specs.Prelude.{cancelling_refusal, ping_refusal, ClientCall, Took, Sent, Cancelled, Pinged}
 use Rattle.coap_client_engine.specs.Prelude.{Wrote, Ended, client_after, takes, event_of, IsAccepted, AreAccepted}
@@ -92,7 +92,7 @@ module _ (v : ClientValue) (tokens : ℕ) (calls : List ClientCall) (shows : Cli
   takes_on : (piece : List ℕ) (n : ℕ) → n ≡ (taking v piece).count → n ≡ takes v.link.limits tokens calls piece
   takes_on piece n is = is ∙ ap (λ (u : ClientValue). (taking u piece).count) shows.same ∙ (piece_is_told piece).count
 
-  told_on : (piece : List ℕ) (n : ℕ) (e : Option EventValue) → n ≡ (taking v piece).count → e ≡ (taking v piece).event → e ≡ event_of v.link.limits tokens calls (Took (take n piece))
+  told_on : (piece : List ℕ) (n : ℕ) (e : Option ClientEventValue) → n ≡ (taking v piece).count → e ≡ (taking v piece).event → e ≡ event_of v.link.limits tokens calls (Took (take n piece))
   told_on piece n e count is =
       is ∙ ap (λ (u : ClientValue). (taking u piece).event) shows.same ∙ (piece_is_told piece).event
       ∙ ap (λ (k : ℕ). event_of v.link.limits tokens calls (Took (take k piece))) (sym (takes_on piece n count))
@@ -193,7 +193,7 @@ pub took_takes : (v : ClientValue) (piece : List ℕ) (n : ℕ) → n ≡ (takin
 took_takes v piece n count tokens calls shows = takes_on v tokens calls shows piece n count
 
 -- The event.
-pub took_told : (v : ClientValue) (piece : List ℕ) (n : ℕ) (e : Option EventValue) → n ≡ (taking v piece).count → e ≡ (taking v piece).event → (tokens : ℕ) (calls : List ClientCall) → ClientShows v tokens calls → e ≡ event_of v.link.limits tokens calls (Took (take n piece))
+pub took_told : (v : ClientValue) (piece : List ℕ) (n : ℕ) (e : Option ClientEventValue) → n ≡ (taking v piece).count → e ≡ (taking v piece).event → (tokens : ℕ) (calls : List ClientCall) → ClientShows v tokens calls → e ≡ event_of v.link.limits tokens calls (Took (take n piece))
 took_told v piece n e count is tokens calls shows = told_on v tokens calls shows piece n e count is
 
 -- The client after the call.

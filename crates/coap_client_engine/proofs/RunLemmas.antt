@@ -3,13 +3,13 @@ use Rattle.std.proofs.Common.{◌≡◌, ◌≢◌, ◌+◌, ◌<◌, ◌≤◌,
 use Rattle.coap_client_engine.specs.Prelude.{◌==◌, IfOk, OnOk, option_map, nat_lt, ◌&&◌, ◌||◌, next_token, LimitValues}
 use Rattle.coap_client_engine.specs.Prelude.{Phase, Waiting, Open, Releasing, RequestFault, NotOpen, TooMany, TooBig}
 use Rattle.coap_client_engine.specs.Prelude.{NoRoom, TokensSpent, NoSuchToken, Reason, WriteFailed, Got, AddsBytes}
-use Rattle.coap_client_engine.specs.Prelude.{TellsMore, bytes_passed, count_passed, ClientValue, EventValue, client_takes}
+use Rattle.coap_client_engine.specs.Prelude.{TellsMore, bytes_passed, count_passed, ClientValue, ClientEventValue, client_takes}
 use Rattle.coap_client_engine.specs.Prelude.{taking, client_written, client_sent, client_cancelled, send_refusal, Took}
 use Rattle.coap_client_engine.specs.Prelude.{Sent, Cancelled, client_of, takes, event_of, AreAccepted, ClientShows}
-use Rattle.coap_client_engine.specs.Prelude.{may_take, is_to_ask, is_to_cancel, has_passed, late, watched, planned_extras}
+use Rattle.coap_client_engine.specs.Prelude.{may_take, must_send_request, is_to_cancel, has_passed, timeout_status, watched, planned_extras}
 use Rattle.coap_client_engine.specs.Prelude.{client_asking, client_cancelling, token_asking, cancelled_at, ended_by}
 use Rattle.coap_client_engine.specs.Prelude.{refusal_text, status_told, first_told, output_told, errors_told, calls_read}
-use Rattle.coap_client_engine.specs.Prelude.{calls_written, client_read, stop_behind, stop_written, unless_refused, Course}
+use Rattle.coap_client_engine.specs.Prelude.{calls_written, client_read, stop_behind, stop_written, unless_refused, RunTrace}
 use Rattle.coap_client_engine.specs.Prelude.{Begins, Turns, Reads, Calls, Refuses, GivesUp, Rests, default_limits, calls_in}
 use Rattle.coap_client_engine.specs.Prelude.{client_in, phase_in, waiting_in, event_in, token_in, moments_in, turns_in}
 use Rattle.coap_client_engine.specs.Prelude.{moment_in, started_in, first_in, cancelled_in, waits_since, since_in}
@@ -17,7 +17,7 @@ use Rattle.coap_client_engine.specs.Prelude.{is_late_since, is_overdue_since, is
 use Rattle.coap_client_engine.specs.Prelude.{given_in, written_in, stop_read, status_stopped, stop_text, or_then, status_in}
 use Rattle.coap_client_engine.specs.Prelude.{output_in, errors_in, has_looked, IsAskedWhereDue, IsCancelledWhereDue}
 use Rattle.coap_client_engine.specs.Prelude.{IsTakenUp, IsFresh, IsPlanned, IsRefused, HasWaited, IsDone, IsResting}
-use Rattle.coap_client_engine.specs.Prelude.{IsBetween, MayWrite, Seen, seen, token_of, Stands, LeadsOn, IsAsked, IsTaken}
+use Rattle.coap_client_engine.specs.Prelude.{IsBetween, MayWrite, RunDevices, seen, token_of, IsAtTrace, ExtendsTraceOn, IsAsked, IsTaken}
 use Rattle.coap_client_engine.specs.Prelude.{IsHeard, IsFinished, IsFlushed, most_turns, IsEnded, IsOutOfTurns, IsClientRun}
 use Rattle.coap_client_engine.specs.Prelude.{ClientPlan, Run}
 use Rattle.std.proofs.lemmas.Bool.{eqb-true, ltb-true, lt-ltb}
@@ -26,7 +26,7 @@ use Rattle.coap_conn.specs.declared.phase.Phase.TheVariants as phase
 use Rattle.coap_io.proofs.streams.DeviceLemmas.{told_none, told_then, bytes_none, bytes_then}
 use Rattle.coap_client_engine.specs.ClientValues as value
 use Rattle.coap_client_engine.specs.RunSteps.{asking_refusal, cancelling_refusal}
-use Rattle.coap_client_engine.specs.RunCourse.{Writes}
+use Rattle.coap_client_engine.specs.RunTrace.{Writes}
 use Rattle.coap_client_engine.proofs.CourseLaws.{course_taken, course_queued}
 use Rattle.coap_client_engine.proofs.ClientShown.{took_takes, took_told, took_shown}
 use Rattle.coap_client_engine.proofs.TakenLemmas.{client_takes_some, cancelled_takes, may_parts, may_not}
@@ -35,7 +35,7 @@ use Rattle.coap_request.proofs.TargetLemmas.{false_is_true}
 
 -- ---- small lemmas
 
-ask_same : {T : Type 0} (p : Phase) (token : Option T) (f : T → List ℕ) → is_to_ask p (option_map f token) ≡ is_to_ask p token
+ask_same : {T : Type 0} (p : Phase) (token : Option T) (f : T → List ℕ) → must_send_request p (option_map f token) ≡ must_send_request p token
 ask_same Waiting token f = refl
 ask_same Open None f = refl
 ask_same Open (Some t) f = refl
@@ -48,7 +48,7 @@ token_kept r r' same = rw same refl
 no_token : (r : Run) → r.token ≡ None → token_of r ≡ None
 no_token r none = rw none refl
 
-no_more_asking : (p : Phase) (token : List ℕ) → is_to_ask p (Some token) ≡ true → ⊥
+no_more_asking : (p : Phase) (token : List ℕ) → must_send_request p (Some token) ≡ true → ⊥
 no_more_asking Waiting token is = false_is_true is
 no_more_asking Open token is = false_is_true is
 no_more_asking (Releasing why) token is = false_is_true is
@@ -104,7 +104,7 @@ or_then_some None got why is = refl
 or_then_some (Some status) got why is = absurd (some_is_none is)
 
 -- The run may rest if everything is done, and give up if it has waited long enough.
-rests_stand : {plan : ClientPlan} {start now : Seen} {r : Run} {c : Course} → Stands plan start now r c → IsDone plan c → Stands plan start now r (Rests c)
+rests_stand : {plan : ClientPlan} {start now : RunDevices} {r : Run} {c : RunTrace} → IsAtTrace plan start now r c → IsDone plan c → IsAtTrace plan start now r (Rests c)
 rests_stand stands done = record {
   follows = (stands.follows, done);
   shows = stands.shows;
@@ -118,7 +118,7 @@ rests_stand stands done = record {
   told = record { given = stands.told.given; written = stands.told.written; answers = stands.told.answers; moments = stands.told.moments; out = stands.told.out; err = stands.told.err };
 }
 
-given_up_stand : {plan : ClientPlan} {start now : Seen} {r : Run} {c : Course} → Stands plan start now r c → status_in c ≡ None → HasWaited plan c → Stands plan start now r (GivesUp c)
+given_up_stand : {plan : ClientPlan} {start now : RunDevices} {r : Run} {c : RunTrace} → IsAtTrace plan start now r c → status_in c ≡ None → HasWaited plan c → IsAtTrace plan start now r (GivesUp c)
 given_up_stand stands goes waited = record {
   follows = (stands.follows, goes, waited);
   shows = stands.shows;
@@ -133,12 +133,12 @@ given_up_stand stands goes waited = record {
 }
 
 -- The client is the one of the trace.
-client_stands : {plan : ClientPlan} {start now : Seen} {r : Run} {c : Course} → Stands plan start now r c → r.client ≡ client_in c
+client_stands : {plan : ClientPlan} {start now : RunDevices} {r : Run} {c : RunTrace} → IsAtTrace plan start now r c → r.client ≡ client_in c
 client_stands {plan} {start} {now} {r} {c} stands = stands.shows.same ∙ ap (λ (l : LimitValues). client_of l 0 (calls_in c)) stands.limits
 
 -- ---- a run that agrees with a trace
 
-module _ (plan : ClientPlan) (start now : Seen) (r : Run) (c : Course) (stands : Stands plan start now r c) where
+module _ (plan : ClientPlan) (start now : RunDevices) (r : Run) (c : RunTrace) (stands : IsAtTrace plan start now r c) where
   -- The client is the one of the trace.
   client_of_course : r.client ≡ client_in c
   client_of_course = client_stands stands
@@ -148,25 +148,25 @@ module _ (plan : ClientPlan) (start now : Seen) (r : Run) (c : Course) (stands :
   accepted_all = subst (λ (l : LimitValues). AreAccepted l 0 (calls_in c)) stands.limits stands.shows.accepted
 
   -- Code and trace agree on whether the request must be sent.
-  asks_same : is_to_ask r.client.link.phase r.token ≡ is_to_ask (phase_in c) (token_in c)
+  asks_same : must_send_request r.client.link.phase r.token ≡ must_send_request (phase_in c) (token_in c)
   asks_same =
       sym (ask_same r.client.link.phase r.token (λ t. t.items))
-      ∙ ap (λ (v : ClientValue). is_to_ask v.link.phase (token_of r)) client_of_course
-      ∙ ap (λ (t : Option (List ℕ)). is_to_ask (phase_in c) t) stands.token
+      ∙ ap (λ (v : ClientValue). must_send_request v.link.phase (token_of r)) client_of_course
+      ∙ ap (λ (t : Option (List ℕ)). must_send_request (phase_in c) t) stands.token
 
   -- ---- whether more input can be processed
 
-  taken_by : ((length r.rest == 0) ≡ true) ⊎ ((is_to_ask r.client.link.phase r.token ≡ true) ⊎ (client_takes r.client ≡ false)) → IsTakenUp c
+  taken_by : ((length r.rest == 0) ≡ true) ⊎ ((must_send_request r.client.link.phase r.token ≡ true) ⊎ (client_takes r.client ≡ false)) → IsTakenUp c
   taken_by (inl none) = inl (sym stands.rest ∙ rest_is_empty r.rest none)
   taken_by (inr (inl asks)) = inr (inl (sym asks_same ∙ asks))
   taken_by (inr (inr shut)) = inr (inr (ap client_takes (sym client_of_course) ∙ shut))
 
   pub taken_up : may_take r.client r.rest r.token ≡ false → IsTakenUp c
-  taken_up is = taken_by (may_not (length r.rest == 0) (is_to_ask r.client.link.phase r.token) (client_takes r.client) is)
+  taken_up is = taken_by (may_not (length r.rest == 0) (must_send_request r.client.link.phase r.token) (client_takes r.client) is)
 
   pub takes_one : may_take r.client r.rest r.token ≡ true → 1 ≤ (taking r.client r.rest).count
   takes_one is =
-      let parts = may_parts (length r.rest == 0) (is_to_ask r.client.link.phase r.token) (client_takes r.client) is in
+      let parts = may_parts (length r.rest == 0) (must_send_request r.client.link.phase r.token) (client_takes r.client) is in
       let one = client_takes_some (calls_in c) r.rest accepted_all (ap client_takes (sym client_of_course) ∙ parts.2) (ltb-true 0 (length r.rest) (some_left r.rest parts.0)) in
       subst (λ (n : ℕ). 1 ≤ n)
       (sym (took_takes r.client r.rest (taking r.client r.rest).count refl 0 (calls_in c) stands.shows ∙ ap (λ (l : LimitValues). takes l 0 (calls_in c) r.rest) stands.limits)) one
@@ -193,13 +193,13 @@ module _ (plan : ClientPlan) (start now : Seen) (r : Run) (c : Course) (stands :
 
     planned : IsPlanned plan c (Took taken_of_rest)
     planned = (
-      sym asks_same ∙ (may_parts (length r.rest == 0) (is_to_ask r.client.link.phase r.token) (client_takes r.client) may).1,
+      sym asks_same ∙ (may_parts (length r.rest == 0) (must_send_request r.client.link.phase r.token) (client_takes r.client) may).1,
       ap (λ (n : ℕ). take n r.rest) (took_takes r.client r.rest (taking r.client r.rest).count refl 0 (calls_in c) stands.shows)
           ∙ ap (λ (l : LimitValues). take (takes l 0 (calls_in c) r.rest) r.rest) stands.limits
           ∙ ap (λ (xs : List ℕ). take (takes default_limits 0 (calls_in c) xs) xs) stands.rest,
     )
 
-    pub took_stands : Stands plan start (seen now.given now.written now.answers now.moments o e) r' (Calls c (Took taken_of_rest))
+    pub took_stands : IsAtTrace plan start (seen now.given now.written now.answers now.moments o e) r' (Calls c (Took taken_of_rest))
     took_stands = record {
       follows = (stands.follows, goes, planned);
       shows = subst (λ (v : ClientValue). ClientShows v 0 (calls_in c ++ Took taken_of_rest ∷ [])) (sym client) (took_shown r.client r.rest (taking r.client r.rest).count refl 0 (calls_in c) stands.shows);
@@ -210,7 +210,7 @@ module _ (plan : ClientPlan) (start now : Seen) (r : Run) (c : Course) (stands :
       moment = moment ∙ stands.moment;
       first =
           first
-          ∙ ap (λ (e : Option EventValue). first_told e r.first r.moment) event_is
+          ∙ ap (λ (e : Option ClientEventValue). first_told e r.first r.moment) event_is
           ∙ ap (λ (f : Option ℕ). first_told (event_in c (Took taken_of_rest)) f r.moment) stands.first
           ∙ ap (λ (m : ℕ). first_told (event_in c (Took taken_of_rest)) (first_in c) m) stands.moment;
       cancelled = cancelled ∙ stands.cancelled;
@@ -219,8 +219,8 @@ module _ (plan : ClientPlan) (start now : Seen) (r : Run) (c : Course) (stands :
         written = stands.told.written;
         answers = stands.told.answers;
         moments = stands.told.moments;
-        out = bytes_then start.out now.out o (output_in plan c) (output_told (event_in c (Took taken_of_rest)) plan.newline) stands.told.out (subst (λ (e : Option EventValue). AddsBytes now.out o (output_told e plan.newline)) event_is out);
-        err = bytes_then start.err now.err e (errors_in c) (errors_told (event_in c (Took taken_of_rest))) stands.told.err (subst (λ (told : Option EventValue). AddsBytes now.err e (errors_told told)) event_is err);
+        out = bytes_then start.out now.out o (output_in plan c) (output_told (event_in c (Took taken_of_rest)) plan.newline) stands.told.out (subst (λ (e : Option ClientEventValue). AddsBytes now.out o (output_told e plan.newline)) event_is out);
+        err = bytes_then start.err now.err e (errors_in c) (errors_told (event_in c (Took taken_of_rest))) stands.told.err (subst (λ (told : Option ClientEventValue). AddsBytes now.err e (errors_told told)) event_is err);
       };
     }
 
@@ -229,7 +229,7 @@ module _ (plan : ClientPlan) (start now : Seen) (r : Run) (c : Course) (stands :
 
     -- The event ended the run.
     pub took_last : has_looked c ≡ true → (status : ℕ) → Some status ≡ status_told (taking r.client r.rest).event
-        → LeadsOn plan start (seen now.given now.written now.answers now.moments o e) r' (IsAsked (turns_in c)) (Some status)
+        → ExtendsTraceOn plan start (seen now.given now.written now.answers now.moments o e) r' (IsAsked (turns_in c)) (Some status)
     took_last looked status is = record {
       course = Calls c (Took taken_of_rest);
       stands = took_stands;
@@ -242,7 +242,7 @@ module _ (plan : ClientPlan) (start now : Seen) (r : Run) (c : Course) (stands :
   module _ (r' : Run) (e : Option (List ℕ)) (goes : status_in c ≡ None)
       (rest : r'.rest ≡ r.rest) (started : r'.started ≡ r.started) (moment : r'.moment ≡ r.moment) (first : r'.first ≡ r.first) (cancelled : r'.cancelled ≡ r.cancelled) where
     -- Nothing was sent or refused.
-    same_stands : r'.client ≡ r.client → token_of r' ≡ token_of r → AddsBytes now.err e [] → Stands plan start (seen now.given now.written now.answers now.moments now.out e) r' c
+    same_stands : r'.client ≡ r.client → token_of r' ≡ token_of r → AddsBytes now.err e [] → IsAtTrace plan start (seen now.given now.written now.answers now.moments now.out e) r' c
     same_stands client token err = record {
       follows = stands.follows;
       shows = subst (λ (v : ClientValue). ClientShows v 0 (calls_in c)) (sym client) stands.shows;
@@ -265,7 +265,7 @@ module _ (plan : ClientPlan) (start now : Seen) (r : Run) (c : Course) (stands :
 
     -- The request was refused.
     refused_stands : (fault : RequestFault) → IsRefused plan c fault → r'.client ≡ r.client → token_of r' ≡ token_of r → AddsBytes now.err e (refusal_text (Some fault))
-        → Stands plan start (seen now.given now.written now.answers now.moments now.out e) r' (Refuses c fault)
+        → IsAtTrace plan start (seen now.given now.written now.answers now.moments now.out e) r' (Refuses c fault)
     refused_stands fault why client token err = record {
       follows = (stands.follows, goes, why);
       shows = subst (λ (v : ClientValue). ClientShows v 0 (calls_in c)) (sym client) stands.shows;
@@ -287,9 +287,9 @@ module _ (plan : ClientPlan) (start now : Seen) (r : Run) (c : Course) (stands :
     }
 
     -- The request was sent.
-    sent_stands : is_to_ask r.client.link.phase r.token ≡ true → send_refusal r.client.link plan.method plan.target (planned_extras plan) ≡ None
+    sent_stands : must_send_request r.client.link.phase r.token ≡ true → send_refusal r.client.link plan.method plan.target (planned_extras plan) ≡ None
         → r'.client ≡ client_sent r.client plan.method plan.target (planned_extras plan) → token_of r' ≡ Some (next_token r.client.link.tokens) → AddsBytes now.err e []
-        → Stands plan start (seen now.given now.written now.answers now.moments now.out e) r' (Calls c (Sent plan.method plan.target (planned_extras plan)))
+        → IsAtTrace plan start (seen now.given now.written now.answers now.moments now.out e) r' (Calls c (Sent plan.method plan.target (planned_extras plan)))
     sent_stands asks none client token err =
         let nothing : event_in c (Sent plan.method plan.target (planned_extras plan)) ≡ None = send_tells_none (calls_in c) plan.method plan.target (planned_extras plan) default_limits in
         record {
@@ -300,23 +300,23 @@ module _ (plan : ClientPlan) (start now : Seen) (r : Run) (c : Course) (stands :
           token = token ∙ ap (λ (v : ClientValue). Some (next_token v.link.tokens)) client_of_course;
           started = started ∙ stands.started;
           moment = moment ∙ stands.moment;
-          first = first ∙ stands.first ∙ ap (λ (told : Option EventValue). first_told told (first_in c) (moment_in c)) (sym nothing);
+          first = first ∙ stands.first ∙ ap (λ (told : Option ClientEventValue). first_told told (first_in c) (moment_in c)) (sym nothing);
           cancelled = cancelled ∙ stands.cancelled;
           told = record {
             given = stands.told.given;
             written = stands.told.written;
             answers = stands.told.answers;
             moments = stands.told.moments;
-            out = bytes_same start.out now.out (output_in plan c) (output_told (event_in c (Sent plan.method plan.target (planned_extras plan))) plan.newline) stands.told.out (ap (λ (told : Option EventValue). output_told told plan.newline) nothing);
+            out = bytes_same start.out now.out (output_in plan c) (output_told (event_in c (Sent plan.method plan.target (planned_extras plan))) plan.newline) stands.told.out (ap (λ (told : Option ClientEventValue). output_told told plan.newline) nothing);
             err = bytes_same start.err e (errors_in c) (errors_told (event_in c (Sent plan.method plan.target (planned_extras plan)))) (bytes_stay start.err now.err e (errors_in c) stands.told.err err) (ap errors_told nothing);
           };
         }
 
     -- The result of an attempt to send the request.
     abbrev After : Option ℕ → Type 0
-    After next = LeadsOn plan start (seen now.given now.written now.answers now.moments now.out e) r' (IsAsked (turns_in c)) next
+    After next = ExtendsTraceOn plan start (seen now.given now.written now.answers now.moments now.out e) r' (IsAsked (turns_in c)) next
 
-    asked_to : has_looked c ≡ true → is_to_ask r.client.link.phase r.token ≡ true → (refusal : Option RequestFault) → send_refusal r.client.link plan.method plan.target (planned_extras plan) ≡ refusal
+    asked_to : has_looked c ≡ true → must_send_request r.client.link.phase r.token ≡ true → (refusal : Option RequestFault) → send_refusal r.client.link plan.method plan.target (planned_extras plan) ≡ refusal
         → r'.client ≡ unless_refused refusal (client_sent r.client plan.method plan.target (planned_extras plan)) r.client
         → token_of r' ≡ unless_refused refusal (Some (next_token r.client.link.tokens)) (token_of r)
         → AddsBytes now.err e (refusal_text refusal) → After (ended_by refusal)
@@ -328,12 +328,12 @@ module _ (plan : ClientPlan) (start now : Seen) (r : Run) (c : Course) (stands :
     }
     asked_to looked asks (Some fault) is client token err = record {
       course = Refuses c fault;
-      stands = refused_stands fault (inl (asking_refused (is_to_ask (phase_in c) (token_in c)) fault (sym asks_same ∙ asks) (ap (λ (v : ClientValue). send_refusal v.link plan.method plan.target (planned_extras plan)) (sym client_of_course) ∙ is))) client token err;
+      stands = refused_stands fault (inl (asking_refused (must_send_request (phase_in c) (token_in c)) fault (sym asks_same ∙ asks) (ap (λ (v : ClientValue). send_refusal v.link plan.method plan.target (planned_extras plan)) (sym client_of_course) ∙ is))) client token err;
       ends = refl;
       holds = record { turns = refl; looked = looked; asked = λ going still. refl; writes = λ ended. tt };
     }
 
-    asked_by : has_looked c ≡ true → (asks : Bool) → is_to_ask r.client.link.phase r.token ≡ asks
+    asked_by : has_looked c ≡ true → (asks : Bool) → must_send_request r.client.link.phase r.token ≡ asks
         → r'.client ≡ cond asks (unless_refused (send_refusal r.client.link plan.method plan.target (planned_extras plan)) (client_sent r.client plan.method plan.target (planned_extras plan)) r.client) r.client
         → token_of r' ≡ cond asks (unless_refused (send_refusal r.client.link plan.method plan.target (planned_extras plan)) (Some (next_token r.client.link.tokens)) (token_of r)) (token_of r)
         → AddsBytes now.err e (refusal_text (cond asks (send_refusal r.client.link plan.method plan.target (planned_extras plan)) None))
@@ -349,7 +349,7 @@ module _ (plan : ClientPlan) (start now : Seen) (r : Run) (c : Course) (stands :
     pub asked_on : has_looked c ≡ true → r'.client ≡ client_asking r.client r.token plan → token_of r' ≡ token_asking r.client (token_of r) plan
         → AddsBytes now.err e (refusal_text (asking_refusal r.client r.token plan)) → After (ended_by (asking_refusal r.client r.token plan))
     asked_on looked client token err =
-        asked_by looked (is_to_ask r.client.link.phase r.token) refl client
+        asked_by looked (must_send_request r.client.link.phase r.token) refl client
         (token ∙ ap (λ (asks : Bool). cond asks (unless_refused (send_refusal r.client.link plan.method plan.target (planned_extras plan)) (Some (next_token r.client.link.tokens)) (token_of r)) (token_of r)) (ask_same r.client.link.phase r.token (λ t. t.items))) err
 
     -- The same for the returned value.
@@ -375,7 +375,7 @@ module _ (plan : ClientPlan) (start now : Seen) (r : Run) (c : Course) (stands :
     pub read_stops : stop_behind r'.client.link.phase got ≡ stop_read c got r'.rest
     read_stops = ap (λ (v : ClientValue). stop_behind v.link.phase got) read_same
 
-    read_stands : AddsBytes now.err e (stop_text (stop_behind r'.client.link.phase got)) → Stands plan start (seen given written answers now.moments now.out e) r' (Reads c got r'.rest)
+    read_stands : AddsBytes now.err e (stop_text (stop_behind r'.client.link.phase got)) → IsAtTrace plan start (seen given written answers now.moments now.out e) r' (Reads c got r'.rest)
     read_stands err = record {
       follows = (stands.follows, goes, fresh, sym stands.rest ∙ none, count);
       shows = read_calls;
@@ -396,7 +396,7 @@ module _ (plan : ClientPlan) (start now : Seen) (r : Run) (c : Course) (stands :
       };
     }
 
-    pub heard_on : (why : Option Reason) → why ≡ stop_behind r'.client.link.phase got → AddsBytes now.err e (stop_text why) → LeadsOn plan start (seen given written answers now.moments now.out e) r' (IsHeard (turns_in c)) (status_stopped why)
+    pub heard_on : (why : Option Reason) → why ≡ stop_behind r'.client.link.phase got → AddsBytes now.err e (stop_text why) → ExtendsTraceOn plan start (seen given written answers now.moments now.out e) r' (IsHeard (turns_in c)) (status_stopped why)
     heard_on why is err = record {
       course = Reads c got r'.rest;
       stands = read_stands (subst (λ (w : Option Reason). AddsBytes now.err e (stop_text w)) is err);
@@ -414,7 +414,7 @@ module _ (plan : ClientPlan) (start now : Seen) (r : Run) (c : Course) (stands :
     waits_same : r.client.link.waiting ≡ waiting_in c
     waits_same = ap (λ (v : ClientValue). v.link.waiting) client_of_course
 
-    wrote_stands : AddsBytes now.err e (stop_text (stop_written (status_in c) got)) → Stands plan start (seen given written answers now.moments now.out e) r' (Writes c got)
+    wrote_stands : AddsBytes now.err e (stop_text (stop_written (status_in c) got)) → IsAtTrace plan start (seen given written answers now.moments now.out e) r' (Writes c got)
     wrote_stands err = record {
       follows = (stands.follows, (λ shut. some (waits_same ∙ shut)), may, rests);
       shows = shown;
@@ -436,7 +436,7 @@ module _ (plan : ClientPlan) (start now : Seen) (r : Run) (c : Course) (stands :
     }
 
     wrote_leads : (next : Option ℕ) → status_in c ≡ next → (why : Option Reason) → why ≡ stop_written next got → AddsBytes now.err e (stop_text why)
-        → LeadsOn plan start (seen given written answers now.moments now.out e) r' (IsFlushed (turns_in c)) (or_then next (status_stopped why))
+        → ExtendsTraceOn plan start (seen given written answers now.moments now.out e) r' (IsFlushed (turns_in c)) (or_then next (status_stopped why))
     wrote_leads next ends why is err = record {
       course = Writes c got;
       stands = wrote_stands (subst (λ (w : Option Reason). AddsBytes now.err e (stop_text w)) (is ∙ ap (λ (n : Option ℕ). stop_written n got) (sym ends)) err);
@@ -445,19 +445,19 @@ module _ (plan : ClientPlan) (start now : Seen) (r : Run) (c : Course) (stands :
     }
 
     -- The run continues, or ends with the status that it had.
-    pub write_leads_on : (next : Option ℕ) → status_in c ≡ next → None ≡ stop_written next got → AddsBytes now.err e [] → LeadsOn plan start (seen given written answers now.moments now.out e) r' (IsFlushed (turns_in c)) next
-    write_leads_on next ends is err = subst (LeadsOn plan start (seen given written answers now.moments now.out e) r' (IsFlushed (turns_in c))) (or_then_none next) (wrote_leads next ends None is err)
+    pub write_leads_on : (next : Option ℕ) → status_in c ≡ next → None ≡ stop_written next got → AddsBytes now.err e [] → ExtendsTraceOn plan start (seen given written answers now.moments now.out e) r' (IsFlushed (turns_in c)) next
+    write_leads_on next ends is err = subst (ExtendsTraceOn plan start (seen given written answers now.moments now.out e) r' (IsFlushed (turns_in c))) (or_then_none next) (wrote_leads next ends None is err)
 
     -- A failed write ended the run.
-    pub wrote_last : (next : Option ℕ) → status_in c ≡ next → (why : Reason) → Some why ≡ stop_written next got → AddsBytes now.err e (stop_text (Some why)) → LeadsOn plan start (seen given written answers now.moments now.out e) r' (IsFlushed (turns_in c)) (Some 3)
-    wrote_last next ends why is err = subst (LeadsOn plan start (seen given written answers now.moments now.out e) r' (IsFlushed (turns_in c))) (or_then_some next got why is) (wrote_leads next ends (Some why) is err)
+    pub wrote_last : (next : Option ℕ) → status_in c ≡ next → (why : Reason) → Some why ≡ stop_written next got → AddsBytes now.err e (stop_text (Some why)) → ExtendsTraceOn plan start (seen given written answers now.moments now.out e) r' (IsFlushed (turns_in c)) (Some 3)
+    wrote_last next ends why is err = subst (ExtendsTraceOn plan start (seen given written answers now.moments now.out e) r' (IsFlushed (turns_in c))) (or_then_some next got why is) (wrote_leads next ends (Some why) is err)
 
   -- ---- deadlines
 
   module _ (r' : Run) (e : Option (List ℕ)) (goes : status_in c ≡ None) (looked : has_looked c ≡ true) (taken : IsTakenUp c) (asked : IsAskedWhereDue c)
       (rest : r'.rest ≡ r.rest) (token : r'.token ≡ r.token) (started : r'.started ≡ r.started) (moment : r'.moment ≡ r.moment) (first : r'.first ≡ r.first) where
     abbrev Due : Option ℕ → Type 0
-    Due next = LeadsOn plan start (seen now.given now.written now.answers now.moments now.out e) r' (IsFinished (turns_in c)) next
+    Due next = ExtendsTraceOn plan start (seen now.given now.written now.answers now.moments now.out e) r' (IsFinished (turns_in c)) next
 
     tokens_same : token_of r' ≡ token_of r
     tokens_same = token_kept r r' token
@@ -495,13 +495,13 @@ module _ (plan : ClientPlan) (start now : Seen) (r : Run) (c : Course) (stands :
         ∙ and_none (nat_lt since (moment_in c)) (has_passed (moment_in c) since plan.wait) (ap (λ (m : ℕ). has_passed m since plan.wait) (sym stands.moment) ∙ passed))
         client cancelled err
 
-    waited : (since : ℕ) → since_in c ≡ Some since → is_cancel_due plan c ≡ false → r'.client ≡ r.client → r'.cancelled ≡ r.cancelled → AddsBytes now.err e [] → Due (late r.moment since plan.wait)
+    waited : (since : ℕ) → since_in c ≡ Some since → is_cancel_due plan c ≡ false → r'.client ≡ r.client → r'.cancelled ≡ r.cancelled → AddsBytes now.err e [] → Due (timeout_status r.moment since plan.wait)
     waited since is not client cancelled err = waited_by since is not client cancelled err (has_passed r.moment since plan.wait) refl
 
     -- The observation was cancelled.
     cancelled_stands : (held : List ℕ) → is_cancel_due plan c ≡ true → token_of r ≡ Some held → value.cancelling_refusal r.client.link held plan.target (planned_extras plan) ≡ None
         → r'.client ≡ client_cancelled r.client held plan.target (planned_extras plan) → r'.cancelled ≡ Some r.moment → AddsBytes now.err e []
-        → Stands plan start (seen now.given now.written now.answers now.moments now.out e) r' (Calls c (Cancelled held plan.target (planned_extras plan)))
+        → IsAtTrace plan start (seen now.given now.written now.answers now.moments now.out e) r' (Calls c (Cancelled held plan.target (planned_extras plan)))
     cancelled_stands held due has none client when err =
         let nothing : event_in c (Cancelled held plan.target (planned_extras plan)) ≡ None = cancel_tells_none (calls_in c) held plan.target (planned_extras plan) default_limits in
         record {
@@ -512,23 +512,23 @@ module _ (plan : ClientPlan) (start now : Seen) (r : Run) (c : Course) (stands :
           token = tokens_same ∙ stands.token;
           started = started ∙ stands.started;
           moment = moment ∙ stands.moment;
-          first = first ∙ stands.first ∙ ap (λ (told : Option EventValue). first_told told (first_in c) (moment_in c)) (sym nothing);
+          first = first ∙ stands.first ∙ ap (λ (told : Option ClientEventValue). first_told told (first_in c) (moment_in c)) (sym nothing);
           cancelled = when ∙ ap (λ (m : ℕ). Some m) stands.moment;
           told = record {
             given = stands.told.given;
             written = stands.told.written;
             answers = stands.told.answers;
             moments = stands.told.moments;
-            out = bytes_same start.out now.out (output_in plan c) (output_told (event_in c (Cancelled held plan.target (planned_extras plan))) plan.newline) stands.told.out (ap (λ (told : Option EventValue). output_told told plan.newline) nothing);
+            out = bytes_same start.out now.out (output_in plan c) (output_told (event_in c (Cancelled held plan.target (planned_extras plan))) plan.newline) stands.told.out (ap (λ (told : Option ClientEventValue). output_told told plan.newline) nothing);
             err = bytes_same start.err e (errors_in c) (errors_told (event_in c (Cancelled held plan.target (planned_extras plan)))) (bytes_stay start.err now.err e (errors_in c) stands.told.err err) (ap errors_told nothing);
           };
         }
 
     -- After the cancellation, no more input can be processed, as before it.
-    cancelled_taken : (held : List ℕ) → Stands plan start (seen now.given now.written now.answers now.moments now.out e) r' (Calls c (Cancelled held plan.target (planned_extras plan)))
+    cancelled_taken : (held : List ℕ) → IsAtTrace plan start (seen now.given now.written now.answers now.moments now.out e) r' (Calls c (Cancelled held plan.target (planned_extras plan)))
         → token_of r ≡ Some held → r'.client ≡ client_cancelled r.client held plan.target (planned_extras plan) → IsTakenUp c → IsTakenUp (Calls c (Cancelled held plan.target (planned_extras plan)))
     cancelled_taken held here has client (inl none) = inl none
-    cancelled_taken held here has client (inr (inl asks)) = absurd (no_more_asking (phase_in c) held (subst (λ (t : Option (List ℕ)). is_to_ask (phase_in c) t ≡ true) (sym stands.token ∙ has) asks))
+    cancelled_taken held here has client (inr (inl asks)) = absurd (no_more_asking (phase_in c) held (subst (λ (t : Option (List ℕ)). must_send_request (phase_in c) t ≡ true) (sym stands.token ∙ has) asks))
     cancelled_taken held here has client (inr (inr shut)) =
         inr (inr (ap client_takes (sym (client_stands here) ∙ client) ∙ cancelled_takes r.client held plan.target (planned_extras plan) (ap client_takes client_of_course ∙ shut)))
 
@@ -565,7 +565,7 @@ module _ (plan : ClientPlan) (start now : Seen) (r : Run) (c : Course) (stands :
         in_time = and_first (nat_lt (moment_in c) (moment_in c)) (has_passed (moment_in c) (moment_in c) plan.wait) (not_below (moment_in c));
         looked = looked;
         taken = cancelled_taken held (cancelled_stands held due has is client when err) has client taken;
-        asked = λ still. absurd (no_more_asking (phase_in (Calls c (Cancelled held plan.target (planned_extras plan)))) held (subst (λ (t : Option (List ℕ)). is_to_ask (phase_in (Calls c (Cancelled held plan.target (planned_extras plan)))) t ≡ true) (sym stands.token ∙ has) still));
+        asked = λ still. absurd (no_more_asking (phase_in (Calls c (Cancelled held plan.target (planned_extras plan)))) held (subst (λ (t : Option (List ℕ)). must_send_request (phase_in (Calls c (Cancelled held plan.target (planned_extras plan)))) t ≡ true) (sym stands.token ∙ has) still));
         cancelled = λ other has again. absurd (false_is_true again);
       });
       ends = ap status_told (cancel_tells_none (calls_in c) held plan.target (planned_extras plan) default_limits);
@@ -630,36 +630,36 @@ answers_so P next (Ok n) is told leads = subst P (sym is) (leads told)
 answers_so P next (Err e) is told leads = tt
 
 -- Equal numbers of iterations.
-pub as_many : {plan : ClientPlan} {start now : Seen} {r : Run} {next : Option ℕ} (Q : ℕ → Course → Type 0) (n m : ℕ) → n ≡ m → LeadsOn plan start now r (Q n) next → LeadsOn plan start now r (Q m) next
-as_many {plan} {start} {now} {r} {next} Q n m same led = subst (λ (k : ℕ). LeadsOn plan start now r (Q k) next) same led
+pub as_many : {plan : ClientPlan} {start now : RunDevices} {r : Run} {next : Option ℕ} (Q : ℕ → RunTrace → Type 0) (n m : ℕ) → n ≡ m → ExtendsTraceOn plan start now r (Q n) next → ExtendsTraceOn plan start now r (Q m) next
+as_many {plan} {start} {now} {r} {next} Q n m same led = subst (λ (k : ℕ). ExtendsTraceOn plan start now r (Q k) next) same led
 
 -- A run that has ended satisfies the conditions after each later part.
-pub ended_asked : {plan : ClientPlan} {start now : Seen} {r : Run} {turns : ℕ} {status : ℕ} → LeadsOn plan start now r (IsAsked turns) (Some status) → LeadsOn plan start now r (IsFinished turns) (Some status)
+pub ended_asked : {plan : ClientPlan} {start now : RunDevices} {r : Run} {turns : ℕ} {status : ℕ} → ExtendsTraceOn plan start now r (IsAsked turns) (Some status) → ExtendsTraceOn plan start now r (IsFinished turns) (Some status)
 ended_asked led = record { course = led.course; stands = led.stands; ends = led.ends; holds = record { turns = led.holds.turns; rests = λ still. absurd (some_is_none (sym led.ends ∙ still)); writes = led.holds.writes (λ none. some_is_none (sym led.ends ∙ none)) } }
 
-pub ended_heard : {plan : ClientPlan} {start now : Seen} {r : Run} {turns : ℕ} {status : ℕ} → LeadsOn plan start now r (IsHeard turns) (Some status) → LeadsOn plan start now r (IsFlushed turns) (Some status)
+pub ended_heard : {plan : ClientPlan} {start now : RunDevices} {r : Run} {turns : ℕ} {status : ℕ} → ExtendsTraceOn plan start now r (IsHeard turns) (Some status) → ExtendsTraceOn plan start now r (IsFlushed turns) (Some status)
 ended_heard led = record { course = led.course; stands = led.stands; ends = led.ends; holds = record { turns = led.holds.turns; between = λ still. absurd (some_is_none (sym led.ends ∙ still)); written = λ may. absurd (led.holds.early may) } }
 
 -- A result that ends the run, of a part before which the run had not ended.
-pub asked_then : {plan : ClientPlan} {start now : Seen} {r : Run} (n m : ℕ) (next : Option ℕ) (status : ℕ) → n ≡ m → next ≡ Some status → LeadsOn plan start now r (IsAsked n) next → LeadsOn plan start now r (IsFinished m) (Some status)
-asked_then {plan} {start} {now} {r} n m next status same is led = ended_asked (as_many IsAsked n m same (subst (LeadsOn plan start now r (IsAsked n)) is led))
+pub asked_then : {plan : ClientPlan} {start now : RunDevices} {r : Run} (n m : ℕ) (next : Option ℕ) (status : ℕ) → n ≡ m → next ≡ Some status → ExtendsTraceOn plan start now r (IsAsked n) next → ExtendsTraceOn plan start now r (IsFinished m) (Some status)
+asked_then {plan} {start} {now} {r} n m next status same is led = ended_asked (as_many IsAsked n m same (subst (ExtendsTraceOn plan start now r (IsAsked n)) is led))
 
-pub heard_then : {plan : ClientPlan} {start now : Seen} {r : Run} (n : ℕ) (next : Option ℕ) (status : ℕ) → next ≡ Some status → LeadsOn plan start now r (IsHeard n) next → LeadsOn plan start now r (IsFlushed n) (Some status)
-heard_then {plan} {start} {now} {r} n next status is led = ended_heard (subst (LeadsOn plan start now r (IsHeard n)) is led)
+pub heard_then : {plan : ClientPlan} {start now : RunDevices} {r : Run} (n : ℕ) (next : Option ℕ) (status : ℕ) → next ≡ Some status → ExtendsTraceOn plan start now r (IsHeard n) next → ExtendsTraceOn plan start now r (IsFlushed n) (Some status)
+heard_then {plan} {start} {now} {r} n next status is led = ended_heard (subst (ExtendsTraceOn plan start now r (IsHeard n)) is led)
 
-pub finished_after_taking : {plan : ClientPlan} {start now : Seen} {r : Run} (n m : ℕ) (next : Option ℕ) (status : ℕ) → n ≡ m → next ≡ Some status → LeadsOn plan start now r (IsTaken n) next → LeadsOn plan start now r (IsFinished m) (Some status)
+pub finished_after_taking : {plan : ClientPlan} {start now : RunDevices} {r : Run} (n m : ℕ) (next : Option ℕ) (status : ℕ) → n ≡ m → next ≡ Some status → ExtendsTraceOn plan start now r (IsTaken n) next → ExtendsTraceOn plan start now r (IsFinished m) (Some status)
 finished_after_taking {plan} {start} {now} {r} n m next status same is led =
     as_many IsFinished n m same (record { course = led.course; stands = led.stands; ends = led.ends ∙ is; holds = record { turns = led.holds.turns; rests = λ still. absurd (some_is_none (sym is ∙ sym led.ends ∙ still)); writes = led.holds.writes (λ none. some_is_none (sym is ∙ sym led.ends ∙ none)) } })
 
 -- A run that ended when it sent its request.
-pub ended_taken : {plan : ClientPlan} {start now : Seen} {r : Run} {n status : ℕ} → LeadsOn plan start now r (IsAsked n) (Some status) → LeadsOn plan start now r (IsTaken n) (Some status)
+pub ended_taken : {plan : ClientPlan} {start now : RunDevices} {r : Run} {n status : ℕ} → ExtendsTraceOn plan start now r (IsAsked n) (Some status) → ExtendsTraceOn plan start now r (IsTaken n) (Some status)
 ended_taken led = record { course = led.course; stands = led.stands; ends = led.ends; holds = record { turns = led.holds.turns; looked = led.holds.looked; asked = led.holds.asked; taken = λ still. absurd (some_is_none (sym led.ends ∙ still)); writes = led.holds.writes } }
 
 -- A run that can process no more input.
-pub all_that_may_is_taken : (plan : ClientPlan) (start now : Seen) (r : Run) (n : ℕ) (led : LeadsOn plan start now r (IsAsked n) None) → may_take r.client r.rest r.token ≡ false → LeadsOn plan start now r (IsTaken n) None
+pub all_that_may_is_taken : (plan : ClientPlan) (start now : RunDevices) (r : Run) (n : ℕ) (led : ExtendsTraceOn plan start now r (IsAsked n) None) → may_take r.client r.rest r.token ≡ false → ExtendsTraceOn plan start now r (IsTaken n) None
 all_that_may_is_taken plan start now r n led shut = record { course = led.course; stands = led.stands; ends = led.ends; holds = record { turns = led.holds.turns; looked = led.holds.looked; asked = led.holds.asked; taken = λ still. taken_up plan start now r led.course led.stands shut; writes = led.holds.writes } }
 
-pub all_gone : (plan : ClientPlan) (start now : Seen) (r : Run) (n : ℕ) (led : LeadsOn plan start now r (IsAsked n) None) → length r.rest ≡ 0 → LeadsOn plan start now r (IsTaken n) None
+pub all_gone : (plan : ClientPlan) (start now : RunDevices) (r : Run) (n : ℕ) (led : ExtendsTraceOn plan start now r (IsAsked n) None) → length r.rest ≡ 0 → ExtendsTraceOn plan start now r (IsTaken n) None
 all_gone plan start now r n led none = record { course = led.course; stands = led.stands; ends = led.ends; holds = record { turns = led.holds.turns; looked = led.holds.looked; asked = led.holds.asked; taken = λ still. inl (sym led.stands.rest ∙ nil_from_length r.rest none); writes = led.holds.writes } }
 
 -- Less input is left after each `take`.
@@ -667,18 +667,18 @@ pub fewer_left : (counted initial count : ℕ) (rest taken asked : List ℕ) →
 fewer_left counted initial count rest taken asked few some within is same = omega (arith, length-drop count rest, ap (λ (xs : List ℕ). length xs) (same ∙ is))
 
 -- The deadlines, after the request was sent and the input processed.
-module _ (plan : ClientPlan) (start now : Seen) (r : Run) (n : ℕ) (next : Option ℕ) (led : LeadsOn plan start now r (IsTaken n) next) (r' : Run) (e : Option (List ℕ)) (goes : next ≡ None)
+module _ (plan : ClientPlan) (start now : RunDevices) (r : Run) (n : ℕ) (next : Option ℕ) (led : ExtendsTraceOn plan start now r (IsTaken n) next) (r' : Run) (e : Option (List ℕ)) (goes : next ≡ None)
     (rest : r'.rest ≡ r.rest) (token : r'.token ≡ r.token) (started : r'.started ≡ r.started) (moment : r'.moment ≡ r.moment) (first : r'.first ≡ r.first) where
   pub watched_so : r'.client ≡ cond (is_to_cancel r.cancelled r.first r.moment plan.observe) (client_cancelling r.client (token_of r) plan) r.client
       → r'.cancelled ≡ cond (is_to_cancel r.cancelled r.first r.moment plan.observe) (cancelled_at r.token (cancelling_refusal r.client (token_of r) plan) r.moment r.cancelled) r.cancelled
       → AddsBytes now.err e (cond (is_to_cancel r.cancelled r.first r.moment plan.observe) (refusal_text (cancelling_refusal r.client (token_of r) plan)) [])
-      → LeadsOn plan start (seen now.given now.written now.answers now.moments now.out e) r' (IsFinished n) (watched r.cancelled r.first r.started r.moment plan (ended_by (cancelling_refusal r.client (token_of r) plan)))
+      → ExtendsTraceOn plan start (seen now.given now.written now.answers now.moments now.out e) r' (IsFinished n) (watched r.cancelled r.first r.started r.moment plan (ended_by (cancelling_refusal r.client (token_of r) plan)))
   watched_so client when err =
       as_many IsFinished (turns_in led.course) n led.holds.turns
       (watched_on plan start now r led.course led.stands r' e (led.ends ∙ goes) led.holds.looked (led.holds.taken (led.ends ∙ goes)) (led.holds.asked (led.ends ∙ goes)) rest token started moment first client when err)
 
 -- A `take` after the request was sent, and the next attempt to send it.
-module _ (plan : ClientPlan) (start now : Seen) (r : Run) (n : ℕ) (led : LeadsOn plan start now r (IsAsked n) None) (r' : Run) (o e : Option (List ℕ))
+module _ (plan : ClientPlan) (start now : RunDevices) (r : Run) (n : ℕ) (led : ExtendsTraceOn plan start now r (IsAsked n) None) (r' : Run) (o e : Option (List ℕ))
     (may : may_take r.client r.rest r.token ≡ true)
     (within : (taking r.client r.rest).count ≤ length r.rest)
     (client : r'.client ≡ (taking r.client r.rest).client)
@@ -688,22 +688,22 @@ module _ (plan : ClientPlan) (start now : Seen) (r : Run) (n : ℕ) (led : Leads
     (out : AddsBytes now.out o (output_told (taking r.client r.rest).event plan.newline))
     (err : AddsBytes now.err e (errors_told (taking r.client r.rest).event))
     (next : Option ℕ) (told : next ≡ status_told (taking r.client r.rest).event) where
-  pub took_ends : (status : ℕ) → next ≡ Some status → LeadsOn plan start (seen now.given now.written now.answers now.moments o e) r' (IsAsked n) (Some status)
+  pub took_ends : (status : ℕ) → next ≡ Some status → ExtendsTraceOn plan start (seen now.given now.written now.answers now.moments o e) r' (IsAsked n) (Some status)
   took_ends status is =
       as_many IsAsked (turns_in led.course) n led.holds.turns
       (took_last plan start now r led.course led.stands r' o e led.ends may within client rest first token started moment cancelled out err led.holds.looked status (sym is ∙ told))
 
-  abbrev seen_then : Seen
+  abbrev seen_then : RunDevices
   seen_then = seen now.given now.written now.answers now.moments o e
 
   pub took_asked : next ≡ None → (r'' : Run) (e' : Option (List ℕ))
       → r''.rest ≡ r'.rest → r''.started ≡ r'.started → r''.moment ≡ r'.moment → r''.first ≡ r'.first → r''.cancelled ≡ r'.cancelled
       → r''.client ≡ client_asking r'.client r'.token plan → token_of r'' ≡ token_asking r'.client (token_of r') plan
       → AddsBytes e e' (refusal_text (asking_refusal r'.client r'.token plan)) → (answer : Option ℕ) → answer ≡ ended_by (asking_refusal r'.client r'.token plan)
-      → LeadsOn plan start (seen now.given now.written now.answers now.moments o e') r'' (IsAsked n) answer
+      → ExtendsTraceOn plan start (seen now.given now.written now.answers now.moments o e') r'' (IsAsked n) answer
   took_asked goes r'' e' rest' started' moment' first' cancelled' client' token' err' answer is =
-      let c : Course = Calls led.course (Took (take (taking r.client r.rest).count r.rest)) in
-      let stands : Stands plan start seen_then r' c = took_stands plan start now r led.course led.stands r' o e led.ends may within client rest first token started moment cancelled out err in
+      let c : RunTrace = Calls led.course (Took (take (taking r.client r.rest).count r.rest)) in
+      let stands : IsAtTrace plan start seen_then r' c = took_stands plan start now r led.course led.stands r' o e led.ends may within client rest first token started moment cancelled out err in
       let on : status_in c ≡ None = took_status plan start now r led.course led.stands r' o e led.ends may within client rest first token started moment cancelled out err ∙ sym told ∙ goes in
       as_many IsAsked (turns_in led.course) n led.holds.turns
       (asked_next plan start seen_then r' c stands r'' e' on rest' started' moment' first' cancelled' led.holds.looked client' token' err' answer is)
@@ -714,7 +714,7 @@ module _ (plan : ClientPlan) (r : Run) (given written out err told moments : Opt
     (client : r.client ≡ value.new_client default_limits 0) (shows : ClientShows r.client 0 []) (rest : r.rest ≡ []) (token : r.token ≡ None)
     (started : r.started ≡ moment) (now : r.moment ≡ moment) (first : r.first ≡ None) (cancelled : r.cancelled ≡ None)
     (asked : TellsMore told moments (moment ∷ [])) where
-  pub began : Stands plan (seen given written answers told out err) (seen given written answers moments out err) r (Begins moment)
+  pub began : IsAtTrace plan (seen given written answers told out err) (seen given written answers moments out err) r (Begins moment)
   began = record {
     follows = tt;
     shows = shows;
@@ -735,11 +735,11 @@ module _ (plan : ClientPlan) (r : Run) (given written out err told moments : Opt
     };
   }
 
-module _ (plan : ClientPlan) (start now : Seen) (r : Run) (c : Course) (stands : Stands plan start now r c) (goes : status_in c ≡ None) (between : IsBetween c)
+module _ (plan : ClientPlan) (start now : RunDevices) (r : Run) (c : RunTrace) (stands : IsAtTrace plan start now r c) (goes : status_in c ≡ None) (between : IsBetween c)
     (r' : Run) (moment : ℕ) (moments : Option (List ℕ)) (client : r'.client ≡ r.client) (rest : r'.rest ≡ r.rest) (token : r'.token ≡ r.token)
     (started : r'.started ≡ r.started) (later : r'.moment ≡ max r.moment moment) (first : r'.first ≡ r.first) (cancelled : r'.cancelled ≡ r.cancelled)
     (asked : TellsMore now.moments moments (moment ∷ [])) where
-  pub turn_made : Stands plan start (seen now.given now.written now.answers moments now.out now.err) r' (Turns c moment)
+  pub turn_made : IsAtTrace plan start (seen now.given now.written now.answers moments now.out now.err) r' (Turns c moment)
   turn_made = record {
     follows = (stands.follows, goes, between);
     shows = subst (λ (v : ClientValue). ClientShows v 0 (calls_in c)) (sym client) stands.shows;
@@ -767,7 +767,7 @@ few_turns turns before counted one same more = omega arith
 pub turns_are : (turns counted : ℕ) → turns ≡ counted → most_turns ≤ counted → counted ≤ most_turns → turns ≡ most_turns
 turns_are turns counted same more few = omega arith
 
-module _ (plan : ClientPlan) (start now : Seen) (r : Run) (c : Course) (stands : Stands plan start now r c) (few : turns_in c ≤ most_turns) where
+module _ (plan : ClientPlan) (start now : RunDevices) (r : Run) (c : RunTrace) (stands : IsAtTrace plan start now r c) (few : turns_in c ≤ most_turns) where
   pub run_of : (status : ℕ) → IsEnded c status ⊎ IsOutOfTurns c status → IsClientRun plan start now status
   run_of status ends =
       let accepted : AreAccepted default_limits 0 (calls_in c) = accepted_all plan start now r c stands in

@@ -2,7 +2,7 @@
 use Rattle.std.proofs.Common.{◌≡◌, ℕ, ◌≤◌, Bool, true, false, cond, List, [], ◌∷◌, ◌++◌, length, take, Option, None, Result, Ok, refl, sym, ap, subst, ◌∙◌, arith}
 use Rattle.std.proofs.lemmas.List.{append-nil, length-take}
 use Rattle.coap_client_engine.specs.Prelude.{framing, LimitValues, LinkValue, RequestFault, Got, Bytes, Later, End, Failed}
-use Rattle.coap_client_engine.specs.Prelude.{AddsBytes, Method, TargetValue, ExtrasValue, ClientValue, Taking, taking}
+use Rattle.coap_client_engine.specs.Prelude.{AddsBytes, Method, TargetValue, ExtrasValue, ClientValue, ClientTakeOutcome, taking}
 use Rattle.coap_client_engine.specs.Prelude.{client_sent, client_cancelled, send_refusal, cancelling_refusal, ClientCall}
 use Rattle.coap_client_engine.specs.Prelude.{Sent, Cancelled, steps_by, event_of, ClientShows, calls_read, client_read}
 use Rattle.coap_io.proofs.streams.DeviceLemmas.{bytes_then}
@@ -26,7 +26,7 @@ front_length n xs few = simp length-take (omega arith)
 
 -- ---- the limits are kept
 
-limits_taken : (does : Bool) (w : ClientValue) (t : Taking) → t.client.link.limits ≡ w.link.limits → (cond does t (record { count = 0; client = w; event = None })).client.link.limits ≡ w.link.limits
+limits_taken : (does : Bool) (w : ClientValue) (t : ClientTakeOutcome) → t.client.link.limits ≡ w.link.limits → (cond does t (record { count = 0; client = w; event = None })).client.link.limits ≡ w.link.limits
 limits_taken true w t e = e
 limits_taken false w t e = refl
 

@@ -4,13 +4,13 @@ use Rattle.coap_client_engine.specs.Prelude.{Message, message_of, StreamPrefix, 
 use Rattle.coap_client_engine.specs.Prelude.{FormatFault, FrameFault, FramerValue, IsFramer, Framing, FrameEventValue, Nothing}
 use Rattle.coap_client_engine.specs.Prelude.{AFrame, AFault, framing_at, framing, framing_of, framer_after, frame_back}
 use Rattle.coap_client_engine.specs.Prelude.{LimitValues, AreInRange, takes_messages, reject_of_frame, reject_reason, react}
-use Rattle.coap_client_engine.specs.Prelude.{LinkValue, standing_in, ClientValue, EventValue, Taking, client_takes}
+use Rattle.coap_client_engine.specs.Prelude.{LinkValue, standing_in, ClientValue, ClientEventValue, ClientTakeOutcome, client_takes}
 use Rattle.coap_client_engine.specs.Prelude.{event_told, taking_read, taking_found, taking, IsClient, heard_value}
-use Rattle.coap_client_engine.specs.Prelude.{taking_framed, Inside, Heard}
+use Rattle.coap_client_engine.specs.Prelude.{taking_framed, Inside, Received}
 use Rattle.coap_frame.proofs.FramingLemmas.{framing_is_framer}
 use Rattle.coap_conn.specs.declared.phase.Reject.TheVariants as reject
 use Rattle.coap_client_engine.specs.EventViews.{client_value}
-use Rattle.coap_client_engine.specs.declared.client.Heard.TheVariants as heard
+use Rattle.coap_client_engine.specs.declared.client.Received.TheVariants as heard
 use Rattle.coap_client_engine.proofs.TakeLemmas.{frame_is_back}
 use Rattle.coap_conn.proofs.LinkLemmas.{stays_so}
 
@@ -18,27 +18,27 @@ use Rattle.coap_conn.proofs.LinkLemmas.{stays_so}
 
 module _ (v : FramerValue) (l : LinkValue) (piece : List ℕ) where
   -- The event, by what the framer found.
-  abbrev told_of_finding : FrameEventValue → Option EventValue
+  abbrev told_of_finding : FrameEventValue → Option ClientEventValue
   told_of_finding found = (taking_found (record { frame = v.kept; link = l }) (framing_of v piece) found).event
 
-  told_as : (h : Heard) (read : Result Message FormatFault) (found : FrameEventValue) → (framing_of v piece).finding ≡ found → heard_value h read ≡ told_of_finding found → heard_value h read ≡ (taking_framed v l piece).event
+  told_as : (h : Received) (read : Result Message FormatFault) (found : FrameEventValue) → (framing_of v piece).finding ≡ found → heard_value h read ≡ told_of_finding found → heard_value h read ≡ (taking_framed v l piece).event
   told_as h read found is told = told ∙ ap told_of_finding (sym is)
 
-  pub told_nothing : (h : Heard) (read : Result Message FormatFault) → (framing_of v piece).finding ≡ Nothing → h ≡ heard.Nothing → heard_value h read ≡ (taking_framed v l piece).event
-  told_nothing h read is e = told_as h read Nothing is (ap (λ (k : Heard). heard_value k read) e)
+  pub told_nothing : (h : Received) (read : Result Message FormatFault) → (framing_of v piece).finding ≡ Nothing → h ≡ heard.Nothing → heard_value h read ≡ (taking_framed v l piece).event
+  told_nothing h read is e = told_as h read Nothing is (ap (λ (k : Received). heard_value k read) e)
 
-  pub told_fault : (h : Heard) (read : Result Message FormatFault) (fault : FrameFault) → (framing_of v piece).finding ≡ AFault fault → h ≡ heard.Stopped (reject_reason (reject_of_frame fault)) → heard_value h read ≡ (taking_framed v l piece).event
-  told_fault h read fault is e = told_as h read (AFault fault) is (ap (λ (k : Heard). heard_value k read) e)
+  pub told_fault : (h : Received) (read : Result Message FormatFault) (fault : FrameFault) → (framing_of v piece).finding ≡ AFault fault → h ≡ heard.Stopped (reject_reason (reject_of_frame fault)) → heard_value h read ≡ (taking_framed v l piece).event
+  told_fault h read fault is e = told_as h read (AFault fault) is (ap (λ (k : Received). heard_value k read) e)
 
   -- The event of a frame, by the result of parsing it.
-  abbrev told_read : Result Message FormatFault → Option EventValue
+  abbrev told_read : Result Message FormatFault → Option ClientEventValue
   told_read read = (taking_read (record { frame = v.kept; link = l }) (framing_of v piece).taken read).event
 
-  pub told_bad : (h : Heard) (read : Result Message FormatFault) (frame : List ℕ) (bad : FormatFault) → (framing_of v piece).finding ≡ AFrame frame → message_of frame ≡ Err bad → h ≡ heard.Stopped (reject_reason reject.Format) → heard_value h read ≡ (taking_framed v l piece).event
-  told_bad h read frame bad is reads e = told_as h read (AFrame frame) is (ap (λ (k : Heard). heard_value k read) e ∙ ap told_read (sym reads))
+  pub told_bad : (h : Received) (read : Result Message FormatFault) (frame : List ℕ) (bad : FormatFault) → (framing_of v piece).finding ≡ AFrame frame → message_of frame ≡ Err bad → h ≡ heard.Stopped (reject_reason reject.Format) → heard_value h read ≡ (taking_framed v l piece).event
+  told_bad h read frame bad is reads e = told_as h read (AFrame frame) is (ap (λ (k : Received). heard_value k read) e ∙ ap told_read (sym reads))
 
   -- The message is the one in the frame that `frame_back` returns.
-  pub told_message : (h : Heard) (frame : List ℕ) (m : Message) → IsFramer v → (framing_of v piece).finding ≡ AFrame frame → message_of frame ≡ Ok m → heard_value h (Ok m) ≡ event_told m (react (standing_in l) m).verdict
+  pub told_message : (h : Received) (frame : List ℕ) (m : Message) → IsFramer v → (framing_of v piece).finding ≡ AFrame frame → message_of frame ≡ Ok m → heard_value h (Ok m) ≡ event_told m (react (standing_in l) m).verdict
       → heard_value h (message_of (frame_back (framer_after v piece).spent (take (framing_of v piece).taken piece))) ≡ (taking_framed v l piece).event
   told_message h frame m framer is reads e =
       ap (λ (f : List ℕ). heard_value h (message_of f)) (frame_is_back v piece frame framer is)
@@ -120,4 +120,4 @@ module _ (i : Inside) (v : ClientValue) (piece : List ℕ) (is : IsClient i) (vi
         ap (λ (f : FramerValue). record { frame = f.kept; link = link }) framed
         ∙ ap (λ (l : LinkValue). record { frame = (framer_after i.framer piece).kept; link = l }) handled
         ∙ ap (λ (k : List ℕ). record { frame = k; link = (taking_framed i.framer i.link piece).client.link }) (kept_framed i.framer i.link piece)
-        ∙ ap (λ (t : Taking). t.client) (sym (takes_framed does))
+        ∙ ap (λ (t : ClientTakeOutcome). t.client) (sym (takes_framed does))

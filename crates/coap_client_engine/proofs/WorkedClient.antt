@@ -5,7 +5,7 @@ use Rattle.coap_client_engine.specs.Prelude.{RequestFault, LimitValues, announce
 use Rattle.coap_client_engine.specs.Prelude.{is_notification, new_refusal, asking_refusal, observation_refusal}
 use Rattle.coap_client_engine.specs.Prelude.{cancel_refusal, react, live_reaction, waiting_of, link_of, Get, TargetValue}
 use Rattle.coap_client_engine.specs.Prelude.{ExtrasValue, host_sent, observe_sent, own_options, insert_option, with_extra}
-use Rattle.coap_client_engine.specs.Prelude.{request_of, cancel_of, has_long_extra, is_too_long, EventValue, send_refusal}
+use Rattle.coap_client_engine.specs.Prelude.{request_of, cancel_of, has_long_extra, is_too_long, ClientEventValue, send_refusal}
 use Rattle.coap_client_engine.specs.Prelude.{cancelling_refusal, ClientCall, Took, Sent, Cancelled, Pinged, Wrote, steps_by}
 use Rattle.coap_client_engine.specs.Prelude.{steps_behind, steps_of, step, after_steps, client_after, takes, event_of}
 use Rattle.coap_client_engine.specs.Prelude.{IsAccepted, AreAcceptedBehind, AreAccepted}
@@ -28,12 +28,12 @@ calls_computed = tt
 abbrev least_limits : LimitValues
 least_limits = record { max_message = 1152; max_sent = 1152; queue = 2304; pending = 0; observers = 0; outstanding = 1 }
 
-abbrev events_told_behind : List ClientCall → List ClientCall → List (Option EventValue)
+abbrev events_told_behind : List ClientCall → List ClientCall → List (Option ClientEventValue)
 events_told_behind earlier [] = []
 events_told_behind earlier (c ∷ cs) = event_of least_limits 0 earlier c ∷ events_told_behind (earlier ++ c ∷ []) cs
 
 -- The events of the calls.
-unfoldable events_told : List ClientCall → List (Option EventValue)
+unfoldable events_told : List ClientCall → List (Option ClientEventValue)
 unfolding bytes_computed calls_computed
 events_told calls = events_told_behind [] calls
 

@@ -1,4 +1,4 @@
--- Defined by this project: the contract of a run of a client, which relates a trace (`Course`) to the records of its
+-- Defined by this project: the contract of a run of a client, which relates a trace (`RunTrace`) to the records of its
 -- devices.
 use Rattle.std.specs.Prelude.{◌≡◌, ◌≢◌, ◌≤◌, ℕ, true, ◌⊎◌, List, ◌++◌, Option, Some, None, Result, option_map, IfOk}
 use Rattle.coap_conn.specs.LinkValue.{bytes_of}
@@ -7,7 +7,7 @@ use Rattle.coap_io.specs.declared.output.WriteFailed.{WriteFailed}
 use Rattle.coap_io.specs.streams.Device.{AddsBytes}
 use Rattle.coap_io.specs.streams.DeviceTraces.{TellsMore}
 use Rattle.coap_client_engine.specs.ClientWorld.{AreAccepted, ClientShows}
-use Rattle.coap_client_engine.specs.RunCourse.{Course, Begins, calls_in, history_in, token_in, moments_in, turns_in, moment_in, started_in, first_in, cancelled_in, answers_in, taken_in, given_in, rest_in, waiting_in, written_in, status_in, output_in, errors_in, has_looked, IsAskedWhereDue, IsTakenUp, IsResting, IsBetween, MayWrite, HasWritten, IsCourse}
+use Rattle.coap_client_engine.specs.RunTrace.{RunTrace, Begins, calls_in, history_in, token_in, moments_in, turns_in, moment_in, started_in, first_in, cancelled_in, answers_in, taken_in, given_in, rest_in, waiting_in, written_in, status_in, output_in, errors_in, has_looked, IsAskedWhereDue, IsTakenUp, IsResting, IsBetween, MayWrite, HasWritten, IsCourse}
 use Rattle.coap_request.specs.declared.plan.ClientPlan.{ClientPlan}
 use Rattle.coap_client_engine.specs.declared.run.state.Run.{Run}
 use Rattle.coap_conn.specs.Limits.{default_limits}
@@ -16,7 +16,7 @@ use Rattle.coap_conn.specs.Limits.{default_limits}
 
 -- The records of the devices of a run. The wire records the bytes read, the bytes written and the results of its calls.
 -- The clock records times, and the outlets record the bytes written. A field is `None` if its device records nothing.
-pub record Seen : Type 0 where
+pub record RunDevices : Type 0 where
   pub given : Option (List ℕ)
   pub written : Option (List ℕ)
   pub answers : Option (List Got)
@@ -25,12 +25,12 @@ pub record Seen : Type 0 where
   pub err : Option (List ℕ)
 
 -- The records of the devices, field by field.
-abbrev pub seen : (given written : Option (List ℕ)) (answers : Option (List Got)) (moments out err : Option (List ℕ)) → Seen
+abbrev pub seen : (given written : Option (List ℕ)) (answers : Option (List Got)) (moments out err : Option (List ℕ)) → RunDevices
 seen given written answers moments out err =
     record { given = given; written = written; answers = answers; moments = moments; out = out; err = err }
 
 -- Says that between `start` and `now` the devices recorded exactly the events of a trace.
-pub record IsTold (plan : ClientPlan) (start now : Seen) (course : Course) : Type 0 where
+pub record IsRecorded (plan : ClientPlan) (start now : RunDevices) (course : RunTrace) : Type 0 where
   pub given : AddsBytes start.given now.given (given_in course)
   pub written : AddsBytes start.written now.written (written_in course)
   pub answers : TellsMore start.answers now.answers (answers_in course)
@@ -46,31 +46,31 @@ most_turns = 1000000000000
 
 -- Says that the run ended with this status, and that queued bytes were then written as far as one write could. After a
 -- read that ends the run there is no write.
-abbrev pub IsEnded : Course → ℕ → Type 0
+abbrev pub IsEnded : RunTrace → ℕ → Type 0
 IsEnded course status = (status_in course ≡ Some status) × HasWritten course
 
 -- Says that the run made all iterations to their end, that none of them ended it, and that the status is 4.
-abbrev pub IsOutOfTurns : Course → ℕ → Type 0
+abbrev pub IsOutOfTurns : RunTrace → ℕ → Type 0
 IsOutOfTurns course status = (status_in course ≡ None) × IsBetween course × (turns_in course ≡ most_turns) × (status ≡ 4)
 
 -- The contract of a run that returns an exit status. There is a trace of calls that the client accepts. The accepted
 -- bytes are a prefix of the bytes that the wire gave, and the written bytes are a prefix of the queued bytes. The
 -- devices recorded exactly this trace. The status is the one that ends the trace, or 4 if all iterations were made.
-pub record IsClientRun (plan : ClientPlan) (start now : Seen) (status : ℕ) : Type 0 where
-  pub course : Course
+pub record IsClientRun (plan : ClientPlan) (start now : RunDevices) (status : ℕ) : Type 0 where
+  pub course : RunTrace
   pub follows : IsCourse plan course
   pub accepted : AreAccepted default_limits 0 (calls_in course)
   pub taken : given_in course ≡ taken_in course ++ rest_in course
   pub queued : bytes_of (history_in course).queued ≡ written_in course ++ waiting_in course
-  pub told : IsTold plan start now course
+  pub told : IsRecorded plan start now course
   pub turns : turns_in course ≤ most_turns
   pub ends : IsEnded course status ⊎ IsOutOfTurns course status
 
 -- The contract of a run for which allocation fails: the clock recorded one time, and the other devices recorded
 -- nothing.
-pub record FailedBeforeStart (plan : ClientPlan) (start now : Seen) : Type 0 where
+pub record FailedBeforeStart (plan : ClientPlan) (start now : RunDevices) : Type 0 where
   pub moment : ℕ
-  pub told : IsTold plan start now (Begins moment)
+  pub told : IsRecorded plan start now (Begins moment)
 
 -- ---- the state during a run
 
@@ -79,7 +79,7 @@ abbrev pub token_of : Run → Option (List ℕ)
 token_of run = option_map (λ t. t.items) run.token
 
 -- Says that the state of a run is the one to which a trace leads, and that the devices recorded this trace.
-pub record Stands (plan : ClientPlan) (start now : Seen) (run : Run) (course : Course) : Type 0 where
+pub record IsAtTrace (plan : ClientPlan) (start now : RunDevices) (run : Run) (course : RunTrace) : Type 0 where
   pub follows : IsCourse plan course
   pub shows : ClientShows run.client 0 (calls_in course)
   pub limits : run.client.link.limits ≡ default_limits
@@ -89,56 +89,56 @@ pub record Stands (plan : ClientPlan) (start now : Seen) (run : Run) (course : C
   pub moment : run.moment ≡ moment_in course
   pub first : run.first ≡ first_in course
   pub cancelled : run.cancelled ≡ cancelled_in course
-  pub told : IsTold plan start now course
+  pub told : IsRecorded plan start now course
 
 -- Says that a part of an iteration leads to a trace for which `P` holds. `next` is the exit status after that trace, or
 -- `None` if the run continues.
-pub record LeadsOn (plan : ClientPlan) (start now : Seen) (run : Run) (P : Course → Type 0) (next : Option ℕ) : Type 0 where
-  pub course : Course
-  pub stands : Stands plan start now run course
+pub record ExtendsTraceOn (plan : ClientPlan) (start now : RunDevices) (run : Run) (P : RunTrace → Type 0) (next : Option ℕ) : Type 0 where
+  pub course : RunTrace
+  pub stands : IsAtTrace plan start now run course
   pub ends : status_in course ≡ next
   pub holds : P course
 
 -- Says that the wire was read in this iteration, or that input was left when the iteration began.
-abbrev pub HasLooked : Course → Type 0
-HasLooked course = has_looked course ≡ true
+abbrev pub HasReadClock : RunTrace → Type 0
+HasReadClock course = has_looked course ≡ true
 
 -- Says that the wire was read if no input was left, and that no request remains to be sent, except a refused one.
-pub record IsReady (course : Course) : Type 0 where
-  pub looked : HasLooked course
+pub record IsReady (course : RunTrace) : Type 0 where
+  pub looked : HasReadClock course
   pub asked : IsAskedWhereDue course
 
 -- The state after the read, with the number of iterations that began. The wire was read if no input was left, unless
 -- the run has ended. No write may follow yet.
-pub record IsHeard (began : ℕ) (course : Course) : Type 0 where
+pub record IsHeard (began : ℕ) (course : RunTrace) : Type 0 where
   pub turns : turns_in course ≡ began
-  pub looked : status_in course ≡ None → HasLooked course
+  pub looked : status_in course ≡ None → HasReadClock course
   pub early : MayWrite course → ⊥
 
 -- The state after the attempt to send the request. If the run continues, no request remains to be sent, except a
 -- refused one.
-pub record IsAsked (began : ℕ) (course : Course) : Type 0 where
+pub record IsAsked (began : ℕ) (course : RunTrace) : Type 0 where
   pub turns : turns_in course ≡ began
-  pub looked : HasLooked course
+  pub looked : HasReadClock course
   pub asked : status_in course ≡ None → IsAskedWhereDue course
   pub writes : status_in course ≢ None → MayWrite course
 
 -- The state after the input was processed. If the run continues, no more input can be processed now.
-pub record IsTaken (began : ℕ) (course : Course) : Type 0 where
+pub record IsTaken (began : ℕ) (course : RunTrace) : Type 0 where
   pub turns : turns_in course ≡ began
-  pub looked : HasLooked course
+  pub looked : HasReadClock course
   pub asked : status_in course ≡ None → IsAskedWhereDue course
   pub taken : status_in course ≡ None → IsTakenUp course
   pub writes : status_in course ≢ None → MayWrite course
 
 -- The state after everything but the write. If the run continues, nothing else is left in the iteration.
-pub record IsFinished (began : ℕ) (course : Course) : Type 0 where
+pub record IsFinished (began : ℕ) (course : RunTrace) : Type 0 where
   pub turns : turns_in course ≡ began
   pub rests : status_in course ≡ None → IsResting course
   pub writes : MayWrite course
 
 -- The state after the write. If the run continues, the next iteration may begin.
-pub record IsFlushed (began : ℕ) (course : Course) : Type 0 where
+pub record IsFlushed (began : ℕ) (course : RunTrace) : Type 0 where
   pub turns : turns_in course ≡ began
   pub between : status_in course ≡ None → IsBetween course
   pub written : HasWritten course
@@ -146,31 +146,31 @@ pub record IsFlushed (began : ℕ) (course : Course) : Type 0 where
 -- ---- the contracts of the parts of a run
 
 -- The records of the devices with other records of the outlets.
-abbrev pub with_outlets : (out err : Option (List ℕ)) → Seen → Seen
+abbrev pub with_outlets : (out err : Option (List ℕ)) → RunDevices → RunDevices
 with_outlets out err now = seen now.given now.written now.answers now.moments out err
 
 -- The records of the devices with other records of the wire and of the outlet for reports.
-abbrev pub with_wire : (given written : Option (List ℕ)) (answers : Option (List Got)) (err : Option (List ℕ)) → Seen → Seen
+abbrev pub with_wire : (given written : Option (List ℕ)) (answers : Option (List Got)) (err : Option (List ℕ)) → RunDevices → RunDevices
 with_wire given written answers err now = seen given written answers now.moments now.out err
 
 -- The records of the devices with other records of the wire and of both outlets.
-abbrev pub with_all : (given written : Option (List ℕ)) (answers : Option (List Got)) (out err : Option (List ℕ)) → Seen → Seen
+abbrev pub with_all : (given written : Option (List ℕ)) (answers : Option (List Got)) (out err : Option (List ℕ)) → RunDevices → RunDevices
 with_all given written answers out err now = seen given written answers now.moments out err
 
 -- The contract of a part of an iteration. If the run has not ended and its trace satisfies `P`, the part leads to a
 -- trace that satisfies `Q`.
-abbrev pub Leads : (old new : Seen → Seen) (P : Course → Type 0) (Q : ℕ → Course → Type 0) → ClientPlan → (before after : Run) → Result (Option ℕ) WriteFailed → Type 0
-Leads old new P Q plan before after result =
-    (start now : Seen) (course : Course) → Stands plan start (old now) before course → status_in course ≡ None → P course
-    → IfOk result (LeadsOn plan start (new now) after (Q (turns_in course)))
+abbrev pub ExtendsTrace : (old new : RunDevices → RunDevices) (P : RunTrace → Type 0) (Q : ℕ → RunTrace → Type 0) → ClientPlan → (before after : Run) → Result (Option ℕ) WriteFailed → Type 0
+ExtendsTrace old new P Q plan before after result =
+    (start now : RunDevices) (course : RunTrace) → IsAtTrace plan start (old now) before course → status_in course ≡ None → P course
+    → IfOk result (ExtendsTraceOn plan start (new now) after (Q (turns_in course)))
 
 -- The contract of a part of an iteration that holds for every plan.
-abbrev pub LeadsAll : (old new : Seen → Seen) (P : Course → Type 0) (Q : ℕ → Course → Type 0) → (before after : Run) → Result (Option ℕ) WriteFailed → Type 0
-LeadsAll old new P Q before after result = (plan : ClientPlan) → Leads old new P Q plan before after result
+abbrev pub ExtendsAllTraces : (old new : RunDevices → RunDevices) (P : RunTrace → Type 0) (Q : ℕ → RunTrace → Type 0) → (before after : Run) → Result (Option ℕ) WriteFailed → Type 0
+ExtendsAllTraces old new P Q before after result = (plan : ClientPlan) → ExtendsTrace old new P Q plan before after result
 
 -- The contract of a write. The trace before it ends the run with the status `next`, or everything else in the iteration
 -- was done.
-abbrev pub Flushes : (old new : Seen → Seen) → (before after : Run) → Option ℕ → Result (Option ℕ) WriteFailed → Type 0
+abbrev pub Flushes : (old new : RunDevices → RunDevices) → (before after : Run) → Option ℕ → Result (Option ℕ) WriteFailed → Type 0
 Flushes old new before after next result =
-    (plan : ClientPlan) (start now : Seen) (course : Course) → Stands plan start (old now) before course → status_in course ≡ next → MayWrite course → (status_in course ≡ None → IsResting course)
-    → IfOk result (LeadsOn plan start (new now) after (IsFlushed (turns_in course)))
+    (plan : ClientPlan) (start now : RunDevices) (course : RunTrace) → IsAtTrace plan start (old now) before course → status_in course ≡ next → MayWrite course → (status_in course ≡ None → IsResting course)
+    → IfOk result (ExtendsTraceOn plan start (new now) after (IsFlushed (turns_in course)))

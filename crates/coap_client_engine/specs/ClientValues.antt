@@ -50,23 +50,23 @@ client_takes v = takes_messages v.link.phase && nat_le v.link.limits.max_sent (f
 -- observation, and `Notification` is a response that more may follow. `Rejected` is a response with a critical option
 -- that is not recognised, given by its token and the number of that option. `Stranger` is a response or Pong that
 -- matches nothing outstanding. `Stopped` is a stop of the connection, or its release by the peer.
-pub data EventValue : Type 0 where
-  Ready : EventValue
-  Response : (m : Message) → EventValue
-  Notification : (m : Message) → EventValue
-  Rejected : (token : List ℕ) (number : ℕ) → EventValue
-  Pong : (token : List ℕ) (custody : Bool) → EventValue
-  Stranger : EventValue
-  Stopped : (why : Reason) → EventValue
+pub data ClientEventValue : Type 0 where
+  Ready : ClientEventValue
+  Response : (m : Message) → ClientEventValue
+  Notification : (m : Message) → ClientEventValue
+  Rejected : (token : List ℕ) (number : ℕ) → ClientEventValue
+  Pong : (token : List ℕ) (custody : Bool) → ClientEventValue
+  Stranger : ClientEventValue
+  Stopped : (why : Reason) → ClientEventValue
 
 -- The event of a response. If a critical option is not recognised, the response is rejected (RFC 7252 section 5.4.1).
-abbrev pub answer_told : Message → List ℕ → Bool → Option ℕ → EventValue
+abbrev pub answer_told : Message → List ℕ → Bool → Option ℕ → ClientEventValue
 answer_told m token last (Some number) = Rejected token number
 answer_told m token true None = Response m
 answer_told m token false None = Notification m
 
 -- The event of a message, by the verdict of the link.
-abbrev pub event_told : Message → VerdictValue → Option EventValue
+abbrev pub event_told : Message → VerdictValue → Option ClientEventValue
 event_told m verdict.Opened = Some Ready
 event_told m verdict.Done = None
 event_told m verdict.Request = None
@@ -78,28 +78,28 @@ event_told m (verdict.Stopped why) = Some (Stopped why)
 -- ---- take
 
 -- The result of a `take`: the number of accepted bytes, the client after it, and the event.
-pub record Taking : Type 0 where
+pub record ClientTakeOutcome : Type 0 where
   pub count : ℕ
   pub client : ClientValue
-  pub event : Option EventValue
+  pub event : Option ClientEventValue
 
 -- The result of a `take` of malformed bytes: the connection stops with the reason of the error.
-abbrev pub taking_rejected : ClientValue → ℕ → Reject → Taking
+abbrev pub taking_rejected : ClientValue → ℕ → Reject → ClientTakeOutcome
 taking_rejected v count fault = record { count = count; client = record { frame = []; link = link_after v.link (call.Reject fault) }; event = Some (Stopped (reject_reason fault)) }
 
 -- The result of a `take` that completes a frame, by the result of parsing that frame.
-abbrev pub taking_read : ClientValue → ℕ → Result Message FormatFault → Taking
+abbrev pub taking_read : ClientValue → ℕ → Result Message FormatFault → ClientTakeOutcome
 taking_read v count (Ok m) = record { count = count; client = record { frame = []; link = link_after v.link (call.Handle m) }; event = event_told m (react (standing_in v.link) m).verdict }
 taking_read v count (Err e) = taking_rejected v count reject.Format
 
 -- The result of a `take`, by what the framer found in the bytes: nothing, a frame or an error.
-abbrev pub taking_found : ClientValue → Framing → FrameEventValue → Taking
+abbrev pub taking_found : ClientValue → Framing → FrameEventValue → ClientTakeOutcome
 taking_found v f Nothing = record { count = f.taken; client = record v { frame = f.kept }; event = None }
 taking_found v f (AFault fault) = taking_rejected v f.taken (reject_of (OfFrame fault))
 taking_found v f (AFrame frame) = taking_read v f.taken (message_of frame)
 
 -- The result of a `take` of `piece`. No byte is accepted if `client_takes` is false.
-unfoldable pub taking : ClientValue → List ℕ → Taking
+unfoldable pub taking : ClientValue → List ℕ → ClientTakeOutcome
 taking v piece =
     if client_takes v then taking_found v (framing (client_max v) v.frame piece) (framing (client_max v) v.frame piece).finding
     else record { count = 0; client = v; event = None }

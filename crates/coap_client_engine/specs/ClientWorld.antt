@@ -15,7 +15,7 @@ use Rattle.coap_conn.specs.LinkValue.{free_in}
 use Rattle.coap_request.specs.declared.request.Method.{Method}
 use Rattle.coap_request.specs.Targets.{TargetValue}
 use Rattle.coap_request.specs.Requests.{ExtrasValue, request_of, cancel_of}
-use Rattle.coap_client_engine.specs.ClientValues.{ClientValue, EventValue, Stopped, event_told, is_cut, send_refusal, cancelling_refusal, ping_refusal}
+use Rattle.coap_client_engine.specs.ClientValues.{ClientValue, ClientEventValue, Stopped, event_told, is_cut, send_refusal, cancelling_refusal, ping_refusal}
 
 -- An accepted call with its arguments. A refused call is not recorded.
 pub data ClientCall : Type 0 where
@@ -118,7 +118,7 @@ takes limits tokens calls piece =
 -- ---- events
 
 -- The event of a list of steps: that of its first step, if this is a processed message or a fault.
-abbrev pub event_by : History → List ClientStep → Option EventValue
+abbrev pub event_by : History → List ClientStep → Option ClientEventValue
 event_by h [] = None
 event_by h (Handles m ∷ more) = event_told m (react (standing_now h) m).verdict
 event_by h (Faults fault ∷ more) = Some (Stopped (reject_reason (reject_of fault)))
@@ -129,7 +129,7 @@ event_by h (Writes n ∷ more) = None
 event_by h (Ends cut ∷ more) = None
 
 -- The event of a call after the calls `earlier`.
-unfoldable pub event_of : LimitValues → ℕ → List ClientCall → ClientCall → Option EventValue
+unfoldable pub event_of : LimitValues → ℕ → List ClientCall → ClientCall → Option ClientEventValue
 event_of limits tokens earlier call = event_by (client_after limits tokens earlier) (steps_by limits.max_message earlier call)
 
 -- ---- accepted calls

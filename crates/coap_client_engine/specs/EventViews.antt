@@ -7,12 +7,12 @@ use Rattle.coap_wire.specs.declared.fault.FormatFault.{FormatFault}
 use Rattle.coap_frame.specs.Framing.{FramerValue, IsFramer, framing_of}
 use Rattle.coap_conn.specs.Limits.{AreInRange}
 use Rattle.coap_conn.specs.LinkValue.{LinkValue}
-use Rattle.coap_client_engine.specs.ClientValues.{ClientValue, EventValue, Taking, answer_told, taking_found}
+use Rattle.coap_client_engine.specs.ClientValues.{ClientValue, ClientEventValue, ClientTakeOutcome, answer_told, taking_found}
 use Rattle.coap_client_engine.specs.ClientValues as value
 use Rattle.coap_client_engine.specs.declared.client.Event.{Event}
 use Rattle.coap_client_engine.specs.declared.client.Event.TheVariants.{Ready, Response, Notification, Rejected, Pong, Stranger, Stopped}
-use Rattle.coap_client_engine.specs.declared.client.Heard.{Heard}
-use Rattle.coap_client_engine.specs.declared.client.Heard.TheVariants as heard
+use Rattle.coap_client_engine.specs.declared.client.Received.{Received}
+use Rattle.coap_client_engine.specs.declared.client.Received.TheVariants as heard
 use Rattle.coap_client_engine.specs.declared.client.Taken.{Taken}
 use Rattle.coap_client_engine.specs.declared.client.Client.TheInside.{Inside}
 
@@ -30,7 +30,7 @@ abbrev pub is_client : Inside → Type 0
 is_client c = IsClient c
 
 -- The value of an event, without its place in memory.
-abbrev pub event_value : Event → EventValue
+abbrev pub event_value : Event → ClientEventValue
 event_value Ready = value.Ready
 event_value (Response m) = value.Response m
 event_value (Notification m) = value.Notification m
@@ -42,17 +42,17 @@ event_value (Stopped why) = value.Stopped why
 -- ---- events of a frame that is parsed again
 
 -- The event of a response, by the result of parsing its frame.
-abbrev pub answer_read : Result Message FormatFault → Bool → Option EventValue
+abbrev pub answer_read : Result Message FormatFault → Bool → Option ClientEventValue
 answer_read (Ok m) last = Some (answer_told m m.token last (first_critical m.options))
 answer_read (Err e) last = None
 
 -- The event of a Pong, by the result of parsing its frame.
-abbrev pub pong_read : Result Message FormatFault → Bool → Option EventValue
+abbrev pub pong_read : Result Message FormatFault → Bool → Option ClientEventValue
 pong_read (Ok m) custody = Some (value.Pong m.token custody)
 pong_read (Err e) custody = None
 
 -- The event for a kind of event, by the result of parsing the frame.
-abbrev pub heard_value : Heard → Result Message FormatFault → Option EventValue
+abbrev pub heard_value : Received → Result Message FormatFault → Option ClientEventValue
 heard_value heard.Nothing read = None
 heard_value heard.Ready read = Some value.Ready
 heard_value (heard.Answer last) read = answer_read read last
@@ -61,11 +61,11 @@ heard_value heard.Stranger read = Some value.Stranger
 heard_value (heard.Stopped why) read = Some (value.Stopped why)
 
 -- The event in the result of a `take`.
-abbrev pub taken_event : Taken → Option EventValue
+abbrev pub taken_event : Taken → Option ClientEventValue
 taken_event t = heard_value t.heard (message_of t.frame.now)
 
 -- ---- the result of a framer and a link, if the client accepts bytes
 
 -- The result of a `take` of `piece` by the framer `f` and the link `l`.
-abbrev pub taking_framed : FramerValue → LinkValue → List ℕ → Taking
+abbrev pub taking_framed : FramerValue → LinkValue → List ℕ → ClientTakeOutcome
 taking_framed f l piece = taking_found (record { frame = f.kept; link = l }) (framing_of f piece) (framing_of f piece).finding

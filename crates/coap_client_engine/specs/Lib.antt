@@ -5,6 +5,6 @@ pub mod EventViews
 pub mod RunFaults
 pub mod RunTexts
 pub mod RunSteps
-pub mod RunCourse
+pub mod RunTrace
 pub mod ClientRun
 pub mod Prelude

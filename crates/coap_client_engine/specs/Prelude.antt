@@ -80,13 +80,13 @@ pub use Rattle.coap_request.specs.declared.request.Method.TheVariants.{Get}
 -- ---- coap_client_engine
 pub use Rattle.coap_client_engine.specs.ClientLaws.{AreDifferent, tokens_given, token_given, tokens_behind}
 pub use Rattle.coap_client_engine.specs.ClientRun.{IsReady, IsClientRun, FailedBeforeStart, seen, with_outlets, with_wire}
-pub use Rattle.coap_client_engine.specs.ClientRun.{with_all, HasLooked, IsHeard, IsTaken, IsFinished, IsFlushed, Leads}
-pub use Rattle.coap_client_engine.specs.ClientRun.{LeadsAll, Flushes, IsAsked, IsEnded, IsOutOfTurns, LeadsOn, Seen}
-pub use Rattle.coap_client_engine.specs.ClientRun.{Stands, most_turns, token_of}
+pub use Rattle.coap_client_engine.specs.ClientRun.{with_all, HasReadClock, IsHeard, IsTaken, IsFinished, IsFlushed, ExtendsTrace}
+pub use Rattle.coap_client_engine.specs.ClientRun.{ExtendsAllTraces, Flushes, IsAsked, IsEnded, IsOutOfTurns, ExtendsTraceOn, RunDevices}
+pub use Rattle.coap_client_engine.specs.ClientRun.{IsAtTrace, most_turns, token_of}
 pub use Rattle.coap_client_engine.specs.ClientValues.{answer_told, event_told, ClientValue, client_takes, new_client}
 pub use Rattle.coap_client_engine.specs.ClientValues.{client_written, client_ended, client_sent, client_cancelled}
 pub use Rattle.coap_client_engine.specs.ClientValues.{client_pinged, send_refusal, cancelling_refusal, ping_refusal}
-pub use Rattle.coap_client_engine.specs.ClientValues.{EventValue, Taking, is_cut, taking_found, taking_read}
+pub use Rattle.coap_client_engine.specs.ClientValues.{ClientEventValue, ClientTakeOutcome, is_cut, taking_found, taking_read}
 pub use Rattle.coap_client_engine.specs.ClientValues.{taking_rejected}
 unfoldable pub use Rattle.coap_client_engine.specs.ClientValues.{taking}
 pub use Rattle.coap_client_engine.specs.ClientWorld.{ClientCall, ClientShows, Took, Sent, Cancelled, Pinged, Wrote}
@@ -98,23 +98,23 @@ unfoldable pub use Rattle.coap_client_engine.specs.ClientWorld.{steps_of, step, 
 unfoldable pub use Rattle.coap_client_engine.specs.ClientWorld.{after_steps, steps_behind}
 pub use Rattle.coap_client_engine.specs.EventViews.{event_value, answer_read, pong_read, heard_value, taken_event}
 pub use Rattle.coap_client_engine.specs.EventViews.{taking_framed, IsClient}
-pub use Rattle.coap_client_engine.specs.RunCourse.{IsFresh, Begins, Calls, Course, GivesUp, HasWaited}
-pub use Rattle.coap_client_engine.specs.RunCourse.{IsAskedWhereDue, IsBetween, IsCancelledWhereDue, IsCourse, IsDone}
-pub use Rattle.coap_client_engine.specs.RunCourse.{IsPlanned, IsRefused, IsResting, IsTakenUp, MayWrite, Reads, Refuses}
-pub use Rattle.coap_client_engine.specs.RunCourse.{Rests, Turns, answers_in, calls_in, cancelled_in, client_in}
-pub use Rattle.coap_client_engine.specs.RunCourse.{errors_in, event_in, first_in, given_in, has_looked, history_in}
-pub use Rattle.coap_client_engine.specs.RunCourse.{is_cancel_due, is_late_since, is_overdue, is_overdue_since}
-pub use Rattle.coap_client_engine.specs.RunCourse.{moment_in, moments_in, or_then, output_in, phase_in, rest_in}
-pub use Rattle.coap_client_engine.specs.RunCourse.{since_in, started_in, status_in, status_stopped, stop_read}
-pub use Rattle.coap_client_engine.specs.RunCourse.{stop_text, taken_in, token_in, turns_in, waiting_in, waits_since}
-pub use Rattle.coap_client_engine.specs.RunCourse.{written_in}
+pub use Rattle.coap_client_engine.specs.RunTrace.{IsFresh, Begins, Calls, RunTrace, GivesUp, HasWaited}
+pub use Rattle.coap_client_engine.specs.RunTrace.{IsAskedWhereDue, IsBetween, IsCancelledWhereDue, IsCourse, IsDone}
+pub use Rattle.coap_client_engine.specs.RunTrace.{IsPlanned, IsRefused, IsResting, IsTakenUp, MayWrite, Reads, Refuses}
+pub use Rattle.coap_client_engine.specs.RunTrace.{Rests, Turns, answers_in, calls_in, cancelled_in, client_in}
+pub use Rattle.coap_client_engine.specs.RunTrace.{errors_in, event_in, first_in, given_in, has_looked, history_in}
+pub use Rattle.coap_client_engine.specs.RunTrace.{is_cancel_due, is_late_since, is_overdue, is_overdue_since}
+pub use Rattle.coap_client_engine.specs.RunTrace.{moment_in, moments_in, or_then, output_in, phase_in, rest_in}
+pub use Rattle.coap_client_engine.specs.RunTrace.{since_in, started_in, status_in, status_stopped, stop_read}
+pub use Rattle.coap_client_engine.specs.RunTrace.{stop_text, taken_in, token_in, turns_in, waiting_in, waits_since}
+pub use Rattle.coap_client_engine.specs.RunTrace.{written_in}
 pub use Rattle.coap_client_engine.specs.RunFaults.{is_output_fault, IfMemory, IsStatus, EndsWithStatus}
 pub use Rattle.coap_client_engine.specs.RunSteps.{calls_read, calls_written, cancelled_at, client_asking}
 pub use Rattle.coap_client_engine.specs.RunSteps.{client_cancelling, client_read, ended_by, errors_told, first_told}
-pub use Rattle.coap_client_engine.specs.RunSteps.{has_passed, is_to_ask, is_to_cancel, late, may_take, output_told}
+pub use Rattle.coap_client_engine.specs.RunSteps.{has_passed, must_send_request, is_to_cancel, timeout_status, may_take, output_told}
 pub use Rattle.coap_client_engine.specs.RunSteps.{planned_extras, refusal_text, status_told, stop_behind, stop_written}
 pub use Rattle.coap_client_engine.specs.RunSteps.{token_asking, unless_refused, watched}
 -- ---- coap_client_engine, declared
 pub use Rattle.coap_client_engine.specs.declared.client.Client.TheInside.{Inside}
-pub use Rattle.coap_client_engine.specs.declared.client.Heard.{Heard}
+pub use Rattle.coap_client_engine.specs.declared.client.Received.{Received}
 pub use Rattle.coap_client_engine.specs.declared.run.state.Run.{Run}

@@ -2,8 +2,8 @@
 use Rattle.std.specs.Prelude.{◌≡◌, ◌==◌, ◌||◌, ℕ, Bool, true, false, Result, Ok, Err}
 use Rattle.coap_client_engine.specs.declared.run.state.ClientFault.{ClientFault}
 use Rattle.coap_client_engine.specs.declared.run.state.ClientFault.TheVariants.{Output, Memory}
-use Rattle.coap_client_engine.specs.declared.run.state.Heard.{Heard}
-use Rattle.coap_client_engine.specs.declared.run.state.Heard.TheVariants.{Nothing, Notified, Ended}
+use Rattle.coap_client_engine.specs.declared.run.state.EventOutcome.{EventOutcome}
+use Rattle.coap_client_engine.specs.declared.run.state.EventOutcome.TheVariants.{Nothing, Notified, Ended}
 
 -- Says that a number is an exit status of a run. Status 1 is that of an invalid command line.
 abbrev pub IsStatus : ℕ → Type 0
@@ -22,7 +22,7 @@ IfMemory (Err Output) P = Unit {0}
 IfMemory (Err Memory) P = P
 
 -- Says that an event that ends the run gives an exit status.
-abbrev pub EndsWithStatus : Heard → Type 0
+abbrev pub EndsWithStatus : EventOutcome → Type 0
 EndsWithStatus Nothing = Unit {0}
 EndsWithStatus Notified = Unit {0}
 EndsWithStatus (Ended status) = IsStatus status

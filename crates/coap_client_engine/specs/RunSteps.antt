@@ -10,7 +10,7 @@ use Rattle.coap_conn.specs.declared.phase.Phase.TheVariants.{Waiting, Open, Rele
 use Rattle.coap_conn.specs.declared.phase.Phase.TheVariants as phase
 use Rattle.coap_conn.specs.declared.phase.RequestFault.{RequestFault}
 use Rattle.coap_conn.specs.declared.phase.RequestFault.TheVariants.{NotOpen, TooMany, TooBig, NoRoom, TokensSpent, NoSuchToken}
-use Rattle.coap_client_engine.specs.ClientValues.{ClientValue, client_takes, send_refusal, client_sent, EventValue, Ready, Response, Notification, Rejected, Pong, Stranger, Stopped}
+use Rattle.coap_client_engine.specs.ClientValues.{ClientValue, client_takes, send_refusal, client_sent, ClientEventValue, Ready, Response, Notification, Rejected, Pong, Stranger, Stopped}
 use Rattle.coap_client_engine.specs.ClientValues as value
 use Rattle.coap_client_engine.specs.ClientWorld.{ClientCall, Wrote, Ended}
 use Rattle.coap_io.specs.declared.wire.Got.{Got}
@@ -19,8 +19,8 @@ use Rattle.coap_conn.specs.RequestState.{next_token}
 use Rattle.coap_request.specs.Requests.{ExtrasValue}
 use Rattle.coap_client_engine.specs.RunTexts.{stop_line, fault_line, option_line, response_line, payload_text}
 use Rattle.coap_request.specs.declared.plan.ClientPlan.{ClientPlan}
-use Rattle.coap_client_engine.specs.declared.run.state.Heard.{Heard}
-use Rattle.coap_client_engine.specs.declared.run.state.Heard.TheVariants.{Nothing, Notified, Ended}
+use Rattle.coap_client_engine.specs.declared.run.state.EventOutcome.{EventOutcome}
+use Rattle.coap_client_engine.specs.declared.run.state.EventOutcome.TheVariants.{Nothing, Notified, Ended}
 
 -- True if at least `seconds` seconds have passed between `since` and `now`. If `now` is earlier than `since`, no time
 -- has passed.
@@ -28,21 +28,21 @@ abbrev pub has_passed : ℕ → ℕ → ℕ → Bool
 has_passed now since seconds = nat_le seconds (now - since)
 
 -- The exit status of a run that has waited since `since`, if `wait` seconds have passed.
-abbrev pub late : ℕ → ℕ → ℕ → Option ℕ
-late now since wait = if has_passed now since wait then Some 4 else None
+abbrev pub timeout_status : ℕ → ℕ → ℕ → Option ℕ
+timeout_status now since wait = if has_passed now since wait then Some 4 else None
 
 -- True if the request must be sent: the connection is open, and the request was not sent before.
-abbrev pub is_to_ask : {T : Type 0} → Phase → Option T → Bool
-is_to_ask Waiting token = false
-is_to_ask Open None = true
-is_to_ask Open (Some token) = false
-is_to_ask (Releasing reason) token = false
-is_to_ask (phase.Stopped reason) token = false
+abbrev pub must_send_request : {T : Type 0} → Phase → Option T → Bool
+must_send_request Waiting token = false
+must_send_request Open None = true
+must_send_request Open (Some token) = false
+must_send_request (Releasing reason) token = false
+must_send_request (phase.Stopped reason) token = false
 
 -- True if more input can be processed: input is left, no request must be sent first, and the client accepts bytes.
 abbrev pub may_take : {T : Type 0} → ClientValue → List ℕ → Option T → Bool
 may_take client rest token =
-    if length rest == 0 then false else (if is_to_ask client.link.phase token then false else client_takes client)
+    if length rest == 0 then false else (if must_send_request client.link.phase token then false else client_takes client)
 
 -- The extra option of a plan.
 abbrev pub planned_option : {A : Type 0} → ℕ × Vec ℕ A → CoapOption
@@ -61,7 +61,7 @@ planned_extras plan = record {
 
 -- The error of the request, if it must be sent and is refused.
 abbrev pub asking_refusal : {T : Type 0} → ClientValue → Option T → ClientPlan → Option RequestFault
-asking_refusal client token plan = if is_to_ask client.link.phase token then send_refusal client.link plan.method plan.target (planned_extras plan) else None
+asking_refusal client token plan = if must_send_request client.link.phase token then send_refusal client.link plan.method plan.target (planned_extras plan) else None
 
 -- The value `sent` if nothing was refused, otherwise the value `before`.
 abbrev pub unless_refused : {A : Type 0} → Option RequestFault → A → A → A
@@ -71,14 +71,14 @@ unless_refused (Some refusal) sent before = before
 -- The client after the request was sent. Nothing changes if the request must not be sent or is refused.
 abbrev pub client_asking : {T : Type 0} → ClientValue → Option T → ClientPlan → ClientValue
 client_asking client token plan =
-    if is_to_ask client.link.phase token then
+    if must_send_request client.link.phase token then
     unless_refused (send_refusal client.link plan.method plan.target (planned_extras plan)) (client_sent client plan.method plan.target (planned_extras plan)) client
     else client
 
 -- The token of the request after the request was sent, with the same exceptions.
 abbrev pub token_asking : ClientValue → Option (List ℕ) → ClientPlan → Option (List ℕ)
 token_asking client token plan =
-    if is_to_ask client.link.phase token then
+    if must_send_request client.link.phase token then
     unless_refused (send_refusal client.link plan.method plan.target (planned_extras plan)) (Some (next_token client.link.tokens)) token
     else token
 
@@ -145,8 +145,8 @@ is_to_cancel None (Some first) moment observe = has_passed moment first (unwrap_
 -- The exit status that the deadlines give. The run waits for its first response from its start, and for its last one
 -- from the cancellation. If the cancellation is refused, the status is `refused`.
 abbrev pub watched : Option ℕ → Option ℕ → ℕ → ℕ → ClientPlan → Option ℕ → Option ℕ
-watched (Some cancelled) first started moment plan refused = late moment cancelled plan.wait
-watched None None started moment plan refused = late moment started plan.wait
+watched (Some cancelled) first started moment plan refused = timeout_status moment cancelled plan.wait
+watched None None started moment plan refused = timeout_status moment started plan.wait
 watched None (Some first) started moment plan refused = if is_to_cancel None (Some first) moment plan.observe then refused else None
 
 -- The exit status after a refusal: 3, or none if the queue has no room, because the run then tries again.
@@ -174,7 +174,7 @@ abbrev pub response_status : ℕ → ℕ
 response_status code = if class_of code == 2 then 0 else 2
 
 -- The effect of an event on the run.
-abbrev pub heard_of : EventValue → Heard
+abbrev pub heard_of : ClientEventValue → EventOutcome
 heard_of Ready = Nothing
 heard_of (Response m) = Ended (response_status m.code)
 heard_of (Notification m) = Notified
@@ -184,7 +184,7 @@ heard_of Stranger = Nothing
 heard_of (Stopped reason) = Ended 3
 
 -- The bytes that the run writes to the outlet for payloads.
-abbrev pub output_of : EventValue → Bool → List ℕ
+abbrev pub output_of : ClientEventValue → Bool → List ℕ
 output_of Ready newline = []
 output_of (Response m) newline = if class_of m.code == 2 then payload_text m.payload newline else []
 output_of (Notification m) newline = payload_text m.payload newline
@@ -194,7 +194,7 @@ output_of Stranger newline = []
 output_of (Stopped reason) newline = []
 
 -- The bytes that the run writes to the outlet for reports.
-abbrev pub errors_of : EventValue → List ℕ
+abbrev pub errors_of : ClientEventValue → List ℕ
 errors_of Ready = []
 errors_of (Response m) = if class_of m.code == 2 then [] else response_line m.code m.payload
 errors_of (Notification m) = []
@@ -204,13 +204,13 @@ errors_of Stranger = []
 errors_of (Stopped reason) = stop_line reason
 
 -- The exit status, if the effect ends the run.
-abbrev pub status_heard : Heard → Option ℕ
+abbrev pub status_heard : EventOutcome → Option ℕ
 status_heard Nothing = None
 status_heard Notified = None
 status_heard (Ended status) = Some status
 
 -- The time of the first notification, after an effect at the time `moment`.
-abbrev pub first_heard : Heard → Option ℕ → ℕ → Option ℕ
+abbrev pub first_heard : EventOutcome → Option ℕ → ℕ → Option ℕ
 first_heard Nothing first moment = first
 first_heard Notified None moment = Some moment
 first_heard Notified (Some first) moment = Some first
@@ -218,18 +218,18 @@ first_heard (Ended status) first moment = first
 
 -- ---- the same for accepted bytes, which have an event or none
 
-abbrev pub status_told : Option EventValue → Option ℕ
+abbrev pub status_told : Option ClientEventValue → Option ℕ
 status_told None = None
 status_told (Some event) = status_heard (heard_of event)
 
-abbrev pub first_told : Option EventValue → Option ℕ → ℕ → Option ℕ
+abbrev pub first_told : Option ClientEventValue → Option ℕ → ℕ → Option ℕ
 first_told None first moment = first
 first_told (Some event) first moment = first_heard (heard_of event) first moment
 
-abbrev pub output_told : Option EventValue → Bool → List ℕ
+abbrev pub output_told : Option ClientEventValue → Bool → List ℕ
 output_told None newline = []
 output_told (Some event) newline = output_of event newline
 
-abbrev pub errors_told : Option EventValue → List ℕ
+abbrev pub errors_told : Option ClientEventValue → List ℕ
 errors_told None = []
 errors_told (Some event) = errors_of event

@@ -13,7 +13,7 @@ ghost use Rattle.coap_client_engine.specs.Prelude.{ping_refusal, ClientCall, Cli
 ghost use Rattle.coap_client_engine.specs.Prelude.{Pinged, Wrote, Ended, takes, event_of};
 ghost use Rattle.coap_conn.specs.LinkValue.{IsReady};
 ghost use Rattle.coap_conn.specs.Calls as call;
-ghost use Rattle.coap_client_engine.specs.declared.client.Heard.TheVariants as heard;
+ghost use Rattle.coap_client_engine.specs.declared.client.Received.TheVariants as heard;
 ghost use Rattle.coap_client_engine.specs.contracts.client.Client.{the_row};
 
 use coap_conn::{Limits, Link, Phase, Reason, Reject, RequestFault, Role, Verdict};
@@ -56,7 +56,7 @@ pub enum Event<'a> {
 
 /// Kind of the event of a `take`. `Taken::event` parses the message again from the frame.
 #[derive(Clone, Copy)]
-enum Heard {
+enum Received {
     Nothing,
     Ready,
     Answer { last: bool },
@@ -70,7 +70,7 @@ enum Heard {
 pub struct Taken<'a> {
     /// Number of bytes accepted from the start of the input slice.
     pub bytes: usize,
-    heard: Heard,
+    heard: Received,
     frame: &'a [u8],
 }
 
@@ -80,12 +80,12 @@ impl<'a> Taken<'a> {
         ensures { option_map event_value result ≡ taken_event self.now }
     {
         match self.heard {
-            Heard::Nothing => None,
-            Heard::Ready => Some(Event::Ready),
-            Heard::Answer { last } => answer_in(self.frame, last),
-            Heard::Pong { custody } => pong_in(self.frame, custody),
-            Heard::Stranger => Some(Event::Stranger),
-            Heard::Stopped(reason) => Some(Event::Stopped(reason)),
+            Received::Nothing => None,
+            Received::Ready => Some(Event::Ready),
+            Received::Answer { last } => answer_in(self.frame, last),
+            Received::Pong { custody } => pong_in(self.frame, custody),
+            Received::Stranger => Some(Event::Stranger),
+            Received::Stopped(reason) => Some(Event::Stopped(reason)),
         }
     }
 }
@@ -255,7 +255,7 @@ impl Client {
         if !self.takes() {
             return Taken {
                 bytes: 0,
-                heard: Heard::Nothing,
+                heard: Received::Nothing,
                 frame: &[],
             };
         }
@@ -346,7 +346,7 @@ impl Client {
 /// event.
 ///
 /// The queue must have room for a message of maximum size, and the phase must be `Waiting` or `Open`.
-fn take_in(framer: &mut Framer, link: &mut Link, piece: &[u8]) -> (usize, Heard)
+fn take_in(framer: &mut Framer, link: &mut Link, piece: &[u8]) -> (usize, Received)
     requires framer { IsFramer framer.old }
     requires ready { IsReady link.old }
     requires live { IsLive link.old.phase }
@@ -359,11 +359,11 @@ fn take_in(framer: &mut Framer, link: &mut Link, piece: &[u8]) -> (usize, Heard)
 {
     let framed = framer.next(piece);
     let heard = match framed.what.frame() {
-        Ok(None) => Heard::Nothing,
+        Ok(None) => Received::Nothing,
         Err(fault) => reject(link, Reject::from(fault)),
         Ok(Some(frame)) => match parse(frame) {
             Err(_) => reject(link, Reject::Format),
-            Ok(message) => hear(link, &message),
+            Ok(message) => handle_message(link, &message),
         },
     };
     (framed.taken, heard)
@@ -379,7 +379,7 @@ fn frame_given<'a>(split: &'a [u8], taken: &'a [u8]) -> &'a [u8]
 /// Processes a message, and returns the kind of its event.
 ///
 /// The queue must have room for a message of maximum size, and the phase must be `Waiting` or `Open`.
-fn hear(link: &mut Link, message: &MessageRef) -> Heard
+fn handle_message(link: &mut Link, message: &MessageRef) -> Received
     requires ready { IsReady link.old }
     requires live { IsLive link.old.phase }
     ensures event { heard_value result (Ok message.now)
@@ -387,25 +387,25 @@ fn hear(link: &mut Link, message: &MessageRef) -> Heard
     ensures after { link.new ≡ link_after link.old (call.Handle message.now) }
 {
     match link.on(message) {
-        Verdict::Opened => Heard::Ready,
-        Verdict::Done => Heard::Nothing,
-        Verdict::Request => Heard::Nothing,
-        Verdict::Answer { last, .. } => Heard::Answer { last },
-        Verdict::Pong { custody, .. } => Heard::Pong { custody },
-        Verdict::Stranger => Heard::Stranger,
-        Verdict::Stopped(reason) => Heard::Stopped(reason),
+        Verdict::Opened => Received::Ready,
+        Verdict::Done => Received::Nothing,
+        Verdict::Request => Received::Nothing,
+        Verdict::Answer { last, .. } => Received::Answer { last },
+        Verdict::Pong { custody, .. } => Received::Pong { custody },
+        Verdict::Stranger => Received::Stranger,
+        Verdict::Stopped(reason) => Received::Stopped(reason),
     }
 }
 
-/// Queues the Abort for malformed input and stops the connection. The preconditions are those of `hear`.
-fn reject(link: &mut Link, fault: Reject) -> Heard
+/// Queues the Abort for malformed input and stops the connection. The preconditions are those of `handle_message`.
+fn reject(link: &mut Link, fault: Reject) -> Received
     requires ready { IsReady link.old }
     requires live { IsLive link.old.phase }
     ensures heard { result ≡ heard.Stopped (reject_reason fault) }
     ensures after { link.new ≡ link_after link.old (call.Reject fault) }
 {
     link.reject(fault);
-    Heard::Stopped(Reason::from(fault))
+    Received::Stopped(Reason::from(fault))
 }
 
 /// Returns the event of the response in a frame, or `None` if the frame is malformed.

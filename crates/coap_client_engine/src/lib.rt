@@ -18,7 +18,7 @@
 mod client;
 pub mod laws;
 mod run;
-mod say;
+mod error_lines;
 
 pub use client::{Client, Event, Taken};
 pub use run::{ClientFault, run_client};

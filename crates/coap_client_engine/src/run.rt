@@ -2,8 +2,8 @@
 
 ghost use Rattle.std.specs.Prelude.{◌≡◌, ◌||◌, false, is_err, IfOk, IfSome};
 ghost use Rattle.coap_client_engine.specs.Prelude.{is_output_fault, IfMemory, IsStatus, IsFresh, IsClientRun};
-ghost use Rattle.coap_client_engine.specs.Prelude.{FailedBeforeStart, seen, with_outlets, with_all, HasLooked, IsFinished};
-ghost use Rattle.coap_client_engine.specs.Prelude.{IsFlushed, Leads};
+ghost use Rattle.coap_client_engine.specs.Prelude.{FailedBeforeStart, seen, with_outlets, with_all, HasReadClock, IsFinished};
+ghost use Rattle.coap_client_engine.specs.Prelude.{IsFlushed, ExtendsTrace};
 
 mod deadlines;
 mod receive;
@@ -14,7 +14,7 @@ mod transmit;
 use coap_io::{Clock, Outlet, Wire};
 use coap_request::ClientPlan;
 pub use state::ClientFault;
-use state::{LATE, Next, Run};
+use state::{TIMED_OUT, StepResult, Run};
 use std::alloc::Global;
 
 /// Maximum number of iterations of a run.
@@ -77,7 +77,7 @@ pub fn run_client<W: Wire, C: Clock, O: Outlet, E: Outlet>(
             return Ok(status);
         }
     }
-    Ok(LATE)
+    Ok(TIMED_OUT)
 }
 
 impl Run {
@@ -91,39 +91,39 @@ impl Run {
         out: &mut O,
         err: &mut E,
         plan: &ClientPlan,
-    ) -> Next
+    ) -> StepResult
         requires out_works { O.is_failed out.old ≡ false }
         requires err_works { E.is_failed err.old ≡ false }
-        ensures runs { Leads (with_all (W.given wire.old) (W.written wire.old) (W.answers wire.old) (O.written out.old)
+        ensures runs { ExtendsTrace (with_all (W.given wire.old) (W.written wire.old) (W.answers wire.old) (O.written out.old)
             (E.written err.old)) (with_all (W.given wire.new) (W.written wire.new) (W.answers wire.new)
             (O.written out.new) (E.written err.new)) IsFresh IsFlushed plan.now self.old self.new result }
         ensures status { IfOk result (λ next. IfSome next IsStatus) }
         ensures output { (O.is_failed out.new || E.is_failed err.new) ≡ is_err result }
     {
-        if let Some(status) = self.listen(wire, err)? {
+        if let Some(status) = self.read_input(wire, err)? {
             return Ok(Some(status));
         }
-        let next = self.go_on(out, err, plan)?;
+        let next = self.process_input(out, err, plan)?;
         self.flush(wire, err, next)
     }
 
     /// Sends the request if an earlier iteration had no room for it, processes the input, and then checks the
     /// deadlines.
-    fn go_on<O: Outlet, E: Outlet>(&mut self, out: &mut O, err: &mut E, plan: &ClientPlan) -> Next
+    fn process_input<O: Outlet, E: Outlet>(&mut self, out: &mut O, err: &mut E, plan: &ClientPlan) -> StepResult
         requires out_works { O.is_failed out.old ≡ false }
         requires err_works { E.is_failed err.old ≡ false }
-        ensures runs { Leads (with_outlets (O.written out.old) (E.written err.old))
-            (with_outlets (O.written out.new) (E.written err.new)) HasLooked IsFinished plan.now self.old self.new
+        ensures runs { ExtendsTrace (with_outlets (O.written out.old) (E.written err.old))
+            (with_outlets (O.written out.new) (E.written err.new)) HasReadClock IsFinished plan.now self.old self.new
             result }
         ensures status { IfOk result (λ next. IfSome next IsStatus) }
         ensures output { (O.is_failed out.new || E.is_failed err.new) ≡ is_err result }
     {
-        if let Some(status) = self.ask(err, plan)? {
+        if let Some(status) = self.send_request(err, plan)? {
             return Ok(Some(status));
         }
         if let Some(status) = self.take_all(out, err, plan)? {
             return Ok(Some(status));
         }
-        self.watch(err, plan)
+        self.check_deadlines(err, plan)
     }
 }

@@ -4,7 +4,7 @@ ghost use Rattle.std.specs.Prelude.{◌≡◌, false, is_err, [], option_map, If
 ghost use Rattle.coap_client_engine.specs.Prelude.{AddsBytes, IsStatus};
 ghost use Rattle.coap_client_engine.specs.RunSteps as spec;
 
-use crate::run::state::{LATE, Next, Run};
+use crate::run::state::{TIMED_OUT, StepResult, Run};
 use coap_io::Outlet;
 use coap_request::ClientPlan;
 
@@ -13,7 +13,7 @@ impl Run {
     /// overdue.
     ///
     /// The run waits for its first response from its start, and for its last response from the cancellation.
-    pub(super) fn watch<E: Outlet>(&mut self, err: &mut E, plan: &ClientPlan) -> Next
+    pub(super) fn check_deadlines<E: Outlet>(&mut self, err: &mut E, plan: &ClientPlan) -> StepResult
         requires { E.is_failed err.old ≡ false }
         ensures after { self.new.client
             ≡ (if spec.is_to_cancel self.old.cancelled self.old.first self.old.moment plan.now.observe then
@@ -38,10 +38,10 @@ impl Run {
         ensures output { E.is_failed err.new ≡ is_err result }
     {
         if let Some(since) = self.cancelled {
-            return Ok(late(self.moment, since, plan.wait));
+            return Ok(timeout_status(self.moment, since, plan.wait));
         }
         let Some(since) = self.first else {
-            return Ok(late(self.moment, self.started, plan.wait));
+            return Ok(timeout_status(self.moment, self.started, plan.wait));
         };
         if !has_passed(self.moment, since, plan.observe.unwrap_or(0)) {
             return Ok(None);
@@ -58,12 +58,12 @@ fn has_passed(now: u64, since: u64, seconds: u32) -> bool
 }
 
 /// Returns the exit status of a run that has waited since `since`, if `wait` seconds have passed.
-fn late(now: u64, since: u64, wait: u32) -> Option<u8>
-    ensures late { result ≡ spec.late now since wait }
+fn timeout_status(now: u64, since: u64, wait: u32) -> Option<u8>
+    ensures timeout_status { result ≡ spec.timeout_status now since wait }
     ensures status { IfSome result IsStatus }
 {
     if has_passed(now, since, wait) {
-        Some(LATE)
+        Some(TIMED_OUT)
     } else {
         None
     }

@@ -2,21 +2,21 @@
 
 ghost use Rattle.std.specs.Prelude.{◌≡◌, ◌≤◌, ◌||◌, ◌∷◌, false, is_err, [], length, drop, IfOk, IfSome, OnOk};
 ghost use Rattle.coap_client_engine.specs.Prelude.{TellsMore, count_passed, AddsBytes, IsStatus, IsFresh, with_outlets};
-ghost use Rattle.coap_client_engine.specs.Prelude.{with_wire, IsReady, IsHeard, IsTaken, Leads, LeadsAll};
+ghost use Rattle.coap_client_engine.specs.Prelude.{with_wire, IsReady, IsHeard, IsTaken, ExtendsTrace, ExtendsAllTraces};
 ghost use Rattle.coap_client_engine.specs.ClientValues as value;
 ghost use Rattle.coap_client_engine.specs.RunSteps as spec;
 
-use crate::run::report::{hear, stopped};
-use crate::run::state::{Heard, Next, Run};
+use crate::run::report::{handle_event, stopped};
+use crate::run::state::{EventOutcome, StepResult, Run};
 use coap_conn::{Phase, Reason};
 use coap_io::{Got, Outlet, Wire};
 use coap_request::ClientPlan;
 
 impl Run {
     /// Reads once if no input is left to process. The run ends if the input has ended or the wire has failed.
-    pub(super) fn listen<W: Wire, E: Outlet>(&mut self, wire: &mut W, err: &mut E) -> Next
+    pub(super) fn read_input<W: Wire, E: Outlet>(&mut self, wire: &mut W, err: &mut E) -> StepResult
         requires { E.is_failed err.old ≡ false }
-        ensures runs { LeadsAll (with_wire (W.given wire.old) (W.written wire.old) (W.answers wire.old)
+        ensures runs { ExtendsAllTraces (with_wire (W.given wire.old) (W.written wire.old) (W.answers wire.old)
             (E.written err.old)) (with_wire (W.given wire.new) (W.written wire.new) (W.answers wire.new)
             (E.written err.new)) IsFresh IsHeard self.old self.new result }
         ensures status { IfOk result (λ next. IfSome next IsStatus) }
@@ -62,7 +62,7 @@ impl Run {
         if self.rest.is_empty() {
             return false;
         }
-        if self.is_to_ask() {
+        if self.must_send_request() {
             return false;
         }
         self.client.takes()
@@ -76,10 +76,10 @@ impl Run {
         out: &mut O,
         err: &mut E,
         plan: &ClientPlan,
-    ) -> Next
+    ) -> StepResult
         requires out_works { O.is_failed out.old ≡ false }
         requires err_works { E.is_failed err.old ≡ false }
-        ensures runs { Leads (with_outlets (O.written out.old) (E.written err.old))
+        ensures runs { ExtendsTrace (with_outlets (O.written out.old) (E.written err.old))
             (with_outlets (O.written out.new) (E.written err.new)) IsReady IsTaken plan.now self.old self.new result }
         ensures status { IfOk result (λ next. IfSome next IsStatus) }
         ensures output { (O.is_failed out.new || E.is_failed err.new) ≡ is_err result }
@@ -91,7 +91,7 @@ impl Run {
             if let Some(status) = self.take(out, err, plan.newline)? {
                 return Ok(Some(status));
             }
-            if let Some(status) = self.ask(err, plan)? {
+            if let Some(status) = self.send_request(err, plan)? {
                 return Ok(Some(status));
             }
         }
@@ -99,7 +99,7 @@ impl Run {
     }
 
     /// Processes input up to the end of one message, and reports its event.
-    fn take<O: Outlet, E: Outlet>(&mut self, out: &mut O, err: &mut E, newline: bool) -> Next
+    fn take<O: Outlet, E: Outlet>(&mut self, out: &mut O, err: &mut E, newline: bool) -> StepResult
         requires out_works { O.is_failed out.old ≡ false }
         requires err_works { E.is_failed err.old ≡ false }
         ensures next { IfOk result (λ next. next ≡ spec.status_told
@@ -122,19 +122,19 @@ impl Run {
         let taken = self.client.take(self.rest.bytes());
         let bytes = taken.bytes;
         let heard = match taken.event() {
-            Some(event) => hear(&event, out, err, newline)?,
-            None => Heard::Nothing,
+            Some(event) => handle_event(&event, out, err, newline)?,
+            None => EventOutcome::Nothing,
         };
         self.rest.advance(bytes);
         match heard {
-            Heard::Nothing => Ok(None),
-            Heard::Notified => {
+            EventOutcome::Nothing => Ok(None),
+            EventOutcome::Notified => {
                 if self.first.is_none() {
                     self.first = Some(self.moment);
                 }
                 Ok(None)
             }
-            Heard::Ended(status) => Ok(Some(status)),
+            EventOutcome::Ended(status) => Ok(Some(status)),
         }
     }
 }

@@ -7,19 +7,19 @@ ghost use Rattle.coap_client_engine.specs.RunSteps as spec;
 ghost use Rattle.coap_client_engine.specs.RunTexts as text;
 
 use crate::client::Event;
-use crate::run::state::{ANSWERED, BROKEN, DECLINED, Heard, Next};
-use crate::say::{say_fault, say_option, say_response, say_stop, write_payload};
+use crate::run::state::{ANSWERED, CONNECTION_FAILED, ERROR_RESPONSE, EventOutcome, StepResult};
+use crate::error_lines::{report_refusal, report_option, report_response, report_stop, write_payload};
 use coap_conn::{Reason, RequestFault};
 use coap_io::{Outlet, WriteFailed};
 use coap_wire::MessageRef;
 
 /// Reports an event, and returns its effect on the run.
-pub(super) fn hear<O: Outlet, E: Outlet>(
+pub(super) fn handle_event<O: Outlet, E: Outlet>(
     event: &Event,
     out: &mut O,
     err: &mut E,
     newline: bool,
-) -> Result<Heard, WriteFailed>
+) -> Result<EventOutcome, WriteFailed>
     requires out_works { O.is_failed out.old ≡ false }
     requires err_works { E.is_failed err.old ≡ false }
     ensures heard { IfOk result (λ heard. heard ≡ spec.heard_of (event_value event.now)) }
@@ -31,22 +31,22 @@ pub(super) fn hear<O: Outlet, E: Outlet>(
     ensures output { (O.is_failed out.new || E.is_failed err.new) ≡ is_err result }
 {
     match event {
-        Event::Response(message) => Ok(Heard::Ended(answered(message, out, err, newline)?)),
+        Event::Response(message) => Ok(EventOutcome::Ended(answered(message, out, err, newline)?)),
         Event::Notification(message) => {
             write_payload(out, message.payload(), newline)?;
-            Ok(Heard::Notified)
+            Ok(EventOutcome::Notified)
         }
         Event::Rejected { number, .. } => {
-            say_option(err, *number)?;
-            Ok(Heard::Ended(DECLINED))
+            report_option(err, *number)?;
+            Ok(EventOutcome::Ended(ERROR_RESPONSE))
         }
         Event::Stopped(reason) => {
-            say_stop(err, *reason)?;
-            Ok(Heard::Ended(BROKEN))
+            report_stop(err, *reason)?;
+            Ok(EventOutcome::Ended(CONNECTION_FAILED))
         }
-        Event::Ready => Ok(Heard::Nothing),
-        Event::Pong { .. } => Ok(Heard::Nothing),
-        Event::Stranger => Ok(Heard::Nothing),
+        Event::Ready => Ok(EventOutcome::Nothing),
+        Event::Pong { .. } => Ok(EventOutcome::Nothing),
+        Event::Stranger => Ok(EventOutcome::Nothing),
     }
 }
 
@@ -71,30 +71,30 @@ fn answered<O: Outlet, E: Outlet>(
         write_payload(out, response.payload(), newline)?;
         return Ok(ANSWERED);
     }
-    say_response(err, response)?;
-    Ok(DECLINED)
+    report_response(err, response)?;
+    Ok(ERROR_RESPONSE)
 }
 
 /// Reports the error of a request, which ends the run.
-pub(super) fn refused<E: Outlet>(err: &mut E, fault: RequestFault) -> Next
+pub(super) fn refused<E: Outlet>(err: &mut E, fault: RequestFault) -> StepResult
     requires { E.is_failed err.old ≡ false }
     ensures told { OnOk result (AddsBytes (E.written err.old) (E.written err.new) (text.fault_line fault)) }
     ensures ended { IfOk result (λ next. next ≡ Some 3) }
     ensures status { IfOk result (λ next. IfSome next IsStatus) }
     ensures output { E.is_failed err.new ≡ is_err result }
 {
-    say_fault(err, fault)?;
-    Ok(Some(BROKEN))
+    report_refusal(err, fault)?;
+    Ok(Some(CONNECTION_FAILED))
 }
 
 /// Reports the stop of the connection, which ends the run.
-pub(super) fn stopped<E: Outlet>(err: &mut E, reason: Reason) -> Next
+pub(super) fn stopped<E: Outlet>(err: &mut E, reason: Reason) -> StepResult
     requires { E.is_failed err.old ≡ false }
     ensures told { OnOk result (AddsBytes (E.written err.old) (E.written err.new) (text.stop_line reason)) }
     ensures ended { IfOk result (λ next. next ≡ Some 3) }
     ensures status { IfOk result (λ next. IfSome next IsStatus) }
     ensures output { E.is_failed err.new ≡ is_err result }
 {
-    say_stop(err, reason)?;
-    Ok(Some(BROKEN))
+    report_stop(err, reason)?;
+    Ok(Some(CONNECTION_FAILED))
 }

@@ -39,19 +39,19 @@ impl From<WriteFailed> for ClientFault {
 pub(super) const ANSWERED: u8 = 0;
 
 /// Exit status if the last response was not 2.xx, or had a critical option that is not recognised.
-pub(super) const DECLINED: u8 = 2;
+pub(super) const ERROR_RESPONSE: u8 = 2;
 
 /// Exit status if the connection stopped, or the request could not be sent.
-pub(super) const BROKEN: u8 = 3;
+pub(super) const CONNECTION_FAILED: u8 = 3;
 
 /// Exit status if no response arrived in time.
-pub(super) const LATE: u8 = 4;
+pub(super) const TIMED_OUT: u8 = 4;
 
 /// Result of a step of a run, if no outlet failed: the exit status if the run ends, `None` if it continues.
-pub(super) type Next = Result<Option<u8>, WriteFailed>;
+pub(super) type StepResult = Result<Option<u8>, WriteFailed>;
 
 /// Effect of an event on the run.
-pub(super) enum Heard {
+pub(super) enum EventOutcome {
     /// No effect.
     Nothing,
     /// Arrival of a notification.

@@ -7,15 +7,15 @@ ghost use Rattle.coap_client_engine.specs.ClientValues as value;
 ghost use Rattle.coap_client_engine.specs.RunSteps as spec;
 
 use crate::run::report::{refused, stopped};
-use crate::run::state::{Next, Run};
+use crate::run::state::{StepResult, Run};
 use coap_conn::{Phase, Reason, RequestFault, first_part};
 use coap_io::{Got, Outlet, Wire};
 use coap_request::{ClientPlan, Extras};
 
 impl Run {
     /// Returns `true` if the request must be sent: the connection is open, and the request was not sent before.
-    pub(super) fn is_to_ask(&self) -> bool
-        ensures { result ≡ spec.is_to_ask self.now.client.link.phase self.now.token }
+    pub(super) fn must_send_request(&self) -> bool
+        ensures { result ≡ spec.must_send_request self.now.client.link.phase self.now.token }
     {
         match self.client.phase() {
             Phase::Open => self.token.is_none(),
@@ -24,7 +24,7 @@ impl Run {
     }
 
     /// Sends the request if it must be sent. If the queue has no room, a later call tries again.
-    pub(super) fn ask<E: Outlet>(&mut self, err: &mut E, plan: &ClientPlan) -> Next
+    pub(super) fn send_request<E: Outlet>(&mut self, err: &mut E, plan: &ClientPlan) -> StepResult
         requires { E.is_failed err.old ≡ false }
         ensures next { IfOk result (λ next. next ≡ spec.ended_by
             (spec.asking_refusal self.old.client self.old.token plan.now)) }
@@ -39,7 +39,7 @@ impl Run {
         ensures status { IfOk result (λ next. IfSome next IsStatus) }
         ensures output { E.is_failed err.new ≡ is_err result }
     {
-        if !self.is_to_ask() {
+        if !self.must_send_request() {
             return Ok(None);
         }
         match self
@@ -56,7 +56,7 @@ impl Run {
     }
 
     /// Cancels the observation. If the queue has no room, the next iteration tries again.
-    pub(super) fn cancel<E: Outlet>(&mut self, err: &mut E, plan: &ClientPlan) -> Next
+    pub(super) fn cancel<E: Outlet>(&mut self, err: &mut E, plan: &ClientPlan) -> StepResult
         requires { E.is_failed err.old ≡ false }
         ensures next { IfOk result (λ next. next ≡ spec.ended_by
             (spec.cancelling_refusal self.old.client (option_map (λ t. t.items) self.old.token) plan.now)) }
@@ -93,7 +93,7 @@ impl Run {
         wire: &mut W,
         err: &mut E,
         next: Option<u8>,
-    ) -> Next
+    ) -> StepResult
         requires works { E.is_failed err.old ≡ false }
         requires known { IfSome next IsStatus }
         ensures runs { Flushes (with_wire (W.given wire.old) (W.written wire.old) (W.answers wire.old)

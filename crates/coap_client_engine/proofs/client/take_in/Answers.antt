@@ -1,7 +1,7 @@
 use Rattle.std.proofs.Common.{ℕ, take, Ok, sym, ap, ◌∙◌}
 use Rattle.coap_client_engine.specs.Prelude.{message_of, FramerValue, frame_back, framer_after, finding_read, reject_reason}
 use Rattle.coap_client_engine.specs.Prelude.{Reject, heard_value}
-use Rattle.coap_client_engine.specs.declared.client.Heard.TheVariants as heard
+use Rattle.coap_client_engine.specs.declared.client.Received.TheVariants as heard
 use Rattle.coap_client_engine.proofs.TakingLemmas.{told_nothing, told_fault, told_bad, told_message}
 use Rattle.coap_client_engine.proofs.client.take_in.Goals as goal
 use Rattle.coap_client_engine.proofs.client.take_in.Goals.{in-Ok-None, in-Err, in-Ok-Some+in-Err-parse, in-Ok-Some+in-Ok}
@@ -21,5 +21,5 @@ returns-clause-told c =
           ap (λ (f : FramerValue). heard_value c.match-frame.heard (message_of (frame_back f.spent (take c.next-framed.result.taken p)))) c.next-framed.follows.holds-at-none
           ∙ ap (λ (n : ℕ). heard_value c.match-frame.heard (message_of (frame_back (framer_after v p).spent (take n p)))) framed.taken
           ∙ told_message v l p c.match-frame.heard w.in-Ok-Some.frame.now w.in-Ok.message c.requires.framer (found ∙ ap finding_read w.in-Ok-Some.is ∙ ap (λ o. finding_read (Ok o)) w.in-Ok-Some.field-0-is) (sym w.parse.ensures.exact ∙ w.in-Ok.is)
-          (ap (λ h. heard_value h (Ok w.in-Ok.message)) w.heard-is ∙ w.hear.ensures.event)
+          (ap (λ h. heard_value h (Ok w.in-Ok.message)) w.heard-is ∙ w.handle_message.ensures.event)
     ]

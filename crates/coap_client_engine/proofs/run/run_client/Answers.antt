@@ -1,5 +1,5 @@
 use Rattle.std.proofs.Common.{◌≡◌, refl, inl, inr, ap, subst, ◌∙◌, ◌+◌, ℕ, arith}
-use Rattle.coap_client_engine.specs.Prelude.{Begins, Turns, turns_in, seen, LeadsOn, IsFlushed, most_turns}
+use Rattle.coap_client_engine.specs.Prelude.{Begins, Turns, turns_in, seen, ExtendsTraceOn, IsFlushed, most_turns}
 use Rattle.coap_client_engine.proofs.RunLemmas.{neither_first, neither_second, began, turn_made, few_turns, turns_are, run_of, as_many}
 use Rattle.coap_client_engine.proofs.run.run_client.Goals as goal
 
@@ -32,7 +32,7 @@ loop-preserved g c =
       out = neither_first (g.O.Outlet.is_failed c.turn.new.out) (g.E.Outlet.is_failed c.turn.new.err) c.in_ok-status.ensures.output;
       err = neither_second (g.O.Outlet.is_failed c.turn.new.out) (g.E.Outlet.is_failed c.turn.new.err) c.in_ok-status.ensures.output;
       runs = as_many IsFlushed (turns_in led.course + 1) (c.loop.counter + 1) (ap (λ (n : ℕ). n + 1) led.holds.turns)
-          (subst (LeadsOn c.args.plan.now start after c.turn.new.self (IsFlushed (turns_in led.course + 1))) c.in_default-2.is went);
+          (subst (ExtendsTraceOn c.args.plan.now start after c.turn.new.self (IsFlushed (turns_in led.course + 1))) c.in_default-2.is went);
     }
 
 pub returns-in-Some-clause-run : goal.returns-in-Some-clause-run

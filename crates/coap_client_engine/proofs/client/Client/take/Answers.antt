@@ -1,5 +1,5 @@
 use Rattle.std.proofs.Common.{None, take, refl, sym, ap, ◌∙◌, arith}
-use Rattle.coap_client_engine.specs.Prelude.{message_of, frame_back, Taking, client_takes, heard_value}
+use Rattle.coap_client_engine.specs.Prelude.{message_of, frame_back, ClientTakeOutcome, client_takes, heard_value}
 use Rattle.coap_client_engine.proofs.ClientShown.{took_takes, took_told, took_shown}
 use Rattle.coap_client_engine.proofs.TakingLemmas.{framed_count, takes_none, takes_framed, took_is, took_client}
 use Rattle.coap_client_engine.proofs.client.Client.take.Goals as goal
@@ -9,9 +9,9 @@ returns-then-not-takes c =
     let v = c.args.self.now in
     let p = c.args.piece.now in
     let none = takes_none c.self.inside v p c.self.invariant c.self.view_is (ap client_takes (sym c.self.view_is) ∙ sym c.takes.ensures ∙ c.if-not-takes.true) in
-    let count = ap (λ (t : Taking). t.count) (sym none) in
-    let event = ap (λ (t : Taking). t.event) (sym none) in (
-      (refl, (λ _. tt), c.self.view_is ∙ ap (λ (t : Taking). t.client) (sym none)),
+    let count = ap (λ (t : ClientTakeOutcome). t.count) (sym none) in
+    let event = ap (λ (t : ClientTakeOutcome). t.event) (sym none) in (
+      (refl, (λ _. tt), c.self.view_is ∙ ap (λ (t : ClientTakeOutcome). t.client) (sym none)),
       record {
         writes_back = tt;
         count = count;
@@ -34,8 +34,8 @@ returns c =
     let takes = ap client_takes (sym c.self.view_is) ∙ sym c.takes.ensures ∙ c.if-not-takes.false in
     let all = takes_framed c.self.inside v p c.self.invariant c.self.view_is takes in
     let given = c.frame_given.ensures ∙ ap (λ spent. frame_back spent (take c.take_in-bytes.result.0 p)) c.split_frame.ensures in
-    let count = c.take_in-bytes.ensures.count ∙ framed_count c.self.inside.framer c.self.inside.link p ∙ ap (λ (t : Taking). t.count) (sym all) in
-    let event = ap (λ frame. heard_value c.take_in-bytes.result.1 (message_of frame)) given ∙ c.take_in-bytes.ensures.told ∙ ap (λ (t : Taking). t.event) (sym all) in (
+    let count = c.take_in-bytes.ensures.count ∙ framed_count c.self.inside.framer c.self.inside.link p ∙ ap (λ (t : ClientTakeOutcome). t.count) (sym all) in
+    let event = ap (λ frame. heard_value c.take_in-bytes.result.1 (message_of frame)) given ∙ c.take_in-bytes.ensures.told ∙ ap (λ (t : ClientTakeOutcome). t.event) (sym all) in (
       (refl, (λ _. tt), took_client c.self.inside v p c.self.invariant c.self.view_is c.take_in-bytes.new.framer c.take_in-bytes.new.link c.take_in-bytes.ensures.framer c.take_in-bytes.ensures.link takes),
       record {
         writes_back = tt;

@@ -1,6 +1,6 @@
 use Rattle.std.proofs.Common.{Some}
 use Rattle.coap_io.proofs.streams.DeviceLemmas.{bytes_none}
-use Rattle.coap_client_engine.specs.Prelude.{calls_in, turns_in, with_wire, IsFlushed, LeadsOn}
+use Rattle.coap_client_engine.specs.Prelude.{calls_in, turns_in, with_wire, IsFlushed, ExtendsTraceOn}
 use Rattle.coap_client_engine.proofs.RunLemmas.{answers_so, some_waits, write_leads_on, wrote_last}
 use Rattle.coap_client_engine.proofs.run.state.Run.flush.Goals as goal
 
@@ -9,7 +9,7 @@ returns-in-Some-clause-runs g c = λ plan start now course stands ends may rests
     let write = c.write-got.ensures in
     let got = c.write-got.result in
     answers_so
-    (LeadsOn plan start (with_wire (g.W.Wire.given c.write-got.new.wire) (g.W.Wire.written c.write-got.new.wire) (g.W.Wire.answers c.write-got.new.wire) (g.E.Outlet.written c.stopped.new.err) now) c.write-got.new.self (IsFlushed (turns_in course)))
+    (ExtendsTraceOn plan start (with_wire (g.W.Wire.given c.write-got.new.wire) (g.W.Wire.written c.write-got.new.wire) (g.W.Wire.answers c.write-got.new.wire) (g.E.Outlet.written c.stopped.new.err) now) c.write-got.new.self (IsFlushed (turns_in course)))
     (Some 3) c.stopped.result c.stopped.ensures.ended c.stopped.ensures.told
     (λ told.
     wrote_last plan start (with_wire (g.W.Wire.given c.args.wire.now) (g.W.Wire.written c.args.wire.now) (g.W.Wire.answers c.args.wire.now) (g.E.Outlet.written c.args.err.now) now) c.args.self.now course stands

@@ -10,35 +10,35 @@ use Rattle.coap_conn.specs.declared.phase.RequestFault.{RequestFault}
 use Rattle.coap_conn.specs.declared.reason.Reason.{Reason}
 use Rattle.coap_io.specs.declared.wire.Got.{Got}
 use Rattle.coap_io.specs.streams.Wires.{bytes_passed, count_passed}
-use Rattle.coap_client_engine.specs.ClientValues.{ClientValue, client_takes, EventValue}
+use Rattle.coap_client_engine.specs.ClientValues.{ClientValue, client_takes, ClientEventValue}
 use Rattle.coap_client_engine.specs.ClientWorld.{ClientCall, Took, Sent, Cancelled, Pinged, Wrote, Ended, taken_by, client_after, client_of, takes, event_of}
 use Rattle.coap_client_engine.specs.RunTexts.{stop_line}
-use Rattle.coap_client_engine.specs.RunSteps.{has_passed, is_to_ask, is_to_cancel, planned_extras, asking_refusal, cancelling_refusal, ended_by, refusal_text, status_told, first_told, output_told, errors_told, stop_behind, stop_written, calls_read, calls_written}
+use Rattle.coap_client_engine.specs.RunSteps.{has_passed, must_send_request, is_to_cancel, planned_extras, asking_refusal, cancelling_refusal, ended_by, refusal_text, status_told, first_told, output_told, errors_told, stop_behind, stop_written, calls_read, calls_written}
 use Rattle.coap_request.specs.declared.plan.ClientPlan.{ClientPlan}
 
 -- A trace of a run. Each event follows the trace `before` it.
-pub data Course : Type 0 where
+pub data RunTrace : Type 0 where
   -- The run begins, and the clock gives this time.
-  Begins : (moment : ℕ) → Course
+  Begins : (moment : ℕ) → RunTrace
   -- An iteration begins, and the clock gives this time.
-  Turns : (before : Course) (moment : ℕ) → Course
+  Turns : (before : RunTrace) (moment : ℕ) → RunTrace
   -- A read of the wire has this result, and gives these bytes.
-  Reads : (before : Course) (got : Got) (bytes : List ℕ) → Course
+  Reads : (before : RunTrace) (got : Got) (bytes : List ℕ) → RunTrace
   -- The client accepts a call.
-  Calls : (before : Course) (call : ClientCall) → Course
+  Calls : (before : RunTrace) (call : ClientCall) → RunTrace
   -- The client refuses the request or its cancellation.
-  Refuses : (before : Course) (fault : RequestFault) → Course
+  Refuses : (before : RunTrace) (fault : RequestFault) → RunTrace
   -- The run has waited long enough, and gives up.
-  GivesUp : (before : Course) → Course
+  GivesUp : (before : RunTrace) → RunTrace
   -- Nothing more is to be done in this iteration, except to write queued bytes.
-  Rests : (before : Course) → Course
+  Rests : (before : RunTrace) → RunTrace
   -- A write of queued bytes has this result.
-  Writes : (before : Course) (got : Got) → Course
+  Writes : (before : RunTrace) (got : Got) → RunTrace
 
 -- ---- the client
 
 -- The calls that the client accepted.
-abbrev pub calls_in : Course → List ClientCall
+abbrev pub calls_in : RunTrace → List ClientCall
 calls_in (Begins moment) = []
 calls_in (Turns before moment) = calls_in before
 calls_in (Reads before got bytes) = calls_in before ++ calls_read got
@@ -49,23 +49,23 @@ calls_in (Rests before) = calls_in before
 calls_in (Writes before got) = calls_in before ++ calls_written got
 
 -- The client after the trace. It has the default limits, and its first token encodes the number 1.
-abbrev pub client_in : Course → ClientValue
+abbrev pub client_in : RunTrace → ClientValue
 client_in course = client_of default_limits 0 (calls_in course)
 
 -- The history of the connection after the trace.
-abbrev pub history_in : Course → History
+abbrev pub history_in : RunTrace → History
 history_in course = client_after default_limits 0 (calls_in course)
 
 -- The phase of the connection after the trace.
-abbrev pub phase_in : Course → Phase
+abbrev pub phase_in : RunTrace → Phase
 phase_in course = (client_in course).link.phase
 
 -- The bytes queued for writing.
-abbrev pub waiting_in : Course → List ℕ
+abbrev pub waiting_in : RunTrace → List ℕ
 waiting_in course = (client_in course).link.waiting
 
 -- The event of a call after the trace.
-abbrev pub event_in : Course → ClientCall → Option EventValue
+abbrev pub event_in : RunTrace → ClientCall → Option ClientEventValue
 event_in course call = event_of default_limits 0 (calls_in course) call
 
 -- The token of the request after a call.
@@ -78,7 +78,7 @@ token_by (Wrote n) client before = before
 token_by Ended client before = before
 
 -- The token of the request, after it was sent.
-abbrev pub token_in : Course → Option (List ℕ)
+abbrev pub token_in : RunTrace → Option (List ℕ)
 token_in (Begins moment) = None
 token_in (Turns before moment) = token_in before
 token_in (Reads before got bytes) = token_in before
@@ -91,7 +91,7 @@ token_in (Writes before got) = token_in before
 -- ---- times
 
 -- The times that the clock gave.
-abbrev pub moments_in : Course → List ℕ
+abbrev pub moments_in : RunTrace → List ℕ
 moments_in (Begins moment) = moment ∷ []
 moments_in (Turns before moment) = moments_in before ++ moment ∷ []
 moments_in (Reads before got bytes) = moments_in before
@@ -102,7 +102,7 @@ moments_in (Rests before) = moments_in before
 moments_in (Writes before got) = moments_in before
 
 -- The number of iterations that began.
-abbrev pub turns_in : Course → ℕ
+abbrev pub turns_in : RunTrace → ℕ
 turns_in (Begins moment) = 0
 turns_in (Turns before moment) = turns_in before + 1
 turns_in (Reads before got bytes) = turns_in before
@@ -113,7 +113,7 @@ turns_in (Rests before) = turns_in before
 turns_in (Writes before got) = turns_in before
 
 -- The time of the last iteration. If the clock goes back, the time stays the same.
-abbrev pub moment_in : Course → ℕ
+abbrev pub moment_in : RunTrace → ℕ
 moment_in (Begins moment) = moment
 moment_in (Turns before moment) = max (moment_in before) moment
 moment_in (Reads before got bytes) = moment_in before
@@ -124,7 +124,7 @@ moment_in (Rests before) = moment_in before
 moment_in (Writes before got) = moment_in before
 
 -- The time at which the run began.
-abbrev pub started_in : Course → ℕ
+abbrev pub started_in : RunTrace → ℕ
 started_in (Begins moment) = moment
 started_in (Turns before moment) = started_in before
 started_in (Reads before got bytes) = started_in before
@@ -135,7 +135,7 @@ started_in (Rests before) = started_in before
 started_in (Writes before got) = started_in before
 
 -- The time of the first notification.
-abbrev pub first_in : Course → Option ℕ
+abbrev pub first_in : RunTrace → Option ℕ
 first_in (Begins moment) = None
 first_in (Turns before moment) = first_in before
 first_in (Reads before got bytes) = first_in before
@@ -155,7 +155,7 @@ cancelled_by (Wrote n) moment before = before
 cancelled_by Ended moment before = before
 
 -- The time at which the observation was cancelled.
-abbrev pub cancelled_in : Course → Option ℕ
+abbrev pub cancelled_in : RunTrace → Option ℕ
 cancelled_in (Begins moment) = None
 cancelled_in (Turns before moment) = cancelled_in before
 cancelled_in (Reads before got bytes) = cancelled_in before
@@ -173,7 +173,7 @@ waits_since None (Some first) started = None
 waits_since None None started = Some started
 
 -- The time since which the run waits, after the trace.
-abbrev pub since_in : Course → Option ℕ
+abbrev pub since_in : RunTrace → Option ℕ
 since_in course = waits_since (cancelled_in course) (first_in course) (started_in course)
 
 -- True if the run has waited for `wait` seconds.
@@ -182,7 +182,7 @@ is_late_since None moment wait = false
 is_late_since (Some since) moment wait = has_passed moment since wait
 
 -- True if the run has waited for a response as long as the plan allows.
-abbrev pub is_late : ClientPlan → Course → Bool
+abbrev pub is_late : ClientPlan → RunTrace → Bool
 is_late plan course = is_late_since (since_in course) (moment_in course) plan.wait
 
 -- True if the run has waited for `wait` seconds, and began to wait before the current time.
@@ -191,17 +191,17 @@ is_overdue_since None moment wait = false
 is_overdue_since (Some since) moment wait = nat_lt since moment && has_passed moment since wait
 
 -- True if the run has waited as long as the plan allows, and began to wait before the current time.
-abbrev pub is_overdue : ClientPlan → Course → Bool
+abbrev pub is_overdue : ClientPlan → RunTrace → Bool
 is_overdue plan course = is_overdue_since (since_in course) (moment_in course) plan.wait
 
 -- True if the observation must be cancelled.
-abbrev pub is_cancel_due : ClientPlan → Course → Bool
+abbrev pub is_cancel_due : ClientPlan → RunTrace → Bool
 is_cancel_due plan course = is_to_cancel (cancelled_in course) (first_in course) (moment_in course) plan.observe
 
 -- ---- the wire
 
 -- The results of its reads and writes.
-abbrev pub answers_in : Course → List Got
+abbrev pub answers_in : RunTrace → List Got
 answers_in (Begins moment) = []
 answers_in (Turns before moment) = answers_in before
 answers_in (Reads before got bytes) = answers_in before ++ got ∷ []
@@ -212,11 +212,11 @@ answers_in (Rests before) = answers_in before
 answers_in (Writes before got) = answers_in before ++ got ∷ []
 
 -- The bytes that the client accepted.
-abbrev pub taken_in : Course → List ℕ
+abbrev pub taken_in : RunTrace → List ℕ
 taken_in course = flat_map taken_by (calls_in course)
 
 -- The bytes that the reads gave.
-abbrev pub given_in : Course → List ℕ
+abbrev pub given_in : RunTrace → List ℕ
 given_in (Begins moment) = []
 given_in (Turns before moment) = given_in before
 given_in (Reads before got bytes) = given_in before ++ bytes
@@ -236,7 +236,7 @@ rest_by (Wrote n) rest = rest
 rest_by Ended rest = rest
 
 -- The bytes that were read and are left to process.
-abbrev pub rest_in : Course → List ℕ
+abbrev pub rest_in : RunTrace → List ℕ
 rest_in (Begins moment) = []
 rest_in (Turns before moment) = rest_in before
 rest_in (Reads before got bytes) = bytes
@@ -247,7 +247,7 @@ rest_in (Rests before) = rest_in before
 rest_in (Writes before got) = rest_in before
 
 -- The bytes that the writes accepted.
-abbrev pub written_in : Course → List ℕ
+abbrev pub written_in : RunTrace → List ℕ
 written_in (Begins moment) = []
 written_in (Turns before moment) = written_in before
 written_in (Reads before got bytes) = written_in before
@@ -260,7 +260,7 @@ written_in (Writes before got) = written_in before ++ bytes_passed (waiting_in b
 -- ---- the exit status and the output
 
 -- The reason if a read ends the run: the input has ended, or the wire has failed.
-abbrev pub stop_read : Course → Got → List ℕ → Option Reason
+abbrev pub stop_read : RunTrace → Got → List ℕ → Option Reason
 stop_read before got bytes = stop_behind (phase_in (Reads before got bytes)) got
 
 -- The exit status if the connection stops for a reason.
@@ -280,7 +280,7 @@ or_then (Some status) other = Some status
 
 -- The exit status, if the run has ended. The run ends by an event, a wire that has ended or failed, a refusal, or a
 -- wait that is too long.
-abbrev pub status_in : Course → Option ℕ
+abbrev pub status_in : RunTrace → Option ℕ
 status_in (Begins moment) = None
 status_in (Turns before moment) = status_in before
 status_in (Reads before got bytes) = status_stopped (stop_read before got bytes)
@@ -291,7 +291,7 @@ status_in (Rests before) = status_in before
 status_in (Writes before got) = or_then (status_in before) (status_stopped (stop_written (status_in before) got))
 
 -- The bytes that the run wrote to the outlet for payloads.
-abbrev pub output_in : ClientPlan → Course → List ℕ
+abbrev pub output_in : ClientPlan → RunTrace → List ℕ
 output_in plan (Begins moment) = []
 output_in plan (Turns before moment) = output_in plan before
 output_in plan (Reads before got bytes) = output_in plan before
@@ -302,7 +302,7 @@ output_in plan (Rests before) = output_in plan before
 output_in plan (Writes before got) = output_in plan before
 
 -- The bytes that the run wrote to the outlet for reports.
-abbrev pub errors_in : Course → List ℕ
+abbrev pub errors_in : RunTrace → List ℕ
 errors_in (Begins moment) = []
 errors_in (Turns before moment) = errors_in before
 errors_in (Reads before got bytes) = errors_in before ++ stop_text (stop_read before got bytes)
@@ -315,7 +315,7 @@ errors_in (Writes before got) = errors_in before ++ stop_text (stop_written (sta
 -- ---- the rules of a trace
 
 -- True if the wire was read in this iteration, or input was left when the iteration began.
-abbrev pub has_looked : Course → Bool
+abbrev pub has_looked : RunTrace → Bool
 has_looked (Begins moment) = false
 has_looked (Turns before moment) = nat_lt 0 (length (rest_in before))
 has_looked (Reads before got bytes) = true
@@ -326,7 +326,7 @@ has_looked (Rests before) = has_looked before
 has_looked (Writes before got) = has_looked before
 
 -- Says that an iteration has just begun, and that nothing has happened in it.
-abbrev pub IsFresh : Course → Type 0
+abbrev pub IsFresh : RunTrace → Type 0
 IsFresh (Begins moment) = ⊥
 IsFresh (Turns before moment) = Unit {0}
 IsFresh (Reads before got bytes) = ⊥
@@ -337,7 +337,7 @@ IsFresh (Rests before) = ⊥
 IsFresh (Writes before got) = ⊥
 
 -- True if the client refused a call in this iteration.
-abbrev pub has_refused : Course → Bool
+abbrev pub has_refused : RunTrace → Bool
 has_refused (Begins moment) = false
 has_refused (Turns before moment) = false
 has_refused (Reads before got bytes) = has_refused before
@@ -350,11 +350,11 @@ has_refused (Writes before got) = has_refused before
 -- Says that a run makes this call after the trace `before`. The run processes as much input as the client accepts, but
 -- not before a request that must be sent. The run sends the request of the plan if it must be sent, and cancels its
 -- observation when that is due.
-abbrev pub IsPlanned : ClientPlan → Course → ClientCall → Type 0
+abbrev pub IsPlanned : ClientPlan → RunTrace → ClientCall → Type 0
 IsPlanned plan before (Took bytes) =
-    (is_to_ask (phase_in before) (token_in before) ≡ false) × (bytes ≡ take (takes default_limits 0 (calls_in before) (rest_in before)) (rest_in before))
+    (must_send_request (phase_in before) (token_in before) ≡ false) × (bytes ≡ take (takes default_limits 0 (calls_in before) (rest_in before)) (rest_in before))
 IsPlanned plan before (Sent method target extras) =
-    (is_to_ask (phase_in before) (token_in before) ≡ true) × (method ≡ plan.method) × (target ≡ plan.target) × (extras ≡ planned_extras plan)
+    (must_send_request (phase_in before) (token_in before) ≡ true) × (method ≡ plan.method) × (target ≡ plan.target) × (extras ≡ planned_extras plan)
 IsPlanned plan before (Cancelled token target extras) =
     (is_cancel_due plan before ≡ true) × (token_in before ≡ Some token) × (target ≡ plan.target) × (extras ≡ planned_extras plan)
 IsPlanned plan before (Pinged custody) = ⊥
@@ -362,29 +362,29 @@ IsPlanned plan before (Wrote n) = ⊥
 IsPlanned plan before Ended = ⊥
 
 -- Says that the client refuses the request, or refuses its cancellation when that is due.
-abbrev pub IsRefused : ClientPlan → Course → RequestFault → Type 0
+abbrev pub IsRefused : ClientPlan → RunTrace → RequestFault → Type 0
 IsRefused plan before fault =
     (asking_refusal (client_in before) (token_in before) plan ≡ Some fault)
     ⊎ ((is_cancel_due plan before ≡ true) × (cancelling_refusal (client_in before) (token_in before) plan ≡ Some fault))
 
 -- Says that no request remains to be sent, unless a call was refused in this iteration.
-abbrev pub IsAskedWhereDue : Course → Type 0
-IsAskedWhereDue before = is_to_ask (phase_in before) (token_in before) ≡ true → has_refused before ≡ true
+abbrev pub IsAskedWhereDue : RunTrace → Type 0
+IsAskedWhereDue before = must_send_request (phase_in before) (token_in before) ≡ true → has_refused before ≡ true
 
 -- Says that no observation remains to be cancelled, unless a call was refused in this iteration.
-abbrev pub IsCancelledWhereDue : ClientPlan → Course → Type 0
+abbrev pub IsCancelledWhereDue : ClientPlan → RunTrace → Type 0
 IsCancelledWhereDue plan before =
     (token : List ℕ) → token_in before ≡ Some token → is_cancel_due plan before ≡ true → has_refused before ≡ true
 
 -- Says that no more input can be processed: none is left, the request must be sent first, or the client accepts no
 -- bytes.
-abbrev pub IsTakenUp : Course → Type 0
+abbrev pub IsTakenUp : RunTrace → Type 0
 IsTakenUp before =
-    (rest_in before ≡ []) ⊎ ((is_to_ask (phase_in before) (token_in before) ≡ true) ⊎ (client_takes (client_in before) ≡ false))
+    (rest_in before ≡ []) ⊎ ((must_send_request (phase_in before) (token_in before) ≡ true) ⊎ (client_takes (client_in before) ≡ false))
 
 -- Says that the run has waited long enough. A response that has arrived would be known: the wire was read if no input
 -- was left, and no more input can be processed. No request remains to be sent, except a refused one.
-pub record HasWaited (plan : ClientPlan) (before : Course) : Type 0 where
+pub record HasWaited (plan : ClientPlan) (before : RunTrace) : Type 0 where
   pub late : is_late plan before ≡ true
   pub looked : has_looked before ≡ true
   pub taken : IsTakenUp before
@@ -393,7 +393,7 @@ pub record HasWaited (plan : ClientPlan) (before : Course) : Type 0 where
 -- Says that nothing more is to be done in an iteration. The run has not ended and is not overdue. The wire was read if
 -- no input was left, and no more input can be processed. No request or cancellation remains to be sent, except a
 -- refused one.
-pub record IsDone (plan : ClientPlan) (before : Course) : Type 0 where
+pub record IsDone (plan : ClientPlan) (before : RunTrace) : Type 0 where
   pub goes_on : status_in before ≡ None
   pub in_time : is_overdue plan before ≡ false
   pub looked : has_looked before ≡ true
@@ -402,7 +402,7 @@ pub record IsDone (plan : ClientPlan) (before : Course) : Type 0 where
   pub cancelled : IsCancelledWhereDue plan before
 
 -- Says that the last event is `Rests`, after which only a write is left in the iteration.
-abbrev pub IsResting : Course → Type 0
+abbrev pub IsResting : RunTrace → Type 0
 IsResting (Begins moment) = ⊥
 IsResting (Turns before moment) = ⊥
 IsResting (Reads before got bytes) = ⊥
@@ -414,7 +414,7 @@ IsResting (Writes before got) = ⊥
 
 -- Says that an iteration may begin: at the start, or after an iteration that has done everything. That includes one
 -- attempt to write, if bytes were queued.
-abbrev pub IsBetween : Course → Type 0
+abbrev pub IsBetween : RunTrace → Type 0
 IsBetween (Begins moment) = Unit {0}
 IsBetween (Turns before moment) = ⊥
 IsBetween (Reads before got bytes) = ⊥
@@ -426,7 +426,7 @@ IsBetween (Writes before got) = Unit {0}
 
 -- Says that the last event may be followed by a write. This is so for a call, a refusal, `GivesUp` and `Rests`, but not
 -- for a read or a write.
-abbrev pub MayWrite : Course → Type 0
+abbrev pub MayWrite : RunTrace → Type 0
 MayWrite (Begins moment) = ⊥
 MayWrite (Turns before moment) = ⊥
 MayWrite (Reads before got bytes) = ⊥
@@ -437,12 +437,12 @@ MayWrite (Rests before) = Unit {0}
 MayWrite (Writes before got) = ⊥
 
 -- Says that queued bytes were written as far as one write could: if a write may follow, no bytes are queued.
-abbrev pub HasWritten : Course → Type 0
+abbrev pub HasWritten : RunTrace → Type 0
 HasWritten course = MayWrite course → waiting_in course ≡ []
 
 -- Says that each event of a trace may follow the events before it. After the event that ends the run, there is at most
 -- one write.
-abbrev pub IsCourse : ClientPlan → Course → Type 0
+abbrev pub IsCourse : ClientPlan → RunTrace → Type 0
 IsCourse plan (Begins moment) = Unit {0}
 IsCourse plan (Turns before moment) = IsCourse plan before × (status_in before ≡ None) × IsBetween before
 IsCourse plan (Reads before got bytes) =

@@ -2,7 +2,7 @@ use Rattle.std.proofs.Common.{Some, ap, ◌∙◌}
 use Rattle.coap_client_engine.specs.Prelude.{first_critical, standing_in, answer_told, event_told}
 use Rattle.coap_client_engine.specs.ClientValues.{Pong}
 use Rattle.coap_client_engine.proofs.TakeLemmas.{answer_token, pong_token}
-use Rattle.coap_client_engine.proofs.client.hear.Goals as goal
+use Rattle.coap_client_engine.proofs.client.handle_message.Goals as goal
 
 pub returns-in-Answer-clause-event : goal.returns-in-Answer-clause-event
 returns-in-Answer-clause-event c =

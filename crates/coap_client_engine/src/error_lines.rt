@@ -10,7 +10,7 @@ use coap_wire::{Code, MessageRef};
 use itoa::Buffer;
 
 /// Writes a text, a number and a newline.
-fn say_number<E: Outlet>(err: &mut E, words: &str, number: u64) -> Result<(), WriteFailed>
+fn report_number<E: Outlet>(err: &mut E, words: &str, number: u64) -> Result<(), WriteFailed>
     requires { E.is_failed err.old ≡ false }
     ensures ok { OnOk result (AddsBytes (E.written err.old) (E.written err.new) (text.number_line words.now number)) }
     ensures failure { E.is_failed err.new ≡ is_err result }
@@ -21,34 +21,34 @@ fn say_number<E: Outlet>(err: &mut E, words: &str, number: u64) -> Result<(), Wr
 }
 
 /// Writes the line for a stopped connection, with the number of the reason.
-pub(crate) fn say_stop<E: Outlet>(err: &mut E, reason: Reason) -> Result<(), WriteFailed>
+pub(crate) fn report_stop<E: Outlet>(err: &mut E, reason: Reason) -> Result<(), WriteFailed>
     requires { E.is_failed err.old ≡ false }
     ensures ok { OnOk result (AddsBytes (E.written err.old) (E.written err.new) (text.stop_line reason)) }
     ensures failure { E.is_failed err.new ≡ is_err result }
 {
-    say_number(err, "stopped ", reason.number() as u64)
+    report_number(err, "stopped ", reason.number() as u64)
 }
 
 /// Writes the line for a failed request, with the number of the error.
-pub(crate) fn say_fault<E: Outlet>(err: &mut E, fault: RequestFault) -> Result<(), WriteFailed>
+pub(crate) fn report_refusal<E: Outlet>(err: &mut E, fault: RequestFault) -> Result<(), WriteFailed>
     requires { E.is_failed err.old ≡ false }
     ensures ok { OnOk result (AddsBytes (E.written err.old) (E.written err.new) (text.fault_line fault)) }
     ensures failure { E.is_failed err.new ≡ is_err result }
 {
-    say_number(err, "request fault ", fault as u64)
+    report_number(err, "request fault ", fault as u64)
 }
 
 /// Writes the line for a critical option that is not recognised, with its number.
-pub(crate) fn say_option<E: Outlet>(err: &mut E, number: u16) -> Result<(), WriteFailed>
+pub(crate) fn report_option<E: Outlet>(err: &mut E, number: u16) -> Result<(), WriteFailed>
     requires { E.is_failed err.old ≡ false }
     ensures ok { OnOk result (AddsBytes (E.written err.old) (E.written err.new) (text.option_line number)) }
     ensures failure { E.is_failed err.new ≡ is_err result }
 {
-    say_number(err, "bad option ", number as u64)
+    report_number(err, "bad option ", number as u64)
 }
 
 /// Writes the line for a response: its code, such as `4.04`, and its payload if it has one.
-pub(crate) fn say_response<E: Outlet>(err: &mut E, response: &MessageRef) -> Result<(), WriteFailed>
+pub(crate) fn report_response<E: Outlet>(err: &mut E, response: &MessageRef) -> Result<(), WriteFailed>
     requires { E.is_failed err.old ≡ false }
     ensures ok { OnOk result (AddsBytes (E.written err.old) (E.written err.new)
         (text.response_line response.now.code response.now.payload)) }

@@ -1,8 +1,8 @@
 use Rattle.std.proofs.Common.{Some, None, sym, ap, ◌∙◌}
-use Rattle.coap_client_engine.specs.Prelude.{Phase, turns_in, stop_behind, with_wire, IsHeard, LeadsOn}
+use Rattle.coap_client_engine.specs.Prelude.{Phase, turns_in, stop_behind, with_wire, IsHeard, ExtendsTraceOn}
 use Rattle.coap_io.proofs.streams.DeviceLemmas.{bytes_none}
 use Rattle.coap_client_engine.proofs.RunLemmas.{answers_so, rest_is_empty, heard_on}
-use Rattle.coap_client_engine.proofs.run.state.Run.listen.Goals as goal
+use Rattle.coap_client_engine.proofs.run.state.Run.read_input.Goals as goal
 
 pub returns-in-Some-clause-runs : goal.returns-in-Some-clause-runs
 returns-in-Some-clause-runs g c = λ plan start now course stands goes fresh.
@@ -10,7 +10,7 @@ returns-in-Some-clause-runs g c = λ plan start now course stands goes fresh.
     let got = c.read-got.result in
     let none = rest_is_empty c.args.self.now.rest (sym c.is_empty.ensures ∙ c.if-not-is_empty.false) in
     answers_so
-    (LeadsOn plan start (with_wire (g.W.Wire.given c.read-got.new.wire) (g.W.Wire.written c.read-got.new.wire) (g.W.Wire.answers c.read-got.new.wire) (g.E.Outlet.written c.stopped.new.err) now) c.read-got.new.self (IsHeard (turns_in course)))
+    (ExtendsTraceOn plan start (with_wire (g.W.Wire.given c.read-got.new.wire) (g.W.Wire.written c.read-got.new.wire) (g.W.Wire.answers c.read-got.new.wire) (g.E.Outlet.written c.stopped.new.err) now) c.read-got.new.self (IsHeard (turns_in course)))
     (Some 3) c.stopped.result c.stopped.ensures.ended c.stopped.ensures.told
     (λ told.
     heard_on plan start (with_wire (g.W.Wire.given c.args.wire.now) (g.W.Wire.written c.args.wire.now) (g.W.Wire.answers c.args.wire.now) (g.E.Outlet.written c.args.err.now) now) c.args.self.now course stands
