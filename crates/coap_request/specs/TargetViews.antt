@@ -2,7 +2,7 @@
 use Rattle.std.specs.Prelude.{ℕ, ◌<◌, ◌≤◌, List, length, map, Vec}
 use Rattle.std.specs.List.{AllByRecursion}
 use Rattle.coap_request.specs.Targets.{TargetValue}
-use Rattle.coap_request.specs.declared.target.Named.{Named}
+use Rattle.coap_request.specs.declared.target.TargetParts.{TargetParts}
 use Rattle.coap_request.specs.declared.target.Target.TheInside.{Inside}
 
 -- The bytes of each vector of a list.
@@ -10,7 +10,7 @@ abbrev pub byte_lists : {A : Type 0} → List (Vec ℕ A) → List (List ℕ)
 byte_lists parts = map (λ part. part.items) parts
 
 -- The value of the decoded parts of a URI.
-abbrev pub named_value : Named → TargetValue
+abbrev pub named_value : TargetParts → TargetValue
 named_value n = record {
   host = n.host.items;
   is_address = n.is_address;

@@ -60,7 +60,7 @@ pub struct Formats {
 }
 
 /// Options of a request, in the order of their numbers.
-type Row<'a> = ArrayVec<OptionRef<'a>, MAX_OPTIONS>;
+type OptionList<'a> = ArrayVec<OptionRef<'a>, MAX_OPTIONS>;
 
 /// Returns the encoded content formats of the extras. The messages of a request and of its cancellation borrow them.
 pub fn formats_of(extras: &Extras) -> Formats
@@ -201,7 +201,7 @@ fn bytes_in(bytes: &Option<UintBytes>) -> Option<&[u8]>
 }
 
 /// Appends an option. The list must not be full.
-fn push<'a>(options: &mut Row<'a>, number: u16, value: &'a [u8])
+fn push<'a>(options: &mut OptionList<'a>, number: u16, value: &'a [u8])
     requires row { IsRow number (coap_options options.old.items) }
     requires short { length value.now ≤ 1034 }
     requires room { length options.old.items < 37 }
@@ -214,7 +214,7 @@ fn push<'a>(options: &mut Row<'a>, number: u16, value: &'a [u8])
 }
 
 /// Appends an option if there is a value. The list must not be full.
-fn push_one<'a>(options: &mut Row<'a>, number: u16, value: Option<&'a [u8]>)
+fn push_one<'a>(options: &mut OptionList<'a>, number: u16, value: Option<&'a [u8]>)
     requires row { IsRow number (coap_options options.old.items) }
     requires short { IfSome value (λ v. length v.now ≤ 1034) }
     requires room { length options.old.items < 37 }
@@ -229,7 +229,7 @@ fn push_one<'a>(options: &mut Row<'a>, number: u16, value: Option<&'a [u8]>)
 }
 
 /// Appends an option for each value.
-fn push_each<'a>(options: &mut Row<'a>, number: u16, values: &'a [Vec<u8>])
+fn push_each<'a>(options: &mut OptionList<'a>, number: u16, values: &'a [Vec<u8>])
     requires row { IsRow number (coap_options options.old.items) }
     requires short { AllByRecursion IsShort (byte_lists values.now) }
     requires room { length options.old.items + length values.now ≤ 37 }
@@ -249,7 +249,7 @@ fn own_options<'a>(
     extras: &Extras,
     formats: &'a Formats,
     observe: Option<&'a [u8]>,
-) -> Row<'a>
+) -> OptionList<'a>
     requires formats { AreFormatsOf (extras_value extras.now) formats.now }
     requires short { IfSome observe (λ value. length value.now ≤ 1) }
     ensures value { coap_options result.items
@@ -257,7 +257,7 @@ fn own_options<'a>(
     ensures row { IsRow 17 (coap_options result.items) }
     ensures few { length result.items ≤ 36 }
 {
-    let mut options = Row::new();
+    let mut options = OptionList::new();
     push_one(&mut options, URI_HOST, host_sent(target, extras));
     push_one(&mut options, OBSERVE, observe);
     push_each(&mut options, URI_PATH, target.segments());
@@ -272,7 +272,7 @@ fn own_options<'a>(
 }
 
 /// Inserts the extra option after those with its number or a lower one.
-fn insert<'a>(options: &mut Row<'a>, number: u16, value: &'a [u8])
+fn insert<'a>(options: &mut OptionList<'a>, number: u16, value: &'a [u8])
     requires row { IsRow 17 (coap_options options.old.items) }
     requires short { length value.now ≤ 1034 }
     requires room { length options.old.items ≤ 36 }
@@ -295,7 +295,7 @@ fn all_options<'a>(
     extras: &Extras<'a>,
     formats: &'a Formats,
     observe: Option<&'a [u8]>,
-) -> Row<'a>
+) -> OptionList<'a>
     requires formats { AreFormatsOf (extras_value extras.now) formats.now }
     requires observe { IfSome observe (λ value. length value.now ≤ 1) }
     requires short { spec.has_long_extra (extras_value extras.now) ≡ false }

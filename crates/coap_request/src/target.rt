@@ -84,7 +84,7 @@ impl From<AllocError> for TargetFault {
 
 /// Decoded parts of a URI, before their sizes are checked.
 #[derive(Drop)]
-struct Named {
+struct TargetParts {
     /// Host name or address, as used to connect and in Uri-Host.
     host: Vec<u8>,
     /// Kind of the host: `true` for an address, `false` for a name.
@@ -101,7 +101,7 @@ struct Named {
 /// section 8.1). Contracts refer to these parts by name.
 #[derive(Drop)]
 pub struct Target {
-    named: Named,
+    named: TargetParts,
 }
 
 impl Model for Target {
@@ -239,13 +239,13 @@ fn form_fault(url: &Url) -> Option<TargetFault>
 
 /// Returns the decoded parts of a URI with a host. The resulting host has at least one byte.
 #[tactic(auto, unfolding(crate::specs::Targets::value_named))]
-fn named_by(alloc: Global, url: &Url) -> Result<Named, AllocError>
+fn named_by(alloc: Global, url: &Url) -> Result<TargetParts, AllocError>
     requires { has_host url.now ≡ true }
     ensures value { IfOk result (λ n. named_value n ≡ spec.value_named url.now) }
     ensures some { IfOk result (λ n. 0 < length n.host.items) }
 {
     let host = host_in(url);
-    Ok(Named {
+    Ok(TargetParts {
         host: host_bytes(alloc, url, &host)?,
         is_address: names_address(&host),
         port: url.port().unwrap_or(DEFAULT_PORT),
@@ -375,14 +375,14 @@ fn any_long(parts: &[Vec<u8>]) -> bool
 }
 
 /// Returns `true` if the host, a segment or an argument has more than 255 bytes.
-fn has_long_part(named: &Named) -> bool
+fn has_long_part(named: &TargetParts) -> bool
     ensures { result ≡ spec.has_long_part (named_value named.now) }
 {
     named.host.len() > MAX_PART || any_long(&named.segments) || any_long(&named.arguments)
 }
 
 /// Returns `true` if there are more than 16 segments or more than 16 arguments.
-fn has_many_parts(named: &Named) -> bool
+fn has_many_parts(named: &TargetParts) -> bool
     ensures { result ≡ spec.has_many_parts (named_value named.now) }
 {
     named.segments.len() > MAX_PARTS || named.arguments.len() > MAX_PARTS
