@@ -36,7 +36,7 @@ ANSWERED_LASTS = 30
 LIMIT = 30
 
 # what both programs have of libraries that tell faults
-LIBRARIES = ["coap_io/src/*.rt", "coap_program/src/*.rt", "coap_sockets/src/*.rt", "coap_command_line/src/words.rt"]
+LIBRARIES = ["coap_io/src/*.rt", "coap_program/src/*.rt", "coap_sockets/src/*.rt", "coap_command_line/src/arguments.rt"]
 
 SOURCES = {
     # where a program has its lines and statuses
@@ -237,7 +237,7 @@ def check_formats(checks, manual, program, more):
     """That the content formats by name are those of the source, and are taken."""
     _, lines = next(item for item in manual.items("DESCRIPTION") if item[0][:2] == ["Fl", "t"])
     named = re.findall(r"\.Dq (\S+)\n\((\d+)\)", "\n".join(lines))
-    source = source_of(["coap_command_line/src/words/client.rt"])
+    source = source_of(["coap_command_line/src/arguments/client.rt"])
     checks.same("content formats", named, re.findall(r'text == "(\w+/\S+)" \{\s*Some\((\d+)\)', source))
     for name, _ in named:
         checks.same("content format %s" % name, run([program, "-t", name, "-A", name] + more)[0] == USAGE, False)
@@ -342,7 +342,7 @@ def check(server, client):
             check_options(checks, manual, program)
             check_order(checks, manual, program, more)
             checks.same("%s: ranges are found" % name, check_ranges(checks, manual, program, more) > 0, True)
-            check_defaults(checks, manual, source_of(["coap_command_line/src/words/%s.rt" % name.removeprefix("coap-")]))
+            check_defaults(checks, manual, source_of(["coap_command_line/src/arguments/%s.rt" % name.removeprefix("coap-")]))
             check_statuses(checks, manual, source)
             check_lines(checks, manual, source)
             check_faults(checks, manual, program, faults)

@@ -5,7 +5,7 @@ use Rattle.coap_command_line.specs.Prelude.{TellsClientPlan, TellsServerPlan, cl
 use Rattle.coap_command_line.specs.Prelude.{server_app, server_plan_in, server_plan_of, ClientPlan, ServerPlan, WordsFault}
 use Rattle.coap_command_line.specs.CommandLines.{unless_refused}
 use Rattle.coap_command_line.specs.PlanViews.{IsRefused}
-use Rattle.coap_command_line.specs.declared.words.WordsFault.TheVariants as faults
+use Rattle.coap_command_line.specs.declared.arguments.WordsFault.TheVariants as faults
 
 nothing_refused : {A : Type 0} (kinds : Kinds) (answer : Result A WordsFaultValue) → kinds ≡ [] → unless_refused kinds answer ≡ answer
 nothing_refused kinds answer e = rw e refl

@@ -11,7 +11,7 @@ use Rattle.coap_request.specs.Targets.{TargetValue, target_of}
 use Rattle.coap_request.specs.declared.request.Method.{Method}
 use Rattle.coap_request.specs.declared.request.Method.TheVariants.{Get, Put, Post, Delete}
 use Rattle.coap_request.specs.declared.target.TargetFault.{TargetFault}
-use Rattle.coap_command_line.specs.declared.words.client.RequestValues.{RequestValues}
+use Rattle.coap_command_line.specs.declared.arguments.client.RequestValues.{RequestValues}
 
 -- ---- the plan
 

@@ -13,8 +13,8 @@ use Rattle.coap_request.specs.declared.plan.ClientPlan.{ClientPlan}
 use Rattle.coap_request.specs.declared.plan.Mode.{Mode}
 use Rattle.coap_request.specs.declared.plan.Mode.TheVariants as modes
 use Rattle.coap_request.specs.declared.plan.ServerPlan.{ServerPlan}
-use Rattle.coap_command_line.specs.declared.words.WordsFault.{WordsFault}
-use Rattle.coap_command_line.specs.declared.words.WordsFault.TheVariants as faults
+use Rattle.coap_command_line.specs.declared.arguments.WordsFault.{WordsFault}
+use Rattle.coap_command_line.specs.declared.arguments.WordsFault.TheVariants as faults
 
 -- The value of a mode.
 abbrev pub mode_value : Mode → ModeValue

@@ -41,4 +41,4 @@ pub use Rattle.coap_command_line.specs.ServerWords.{server_app, Listen, Script, 
 unfoldable pub use Rattle.coap_command_line.specs.ServerWords.{address_of, limits_said, server_plan_in, server_plan_of}
 unfoldable pub use Rattle.coap_command_line.specs.ServerWords.{values_said}
 -- ---- coap_command_line, declared
-pub use Rattle.coap_command_line.specs.declared.words.WordsFault.{WordsFault}
+pub use Rattle.coap_command_line.specs.declared.arguments.WordsFault.{WordsFault}

@@ -7,7 +7,7 @@ use Rattle.clap.specs.Simple.{new_shape}
 use Rattle.clap.specs.Words.{App, Row, Text, fault_of, first_of, matches_of}
 use Rattle.coap_conn.specs.Limits.{LimitValues, limits_of}
 use Rattle.coap_command_line.specs.CommandLines.{◌>>=◌, WordsFaultValue, Clash, Value, is_used, letter_option, number_within, option_value, unless_refused, word_flag, word_option}
-use Rattle.coap_command_line.specs.declared.words.server.ServerValues.{ServerValues}
+use Rattle.coap_command_line.specs.declared.arguments.server.ServerValues.{ServerValues}
 use Rattle.coap_wire.specs.declared.sizes.TheConstants.{BASE_MESSAGE_SIZE, LARGEST_MESSAGE, LARGEST_SENT_MESSAGE}
 use Rattle.coap_wire.specs.declared.sizes.TheConstants.{LARGEST_QUEUE, DEFAULT_QUEUE}
 

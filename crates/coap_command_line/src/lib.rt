@@ -8,9 +8,9 @@
 //! `specs/ClientWords.antt`.
 //!
 //! This crate opens no file and runs nothing. Plans, targets and methods are types of `coap_request`. The crate
-//! `coap_program` has everything else that both programs need, such as exit statuses. Continue with `words.rt`.
+//! `coap_program` has everything else that both programs need, such as exit statuses. Continue with `arguments.rt`.
 #![tactic(auto)]
 
-mod words;
+mod arguments;
 
-pub use words::{WordsFault, client_words, server_words};
+pub use arguments::{WordsFault, client_words, server_words};

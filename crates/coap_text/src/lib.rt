@@ -6,7 +6,7 @@
 //! A word is a slice of bytes, so it need not be UTF-8. The contracts name the definitions of `specs/Words.antt`.
 //!
 //! This crate contains no CoAP, and it defines neither the lines of scripts nor the arguments of programs. The first
-//! are in `coap_script/src/scripts.rt`, the second in `coap_command_line/src/words.rt`; both read their words with
+//! are in `coap_script/src/scripts.rt`, the second in `coap_command_line/src/arguments.rt`; both read their words with
 //! these functions. Continue with `words.rt`.
 #![tactic(auto)]
 

@@ -7,8 +7,8 @@ ghost use Rattle.coap_command_line.specs.Prelude.{extra_named, extra_value, Give
 ghost use Rattle.coap_command_line.specs.ClientWords as spec;
 ghost use Rattle.coap_request.specs.declared.request.Method.TheVariants.{Get};
 
-use crate::words::WordsFault;
-use crate::words::readings::{is_used, number, number_within, text_of};
+use crate::arguments::WordsFault;
+use crate::arguments::option_values::{is_used, number, number_within, text_of};
 use clap::ArgMatches;
 use coap_request::{ClientPlan, Method, Target, TargetFault};
 use coap_text::bytes_in;
@@ -148,7 +148,7 @@ fn request_values(matches: &ArgMatches<'_>) -> Result<RequestValues, &'static st
 
 /// Splits a text at its first comma.
 
-fn halves(text: &str) -> Option<(&str, &str)>
+fn split_at_comma(text: &str) -> Option<(&str, &str)>
     ensures { spec.AreHalves text.now (option_map (λ x. (x.0.now, x.1.now)) result) }
 {
     text.split_once(',')
@@ -176,7 +176,7 @@ const MAX_OPTION: usize = 1_034;
 fn extra_in(alloc: Global, text: &str) -> Result<Option<(u16, Vec<u8>)>, AllocError>
     ensures { IfOk result (λ found. option_map extra_value found ≡ spec.extra_of text.now) }
 {
-    let Some((number, value)) = halves(text) else {
+    let Some((number, value)) = split_at_comma(text) else {
         return Ok(None);
     };
     let Some(number) = number_within(number, 0, 65_535) else {
@@ -211,7 +211,7 @@ fn extra(
 
 /// Returns the target of the URI. The errors are those of `Target::read`.
 #[tactic(auto, unfolding(crate::specs::ClientWords::uri_said))]
-fn aim(alloc: Global, matches: &ArgMatches<'_>) -> Result<Target, TargetFault>
+fn parse_target(alloc: Global, matches: &ArgMatches<'_>) -> Result<Target, TargetFault>
     ensures { GivesUnlessMemory result (target_of (spec.uri_said (rows_of (found_of matches.now)))) }
 {
     let uri = text_of(matches, "URI").unwrap_or("");
@@ -293,7 +293,7 @@ fn plan_with(
 pub(super) fn client_plan(alloc: Global, matches: &ArgMatches<'_>) -> Result<ClientPlan, WordsFault>
     ensures { TellsClientPlan (spec.client_plan_in (rows_of (found_of matches.now))) result }
 {
-    let target = match aim(alloc, matches) {
+    let target = match parse_target(alloc, matches) {
         Ok(target) => target,
         Err(TargetFault::Memory) => return Err(WordsFault::Memory),
         Err(fault) => return Err(WordsFault::Target(fault)),

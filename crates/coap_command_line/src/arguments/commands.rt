@@ -7,7 +7,7 @@ ghost use Rattle.coap_command_line.specs.Prelude.{IsTurnedDown, server_app};
 ghost use Rattle.clap.specs.declared.builder.action.ArgAction.TheVariants.{SetTrue};
 ghost use Rattle.coap_command_line.specs.CommandLines as spec;
 
-use crate::words::{WordsFault, help};
+use crate::arguments::{WordsFault, help};
 use clap::error::ErrorKind;
 use clap::{Arg, ArgAction, ArgMatches, Command};
 use std::alloc::{AllocError, Global};

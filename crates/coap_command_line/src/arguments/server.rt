@@ -4,8 +4,8 @@ ghost use Rattle.std.specs.Prelude.{◌≡◌, IfOk, Some, codes, option_map};
 ghost use Rattle.coap_command_line.specs.Prelude.{found_of, rows_of, named, option_value, TellsServerPlan, mode_value};
 ghost use Rattle.coap_command_line.specs.ServerWords as spec;
 
-use crate::words::WordsFault;
-use crate::words::readings::{is_used, number, text_of};
+use crate::arguments::WordsFault;
+use crate::arguments::option_values::{is_used, number, text_of};
 use clap::ArgMatches;
 use coap_conn::Limits;
 use coap_request::{Mode, ServerPlan};

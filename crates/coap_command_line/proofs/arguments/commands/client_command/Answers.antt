@@ -2,7 +2,7 @@ use Rattle.std.proofs.Common.{codes}
 use Rattle.std.proofs.lemmas.Result.{IfOk-weaker}
 use Rattle.coap_command_line.specs.Prelude.{app_of, uri_rule, bare_app, letter_flag, letter_option}
 use Rattle.coap_command_line.proofs.WordLemmas.{shape_with_rule}
-use Rattle.coap_command_line.proofs.words.commands.client_command.Goals as goal
+use Rattle.coap_command_line.proofs.arguments.commands.client_command.Goals as goal
 
 pub returns : goal.returns
 returns c =

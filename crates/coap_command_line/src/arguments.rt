@@ -6,7 +6,7 @@ ghost use Rattle.coap_command_line.specs.Prelude.{IsClientPlan, IsServerPlan, is
 mod client;
 mod commands;
 mod help;
-mod readings;
+mod option_values;
 mod server;
 
 use clap::Error as UsageError;

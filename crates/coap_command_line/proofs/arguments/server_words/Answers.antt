@@ -1,7 +1,7 @@
 use Rattle.std.proofs.Common.{map}
 use Rattle.coap_command_line.specs.Prelude.{app_of, found_of, rows_of}
 use Rattle.coap_command_line.proofs.PlanLemmas.{server_refused, server_told}
-use Rattle.coap_command_line.proofs.words.server_words.Goals as goal
+use Rattle.coap_command_line.proofs.arguments.server_words.Goals as goal
 
 pub returns-in-Err : goal.returns-in-Err
 returns-in-Err g c =

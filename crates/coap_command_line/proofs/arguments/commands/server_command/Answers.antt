@@ -2,7 +2,7 @@ use Rattle.std.proofs.Common.{codes}
 use Rattle.std.proofs.lemmas.Result.{IfOk-weaker}
 use Rattle.coap_command_line.specs.Prelude.{app_of, bare_app, letter_option, word_flag, word_option}
 use Rattle.coap_command_line.proofs.WordLemmas.{shape_with_rule}
-use Rattle.coap_command_line.proofs.words.commands.server_command.Goals as goal
+use Rattle.coap_command_line.proofs.arguments.commands.server_command.Goals as goal
 
 pub returns : goal.returns
 returns c =
