@@ -261,7 +261,7 @@ def check_lines(checks, manual, source):
 def check_hindrances(checks, manual):
     """That the second lines of a client that cannot connect are those of the source."""
     text = "\n".join(next(lines for words, lines in manual.items("DIAGNOSTICS") if words == ["cannot", "connect"]))
-    wanted = re.findall(r'#\[error\("([^"]+)"\)\]', source_of(["coap_sockets/src/answers.rt"]))
+    wanted = re.findall(r'#\[error\("([^"]+)"\)\]', source_of(["coap_sockets/src/io_results.rt"]))
     checks.same("%s: what hinders a connection" % manual.name, re.findall(r"(?m)^\.It (.*)", text), wanted)
 
 

@@ -10,7 +10,7 @@ ghost use Rattle.std.specs.Str.{IsUtf8};
 use coap_client::{ClientPlan, Target, client_words, run_client};
 use coap_io::WriteOutlet;
 use coap_program::{FAULT, Program, Trouble, USAGE, hold_standard, read_whole};
-use coap_sockets::{ConnectFault, Hindrance, Line};
+use coap_sockets::{ConnectFault, ConnectError, ClientWire};
 use coap_wire::LARGEST_MESSAGE;
 use std::io::Write;
 use std::net::Net;
@@ -69,17 +69,17 @@ fn place_of(target: &Target) -> Option<(&str, u16)>
 fn connect<'a, R: Net + time::Clock + AllocGlobal>(
     rt: &'a R,
     plan: &ClientPlan,
-) -> Result<Line<'a, R>, ConnectFault> {
+) -> Result<ClientWire<'a, R>, ConnectFault> {
     match place_of(&plan.target) {
-        Some(place) => Line::connect(rt, rt.alloc(), place, plan.wait),
-        None => Err(ConnectFault::Socket(Hindrance::UnknownName)),
+        Some(place) => ClientWire::connect(rt, rt.alloc(), place, plan.wait),
+        None => Err(ConnectFault::Socket(ConnectError::UnknownName)),
     }
 }
 
 /// Runs a client over a connection, with writers for payloads and for reports, and returns the exit status.
 fn converse<R: Eprint + Net + time::Clock + AllocGlobal>(
     rt: &R,
-    mut line: Line<'_, R>,
+    mut line: ClientWire<'_, R>,
     out: impl Write + Drop,
     err: impl Write + Drop,
     plan: &ClientPlan,

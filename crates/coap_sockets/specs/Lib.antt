@@ -1,3 +1,3 @@
-pub mod Answers
+pub mod IoResults
 pub mod Ready
-pub mod Moments
+pub mod Durations

@@ -6,7 +6,7 @@ use Rattle.mio.specs.declared.event.event.Event.{Event}
 use Rattle.mio.specs.Event.{is_readable, is_writable, is_error, is_read_closed, is_write_closed, is_priority}
 use Rattle.coap_io.specs.declared.wire.Got.{Got}
 use Rattle.coap_io.specs.declared.wire.Got.TheVariants.{Bytes, Later, End, Failed}
-use Rattle.coap_sockets.specs.Answers.{is_would_block}
+use Rattle.coap_sockets.specs.IoResults.{is_would_block}
 use Rattle.coap_sockets.specs.declared.readiness.Readiness.{Readiness}
 
 -- The readiness of a new socket: a read and a write must be tried.
@@ -17,8 +17,8 @@ unknown = record { readable = true; writable = true; stops_short = false; yields
 -- of these and of urgent data: it returns the bytes before and leaves those after. If a wait reports many sockets with
 -- input, those after the first few are all read before any of them is written. No socket is deferred twice between two
 -- writes.
-abbrev pub woken : Readiness → Event → (behind_many : Bool) → Readiness
-woken r e behind_many =
+abbrev pub after_event : Readiness → Event → (behind_many : Bool) → Readiness
+after_event r e behind_many =
     let failed = is_error e || is_read_closed e in
     record {
       readable = r.readable || is_readable e || failed;
@@ -37,8 +37,8 @@ abbrev pub stays_readable : (stops_short : Bool) (room : ℕ) → Result ℕ Err
 stays_readable stops_short room (Ok count) = (count == 0) || not (nat_lt count room) || stops_short
 stays_readable stops_short room (Err e) = not (is_would_block (error_kind e))
 
-abbrev pub read_with : Readiness → ℕ → Result ℕ Error → Readiness
-read_with r room answer = record r { readable = stays_readable r.stops_short room answer }
+abbrev pub after_read : Readiness → ℕ → Result ℕ Error → Readiness
+after_read r room answer = record r { readable = stays_readable r.stops_short room answer }
 
 -- `true` if another write may be accepted after a write of `offered` bytes. There is no other write if the system had
 -- no room or accepted fewer bytes.
@@ -46,12 +46,12 @@ abbrev pub stays_writable : ℕ → Result ℕ Error → Bool
 stays_writable offered (Ok count) = (count == 0) || not (nat_lt count offered)
 stays_writable offered (Err e) = not (is_would_block (error_kind e))
 
-abbrev pub written_with : Readiness → ℕ → Result ℕ Error → Readiness
-written_with r offered answer = record r { writable = stays_writable offered answer; yields = false; has_yielded = false }
+abbrev pub after_write : Readiness → ℕ → Result ℕ Error → Readiness
+after_write r offered answer = record r { writable = stays_writable offered answer; yields = false; has_yielded = false }
 
 -- The readiness after a write was deferred.
-abbrev pub put_off : Readiness → Readiness
-put_off r = record r { yields = false; has_yielded = true }
+abbrev pub deferred : Readiness → Readiness
+deferred r = record r { yields = false; has_yielded = true }
 
 -- A write of `offered` bytes with this result left some for lack of room.
 abbrev pub is_blocked_by : ℕ → Got → Bool

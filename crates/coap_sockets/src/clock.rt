@@ -1,6 +1,6 @@
 //! The clocks of both programs.
 
-use crate::moments::to_next_second;
+use crate::durations::to_next_second;
 use coap_io::Clock;
 use std::time;
 use std::time::Duration;

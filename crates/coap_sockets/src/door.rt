@@ -5,13 +5,13 @@ ghost use Rattle.std.specs.Prelude.{◌≡◌, ◌≤◌, ◌&&◌, true, false,
 ghost use Rattle.std.specs.Prelude.{option_map};
 ghost use Rattle.std.specs.Duration.{as_nanos};
 ghost use Rattle.coap_io.specs.declared.wire.Wait.TheVariants as asked;
-ghost use Rattle.coap_sockets.specs.Moments.{second};
-ghost use Rattle.coap_sockets.specs.declared.answers.Refused.TheVariants as refusal;
+ghost use Rattle.coap_sockets.specs.Durations.{second};
+ghost use Rattle.coap_sockets.specs.declared.io_results.AcceptError.TheVariants as refusal;
 ghost use Rattle.coap_sockets.specs.declared.door.ListenFault.TheVariants as fault;
 
-use crate::answers::{Refused, accept_fault};
+use crate::io_results::{AcceptError, accept_fault};
 use crate::clock::monotonic;
-use crate::moments::{at_most, left_of, left_until, second};
+use crate::durations::{at_most, left_of, left_until, second};
 use crate::readiness::Readiness;
 use coap_io::{Door, Got, READ_SIZE, Ready, Wait, Wire};
 use mio::net::{TcpListener, TcpStream};
@@ -65,7 +65,7 @@ const LISTENER: Token = Token(usize::MAX);
 /// Number of sockets, of those that one wait reports, that are written as soon as they were read. A write may wake the
 /// peer, which costs more than the write if the peer is another process on the same machine. The sockets after these
 /// are therefore all read first, and then written together.
-const AT_ONCE: usize = 8;
+const WRITES_BEFORE_READS: usize = 8;
 
 /// One accepted connection. Its socket is closed when it is dropped.
 pub struct SocketWire {
@@ -145,7 +145,7 @@ pub struct SocketDoor<'a, R> {
     listener: TcpListener,
     poll: Poll,
     events: Events,
-    places: Vec<Shared>,
+    slots: Vec<Shared>,
     /// `true` if a client may be waiting at the listening socket.
     may_accept: bool,
     /// Time at which the system had no room for a connection. Nothing is accepted for one second after it.
@@ -166,10 +166,10 @@ impl<'a, R: Net + time::Clock> SocketDoor<'a, R> {
         address: SocketAddr,
         wires: usize,
     ) -> Result<SocketDoor<'a, R>, ListenFault>
-        ensures places { IfOk result (λ door. length door.places.items ≡ wires) }
+        ensures slots { IfOk result (λ door. length door.slots.items ≡ wires) }
         ensures ready { IfOk result (λ door. (door.may_accept ≡ true) × (door.full_since ≡ None)) }
     {
-        let places = places(alloc, wires)?;
+        let slots = slots(alloc, wires)?;
         let events = Events::with_capacity(alloc, wires.saturating_add(1))?;
         let poll = Poll::new(rt)?;
         let mut listener = TcpListener::bind(rt, address)?;
@@ -180,7 +180,7 @@ impl<'a, R: Net + time::Clock> SocketDoor<'a, R> {
             listener,
             poll,
             events,
-            places,
+            slots,
             may_accept: true,
             full_since: None,
         })
@@ -210,7 +210,7 @@ impl<'a, R: Net + time::Clock> SocketDoor<'a, R> {
     /// the result is `None`.
     fn wire(&self, mut stream: TcpStream, place: usize) -> Option<SocketWire> {
         stream.set_nodelay(true).ok()?;
-        let readiness = self.places.get(place)?.clone().ok()?;
+        let readiness = self.slots.get(place)?.clone().ok()?;
         readiness.set(Readiness::unknown());
         self.poll
             .registry()
@@ -224,7 +224,7 @@ impl<'a, R: Net + time::Clock> SocketDoor<'a, R> {
     }
 
     /// Records the reason for which an accept gave no connection.
-    fn keep(&mut self, refused: Refused)
+    fn keep(&mut self, refused: AcceptError)
         ensures none_there { refused ≡ refusal.NoneThere →
             (self.new.may_accept ≡ false) × (self.new.full_since ≡ self.old.full_since) }
         ensures once { refused ≡ refusal.Once →
@@ -233,9 +233,9 @@ impl<'a, R: Net + time::Clock> SocketDoor<'a, R> {
             (self.new.may_accept ≡ self.old.may_accept) × IsSome self.new.full_since }
     {
         match refused {
-            Refused::NoneThere => self.may_accept = false,
-            Refused::Once => {}
-            Refused::Full => self.full_since = Some(monotonic(self.rt)),
+            AcceptError::NoneThere => self.may_accept = false,
+            AcceptError::Once => {}
+            AcceptError::Full => self.full_since = Some(monotonic(self.rt)),
         }
     }
 
@@ -274,8 +274,8 @@ impl<'a, R: Net + time::Clock> SocketDoor<'a, R> {
     /// Passes the events of a wait to the wires and to the listener.
     fn tell(&mut self) {
         for (before, event) in self.events.iter().enumerate() {
-            match self.places.get(event.token().0) {
-                Some(place) => place.set(place.get().woken(event, before >= AT_ONCE)),
+            match self.slots.get(event.token().0) {
+                Some(place) => place.set(place.get().after_event(event, before >= WRITES_BEFORE_READS)),
                 None => self.may_accept = true,
             }
         }
@@ -283,14 +283,14 @@ impl<'a, R: Net + time::Clock> SocketDoor<'a, R> {
 }
 
 /// Returns `count` places that no wire shares yet.
-fn places(alloc: Global, count: usize) -> Result<Vec<Shared>, AllocError>
-    ensures { IfOk result (λ places. length places.items ≡ count) }
+fn slots(alloc: Global, count: usize) -> Result<Vec<Shared>, AllocError>
+    ensures { IfOk result (λ slots. length slots.items ≡ count) }
 {
-    let mut places = Vec::with_capacity(alloc, count)?;
+    let mut slots = Vec::with_capacity(alloc, count)?;
     for _ in 0..count {
-        places.push(Rc::new(alloc, Cell::new(Readiness::unknown()))?)?;
+        slots.push(Rc::new(alloc, Cell::new(Readiness::unknown()))?)?;
     }
-    Ok(places)
+    Ok(slots)
 }
 
 impl<'a, R: Net + time::Clock> Door for SocketDoor<'a, R> {
@@ -304,7 +304,7 @@ impl<'a, R: Net + time::Clock> Door for SocketDoor<'a, R> {
             return None;
         }
         let place = self
-            .places
+            .slots
             .iter()
             .position(|place| Rc::strong_count(place) == 1)?;
         match self.listener.accept() {

@@ -1,7 +1,7 @@
 //! The TCP sockets of both programs, and their clocks.
 //!
 //! - `SocketDoor` is the listener of a server (`coap_io::Door`), and `SocketWire` one connection that it accepted.
-//! - `Line` is the connection of a client (`coap_io::Wire`). `ConnectFault` and `Hindrance` are the reasons if there is
+//! - `ClientWire` is the connection of a client (`coap_io::Wire`). `ConnectFault` and `ConnectError` are the reasons if there is
 //!   none.
 //! - `RunClock` and `SystemClock` return the time (`coap_io::Clock`).
 //!
@@ -12,18 +12,18 @@
 //! The test `tests/system/sockets.py` would fail with it.
 //!
 //! This crate contains no CoAP: it implements the traits of `coap_io`, over which `coap_serve` and `coap_client` run.
-//! Continue with `door.rt` for a server and `line.rt` for a client.
+//! Continue with `door.rt` for a server and `client_wire.rt` for a client.
 #![tactic(auto)]
 
-mod answers;
+mod io_results;
 mod clock;
 mod door;
-mod line;
-mod moments;
+mod client_wire;
+mod durations;
 mod readiness;
 
-pub use answers::Hindrance;
+pub use io_results::ConnectError;
 pub use clock::{RunClock, SystemClock};
 pub use door::{ListenFault, SocketDoor, SocketWire};
-pub use line::{ConnectFault, Line};
+pub use client_wire::{ConnectFault, ClientWire};
 pub use readiness::Readiness;

@@ -5,7 +5,7 @@ ghost use Rattle.coap_io.specs.streams.Wires.{IsWithin};
 ghost use Rattle.coap_io.specs.declared.wire.Got.TheVariants.{Later};
 ghost use Rattle.coap_sockets.specs.Ready as spec;
 
-use crate::answers::{is_would_block, read_got, write_got};
+use crate::io_results::{is_would_block, read_got, write_got};
 use coap_io::Got;
 use mio::event::Event;
 use std::io;
@@ -44,10 +44,10 @@ impl Readiness {
         }
     }
 
-    /// Returns the readiness after an event. `behind_many` is `true` if the same wait reported at least `AT_ONCE`
+    /// Returns the readiness after an event. `behind_many` is `true` if the same wait reported at least `WRITES_BEFORE_READS`
     /// events before it.
-    pub(crate) fn woken(self, event: &Event, behind_many: bool) -> Readiness
-        ensures { result ≡ spec.woken self event.now behind_many }
+    pub(crate) fn after_event(self, event: &Event, behind_many: bool) -> Readiness
+        ensures { result ≡ spec.after_event self event.now behind_many }
     {
         let failed = event.is_error() || event.is_read_closed();
         Readiness {
@@ -63,8 +63,8 @@ impl Readiness {
     }
 
     /// Returns the readiness after a read into a buffer of `room` bytes.
-    fn read_with(self, room: usize, answer: io::Result<usize>) -> Readiness
-        ensures { result ≡ spec.read_with self room answer }
+    fn after_read(self, room: usize, answer: io::Result<usize>) -> Readiness
+        ensures { result ≡ spec.after_read self room answer }
     {
         let readable = match answer {
             Ok(count) => count == 0 || !(count < room) || self.stops_short,
@@ -74,8 +74,8 @@ impl Readiness {
     }
 
     /// Returns the readiness after a write of `offered` bytes.
-    fn written_with(self, offered: usize, answer: io::Result<usize>) -> Readiness
-        ensures { result ≡ spec.written_with self offered answer }
+    fn after_write(self, offered: usize, answer: io::Result<usize>) -> Readiness
+        ensures { result ≡ spec.after_write self offered answer }
     {
         let writable = match answer {
             Ok(count) => count == 0 || !(count < offered),
@@ -90,8 +90,8 @@ impl Readiness {
     }
 
     /// Returns the readiness after a write was deferred.
-    fn put_off(self) -> Readiness
-        ensures { result ≡ spec.put_off self }
+    fn deferred(self) -> Readiness
+        ensures { result ≡ spec.deferred self }
     {
         Readiness {
             yields: false,
@@ -112,7 +112,7 @@ impl Readiness {
         }
         let room = buffer.len();
         let answer = stream.read(buffer);
-        *self = self.read_with(room, answer);
+        *self = self.after_read(room, answer);
         read_got(answer)
     }
 
@@ -124,7 +124,7 @@ impl Readiness {
             (stream.new ≡ stream.old) × (self.new ≡ self.old) × (result ≡ Later) }
         // The system is not called either if the write is deferred. A write is deferred at most once.
         ensures later { self.old.writable ≡ true → self.old.yields ≡ true →
-            (stream.new ≡ stream.old) × (self.new ≡ spec.put_off self.old) × (result ≡ Later) }
+            (stream.new ≡ stream.old) × (self.new ≡ spec.deferred self.old) × (result ≡ Later) }
         // A write that is made clears both flags of deferral.
         ensures made { self.old.writable ≡ true → self.old.yields ≡ false →
             (self.new.yields ≡ false) × (self.new.has_yielded ≡ false) }
@@ -133,11 +133,11 @@ impl Readiness {
             return Got::Later;
         }
         if self.yields {
-            *self = self.put_off();
+            *self = self.deferred();
             return Got::Later;
         }
         let answer = stream.write(bytes);
-        *self = self.written_with(bytes.len(), answer);
+        *self = self.after_write(bytes.len(), answer);
         write_got(answer)
     }
 }

@@ -1,6 +1,6 @@
 use Rattle.std.proofs.Common.{length, subst, sym}
 use Rattle.coap_io.specs.streams.Wires.{IsWithin}
-use Rattle.coap_sockets.proofs.AnswerLemmas.{read_is_within}
+use Rattle.coap_sockets.proofs.IoResultLemmas.{read_is_within}
 use Rattle.coap_sockets.proofs.readiness.Readiness.read.Goals as goal
 
 pub returns-clause-within : goal.returns-clause-within

@@ -1,6 +1,6 @@
 use Rattle.std.proofs.Common.{length, subst, sym}
 use Rattle.coap_io.specs.streams.Wires.{IsWithin}
-use Rattle.coap_sockets.proofs.AnswerLemmas.{write_is_within}
+use Rattle.coap_sockets.proofs.IoResultLemmas.{write_is_within}
 use Rattle.coap_sockets.proofs.readiness.Readiness.write.Goals as goal
 
 pub returns-clause-within : goal.returns-clause-within

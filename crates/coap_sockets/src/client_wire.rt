@@ -5,15 +5,15 @@ ghost use Rattle.std.specs.IoError.{error_kind};
 ghost use Rattle.std.specs.declared.io.ErrorKind.TheVariants as kind;
 ghost use Rattle.coap_io.specs.streams.Wires.{IsWithin, bytes_passed};
 ghost use Rattle.coap_sockets.specs.Ready.{is_blocked_by, is_later};
-ghost use Rattle.coap_sockets.specs.declared.answers.Hindrance.TheVariants as hindrance;
-ghost use Rattle.coap_sockets.specs.declared.line.ConnectFault.TheVariants as fault;
-ghost use Rattle.coap_sockets.specs.Answers.{hindrance_of};
+ghost use Rattle.coap_sockets.specs.declared.io_results.ConnectError.TheVariants as hindrance;
+ghost use Rattle.coap_sockets.specs.declared.client_wire.ConnectFault.TheVariants as fault;
+ghost use Rattle.coap_sockets.specs.IoResults.{connect_error_of};
 ghost use Rattle.coap_io.specs.streams.Device.{AddsBytes};
 ghost use Rattle.coap_io.specs.streams.DeviceTraces.{TellsMore};
 
-use crate::answers::{Hindrance, hindrance_of, read_got, write_got};
+use crate::io_results::{ConnectError, connect_error_of, read_got, write_got};
 use crate::clock::RunClock;
-use crate::moments::end_of_attempt;
+use crate::durations::end_of_attempt;
 use coap_io::{Got, Wire};
 use mio::net::TcpStream;
 use mio::{Events, Interest, Poll, Token};
@@ -24,23 +24,23 @@ use std::time::Duration;
 use std::{io, time};
 use thiserror::Error;
 
-/// Error of `Line::connect`.
+/// Error of `ClientWire::connect`.
 #[derive(Clone, Copy, Debug, PartialEq, Eq, Error)]
 pub enum ConnectFault {
     /// Failure to connect, with its cause. If the host has several addresses, the cause is that of the last address
     /// tried.
     #[error("cannot connect")]
-    Socket(Hindrance),
+    Socket(ConnectError),
     /// Failed allocation.
     #[error("no memory")]
     Memory,
 }
 
 impl From<io::Error> for ConnectFault {
-    ghost from_gives = { λ error given. given ≡ fault.Socket (hindrance_of (error_kind error)) };
+    ghost from_gives = { λ error given. given ≡ fault.Socket (connect_error_of (error_kind error)) };
 
     fn from(error: io::Error) -> ConnectFault {
-        ConnectFault::Socket(hindrance_of(error))
+        ConnectFault::Socket(connect_error_of(error))
     }
 }
 
@@ -62,7 +62,7 @@ fn lookup_fault(error: io::Error) -> ConnectFault
 {
     match error.kind() {
         ErrorKind::OutOfMemory => ConnectFault::Memory,
-        _ => ConnectFault::Socket(Hindrance::UnknownName),
+        _ => ConnectFault::Socket(ConnectError::UnknownName),
     }
 }
 
@@ -82,8 +82,8 @@ impl<'a, R: Net + time::Clock> Dialer<'a, R> {
         self.poll
             .registry()
             .register(&mut stream, LINE, Interest::WRITABLE)?;
-        if !self.comes_about(end)? {
-            return Err(ConnectFault::Socket(Hindrance::TimedOut));
+        if !self.wait_connected(end)? {
+            return Err(ConnectFault::Socket(ConnectError::TimedOut));
         }
         if let Some(error) = stream.take_error()? {
             return Err(ConnectFault::from(error));
@@ -94,7 +94,7 @@ impl<'a, R: Net + time::Clock> Dialer<'a, R> {
     }
 
     /// Waits until the attempt to connect has succeeded or failed. Returns `false` if the clock reached `end` first.
-    fn comes_about(&mut self, end: Duration) -> io::Result<bool> {
+    fn wait_connected(&mut self, end: Duration) -> io::Result<bool> {
         for _ in 0..u64::MAX {
             let left = end.saturating_sub(self.clock.passed());
             self.poll.poll(&mut self.events, Some(left))?;
@@ -109,8 +109,8 @@ impl<'a, R: Net + time::Clock> Dialer<'a, R> {
     }
 
     /// Returns the wire of a connection, whose run begins now.
-    fn line(self, stream: TcpStream) -> Line<'a, R> {
-        Line {
+    fn line(self, stream: TcpStream) -> ClientWire<'a, R> {
+        ClientWire {
             stream,
             poll: self.poll,
             events: self.events,
@@ -128,7 +128,7 @@ impl<'a, R: Net + time::Clock> Dialer<'a, R> {
 /// the same way, but only if the call before it was one too. A caller that writes twice without a read must write
 /// before it can continue.
 #[derive(Drop)]
-pub struct Line<'a, R> {
+pub struct ClientWire<'a, R> {
     stream: TcpStream,
     poll: Poll,
     events: Events,
@@ -142,7 +142,7 @@ pub struct Line<'a, R> {
     has_ticked: bool,
 }
 
-impl<'a, R: Net + time::Clock> Line<'a, R> {
+impl<'a, R: Net + time::Clock> ClientWire<'a, R> {
     /// Connects to a host, which is a name or an address without brackets, at a port.
     ///
     /// The addresses of the host are tried in turn, of a name the first 32. All attempts together take at most
@@ -159,7 +159,7 @@ impl<'a, R: Net + time::Clock> Line<'a, R> {
         alloc: Global,
         place: (&str, u16),
         seconds: u32,
-    ) -> Result<Line<'a, R>, ConnectFault> {
+    ) -> Result<ClientWire<'a, R>, ConnectFault> {
         let addresses = match place.to_socket_addrs(rt) {
             Ok(addresses) => addresses,
             Err(error) => return Err(lookup_fault(error)),
@@ -172,7 +172,7 @@ impl<'a, R: Net + time::Clock> Line<'a, R> {
             clock: RunClock::start(rt),
         };
         let limit = Duration::from_secs(u64::from(seconds));
-        let mut fault = ConnectFault::Socket(Hindrance::UnknownName);
+        let mut fault = ConnectFault::Socket(ConnectError::UnknownName);
         for (address, index) in addresses.zip(0..count) {
             let Some(end) = end_of_attempt(dialer.clock.passed(), limit, index, count) else {
                 break;
@@ -240,7 +240,7 @@ fn is_blocked_by(offered: usize, got: Got) -> bool
     }
 }
 
-impl<'a, R: Net + time::Clock> Wire for Line<'a, R> {
+impl<'a, R: Net + time::Clock> Wire for ClientWire<'a, R> {
     // A socket does not record the bytes that it transferred.
     ghost given = { λ _. None };
 

@@ -1,7 +1,7 @@
 use Rattle.std.proofs.Common.{ap, sym, ◌∙◌}
-use Rattle.coap_sockets.specs.Answers as spec
-use Rattle.coap_sockets.proofs.AnswerLemmas.{another_is_full}
-use Rattle.coap_sockets.proofs.answers.accept_fault.Goals as goal
+use Rattle.coap_sockets.specs.IoResults as spec
+use Rattle.coap_sockets.proofs.IoResultLemmas.{another_is_full}
+use Rattle.coap_sockets.proofs.io_results.accept_fault.Goals as goal
 
 pub returns-in-WouldBlock : goal.returns-in-WouldBlock
 unfolding spec.accept_fault

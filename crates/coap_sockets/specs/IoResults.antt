@@ -7,10 +7,10 @@ use Rattle.std.specs.declared.io.ErrorKind.TheVariants.{WouldBlock, Interrupted,
 use Rattle.std.specs.declared.io.ErrorKind.TheVariants as kind
 use Rattle.coap_io.specs.declared.wire.Got.{Got}
 use Rattle.coap_io.specs.declared.wire.Got.TheVariants.{Bytes, Later, End, Failed}
-use Rattle.coap_sockets.specs.declared.answers.Refused.{Refused}
-use Rattle.coap_sockets.specs.declared.answers.Refused.TheVariants.{NoneThere, Once, Full}
-use Rattle.coap_sockets.specs.declared.answers.Hindrance.{Hindrance}
-use Rattle.coap_sockets.specs.declared.answers.Hindrance.TheVariants as hindrance
+use Rattle.coap_sockets.specs.declared.io_results.AcceptError.{AcceptError}
+use Rattle.coap_sockets.specs.declared.io_results.AcceptError.TheVariants.{NoneThere, Once, Full}
+use Rattle.coap_sockets.specs.declared.io_results.ConnectError.{ConnectError}
+use Rattle.coap_sockets.specs.declared.io_results.ConnectError.TheVariants as hindrance
 
 -- The socket has no input or no room.
 unfoldable pub is_would_block : ErrorKind → Bool
@@ -39,18 +39,18 @@ write_got (Err e) = fault_got (error_kind e)
 -- The reason for which an accept gave no connection. `NoneThere`: none is pending. `Once`: a connection failed or the
 -- call was interrupted, and another may be pending. `Full`: the system lacks resources, or has another error that may
 -- pass with time.
-unfoldable pub accept_fault : ErrorKind → Refused
+unfoldable pub accept_fault : ErrorKind → AcceptError
 accept_fault WouldBlock = NoneThere
 accept_fault Interrupted = Once
 accept_fault ConnectionAborted = Once
 accept_fault _ = Full
 
 -- The cause of a failed attempt to connect, by the error of a call or of the socket.
-unfoldable pub hindrance_of : ErrorKind → Hindrance
-hindrance_of kind.ConnectionRefused = hindrance.Refused
-hindrance_of kind.HostUnreachable = hindrance.Unreachable
-hindrance_of kind.NetworkUnreachable = hindrance.Unreachable
-hindrance_of kind.NetworkDown = hindrance.Unreachable
-hindrance_of kind.AddrNotAvailable = hindrance.Unreachable
-hindrance_of kind.TimedOut = hindrance.TimedOut
-hindrance_of _ = hindrance.System
+unfoldable pub connect_error_of : ErrorKind → ConnectError
+connect_error_of kind.ConnectionRefused = hindrance.Refused
+connect_error_of kind.HostUnreachable = hindrance.Unreachable
+connect_error_of kind.NetworkUnreachable = hindrance.Unreachable
+connect_error_of kind.NetworkDown = hindrance.Unreachable
+connect_error_of kind.AddrNotAvailable = hindrance.Unreachable
+connect_error_of kind.TimedOut = hindrance.TimedOut
+connect_error_of _ = hindrance.System

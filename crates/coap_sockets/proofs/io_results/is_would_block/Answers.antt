@@ -1,7 +1,7 @@
 use Rattle.std.proofs.Common.{ap, sym, ◌∙◌}
-use Rattle.coap_sockets.specs.Answers as spec
-use Rattle.coap_sockets.proofs.AnswerLemmas.{another_is_no_would_block}
-use Rattle.coap_sockets.proofs.answers.is_would_block.Goals as goal
+use Rattle.coap_sockets.specs.IoResults as spec
+use Rattle.coap_sockets.proofs.IoResultLemmas.{another_is_no_would_block}
+use Rattle.coap_sockets.proofs.io_results.is_would_block.Goals as goal
 
 pub returns-in-WouldBlock : goal.returns-in-WouldBlock
 unfolding spec.is_would_block

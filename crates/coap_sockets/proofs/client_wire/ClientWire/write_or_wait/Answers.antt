@@ -1,7 +1,7 @@
 use Rattle.std.proofs.Common.{length, subst, sym}
 use Rattle.coap_io.specs.streams.Wires.{IsWithin}
-use Rattle.coap_sockets.proofs.AnswerLemmas.{write_is_within}
-use Rattle.coap_sockets.proofs.line.Line.write_or_wait.Goals as goal
+use Rattle.coap_sockets.proofs.IoResultLemmas.{write_is_within}
+use Rattle.coap_sockets.proofs.client_wire.ClientWire.write_or_wait.Goals as goal
 
 pub returns : goal.returns
 returns g c =

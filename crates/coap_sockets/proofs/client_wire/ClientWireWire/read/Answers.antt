@@ -1,7 +1,7 @@
 use Rattle.std.proofs.Common.{length, subst, sym}
 use Rattle.coap_io.specs.streams.Wires.{IsWithin}
-use Rattle.coap_sockets.proofs.AnswerLemmas.{read_is_within}
-use Rattle.coap_sockets.proofs.line.LineWire.read.Goals as goal
+use Rattle.coap_sockets.proofs.IoResultLemmas.{read_is_within}
+use Rattle.coap_sockets.proofs.client_wire.ClientWireWire.read.Goals as goal
 
 pub returns-then-ne-clause-within : goal.returns-then-ne-clause-within
 returns-then-ne-clause-within g c =

@@ -9,9 +9,9 @@ use Rattle.std.specs.declared.io.ErrorKind.TheVariants as kind
 use Rattle.std.specs.IoError.{error_kind}
 use Rattle.coap_io.specs.declared.wire.Got.TheVariants.{Failed}
 use Rattle.coap_io.specs.streams.Wires.{IsWithin}
-use Rattle.coap_sockets.specs.declared.answers.Hindrance.TheVariants.{System}
-use Rattle.coap_sockets.specs.declared.answers.Refused.TheVariants.{Full}
-use Rattle.coap_sockets.specs.Answers.{is_would_block, fault_got, accept_fault, hindrance_of, read_got, write_got}
+use Rattle.coap_sockets.specs.declared.io_results.ConnectError.TheVariants.{System}
+use Rattle.coap_sockets.specs.declared.io_results.AcceptError.TheVariants.{Full}
+use Rattle.coap_sockets.specs.IoResults.{is_would_block, fault_got, accept_fault, connect_error_of, read_got, write_got}
 
 pub another_is_no_would_block : (k : ErrorKind) → k ≢ WouldBlock → false ≡ is_would_block k
 unfolding is_would_block
@@ -33,8 +33,8 @@ another_is_full _ not_1 not_2 not_3 = refl
 
 pub another_is_of_the_system : (k : ErrorKind)
     → k ≢ kind.ConnectionRefused → k ≢ kind.HostUnreachable → k ≢ kind.NetworkUnreachable
-    → k ≢ kind.NetworkDown → k ≢ kind.AddrNotAvailable → k ≢ kind.TimedOut → System ≡ hindrance_of k
-unfolding hindrance_of
+    → k ≢ kind.NetworkDown → k ≢ kind.AddrNotAvailable → k ≢ kind.TimedOut → System ≡ connect_error_of k
+unfolding connect_error_of
 another_is_of_the_system kind.ConnectionRefused not_1 not_2 not_3 not_4 not_5 not_6 = absurd (not_1 refl)
 another_is_of_the_system kind.HostUnreachable not_1 not_2 not_3 not_4 not_5 not_6 = absurd (not_2 refl)
 another_is_of_the_system kind.NetworkUnreachable not_1 not_2 not_3 not_4 not_5 not_6 = absurd (not_3 refl)

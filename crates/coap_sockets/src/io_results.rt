@@ -2,7 +2,7 @@
 
 ghost use Rattle.std.specs.Prelude.{◌≡◌};
 ghost use Rattle.std.specs.IoError.{error_kind};
-ghost use Rattle.coap_sockets.specs.Answers as spec;
+ghost use Rattle.coap_sockets.specs.IoResults as spec;
 
 use coap_io::Got;
 use std::io;
@@ -11,7 +11,7 @@ use thiserror::Error;
 
 /// Reason for which an accept gave no connection.
 #[derive(Clone, Copy, PartialEq, Eq)]
-pub(crate) enum Refused {
+pub(crate) enum AcceptError {
     /// No pending connection.
     NoneThere,
     /// Failure of one connection or of one call; another connection may be pending.
@@ -22,7 +22,7 @@ pub(crate) enum Refused {
 
 /// Cause of a failed attempt to connect.
 #[derive(Clone, Copy, Debug, PartialEq, Eq, Error)]
-pub enum Hindrance {
+pub enum ConnectError {
     /// Name of a host that the system does not know.
     #[error("unknown name")]
     UnknownName,
@@ -84,28 +84,28 @@ pub(crate) fn write_got(answer: io::Result<usize>) -> Got
 }
 
 /// Returns the reason for which an accept gave no connection, from its error.
-pub(crate) fn accept_fault(error: io::Error) -> Refused
+pub(crate) fn accept_fault(error: io::Error) -> AcceptError
     ensures { result ≡ spec.accept_fault (error_kind error) }
 {
     match error.kind() {
-        ErrorKind::WouldBlock => Refused::NoneThere,
-        ErrorKind::Interrupted => Refused::Once,
-        ErrorKind::ConnectionAborted => Refused::Once,
-        _ => Refused::Full,
+        ErrorKind::WouldBlock => AcceptError::NoneThere,
+        ErrorKind::Interrupted => AcceptError::Once,
+        ErrorKind::ConnectionAborted => AcceptError::Once,
+        _ => AcceptError::Full,
     }
 }
 
 /// Returns the cause of a failed attempt to connect, from the error of a system call or of the socket.
-pub(crate) fn hindrance_of(error: io::Error) -> Hindrance
-    ensures { result ≡ spec.hindrance_of (error_kind error) }
+pub(crate) fn connect_error_of(error: io::Error) -> ConnectError
+    ensures { result ≡ spec.connect_error_of (error_kind error) }
 {
     match error.kind() {
-        ErrorKind::ConnectionRefused => Hindrance::Refused,
-        ErrorKind::HostUnreachable => Hindrance::Unreachable,
-        ErrorKind::NetworkUnreachable => Hindrance::Unreachable,
-        ErrorKind::NetworkDown => Hindrance::Unreachable,
-        ErrorKind::AddrNotAvailable => Hindrance::Unreachable,
-        ErrorKind::TimedOut => Hindrance::TimedOut,
-        _ => Hindrance::System,
+        ErrorKind::ConnectionRefused => ConnectError::Refused,
+        ErrorKind::HostUnreachable => ConnectError::Unreachable,
+        ErrorKind::NetworkUnreachable => ConnectError::Unreachable,
+        ErrorKind::NetworkDown => ConnectError::Unreachable,
+        ErrorKind::AddrNotAvailable => ConnectError::Unreachable,
+        ErrorKind::TimedOut => ConnectError::TimedOut,
+        _ => ConnectError::System,
     }
 }

@@ -2,7 +2,7 @@
 
 ghost use Rattle.std.specs.Prelude.{◌≡◌, option_map};
 ghost use Rattle.std.specs.Duration.{as_nanos};
-ghost use Rattle.coap_sockets.specs.Moments as spec;
+ghost use Rattle.coap_sockets.specs.Durations as spec;
 
 use std::time::Duration;
 
