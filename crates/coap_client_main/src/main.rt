@@ -9,7 +9,7 @@ ghost use Rattle.std.specs.Str.{IsUtf8};
 
 use coap_client::{ClientPlan, Target, client_words, run_client};
 use coap_io::WriteOutlet;
-use coap_program::{FAULT, Program, Trouble, USAGE, hold_standard, read_whole};
+use coap_program::{FAULT, Program, FileError, USAGE, occupy_standard_descriptors, read_whole};
 use coap_sockets::{ConnectFault, ConnectError, ClientWire};
 use coap_wire::LARGEST_MESSAGE;
 use std::io::Write;
@@ -24,14 +24,14 @@ const PROGRAM: Program = Program {
 };
 
 /// Reports an error with a file, and returns the exit status.
-fn tell_trouble(rt: &impl Eprint, trouble: Trouble, name: &str) -> u8
+fn print_file_error(rt: &impl Eprint, trouble: FileError, name: &str) -> u8
     ensures { result ≤ 4 }
 {
     match trouble {
-        Trouble::Open => PROGRAM.tell(rt, format_args!("cannot open {name}"), FAULT),
-        Trouble::Read => PROGRAM.tell(rt, "cannot read", FAULT),
-        Trouble::TooLong => PROGRAM.tell(rt, "bad value for -f", USAGE),
-        Trouble::Memory => PROGRAM.tell(rt, "no memory", FAULT),
+        FileError::Open => PROGRAM.print_fault(rt, format_args!("cannot open {name}"), FAULT),
+        FileError::Read => PROGRAM.print_fault(rt, "cannot read", FAULT),
+        FileError::TooLong => PROGRAM.print_fault(rt, "bad value for -f", USAGE),
+        FileError::Memory => PROGRAM.print_fault(rt, "no memory", FAULT),
     }
 }
 
@@ -39,23 +39,23 @@ fn tell_trouble(rt: &impl Eprint, trouble: Trouble, name: &str) -> u8
 fn tell_unconnected(rt: &impl Eprint, fault: ConnectFault) -> u8
     ensures { result ≡ 3 }
 {
-    let status = PROGRAM.tell(rt, fault, FAULT);
+    let status = PROGRAM.print_fault(rt, fault, FAULT);
     match fault {
-        ConnectFault::Socket(hindrance) => PROGRAM.tell(rt, hindrance, status),
+        ConnectFault::Socket(hindrance) => PROGRAM.print_fault(rt, hindrance, status),
         ConnectFault::Memory => status,
     }
 }
 
 /// Creates the file for responses, or truncates it if it exists.
-fn create<R: Files>(rt: &R, name: &str) -> Result<R::File, Trouble> {
+fn create<R: Files>(rt: &R, name: &str) -> Result<R::File, FileError> {
     match fs::create(rt, name) {
         Ok(file) => Ok(file),
-        Err(fault) => Err(Trouble::of_opening(&fault)),
+        Err(fault) => Err(FileError::of_opening(&fault)),
     }
 }
 
 /// Returns the host and the port of a target, or `None` if the host is not UTF-8.
-fn place_of(target: &Target) -> Option<(&str, u16)>
+fn endpoint_of(target: &Target) -> Option<(&str, u16)>
     ensures none { IfNone result (¬ (IsUtf8 target.now.host)) }
     ensures place { IfSome result (λ place. (place.0.now ≡ target.now.host) × (place.1 ≡ target.now.port)) }
 {
@@ -70,14 +70,14 @@ fn connect<'a, R: Net + time::Clock + AllocGlobal>(
     rt: &'a R,
     plan: &ClientPlan,
 ) -> Result<ClientWire<'a, R>, ConnectFault> {
-    match place_of(&plan.target) {
+    match endpoint_of(&plan.target) {
         Some(place) => ClientWire::connect(rt, rt.alloc(), place, plan.wait),
         None => Err(ConnectFault::Socket(ConnectError::UnknownName)),
     }
 }
 
 /// Runs a client over a connection, with writers for payloads and for reports, and returns the exit status.
-fn converse<R: Eprint + Net + time::Clock + AllocGlobal>(
+fn run_on_connection<R: Eprint + Net + time::Clock + AllocGlobal>(
     rt: &R,
     mut line: ClientWire<'_, R>,
     out: impl Write + Drop,
@@ -91,7 +91,7 @@ fn converse<R: Eprint + Net + time::Clock + AllocGlobal>(
     let mut err = WriteOutlet::new(err);
     match run_client(rt.alloc(), &mut line, &mut clock, &mut out, &mut err, plan) {
         Ok(status) => status,
-        Err(fault) => PROGRAM.tell(rt, fault, FAULT),
+        Err(fault) => PROGRAM.print_fault(rt, fault, FAULT),
     }
 }
 
@@ -109,7 +109,7 @@ fn run(
     if let Some(name) = &plan.input {
         match read_whole(rt, name.as_str(), LARGEST_MESSAGE) {
             Ok(bytes) => plan.payload = bytes,
-            Err(trouble) => return tell_trouble(rt, trouble, name.as_str()),
+            Err(trouble) => return print_file_error(rt, trouble, name.as_str()),
         }
     }
     let line = match connect(rt, &plan) {
@@ -118,10 +118,10 @@ fn run(
     };
     match &plan.output {
         Some(name) if name.as_str() != "-" => match create(rt, name.as_str()) {
-            Ok(file) => converse(rt, line, file, err, &plan),
-            Err(trouble) => tell_trouble(rt, trouble, name.as_str()),
+            Ok(file) => run_on_connection(rt, line, file, err, &plan),
+            Err(trouble) => print_file_error(rt, trouble, name.as_str()),
         },
-        _ => converse(rt, line, io::writer(rt), err, &plan),
+        _ => run_on_connection(rt, line, io::writer(rt), err, &plan),
     }
 }
 
@@ -143,6 +143,6 @@ fn start(
 }
 
 fn main(rt: HostRuntime) -> ExitCode {
-    let (_first, _second, _third) = (hold_standard(&rt), hold_standard(&rt), hold_standard(&rt));
+    let (_first, _second, _third) = (occupy_standard_descriptors(&rt), occupy_standard_descriptors(&rt), occupy_standard_descriptors(&rt));
     ExitCode::from(start(&rt, rt.stderr()))
 }

@@ -9,7 +9,7 @@ use std::rt::Files;
 
 /// Error of `read_whole`.
 #[derive(Clone, Copy, Debug, PartialEq, Eq)]
-pub enum Trouble {
+pub enum FileError {
     /// File that cannot be opened.
     Open,
     /// File that cannot be read.
@@ -20,19 +20,19 @@ pub enum Trouble {
     Memory,
 }
 
-impl Trouble {
+impl FileError {
     /// Returns the error for a file that could not be opened.
-    pub fn of_opening(fault: &Error) -> Trouble {
+    pub fn of_opening(fault: &Error) -> FileError {
         if fault.kind() == ErrorKind::OutOfMemory {
-            Trouble::Memory
+            FileError::Memory
         } else {
-            Trouble::Open
+            FileError::Open
         }
     }
 }
 
 /// Returns all bytes of a reader, at most `most`.
-fn bytes_of(alloc: Global, reader: &mut impl Read, most: usize) -> Result<Vec<u8>, Trouble>
+fn bytes_of(alloc: Global, reader: &mut impl Read, most: usize) -> Result<Vec<u8>, FileError>
     ensures { IfOk result (λ bytes. length bytes.items ≤ most) }
 {
     let mut bytes = Vec::new(alloc);
@@ -40,10 +40,10 @@ fn bytes_of(alloc: Global, reader: &mut impl Read, most: usize) -> Result<Vec<u8
         .take((most as u64).saturating_add(1))
         .read_to_end(&mut bytes)
     {
-        Ok(_) if bytes.len() > most => Err(Trouble::TooLong),
+        Ok(_) if bytes.len() > most => Err(FileError::TooLong),
         Ok(_) => Ok(bytes),
-        Err(fault) if fault.kind() == ErrorKind::OutOfMemory => Err(Trouble::Memory),
-        Err(_) => Err(Trouble::Read),
+        Err(fault) if fault.kind() == ErrorKind::OutOfMemory => Err(FileError::Memory),
+        Err(_) => Err(FileError::Read),
     }
 }
 
@@ -59,7 +59,7 @@ pub fn read_whole(
     rt: &(impl Input + Files + AllocGlobal),
     name: &str,
     most: usize,
-) -> Result<Vec<u8>, Trouble>
+) -> Result<Vec<u8>, FileError>
     ensures { IfOk result (λ bytes. length bytes.items ≤ most) }
 {
     if name == "-" {
@@ -67,6 +67,6 @@ pub fn read_whole(
     }
     match fs::open(rt, name) {
         Ok(mut file) => bytes_of(rt.alloc(), &mut file, most),
-        Err(fault) => Err(Trouble::of_opening(&fault)),
+        Err(fault) => Err(FileError::of_opening(&fault)),
     }
 }

@@ -9,6 +9,6 @@ mod files;
 mod program;
 mod standard;
 
-pub use files::{Trouble, read_whole};
+pub use files::{FileError, read_whole};
 pub use program::{ENDED, FAULT, Program, USAGE};
-pub use standard::hold_standard;
+pub use standard::occupy_standard_descriptors;

@@ -29,7 +29,7 @@ pub struct Program<'a> {
 
 impl Program<'_> {
     /// Writes a line about an error to standard error, and returns the status.
-    pub fn tell(&self, rt: &impl Eprint, what: impl Display + Drop, status: u8) -> u8
+    pub fn print_fault(&self, rt: &impl Eprint, what: impl Display + Drop, status: u8) -> u8
         ensures { result ≡ status }
     {
         let name = self.name;
@@ -51,13 +51,13 @@ impl Program<'_> {
         let words = match env::args(rt) {
             Ok(words) => words_of(rt.alloc(), words),
             Err(fault) if fault.kind() != ErrorKind::OutOfMemory => {
-                return Err(self.tell(rt, "words that are not UTF-8", USAGE));
+                return Err(self.print_fault(rt, "words that are not UTF-8", USAGE));
             }
             Err(_) => Err(AllocError),
         };
         match words {
             Ok(words) => Ok(words),
-            Err(_) => Err(self.tell(rt, "no memory", FAULT)),
+            Err(_) => Err(self.print_fault(rt, "no memory", FAULT)),
         }
     }
 
@@ -72,7 +72,7 @@ impl Program<'_> {
         if fault.is_help_or_version() {
             return match print!(rt; "{fault}") {
                 Ok(()) => ENDED,
-                Err(_) => self.tell(rt, "cannot write", FAULT),
+                Err(_) => self.print_fault(rt, "cannot write", FAULT),
             };
         }
         match fault {
@@ -81,8 +81,8 @@ impl Program<'_> {
                 let _ = eprint!(rt; "{text}");
                 USAGE
             }
-            WordsFault::Memory => self.tell(rt, "no memory", FAULT),
-            _ => self.tell(rt, fault, USAGE),
+            WordsFault::Memory => self.print_fault(rt, "no memory", FAULT),
+            _ => self.print_fault(rt, fault, USAGE),
         }
     }
 }

@@ -12,7 +12,7 @@ const LAST: i32 = 2;
 ///
 /// The system gives each opened file the lowest free number. The result is `None` if all three descriptors are open or
 /// if `/dev/null` cannot be opened.
-pub fn hold_standard<R: Files>(rt: &R) -> Option<R::File>
+pub fn occupy_standard_descriptors<R: Files>(rt: &R) -> Option<R::File>
 where
     R::File: AsRawFd,
 {

@@ -36,11 +36,11 @@ pub(crate) fn run(
 ) -> u8 {
     let mut clock = SystemClock::new(rt);
     let Some(config) = config_now(&mut clock, plan) else {
-        return PROGRAM.tell(rt, "a limit is out of its range", USAGE);
+        return PROGRAM.print_fault(rt, "a limit is out of its range", USAGE);
     };
     let mut door = match SocketDoor::listen(rt, rt.alloc(), address, config.connections()) {
         Ok(door) => door,
-        Err(fault) => return PROGRAM.tell(rt, fault, FAULT),
+        Err(fault) => return PROGRAM.print_fault(rt, fault, FAULT),
     };
     let _ = eprintln!(rt;
         "coap-server: listening on {}",
@@ -48,6 +48,6 @@ pub(crate) fn run(
     );
     match serve_door(rt.alloc(), &mut door, &mut clock, config) {
         Ok(()) => unreachable!(),
-        Err(fault) => PROGRAM.tell(rt, fault, FAULT),
+        Err(fault) => PROGRAM.print_fault(rt, fault, FAULT),
     }
 }

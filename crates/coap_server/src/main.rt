@@ -14,7 +14,7 @@ mod listening;
 mod script;
 
 use coap_command_line::server_words;
-use coap_program::{ENDED, FAULT, Program, USAGE, hold_standard};
+use coap_program::{ENDED, FAULT, Program, USAGE, occupy_standard_descriptors};
 use coap_request::{Mode, ServerPlan};
 use coap_serve::{Config, ReadSource, Starts, WriteOutlet, serve_one};
 use std::net::{Net, SocketAddr};
@@ -64,7 +64,7 @@ fn serve(rt: &(impl Input + Print + Eprint + AllocGlobal), config: &Config) -> u
     let mut output = WriteOutlet::new(io::writer(rt));
     match serve_one(rt.alloc(), &mut input, &mut output, config) {
         Ok(_) => ENDED,
-        Err(fault) => PROGRAM.tell(rt, fault, FAULT),
+        Err(fault) => PROGRAM.print_fault(rt, fault, FAULT),
     }
 }
 
@@ -77,7 +77,7 @@ fn run(
         return listening::run(rt, SocketAddr::new(*address, *port), plan);
     }
     let Some(config) = config_of(plan, FROM_ZERO) else {
-        return PROGRAM.tell(rt, "a limit is out of its range", USAGE);
+        return PROGRAM.print_fault(rt, "a limit is out of its range", USAGE);
     };
     match &plan.mode {
         Mode::Script(name) => script::run(rt, name.as_str(), &config),
@@ -98,6 +98,6 @@ fn start(rt: &(impl Input + Print + Eprint + Env + Files + Net + time::Clock + A
 }
 
 fn main(rt: HostRuntime) -> ExitCode {
-    let (_first, _second, _third) = (hold_standard(&rt), hold_standard(&rt), hold_standard(&rt));
+    let (_first, _second, _third) = (occupy_standard_descriptors(&rt), occupy_standard_descriptors(&rt), occupy_standard_descriptors(&rt));
     ExitCode::from(start(&rt))
 }

@@ -1,15 +1,15 @@
 //! Runs scripts of events.
 
 use crate::PROGRAM;
-use coap_program::{ENDED, FAULT, Trouble as FileTrouble, USAGE, read_whole};
+use coap_program::{ENDED, FAULT, FileError, USAGE, read_whole};
 use coap_serve::{Config, Event, ReplayFault, ScriptFault, Server, WriteOutlet, script};
 use std::io;
 use std::rt::Files;
 
 /// Error that ends a script.
-enum Trouble {
+enum ScriptError {
     /// Failure to read the file.
-    File(FileTrouble),
+    File(FileError),
     /// Number of the first line that is no event, from 1.
     Line(u64),
     /// Failed write of a line.
@@ -23,15 +23,15 @@ fn replay(
     rt: &(impl Print + AllocGlobal),
     events: &[Event],
     config: &Config,
-) -> Result<(), Trouble> {
+) -> Result<(), ScriptError> {
     let Ok(mut server) = Server::new(rt.alloc(), *config) else {
-        return Err(Trouble::Memory);
+        return Err(ScriptError::Memory);
     };
     let mut output = WriteOutlet::new(io::writer(rt));
     match server.replay(events, &mut output) {
         Ok(()) => Ok(()),
-        Err(ReplayFault::Write) => Err(Trouble::Write),
-        Err(ReplayFault::Memory(_)) => Err(Trouble::Memory),
+        Err(ReplayFault::Write) => Err(ScriptError::Write),
+        Err(ReplayFault::Memory(_)) => Err(ScriptError::Memory),
     }
 }
 
@@ -40,15 +40,15 @@ fn read_and_run(
     rt: &(impl Input + Print + Files + AllocGlobal),
     name: &str,
     config: &Config,
-) -> Result<(), Trouble> {
+) -> Result<(), ScriptError> {
     let text = match read_whole(rt, name, usize::MAX) {
         Ok(text) => text,
-        Err(trouble) => return Err(Trouble::File(trouble)),
+        Err(trouble) => return Err(ScriptError::File(trouble)),
     };
     match script(rt.alloc(), &text) {
         Ok(events) => replay(rt, &events, config),
-        Err(ScriptFault::Line(number)) => Err(Trouble::Line(number)),
-        Err(ScriptFault::Memory) => Err(Trouble::Memory),
+        Err(ScriptFault::Line(number)) => Err(ScriptError::Line(number)),
+        Err(ScriptFault::Memory) => Err(ScriptError::Memory),
     }
 }
 
@@ -63,15 +63,15 @@ pub(crate) fn run(
         return ENDED;
     };
     match trouble {
-        Trouble::File(FileTrouble::Open) => {
-            PROGRAM.tell(rt, format_args!("cannot open {name}"), FAULT)
+        ScriptError::File(FileError::Open) => {
+            PROGRAM.print_fault(rt, format_args!("cannot open {name}"), FAULT)
         }
-        Trouble::File(FileTrouble::Read | FileTrouble::TooLong) => {
-            PROGRAM.tell(rt, "cannot read", FAULT)
+        ScriptError::File(FileError::Read | FileError::TooLong) => {
+            PROGRAM.print_fault(rt, "cannot read", FAULT)
         }
-        Trouble::Line(number) => PROGRAM.tell(rt, format_args!("bad script line {number}"), USAGE),
-        Trouble::Write => PROGRAM.tell(rt, "cannot write", FAULT),
-        Trouble::File(FileTrouble::Memory) | Trouble::Memory => PROGRAM.tell(
+        ScriptError::Line(number) => PROGRAM.print_fault(rt, format_args!("bad script line {number}"), USAGE),
+        ScriptError::Write => PROGRAM.print_fault(rt, "cannot write", FAULT),
+        ScriptError::File(FileError::Memory) | ScriptError::Memory => PROGRAM.print_fault(
             rt,
             "no memory",
             FAULT,
