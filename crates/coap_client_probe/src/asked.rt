@@ -8,7 +8,7 @@ use coap_told::{cut, next_number, read_hex};
 
 /// What a row asks for.
 #[derive(Drop)]
-pub(crate) struct Asked<'a> {
+pub(crate) struct RequestFields<'a> {
     /// The token of what is cancelled.
     pub token: &'a [u8],
     /// The rest.
@@ -22,7 +22,7 @@ fn field<'a>(text: &'a str) -> (Option<u16>, &'a str) {
 }
 
 /// What a text asks for, its bytes in place of those that are there.
-pub(crate) fn read_asked<'a>(text: &str, bytes: &'a mut Vec<u8>) -> Asked<'a> {
+pub(crate) fn read_asked<'a>(text: &str, bytes: &'a mut Vec<u8>) -> RequestFields<'a> {
     let (observe, text) = cut(text);
     let (plain, text) = cut(text);
     let (content_format, text) = field(text);
@@ -40,7 +40,7 @@ pub(crate) fn read_asked<'a>(text: &str, bytes: &'a mut Vec<u8>) -> Asked<'a> {
         Some(number) => Some((number, value)),
         None => None,
     };
-    Asked {
+    RequestFields {
         token,
         extras: Extras {
             observe: observe == "yes",

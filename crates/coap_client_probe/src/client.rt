@@ -7,7 +7,7 @@ use crate::target::tell_fault;
 use coap_client::{Client, Event, Target};
 use coap_conn::{RequestFault, first_part};
 use coap_serve::Limits;
-use coap_told::{Told, cut, next_number, number, read_hex};
+use coap_told::{RowLine, cut, next_number, number, read_hex};
 use coap_wire::{MessageRef, Token};
 use std::alloc::{AllocError, Global};
 use std::fmt::Write;
@@ -34,7 +34,7 @@ pub(crate) fn opened(alloc: Global, text: &str) -> Option<Result<Client, AllocEr
 }
 
 /// Tells the code, the token and the payload of a message.
-fn tell_message(message: &MessageRef, told: &mut Told) {
+fn tell_message(message: &MessageRef, told: &mut RowLine) {
     let code = message.code();
     let _ = write!(told, "{}.{:02} ", code.class(), code.detail());
     told.hex(message.token().bytes());
@@ -42,7 +42,7 @@ fn tell_message(message: &MessageRef, told: &mut Told) {
 }
 
 /// Tells what a client told.
-pub(crate) fn tell_event(event: &Event, told: &mut Told) {
+pub(crate) fn tell_event(event: &Event, told: &mut RowLine) {
     match event {
         Event::Ready => told.word("ready"),
         Event::Response(message) => {
@@ -72,7 +72,7 @@ pub(crate) fn tell_event(event: &Event, told: &mut Told) {
 }
 
 /// Hands bytes to a client, and tells how many it took and what it told.
-fn take(client: &mut Client, bytes: &[u8], told: &mut Told) {
+fn take(client: &mut Client, bytes: &[u8], told: &mut RowLine) {
     let taken = client.take(bytes);
     told.number(taken.bytes as u64);
     match taken.event() {
@@ -82,12 +82,12 @@ fn take(client: &mut Client, bytes: &[u8], told: &mut Told) {
 }
 
 /// Tells the fault of a request.
-fn tell_refusal(fault: RequestFault, told: &mut Told) {
+fn tell_refusal(fault: RequestFault, told: &mut RowLine) {
     let _ = write!(told, "{fault:?} {} ({fault}) ", fault as u64);
 }
 
 /// Tells the token that was given, or the fault.
-fn tell_token(given: Result<Token, RequestFault>, told: &mut Told) {
+fn tell_token(given: Result<Token, RequestFault>, told: &mut RowLine) {
     match given {
         Ok(token) => told.hex(token.as_slice()),
         Err(fault) => tell_refusal(fault, told),
@@ -95,7 +95,7 @@ fn tell_token(given: Result<Token, RequestFault>, told: &mut Told) {
 }
 
 /// Sends a request, and tells its token.
-fn send(alloc: Global, client: &mut Client, text: &str, bytes: &mut Vec<u8>, told: &mut Told) {
+fn send(alloc: Global, client: &mut Client, text: &str, bytes: &mut Vec<u8>, told: &mut RowLine) {
     let (name, text) = cut(text);
     let (to, text) = cut(text);
     let asked = read_asked(text, bytes);
@@ -106,7 +106,7 @@ fn send(alloc: Global, client: &mut Client, text: &str, bytes: &mut Vec<u8>, tol
 }
 
 /// Cancels an observation, and tells how that went.
-fn cancel(alloc: Global, client: &mut Client, text: &str, bytes: &mut Vec<u8>, told: &mut Told) {
+fn cancel(alloc: Global, client: &mut Client, text: &str, bytes: &mut Vec<u8>, told: &mut RowLine) {
     let (to, text) = cut(text);
     let asked = read_asked(text, bytes);
     let Ok(token) = Token::try_from(asked.token) else {
@@ -122,7 +122,7 @@ fn cancel(alloc: Global, client: &mut Client, text: &str, bytes: &mut Vec<u8>, t
 }
 
 /// So many bytes were written.
-fn written(client: &mut Client, count: usize, told: &mut Told) {
+fn written(client: &mut Client, count: usize, told: &mut RowLine) {
     if count > client.waiting() {
         return told.word("refused");
     }
@@ -136,7 +136,7 @@ pub(crate) fn act(
     client: &mut Client,
     event: &str,
     bytes: &mut Vec<u8>,
-    told: &mut Told,
+    told: &mut RowLine,
 ) {
     let (word, rest) = cut(event);
     match word {
@@ -164,7 +164,7 @@ pub(crate) fn play(
     client: &mut Client,
     row: &str,
     bytes: &mut Vec<u8>,
-    told: &mut Told,
+    told: &mut RowLine,
 ) {
     let kept = row.strip_prefix("keep ");
     act(alloc, client, kept.unwrap_or(row), bytes, told);

@@ -93,18 +93,18 @@ impl Clock for Moments<'_> {
 
 /// A page that keeps what is written to it, as far as it has room.
 #[derive(Drop)]
-pub(crate) struct Page {
+pub(crate) struct ScriptedOutlet {
     pub bytes: ArrayVec<u8, ROOM>,
     is_full: bool,
     failed: bool,
 }
 
-impl Page {
+impl ScriptedOutlet {
     /// An empty page, which may take nothing.
-    pub(crate) fn new(is_full: bool) -> Page
+    pub(crate) fn new(is_full: bool) -> ScriptedOutlet
         ensures { result.failed ≡ false }
     {
-        Page {
+        ScriptedOutlet {
             bytes: ArrayVec::new(),
             is_full,
             failed: false,
@@ -112,7 +112,7 @@ impl Page {
     }
 }
 
-impl Outlet for Page {
+impl Outlet for ScriptedOutlet {
     ghost written = { λ page. Some page.bytes.items };
 
     ghost is_failed = { λ page. page.failed };

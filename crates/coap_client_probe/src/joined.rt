@@ -7,7 +7,7 @@ use crate::client;
 use coap_client::Client;
 use coap_serve::{Config, ConnId, Limits, Server, Starts};
 use coap_store::PathKey;
-use coap_told::{Told, cut, next_number, number, read_hex};
+use coap_told::{RowLine, cut, next_number, number, read_hex};
 use std::alloc::Global;
 
 /// The most requests that the client may have outstanding.
@@ -18,7 +18,7 @@ const ROUNDS: usize = 10_000;
 
 /// A client, a server with one connection, and how its bytes are cut.
 #[derive(Drop)]
-pub(crate) struct Joined {
+pub(crate) struct ClientServerPair {
     client: Client,
     server: Server,
     id: ConnId,
@@ -42,7 +42,7 @@ fn piece<'a>(front: &'a [u8], behind: usize, cut: usize, most: usize) -> &'a [u8
 }
 
 /// Both, with nothing said; none where memory was refused.
-pub(crate) fn opened(alloc: Global, text: &str) -> Option<Joined> {
+pub(crate) fn opened(alloc: Global, text: &str) -> Option<ClientServerPair> {
     let (most, cut) = next_number(text);
     let limits = Limits::new(1_152, 1_152, 2_304, 2, 2, REQUESTS).ok()?;
     let starts = Starts {
@@ -53,7 +53,7 @@ pub(crate) fn opened(alloc: Global, text: &str) -> Option<Joined> {
     let config = Config::new(limits, 1, 1, 100, 1, starts).ok()?;
     let mut server = Server::new(alloc, config).ok()?;
     let id = server.open().ok()?;
-    Some(Joined {
+    Some(ClientServerPair {
         client: Client::open(alloc, limits, 0).ok()?,
         server,
         id,
@@ -65,7 +65,7 @@ pub(crate) fn opened(alloc: Global, text: &str) -> Option<Joined> {
 }
 
 /// Gives bytes of the client to the server, and answers how many it took.
-fn to_server(joined: &mut Joined, told: &mut Told) -> usize {
+fn to_server(joined: &mut ClientServerPair, told: &mut RowLine) -> usize {
     let front = joined.client.front();
     let piece = piece(front, joined.up, joined.cut, joined.most);
     let Ok(taken) = joined.server.take(joined.id, piece) else {
@@ -82,7 +82,7 @@ fn to_server(joined: &mut Joined, told: &mut Told) -> usize {
 }
 
 /// Gives bytes of the server to the client, tells what that told, and answers how many it took.
-fn to_client(joined: &mut Joined, told: &mut Told) -> usize {
+fn to_client(joined: &mut ClientServerPair, told: &mut RowLine) -> usize {
     let Some(front) = joined.server.front(joined.id) else {
         return 0;
     };
@@ -102,7 +102,7 @@ fn to_client(joined: &mut Joined, told: &mut Told) -> usize {
 }
 
 /// Gives bytes to and fro until none is left.
-fn settle(joined: &mut Joined, told: &mut Told) {
+fn settle(joined: &mut ClientServerPair, told: &mut RowLine) {
     for _ in 0..ROUNDS {
         let up = to_server(joined, told);
         let down = to_client(joined, told);
@@ -114,7 +114,7 @@ fn settle(joined: &mut Joined, told: &mut Told) {
 }
 
 /// Stores bytes at the path `a` of the server.
-fn put(joined: &mut Joined, bytes: &[u8], told: &mut Told) {
+fn put(joined: &mut ClientServerPair, bytes: &[u8], told: &mut RowLine) {
     let Some(path) = PathKey::from_segments(&[b"a"]) else {
         return told.word("strange");
     };
@@ -127,10 +127,10 @@ fn put(joined: &mut Joined, bytes: &[u8], told: &mut Told) {
 /// Plays an event.
 pub(crate) fn play(
     alloc: Global,
-    joined: &mut Joined,
+    joined: &mut ClientServerPair,
     event: &str,
     bytes: &mut Vec<u8>,
-    told: &mut Told,
+    told: &mut RowLine,
 ) {
     let (word, rest) = cut(event);
     match word {

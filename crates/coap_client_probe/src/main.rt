@@ -11,8 +11,8 @@ mod target;
 mod words;
 
 use coap_client::Client;
-use coap_told::{Layers, Told, cut};
-use joined::Joined;
+use coap_told::{Layers, RowLine, cut};
+use joined::ClientServerPair;
 use std::alloc::{AllocError, Global};
 use std::process::ExitCode;
 
@@ -24,7 +24,7 @@ enum Value {
     /// A client.
     Client(Client),
     /// A client and a server, joined.
-    Joined(Joined),
+    ClientServerPair(ClientServerPair),
     /// Targets, each for itself.
     Target,
     /// Command lines, each for itself.
@@ -34,7 +34,7 @@ enum Value {
 }
 
 /// The value that an opening names, and nothing where memory was refused.
-fn opened(alloc: Global, opening: &str, told: &mut Told) -> Value {
+fn opened(alloc: Global, opening: &str, told: &mut RowLine) -> Value {
     let (layer, rest) = cut(opening);
     match layer {
         "client" => match client::opened(alloc, rest) {
@@ -43,7 +43,7 @@ fn opened(alloc: Global, opening: &str, told: &mut Told) -> Value {
             None => told.word("refused"),
         },
         "joined" => match joined::opened(alloc, rest) {
-            Some(joined) => return Value::Joined(joined),
+            Some(joined) => return Value::ClientServerPair(joined),
             None => told.word("memory"),
         },
         "target" => return Value::Target,
@@ -55,15 +55,15 @@ fn opened(alloc: Global, opening: &str, told: &mut Told) -> Value {
 }
 
 impl Layers for Value {
-    fn open(&mut self, alloc: Global, opening: &str, told: &mut Told) {
+    fn open(&mut self, alloc: Global, opening: &str, told: &mut RowLine) {
         *self = opened(alloc, opening, told);
     }
 
-    fn act(&mut self, alloc: Global, event: &str, bytes: &mut Vec<u8>, told: &mut Told) {
+    fn act(&mut self, alloc: Global, event: &str, bytes: &mut Vec<u8>, told: &mut RowLine) {
         match self {
             Value::Nothing => told.word("nothing"),
             Value::Client(client) => client::play(alloc, client, event, bytes, told),
-            Value::Joined(joined) => joined::play(alloc, joined, event, bytes, told),
+            Value::ClientServerPair(joined) => joined::play(alloc, joined, event, bytes, told),
             Value::Target => target::play(alloc, event, told),
             Value::Words => words::play(alloc, event, told),
             Value::Run => run::play(alloc, event, bytes, told),

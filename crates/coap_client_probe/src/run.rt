@@ -2,16 +2,16 @@
 //! commas between moments and between reads; the bytes are those of all reads. Beside the kinds of wires (`devices`)
 //! `full` is an outlet that takes no byte, and `mute` a place for errors that takes none.
 
-use crate::devices::{Line, Moments, Page};
+use crate::devices::{Line, Moments, ScriptedOutlet};
 use crate::words::{Words, tell_fault};
 use arrayvec::ArrayVec;
 use coap_client::{ClientFault, ClientPlan, client_words, run_client};
-use coap_told::{Told, cut, read_hex};
+use coap_told::{RowLine, cut, read_hex};
 use std::alloc::Global;
 use std::fmt::Write;
 
 /// Tells the status of a run, or its fault, which may be want of memory where nothing was written.
-fn tell_status(answer: Result<u8, ClientFault>, is_clean: bool, told: &mut Told) {
+fn tell_status(answer: Result<u8, ClientFault>, is_clean: bool, told: &mut RowLine) {
     match answer {
         Ok(status) => told.number(u64::from(status)),
         Err(fault) => {
@@ -30,11 +30,11 @@ fn run(
     moments: &str,
     mut wire: Line,
     plan: &ClientPlan,
-    told: &mut Told,
+    told: &mut RowLine,
 ) {
     let mut clock = Moments { text: moments };
-    let mut out = Page::new(kind == "full");
-    let mut err = Page::new(kind == "mute");
+    let mut out = ScriptedOutlet::new(kind == "full");
+    let mut err = ScriptedOutlet::new(kind == "mute");
     let result = run_client(alloc, &mut wire, &mut clock, &mut out, &mut err, plan);
     let is_clean = out.bytes.is_empty() && err.bytes.is_empty() && wire.written.is_empty();
     tell_status(result, is_clean, told);
@@ -44,7 +44,7 @@ fn run(
 }
 
 /// Plays an event.
-pub(crate) fn play(alloc: Global, event: &str, bytes: &mut Vec<u8>, told: &mut Told) {
+pub(crate) fn play(alloc: Global, event: &str, bytes: &mut Vec<u8>, told: &mut RowLine) {
     let (kind, event) = cut(event);
     let (moments, event) = cut(event);
     let (reads, event) = cut(event);

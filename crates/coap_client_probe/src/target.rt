@@ -1,12 +1,12 @@
 //! Targets: `= target`, and then texts, one a row.
 
 use coap_client::{Target, TargetFault};
-use coap_told::Told;
+use coap_told::RowLine;
 use std::alloc::Global;
 use std::fmt::Write;
 
 /// Tells a fault.
-pub(crate) fn tell_fault(fault: TargetFault, told: &mut Told) {
+pub(crate) fn tell_fault(fault: TargetFault, told: &mut RowLine) {
     if fault == TargetFault::Memory {
         told.word("memory");
     }
@@ -14,7 +14,7 @@ pub(crate) fn tell_fault(fault: TargetFault, told: &mut Told) {
 }
 
 /// Tells how many parts there are, and each of them.
-fn tell_parts(parts: &[Vec<u8>], told: &mut Told) {
+fn tell_parts(parts: &[Vec<u8>], told: &mut RowLine) {
     told.number(parts.len() as u64);
     for part in parts {
         told.hex(part);
@@ -22,7 +22,7 @@ fn tell_parts(parts: &[Vec<u8>], told: &mut Told) {
 }
 
 /// Tells what a target is.
-pub(crate) fn tell_target(target: &Target, told: &mut Told) {
+pub(crate) fn tell_target(target: &Target, told: &mut RowLine) {
     told.word(if target.is_address() {
         "address"
     } else {
@@ -35,7 +35,7 @@ pub(crate) fn tell_target(target: &Target, told: &mut Told) {
 }
 
 /// Reads a target, and tells what it is.
-pub(crate) fn play(alloc: Global, text: &str, told: &mut Told) {
+pub(crate) fn play(alloc: Global, text: &str, told: &mut RowLine) {
     match Target::read(alloc, text) {
         Ok(target) => tell_target(&target, told),
         Err(fault) => tell_fault(fault, told),

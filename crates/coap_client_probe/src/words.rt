@@ -3,7 +3,7 @@
 
 use crate::target::tell_target;
 use coap_client::{ClientPlan, Mode, ServerPlan, WordsFault, client_words, server_words};
-use coap_told::{Told, cut};
+use coap_told::{RowLine, cut};
 use std::alloc::Global;
 use std::fmt;
 use std::fmt::Write;
@@ -41,7 +41,7 @@ impl<'a> Words<'a> {
 /// A line in which `\n` stands for a newline.
 #[derive(Drop)]
 struct Line<'a> {
-    told: &'a mut Told,
+    told: &'a mut RowLine,
 }
 
 impl fmt::Write for Line<'_> {
@@ -57,7 +57,7 @@ impl fmt::Write for Line<'_> {
 }
 
 /// Tells a fault: of words that `clap` refuses the kind, of all others the text.
-pub(crate) fn tell_fault(fault: &WordsFault, told: &mut Told) {
+pub(crate) fn tell_fault(fault: &WordsFault, told: &mut RowLine) {
     let number = fault.number();
     match fault {
         WordsFault::Usage(error) => {
@@ -75,7 +75,7 @@ pub(crate) fn tell_fault(fault: &WordsFault, told: &mut Told) {
 }
 
 /// Tells a plan of `coap-server`.
-fn tell_server(plan: &ServerPlan, told: &mut Told) {
+fn tell_server(plan: &ServerPlan, told: &mut RowLine) {
     let _ = match &plan.mode {
         Mode::Listen(address, port) => write!(told, "listen {address} {port} "),
         Mode::Stdio => write!(told, "stdio "),
@@ -94,7 +94,7 @@ fn tell_server(plan: &ServerPlan, told: &mut Told) {
 }
 
 /// Tells a plan of `coap-client`.
-fn tell_client(plan: &ClientPlan, told: &mut Told) {
+fn tell_client(plan: &ClientPlan, told: &mut RowLine) {
     let _ = write!(told, "{:?} ", plan.method);
     tell_target(&plan.target, told);
     let _ = write!(told, "{:?} {} ", plan.observe, plan.wait);
@@ -112,7 +112,7 @@ fn tell_client(plan: &ClientPlan, told: &mut Told) {
 }
 
 /// Tells the text of a fault.
-fn tell_text<P: Drop>(read: Result<P, WordsFault>, told: &mut Told) {
+fn tell_text<P: Drop>(read: Result<P, WordsFault>, told: &mut RowLine) {
     match read {
         Ok(_) => told.word("none"),
         Err(WordsFault::Memory) => told.word("memory"),
@@ -123,7 +123,7 @@ fn tell_text<P: Drop>(read: Result<P, WordsFault>, told: &mut Told) {
 }
 
 /// Reads the words of a command line, and tells what they ask for.
-pub(crate) fn play(alloc: Global, event: &str, told: &mut Told) {
+pub(crate) fn play(alloc: Global, event: &str, told: &mut RowLine) {
     let (word, rest) = cut(event);
     let words = Words::of(rest);
     match word {

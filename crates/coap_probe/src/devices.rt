@@ -1,6 +1,6 @@
 //! A reader and a writer that are set by a row, and tell each of their calls.
 
-use coap_told::{Told, next_number};
+use coap_told::{RowLine, next_number};
 use std::cell::RefCell;
 use std::io;
 use std::io::{Read, Write};
@@ -42,7 +42,7 @@ pub(crate) fn devices_set<'a>(text: &'a str) -> (Setting, &'a str) {
 pub(crate) struct Reader<'a> {
     pub(crate) setting: Setting,
     pub(crate) rest: &'a [u8],
-    pub(crate) page: &'a RefCell<Told>,
+    pub(crate) page: &'a RefCell<RowLine>,
 }
 
 impl Reader<'_> {
@@ -95,7 +95,7 @@ impl Read for Reader<'_> {
 #[derive(Drop)]
 pub(crate) struct Writer<'a> {
     pub(crate) setting: Setting,
-    pub(crate) page: &'a RefCell<Told>,
+    pub(crate) page: &'a RefCell<RowLine>,
 }
 
 impl Writer<'_> {

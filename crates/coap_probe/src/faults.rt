@@ -1,9 +1,9 @@
 //! The name, the number and the text of a fault.
 
-use coap_told::Told;
+use coap_told::RowLine;
 use std::fmt::{Debug, Display, Write};
 
 /// Tells the name of a fault, its number and its text: `TooLarge 2 "frame too large"`.
-pub(crate) fn tell_fault<F: Debug + Display>(fault: &F, number: u8, told: &mut Told) {
+pub(crate) fn tell_fault<F: Debug + Display>(fault: &F, number: u8, told: &mut RowLine) {
     let _ = write!(told, "{fault:?} {number} \"{fault}\" ");
 }

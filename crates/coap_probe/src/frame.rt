@@ -3,7 +3,7 @@
 
 use crate::faults::tell_fault;
 use coap_frame::{FrameEvent, Framed, Framer};
-use coap_told::{Told, cut, number, read_hex};
+use coap_told::{RowLine, cut, number, read_hex};
 use std::alloc::{AllocError, Global};
 
 /// A framer for frames of at most so many bytes; none for a number that is out of its range.
@@ -16,7 +16,7 @@ pub(crate) fn opened(alloc: Global, text: &str) -> Option<Result<Framer, AllocEr
 }
 
 /// Tells what was found in a piece, and how many of its bytes were taken.
-fn found(framed: &Framed, told: &mut Told) {
+fn found(framed: &Framed, told: &mut RowLine) {
     match framed.what {
         FrameEvent::More => told.word("More"),
         FrameEvent::Frame(frame) => {
@@ -34,7 +34,7 @@ fn found(framed: &Framed, told: &mut Told) {
 }
 
 /// Hands over bytes one by one, and tells what was found with the last one.
-fn each(framer: &mut Framer, bytes: &[u8], told: &mut Told) {
+fn each(framer: &mut Framer, bytes: &[u8], told: &mut RowLine) {
     told.word("More");
     for byte in bytes {
         let piece = [*byte];
@@ -46,7 +46,7 @@ fn each(framer: &mut Framer, bytes: &[u8], told: &mut Told) {
 }
 
 /// Hands over all bytes of a piece, and tells what was found each time, and how many bytes were left.
-fn all(framer: &mut Framer, piece: &[u8], told: &mut Told) {
+fn all(framer: &mut Framer, piece: &[u8], told: &mut RowLine) {
     let mut rest = piece;
     for _ in 0..piece.len() {
         if rest.is_empty() {
@@ -63,7 +63,7 @@ fn all(framer: &mut Framer, piece: &[u8], told: &mut Told) {
 
 /// Hands over a piece, and what stands behind the frame that lies whole in it while that is held; tells what was found
 /// there, and then the frame.
-fn hold(framer: &mut Framer, piece: &[u8], told: &mut Told) {
+fn hold(framer: &mut Framer, piece: &[u8], told: &mut RowLine) {
     let framed = framer.next(piece);
     let taken = framed.taken;
     let FrameEvent::Whole(frame) = framed.what else {
@@ -78,7 +78,7 @@ fn hold(framer: &mut Framer, piece: &[u8], told: &mut Told) {
 /// Takes back the frame that was just given, with its last piece: a split one, or an empty Capabilities and Settings
 /// message that lay whole in its piece.
 #[tactic(auto, unfolding(coap_wire::specs::StreamPrefix::prefix_kind, coap_wire::specs::Reading::declared_of, coap_wire::specs::Reading::length_at, coap_wire::specs::Reading::option_number_at))]
-fn unread(framer: &mut Framer, piece: &[u8], told: &mut Told) {
+fn unread(framer: &mut Framer, piece: &[u8], told: &mut RowLine) {
     if framer.spent() > 0 {
         framer.unread(piece);
     } else if piece == [0x00, 0xe1].as_slice() && framer.max() == 1_152 && framer.kept() == 0 {
@@ -89,7 +89,7 @@ fn unread(framer: &mut Framer, piece: &[u8], told: &mut Told) {
 }
 
 /// Takes frames of at most so many bytes from now on, or tells why not.
-fn raise(framer: &mut Framer, text: &str, told: &mut Told) {
+fn raise(framer: &mut Framer, text: &str, told: &mut RowLine) {
     let max = number(text).unwrap_or(0);
     if let Err(fault) = framer.raise(max.min(4_294_967_295) as usize) {
         tell_fault(&fault, fault as u8, told);
@@ -97,7 +97,7 @@ fn raise(framer: &mut Framer, text: &str, told: &mut Told) {
 }
 
 /// Makes an event happen that finds nothing.
-fn act(framer: &mut Framer, word: &str, bytes: &[u8], told: &mut Told) {
+fn act(framer: &mut Framer, word: &str, bytes: &[u8], told: &mut RowLine) {
     match word {
         "unread" => unread(framer, bytes, told),
         "clear" => framer.clear(),
@@ -107,7 +107,7 @@ fn act(framer: &mut Framer, word: &str, bytes: &[u8], told: &mut Told) {
 }
 
 /// Plays an event, and tells how many bytes are kept and how many are spent.
-pub(crate) fn play(framer: &mut Framer, event: &str, bytes: &mut Vec<u8>, told: &mut Told) {
+pub(crate) fn play(framer: &mut Framer, event: &str, bytes: &mut Vec<u8>, told: &mut RowLine) {
     let (word, rest) = cut(event);
     read_hex(rest, bytes);
     match word {

@@ -4,7 +4,7 @@
 use crate::faults::tell_fault;
 use coap_conn::{LimitFault, Limits, Reason, SendFault};
 use coap_serve::{Config, ConfigFault, IoFault, Starts};
-use coap_told::{Told, cut, next_number};
+use coap_told::{RowLine, cut, next_number};
 use std::fmt::Write;
 
 /// The limits that six numbers name, or their fault, and the text behind them.
@@ -27,7 +27,7 @@ pub(crate) fn limits_of<'a>(text: &'a str) -> (Result<Limits, LimitFault>, &'a s
 }
 
 /// Tells each limit as it is read back.
-fn tell_limits(limits: &Limits, told: &mut Told) {
+fn tell_limits(limits: &Limits, told: &mut RowLine) {
     told.number(limits.max_message() as u64);
     told.number(limits.max_sent() as u64);
     told.number(limits.queue() as u64);
@@ -37,7 +37,7 @@ fn tell_limits(limits: &Limits, told: &mut Told) {
 }
 
 /// Tells where counts begin.
-fn tell_starts(starts: Starts, told: &mut Told) {
+fn tell_starts(starts: Starts, told: &mut RowLine) {
     told.number(starts.moment);
     told.number(starts.versions);
     told.number(starts.ids);
@@ -61,7 +61,7 @@ pub(crate) fn config_of(limits: Limits, text: &str) -> Result<Config, ConfigFaul
 }
 
 /// Makes a configuration, and tells each of its values as it is read back, or the fault.
-fn config(limits: Limits, text: &str, told: &mut Told) {
+fn config(limits: Limits, text: &str, told: &mut RowLine) {
     match config_of(limits, text) {
         Ok(config) => {
             tell_limits(&config.limits(), told);
@@ -76,7 +76,7 @@ fn config(limits: Limits, text: &str, told: &mut Told) {
 }
 
 /// Tells the faults of a kind that no row here meets, or the reasons for which connections stop.
-fn tell_faults(kind: &str, told: &mut Told) {
+fn tell_faults(kind: &str, told: &mut RowLine) {
     match kind {
         "send" => {
             for fault in [
@@ -120,7 +120,7 @@ fn tell_faults(kind: &str, told: &mut Told) {
 }
 
 /// Plays an event.
-pub(crate) fn play(event: &str, told: &mut Told) {
+pub(crate) fn play(event: &str, told: &mut RowLine) {
     let (word, rest) = cut(event);
     match word {
         "limits" | "config" => match limits_of(rest) {

@@ -5,7 +5,7 @@
 
 use crate::limits::limits_of;
 use coap_conn::{Link, Phase, Reject, Role, first_part};
-use coap_told::{Told, cut, number, read_hex};
+use coap_told::{RowLine, cut, number, read_hex};
 use coap_wire::{BuildFault, Builder, MessageRef, Token, parse};
 use std::alloc::{AllocError, Global};
 use std::fmt::Write;
@@ -24,7 +24,7 @@ pub(crate) fn opened(alloc: Global, text: &str) -> Option<Result<Link, AllocErro
 }
 
 /// Hands a message to the link, and tells what it was.
-fn hear(link: &mut Link, bytes: &[u8], told: &mut Told) {
+fn hear(link: &mut Link, bytes: &[u8], told: &mut RowLine) {
     let Ok(message) = parse(bytes) else {
         return told.word("strange");
     };
@@ -48,7 +48,7 @@ fn built<'a>(message: &MessageRef<'a>) -> Result<Builder<'a>, BuildFault> {
 }
 
 /// Sends a response, a request, or a cancellation under the token that the message has, and tells what became of it.
-fn send(link: &mut Link, word: &str, bytes: &[u8], how: &str, told: &mut Told) {
+fn send(link: &mut Link, word: &str, bytes: &[u8], how: &str, told: &mut RowLine) {
     let Ok(message) = parse(bytes) else {
         return told.word("strange");
     };
@@ -70,7 +70,7 @@ fn send(link: &mut Link, word: &str, bytes: &[u8], how: &str, told: &mut Told) {
 }
 
 /// Holds the answer to the request with a token until a moment, and tells whether it is.
-fn hold(link: &mut Link, token: &[u8], moment: u64, told: &mut Told) {
+fn hold(link: &mut Link, token: &[u8], moment: u64, told: &mut RowLine) {
     let Ok(token) = Token::try_from(token) else {
         return told.word("strange");
     };
@@ -84,7 +84,7 @@ fn hold(link: &mut Link, token: &[u8], moment: u64, told: &mut Told) {
 }
 
 /// Tells what is due at a moment.
-fn due(link: &mut Link, moment: u64, told: &mut Told) {
+fn due(link: &mut Link, moment: u64, told: &mut RowLine) {
     if !link.ready() {
         return told.word("refused");
     }
@@ -93,7 +93,7 @@ fn due(link: &mut Link, moment: u64, told: &mut Told) {
 }
 
 /// Rejects what is behind the messages so far.
-fn reject(link: &mut Link, fault: &str, told: &mut Told) {
+fn reject(link: &mut Link, fault: &str, told: &mut RowLine) {
     let fault = match fault {
         "format" => Reject::Format,
         "large" => Reject::TooLarge,
@@ -110,7 +110,7 @@ fn reject(link: &mut Link, fault: &str, told: &mut Told) {
 }
 
 /// Announces another greatest message that is taken, and tells the one in force.
-fn announce(link: &mut Link, size: usize, told: &mut Told) {
+fn announce(link: &mut Link, size: usize, told: &mut RowLine) {
     let size = size.min(4_294_967_295) as u32;
     match link.phase() {
         Phase::Open => {
@@ -127,7 +127,7 @@ fn announce(link: &mut Link, size: usize, told: &mut Told) {
 }
 
 /// Writes so many bytes of those that wait.
-fn written(link: &mut Link, count: usize, told: &mut Told) {
+fn written(link: &mut Link, count: usize, told: &mut RowLine) {
     if count <= link.waiting() {
         link.written(count);
         told.word("-");
@@ -137,7 +137,7 @@ fn written(link: &mut Link, count: usize, told: &mut Told) {
 }
 
 /// Makes an event happen, and tells its answer.
-fn act(link: &mut Link, word: &str, bytes: &[u8], last: &str, told: &mut Told) {
+fn act(link: &mut Link, word: &str, bytes: &[u8], last: &str, told: &mut RowLine) {
     let moment = number(last).unwrap_or(0);
     match word {
         "hear" => hear(link, bytes, told),
@@ -175,7 +175,7 @@ fn act(link: &mut Link, word: &str, bytes: &[u8], last: &str, told: &mut Told) {
 
 /// Plays an event: its answer, and then the phase, the greatest message that the peer takes, the bytes that are free,
 /// whether the link is ready, whether it is finished, and the bytes that wait.
-pub(crate) fn play(link: &mut Link, event: &str, bytes: &mut Vec<u8>, told: &mut Told) {
+pub(crate) fn play(link: &mut Link, event: &str, bytes: &mut Vec<u8>, told: &mut RowLine) {
     let (word, rest) = cut(event);
     let (digits, last) = cut(rest);
     read_hex(digits, bytes);

@@ -18,7 +18,7 @@ use coap_conn::{Link, OutQueue};
 use coap_frame::Framer;
 use coap_serve::{Config, Server};
 use coap_store::Store;
-use coap_told::{Layers, Told, cut};
+use coap_told::{Layers, RowLine, cut};
 use std::alloc::{AllocError, Global};
 use std::process::ExitCode;
 
@@ -48,7 +48,7 @@ enum Value {
 }
 
 /// The value that an opening names, and nothing where memory was refused.
-fn opened(alloc: Global, opening: &str, told: &mut Told) -> Value {
+fn opened(alloc: Global, opening: &str, told: &mut RowLine) -> Value {
     let (layer, rest) = cut(opening);
     match layer {
         "frame" => match frame::opened(alloc, rest) {
@@ -89,11 +89,11 @@ fn opened(alloc: Global, opening: &str, told: &mut Told) -> Value {
 }
 
 impl Layers for Value {
-    fn open(&mut self, alloc: Global, opening: &str, told: &mut Told) {
+    fn open(&mut self, alloc: Global, opening: &str, told: &mut RowLine) {
         *self = opened(alloc, opening, told);
     }
 
-    fn act(&mut self, alloc: Global, event: &str, bytes: &mut Vec<u8>, told: &mut Told) {
+    fn act(&mut self, alloc: Global, event: &str, bytes: &mut Vec<u8>, told: &mut RowLine) {
         match self {
             Value::Nothing => told.word("nothing"),
             Value::Frame(framer) => frame::play(framer, event, bytes, told),

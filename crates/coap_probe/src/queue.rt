@@ -2,7 +2,7 @@
 //! `part` and `look`.
 
 use coap_conn::{OutQueue, first_part};
-use coap_told::{Told, cut, number, read_hex};
+use coap_told::{RowLine, cut, number, read_hex};
 use coap_wire::Sink;
 use std::alloc::{AllocError, Global};
 
@@ -16,7 +16,7 @@ pub(crate) fn opened(alloc: Global, text: &str) -> Option<Result<OutQueue, Alloc
 }
 
 /// Plays an event on a queue.
-fn act(queue: &mut OutQueue, word: &str, rest: &str, bytes: &mut Vec<u8>, told: &mut Told) {
+fn act(queue: &mut OutQueue, word: &str, rest: &str, bytes: &mut Vec<u8>, told: &mut RowLine) {
     let count = number(rest).unwrap_or(0);
     match (word, bytes.as_slice()) {
         ("append", more) if more.len() <= queue.room() => queue.append(more),
@@ -29,7 +29,7 @@ fn act(queue: &mut OutQueue, word: &str, rest: &str, bytes: &mut Vec<u8>, told: 
 }
 
 /// Plays an event, and tells the bytes that are free, the room for more, how many bytes wait, and these.
-pub(crate) fn play(queue: &mut OutQueue, event: &str, bytes: &mut Vec<u8>, told: &mut Told) {
+pub(crate) fn play(queue: &mut OutQueue, event: &str, bytes: &mut Vec<u8>, told: &mut RowLine) {
     let (word, rest) = cut(event);
     read_hex(rest, bytes);
     act(queue, word, rest, bytes, told);

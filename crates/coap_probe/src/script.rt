@@ -3,12 +3,12 @@
 
 use coap_serve::{Event, ScriptFault, script};
 use coap_store::PathKey;
-use coap_told::{Told, cut, read_hex};
+use coap_told::{RowLine, cut, read_hex};
 use std::alloc::Global;
 use std::fmt::Write;
 
 /// Tells a path: the hex digits of each segment behind a slash.
-fn path(path: &PathKey, told: &mut Told) {
+fn path(path: &PathKey, told: &mut RowLine) {
     for segment in path.segments() {
         let _ = told.write_str("/");
         told.hex(segment);
@@ -16,13 +16,13 @@ fn path(path: &PathKey, told: &mut Told) {
 }
 
 /// Tells what an event does with a connection, and its number.
-fn on(word: &str, connection: u64, told: &mut Told) {
+fn on(word: &str, connection: u64, told: &mut RowLine) {
     told.word(word);
     told.number(connection);
 }
 
 /// Tells what is put where.
-fn put(at: &PathKey, format: Option<u16>, payload: &[u8], told: &mut Told) {
+fn put(at: &PathKey, format: Option<u16>, payload: &[u8], told: &mut RowLine) {
     told.word("Put");
     path(at, told);
     let _ = write!(told, "{format:?} ");
@@ -30,7 +30,7 @@ fn put(at: &PathKey, format: Option<u16>, payload: &[u8], told: &mut Told) {
 }
 
 /// Tells an event.
-fn event(event: &Event, told: &mut Told) {
+fn event(event: &Event, told: &mut RowLine) {
     match event {
         Event::Open => told.word("Open"),
         Event::In { connection, bytes } => {
@@ -61,13 +61,13 @@ fn event(event: &Event, told: &mut Told) {
 }
 
 /// Tells the number and the text of a fault.
-fn fault(fault: ScriptFault, told: &mut Told) {
+fn fault(fault: ScriptFault, told: &mut RowLine) {
     told.number(u64::from(fault.number()));
     let _ = write!(told, "{fault} ");
 }
 
 /// Plays an event.
-pub(crate) fn play(alloc: Global, row: &str, bytes: &mut Vec<u8>, told: &mut Told) {
+pub(crate) fn play(alloc: Global, row: &str, bytes: &mut Vec<u8>, told: &mut RowLine) {
     let (word, rest) = cut(row);
     read_hex(rest, bytes);
     match word {

@@ -11,7 +11,7 @@ use coap_serve::{
     AnnounceFault, Config, Handled, ReplayFault, ScriptFault, Server, TakeFault, WriteOutlet,
     WrittenFault, script,
 };
-use coap_told::{Told, next_number, read_hex};
+use coap_told::{RowLine, next_number, read_hex};
 use std::alloc::{AllocError, Global};
 
 /// The configuration that thirteen numbers name; none where one is out of its range.
@@ -40,7 +40,7 @@ fn put_for(bytes: &mut Vec<u8>, old: u8, new: u8) {
 }
 
 /// Has a connection take bytes in one call, and tells how many it took and what it handled, or why it did not.
-fn take(server: &mut Server, text: &str, bytes: &mut Vec<u8>, told: &mut Told) {
+fn take(server: &mut Server, text: &str, bytes: &mut Vec<u8>, told: &mut RowLine) {
     let (id, digits) = next_number(text);
     read_hex(digits, bytes);
     match server.take(id as u64, bytes) {
@@ -61,7 +61,7 @@ fn take(server: &mut Server, text: &str, bytes: &mut Vec<u8>, told: &mut Told) {
 }
 
 /// Says that bytes of a connection were written, and tells whether so many were waiting.
-fn written(server: &mut Server, text: &str, told: &mut Told) {
+fn written(server: &mut Server, text: &str, told: &mut RowLine) {
     let (id, rest) = next_number(text);
     let (count, _) = next_number(rest);
     told.word(match server.written(id as u64, count) {
@@ -72,7 +72,7 @@ fn written(server: &mut Server, text: &str, told: &mut Told) {
 }
 
 /// Announces a size on a connection, and tells whether it did, or why it did not.
-fn announce(server: &mut Server, text: &str, told: &mut Told) {
+fn announce(server: &mut Server, text: &str, told: &mut RowLine) {
     let (id, rest) = next_number(text);
     let (size, _) = next_number(rest);
     told.word(
@@ -90,7 +90,7 @@ fn announce(server: &mut Server, text: &str, told: &mut Told) {
 }
 
 /// Tells a front of what waits on a connection.
-fn part(server: &Server, text: &str, told: &mut Told) {
+fn part(server: &Server, text: &str, told: &mut RowLine) {
     let (id, _) = next_number(text);
     match server.parts(id as u64) {
         Some(parts) => told.hex(first_part(parts)),
@@ -104,7 +104,7 @@ pub(crate) fn play(
     server: &mut Server,
     row: &str,
     bytes: &mut Vec<u8>,
-    told: &mut Told,
+    told: &mut RowLine,
 ) {
     if let Some(text) = row.strip_prefix("take ") {
         return take(server, text, bytes, told);

@@ -5,14 +5,14 @@
 
 use crate::devices::{Reader, Setting, Writer, devices_set};
 use coap_serve::{Config, IoFault, Outlet, ReadSource, Report, Source, WriteOutlet, serve_one};
-use coap_told::{Told, cut, read_hex};
+use coap_told::{RowLine, cut, read_hex};
 use std::alloc::Global;
 use std::cell::RefCell;
 use std::fmt::Write;
 use std::mem;
 
 /// Tells what a run answered: why it ended, the bytes that were read and the messages that were handled; or its fault.
-fn answered(outcome: &Result<Report, IoFault>, told: &mut Told) {
+fn answered(outcome: &Result<Report, IoFault>, told: &mut RowLine) {
     match outcome {
         Ok(report) => {
             let Report {
@@ -31,7 +31,7 @@ fn answered(outcome: &Result<Report, IoFault>, told: &mut Told) {
 
 /// Serves bytes over devices that are set so, and tells their calls and the answer. A device has failed where the
 /// answer says so.
-fn served(alloc: Global, config: &Config, setting: Setting, rest: &[u8], page: &RefCell<Told>) {
+fn served(alloc: Global, config: &Config, setting: Setting, rest: &[u8], page: &RefCell<RowLine>) {
     if config.starts().ids == u64::MAX {
         return;
     }
@@ -54,10 +54,10 @@ fn served(alloc: Global, config: &Config, setting: Setting, rest: &[u8], page: &
 
 /// Serves the bytes of a row. The line is lent to the devices for so long; the one in its place has no room, and so no
 /// memory.
-fn serve(alloc: Global, config: &Config, text: &str, bytes: &mut Vec<u8>, told: &mut Told) {
+fn serve(alloc: Global, config: &Config, text: &str, bytes: &mut Vec<u8>, told: &mut RowLine) {
     let (setting, rest) = devices_set(text);
     read_hex(rest, bytes);
-    let Ok(none) = Told::new(alloc, 0) else {
+    let Ok(none) = RowLine::new(alloc, 0) else {
         return told.word("memory");
     };
     let page = RefCell::new(mem::replace(told, none));
@@ -71,7 +71,7 @@ pub(crate) fn play(
     config: &Config,
     event: &str,
     bytes: &mut Vec<u8>,
-    told: &mut Told,
+    told: &mut RowLine,
 ) {
     let (word, rest) = cut(event);
     match word {

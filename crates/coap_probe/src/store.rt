@@ -5,7 +5,7 @@
 
 use arrayvec::ArrayVec;
 use coap_store::{Change, PathKey, Plan, State, Store, StoreFault, UriPath, Watch, request_path};
-use coap_told::{Told, cut, next_number, number, read_hex};
+use coap_told::{RowLine, cut, next_number, number, read_hex};
 use coap_wire::option_numbers::URI_PATH;
 use coap_wire::{MessageRef, parse};
 use std::alloc::{AllocError, Global};
@@ -28,7 +28,7 @@ fn format_of(word: &str) -> Option<u16> {
 }
 
 /// Tells the path of a new resource.
-fn tell_location(location: Option<UriPath>, told: &mut Told) {
+fn tell_location(location: Option<UriPath>, told: &mut RowLine) {
     let Some(path) = location else {
         return;
     };
@@ -39,7 +39,7 @@ fn tell_location(location: Option<UriPath>, told: &mut Told) {
 }
 
 /// Tells a number that may be there, behind its name.
-fn tell_number(name: &str, number: Option<u32>, told: &mut Told) {
+fn tell_number(name: &str, number: Option<u32>, told: &mut RowLine) {
     if let Some(number) = number {
         told.word(name);
         told.number(u64::from(number));
@@ -66,7 +66,7 @@ fn word_of_watch(watch: Watch) -> &'static str {
 
 /// Tells an answer: its code, what it changes, what becomes of the observer, each part that the response has, the
 /// payload, and once more what becomes of the observer, as the answer without its payload tells it.
-fn tell_plan(plan: Plan, told: &mut Told) {
+fn tell_plan(plan: Plan, told: &mut RowLine) {
     told.number(u64::from(plan.code().byte()));
     told.word(word_of_change(&plan.change()));
     told.word(word_of_watch(plan.watch()));
@@ -84,7 +84,7 @@ fn tell_plan(plan: Plan, told: &mut Told) {
 }
 
 /// Makes the change that a request asks for, and tells where memory was refused.
-fn make(store: &mut Store, request: &MessageRef, told: &mut Told) {
+fn make(store: &mut Store, request: &MessageRef, told: &mut RowLine) {
     // The plan without its payload borrows the request alone.
     let plan = store.answer(request, 0).without_payload();
     if store.apply(plan.change()).is_err() {
@@ -104,7 +104,7 @@ fn path_of(request: &MessageRef) -> Option<PathKey> {
 }
 
 /// Tells the segments of a key, whether its copy is the same, and whether the request asks for it.
-fn tell_path(path: &PathKey, request: &MessageRef, told: &mut Told) {
+fn tell_path(path: &PathKey, request: &MessageRef, told: &mut RowLine) {
     told.word("key");
     for segment in path.segments() {
         told.hex(segment);
@@ -121,7 +121,7 @@ fn tell_path(path: &PathKey, request: &MessageRef, told: &mut Told) {
 }
 
 /// Tells a state.
-fn tell_state(state: &State, told: &mut Told) {
+fn tell_state(state: &State, told: &mut RowLine) {
     let State::Present(present) = state else {
         return told.word("absent");
     };
@@ -132,7 +132,7 @@ fn tell_state(state: &State, told: &mut Told) {
 }
 
 /// Does to a store what the program itself may do at the path of a request, and tells what comes of it.
-fn change(store: &mut Store, word: &str, request: &MessageRef, rest: &str, told: &mut Told) {
+fn change(store: &mut Store, word: &str, request: &MessageRef, rest: &str, told: &mut RowLine) {
     let Some(path) = path_of(request) else {
         return told.word("none");
     };
@@ -167,7 +167,7 @@ fn planned<'s, 'r>(store: &'s Store, bytes: &'r [u8], moment: u64) -> Option<Pla
 }
 
 /// Plays an event.
-pub(crate) fn play(store: &mut Store, event: &str, bytes: &mut Vec<u8>, told: &mut Told) {
+pub(crate) fn play(store: &mut Store, event: &str, bytes: &mut Vec<u8>, told: &mut RowLine) {
     let (word, rest) = cut(event);
     let (digits, rest) = cut(rest);
     read_hex(digits, bytes);

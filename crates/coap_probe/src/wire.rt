@@ -2,7 +2,7 @@
 //! NUMBER`, `uint NUMBER` and `value BYTES`. They need no value: `= wire`.
 
 use crate::faults::tell_fault;
-use coap_told::{Told, cut, next_number, number, read_hex};
+use coap_told::{RowLine, cut, next_number, number, read_hex};
 use coap_wire::{
     Builder, Code, OptionRef, Sink, SliceSink, Token, declared, kind, parse, uint_bytes, uint_value,
 };
@@ -42,7 +42,7 @@ const CODES: [Code; 26] = [
 ];
 
 /// Tells the byte of each code, and its class and its detail.
-fn tell_codes(codes: &[Code], told: &mut Told) {
+fn tell_codes(codes: &[Code], told: &mut RowLine) {
     for code in codes {
         told.hex(&[code.byte()]);
         let _ = write!(told, "{}.{} ", code.class(), code.detail());
@@ -50,13 +50,13 @@ fn tell_codes(codes: &[Code], told: &mut Told) {
 }
 
 /// Tells an option.
-fn tell_option(option: &OptionRef, told: &mut Told) {
+fn tell_option(option: &OptionRef, told: &mut RowLine) {
     let _ = write!(told, "{}=", option.number);
     told.hex(option.value);
 }
 
 /// Tells a message in words, or the fault of the bytes. Behind its last option there must be none.
-fn read(bytes: &[u8], told: &mut Told) {
+fn read(bytes: &[u8], told: &mut RowLine) {
     match parse(bytes) {
         Ok(message) => {
             told.hex(&[message.code().byte()]);
@@ -76,7 +76,7 @@ fn read(bytes: &[u8], told: &mut Told) {
 
 /// Tells the options of a message that are recognised, behind which there must be none, and the first critical one that
 /// is not.
-fn known(bytes: &[u8], told: &mut Told) {
+fn known(bytes: &[u8], told: &mut RowLine) {
     let Ok(message) = parse(bytes) else {
         return told.word("strange");
     };
@@ -95,7 +95,7 @@ fn known(bytes: &[u8], told: &mut Told) {
 }
 
 /// Tells a message with another token.
-fn tell_with(message: &Builder, bytes: &[u8], room: &mut [u8], told: &mut Told) {
+fn tell_with(message: &Builder, bytes: &[u8], room: &mut [u8], told: &mut RowLine) {
     match Token::try_from(bytes) {
         Ok(token) => tell_other(message, &token, room, told),
         Err(_) => told.word("strange"),
@@ -103,13 +103,13 @@ fn tell_with(message: &Builder, bytes: &[u8], room: &mut [u8], told: &mut Told) 
 }
 
 /// Tells a message with this token.
-fn tell_other(message: &Builder, token: &Token, room: &mut [u8], told: &mut Told) {
+fn tell_other(message: &Builder, token: &Token, room: &mut [u8], told: &mut RowLine) {
     let other = message.with_token(token);
     tell_built(&other, room, told);
 }
 
 /// Tells the code, the token, the size and the bytes of a message.
-fn tell_built(message: &Builder, room: &mut [u8], told: &mut Told) {
+fn tell_built(message: &Builder, room: &mut [u8], told: &mut RowLine) {
     told.hex(&[message.code().byte()]);
     told.hex(message.token().bytes());
     told.number(message.size());
@@ -122,7 +122,7 @@ fn tell_built(message: &Builder, room: &mut [u8], told: &mut Told) {
 }
 
 /// Adds the option of a number, or else the payload, and tells the fault where it is refused.
-fn add<'a>(message: &mut Builder<'a>, name: &str, value: &'a [u8], told: &mut Told) {
+fn add<'a>(message: &mut Builder<'a>, name: &str, value: &'a [u8], told: &mut RowLine) {
     let answer = match name.parse::<u16>() {
         Ok(number) => message.option(number, value),
         Err(_) => message.payload(value),
@@ -135,7 +135,7 @@ fn add<'a>(message: &mut Builder<'a>, name: &str, value: &'a [u8], told: &mut To
 /// Builds a message. The bytes are its code, its token of so many, and the values of the parts, each of which is a
 /// name, `=` and a length: of an option its number, of the payload `payload`. `look` tells the message, and `token` the
 /// one with another token.
-fn write(text: &str, bytes: &mut Vec<u8>, told: &mut Told) {
+fn write(text: &str, bytes: &mut Vec<u8>, told: &mut RowLine) {
     let count = bytes.len();
     let room = count.saturating_mul(2).saturating_add(FORMS);
     if bytes.resize(room, 0).is_err() || count > bytes.len() {
@@ -167,7 +167,7 @@ fn build<'a>(
     mut rest: &'a [u8],
     text: &str,
     room: &mut [u8],
-    told: &mut Told,
+    told: &mut RowLine,
 ) {
     for word in text.split(' ') {
         let (name, length) = word.split_once('=').unwrap_or((word, ""));
@@ -185,7 +185,7 @@ fn build<'a>(
 
 /// Tells the least and the greatest length of the options with a number, and whether a message may have several of
 /// them.
-fn tell_kind(number: usize, told: &mut Told) {
+fn tell_kind(number: usize, told: &mut RowLine) {
     let Ok(number) = u16::try_from(number) else {
         return told.word("strange");
     };
@@ -203,14 +203,14 @@ fn tell_kind(number: usize, told: &mut Told) {
 }
 
 /// Tells the fewest bytes of a number, and what these mean.
-fn tell_uint(number: usize, told: &mut Told) {
+fn tell_uint(number: usize, told: &mut RowLine) {
     let bytes = uint_bytes(number as u64);
     told.hex(&bytes);
     let _ = write!(told, "{:?}", uint_value(&bytes));
 }
 
 /// Plays an event.
-pub(crate) fn play(event: &str, bytes: &mut Vec<u8>, told: &mut Told) {
+pub(crate) fn play(event: &str, bytes: &mut Vec<u8>, told: &mut RowLine) {
     let (word, rest) = cut(event);
     let (first, text) = cut(rest);
     match word {

@@ -3,7 +3,7 @@
 ghost use Rattle.std.specs.Prelude.{◌≡◌, ◌++◌, ◌∷◌, false, [], Some, IfOk};
 ghost use Rattle.coap_client.specs.ClientRun.{IsClientRun, seen};
 
-use crate::devices::Ledger;
+use crate::devices::RecordingOutlet;
 use coap_client::{ClientFault, ClientPlan, client_words, run_client};
 use coap_serve::{Clock, Got, Wire};
 use std::alloc::Global;
@@ -12,7 +12,7 @@ use std::process::Abort;
 /// A wire that tells what it gave, what it took, and what its calls came to. A read gives so many bytes at most, and
 /// `Later` where none is left; a write takes all.
 #[derive(Drop)]
-struct Talk<'a, A: Abort> {
+struct ScriptedClientWire<'a, A: Abort> {
     rt: &'a A,
     rest: &'a [u8],
     most: usize,
@@ -21,7 +21,7 @@ struct Talk<'a, A: Abort> {
     answers: Vec<Got>,
 }
 
-impl<A: Abort> Talk<'_, A> {
+impl<A: Abort> ScriptedClientWire<'_, A> {
     /// Notes what a call comes to.
     fn answer(&mut self, got: Got) -> Got
         ensures got { result ≡ got }
@@ -33,7 +33,7 @@ impl<A: Abort> Talk<'_, A> {
     }
 }
 
-impl<A: Abort> Wire for Talk<'_, A> {
+impl<A: Abort> Wire for ScriptedClientWire<'_, A> {
     ghost given = { λ wire. Some wire.given.items };
 
     ghost written = { λ wire. Some wire.written.items };
@@ -89,10 +89,10 @@ impl<A: Abort> Clock for Seconds<'_, A> {
 /// Runs a client over devices that tell all.
 fn run_told<A: Abort>(
     alloc: Global,
-    wire: &mut Talk<A>,
+    wire: &mut ScriptedClientWire<A>,
     clock: &mut Seconds<A>,
-    out: &mut Ledger,
-    err: &mut Ledger,
+    out: &mut RecordingOutlet,
+    err: &mut RecordingOutlet,
     plan: &ClientPlan,
 ) -> Result<u8, ClientFault>
     requires out_works { out.old.failed ≡ false }
@@ -111,7 +111,7 @@ fn run_told<A: Abort>(
 #[test]
 fn runs_a_client_over_devices_that_tell_all(rt: HostRuntime) {
     let plan = client_words(rt.alloc(), &["coap+tcp://127.0.0.1/"]).expect(&rt, "a plan");
-    let mut wire = Talk {
+    let mut wire = ScriptedClientWire {
         rt: &rt,
         rest: b"\x00\xe1\x31\x45\x01\xffhi",
         most: 2,
@@ -124,8 +124,8 @@ fn runs_a_client_over_devices_that_tell_all(rt: HostRuntime) {
         next: 7,
         moments: Vec::new(rt.alloc()),
     };
-    let mut out = Ledger::new(rt.alloc(), usize::MAX, usize::MAX, None);
-    let mut err = Ledger::new(rt.alloc(), usize::MAX, usize::MAX, None);
+    let mut out = RecordingOutlet::new(rt.alloc(), usize::MAX, usize::MAX, None);
+    let mut err = RecordingOutlet::new(rt.alloc(), usize::MAX, usize::MAX, None);
     let result = run_told(rt.alloc(), &mut wire, &mut clock, &mut out, &mut err, &plan);
     assert!(&rt; result == Ok(0));
     assert!(&rt; wire.given.as_slice() == b"\x00\xe1\x31\x45\x01\xffhi".as_slice());

@@ -98,7 +98,7 @@ impl Source for Pieces<'_> {
 /// An outlet that tells what was written. A write takes so many bytes at most, none where no room is left, and one
 /// write may fail.
 #[derive(Drop)]
-pub struct Ledger {
+pub struct RecordingOutlet {
     pub bytes: Vec<u8>,
     most: usize,
     room: usize,
@@ -106,13 +106,13 @@ pub struct Ledger {
     pub failed: bool,
 }
 
-impl Ledger {
+impl RecordingOutlet {
     /// An outlet for so many bytes, of which so many writes succeed, where one fails.
-    pub fn new(alloc: Global, most: usize, room: usize, fails_in: Option<usize>) -> Ledger
+    pub fn new(alloc: Global, most: usize, room: usize, fails_in: Option<usize>) -> RecordingOutlet
         ensures works { result.failed ≡ false }
         ensures fresh { result.bytes.items ≡ [] }
     {
-        Ledger {
+        RecordingOutlet {
             bytes: Vec::new(alloc),
             most,
             room,
@@ -122,7 +122,7 @@ impl Ledger {
     }
 }
 
-impl Outlet for Ledger {
+impl Outlet for RecordingOutlet {
     ghost written = { λ l. Some l.bytes.items };
 
     ghost is_failed = { λ l. l.failed };

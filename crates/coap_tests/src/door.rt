@@ -21,7 +21,7 @@ mod polled;
 use crate::rows::{same, spelled};
 use crate::settings::{configured, set_all};
 use coap_serve::{IoFault, serve_door};
-use devices::{Book, Hall, Moments, Passing};
+use devices::{CallLog, ScriptedDoor, Moments, Passing};
 use std::process::Abort;
 use std::test::Fail;
 
@@ -34,8 +34,8 @@ fn served(rt: &(impl Abort + AllocGlobal), opening: &str) -> Result<String, Fail
         None => (false, setting),
     };
     let setting = set_all(rt, setting)?;
-    let book = Book::new(rt.alloc(), tells_waits);
-    let mut door = Hall {
+    let book = CallLog::new(rt.alloc(), tells_waits);
+    let mut door = ScriptedDoor {
         wires,
         count: 0,
         book: &book,

@@ -4,7 +4,7 @@
 ghost use Rattle.std.specs.Prelude.{◌≡◌, ◌+◌, ◌<◌, ◌^◌, false, [], map, vec_items};
 ghost use Rattle.coap_serve.specs.streams.StdioRun.{IsStdioRun};
 
-use crate::devices::{Ledger, Pieces};
+use crate::devices::{RecordingOutlet, Pieces};
 use crate::settings::{configured, usual};
 use coap_serve::{Config, IoFault, Outlet, ReadSource, Report, Source, WriteOutlet, serve_one};
 use std::alloc::Global;
@@ -14,7 +14,7 @@ use std::process::Abort;
 fn serve_told(
     alloc: Global,
     source: &mut Pieces,
-    outlet: &mut Ledger,
+    outlet: &mut RecordingOutlet,
     config: &Config,
 ) -> Result<Report, IoFault>
     requires source_works { source.old.failed ≡ false }
@@ -37,7 +37,7 @@ fn writes(
     let config = configured(rt, &usual());
     let input: &[u8] = b"\x00\xe1\x02\xe2\x01\x02";
     let mut source = Pieces::new(rt.alloc(), input, 2, [0, 0], None);
-    let mut outlet = Ledger::new(rt.alloc(), 4, usize::MAX, write_fails);
+    let mut outlet = RecordingOutlet::new(rt.alloc(), 4, usize::MAX, write_fails);
     assert!(rt; config.starts().ids < u64::MAX);
     let result = serve_told(rt.alloc(), &mut source, &mut outlet, &config);
     assert!(rt; outlet.bytes.as_slice() == wanted);

@@ -17,7 +17,7 @@ use std::alloc::Global;
 use std::io;
 use std::io::Read;
 use std::process::ExitCode;
-pub use told::Told;
+pub use told::RowLine;
 pub use words::{cut, next_number, number, read_hex};
 
 /// The most bytes that a row names.
@@ -35,10 +35,10 @@ const FAULT: u8 = 3;
 /// What rows are about.
 pub trait Layers {
     /// Opens the value that an opening names, in place of the one that was there.
-    fn open(&mut self, alloc: Global, opening: &str, told: &mut Told);
+    fn open(&mut self, alloc: Global, opening: &str, told: &mut RowLine);
 
     /// Makes an event happen, and tells what came of it and how the value stands.
-    fn act(&mut self, alloc: Global, event: &str, bytes: &mut Vec<u8>, told: &mut Told);
+    fn act(&mut self, alloc: Global, event: &str, bytes: &mut Vec<u8>, told: &mut RowLine);
 }
 
 /// Plays each row of a text, and writes its line.
@@ -47,7 +47,7 @@ fn play_all<L: Layers>(
     layers: &mut L,
     text: &str,
     bytes: &mut Vec<u8>,
-    told: &mut Told,
+    told: &mut RowLine,
 ) {
     for row in text.lines() {
         match row.strip_prefix("= ") {
@@ -64,7 +64,7 @@ fn read_and_play<L: Layers>(rt: &(impl Input + Print + AllocGlobal), layers: &mu
     let mut text = Vec::with_capacity(rt.alloc(), ROWS_ROOM).ok()?;
     rt.reader().read_to_end(&mut text).ok()?;
     let mut bytes = Vec::with_capacity(rt.alloc(), ROOM).ok()?;
-    let mut told = Told::new(rt.alloc(), LINE_ROOM).ok()?;
+    let mut told = RowLine::new(rt.alloc(), LINE_ROOM).ok()?;
     let rows = str::from_utf8(&text).ok()?;
     play_all(rt, layers, rows, &mut bytes, &mut told);
     Some(())

@@ -7,7 +7,7 @@ use std::io::Write;
 
 /// The line of a row. What does not fit is left out.
 #[derive(Drop)]
-pub struct Told {
+pub struct RowLine {
     bytes: Vec<u8>,
 }
 
@@ -19,10 +19,10 @@ fn digit_of(byte: u8) -> u8 {
     }
 }
 
-impl Told {
+impl RowLine {
     /// A line with nothing in it, and room for so many bytes.
-    pub fn new(alloc: Global, room: usize) -> Result<Told, AllocError> {
-        Ok(Told {
+    pub fn new(alloc: Global, room: usize) -> Result<RowLine, AllocError> {
+        Ok(RowLine {
             bytes: Vec::with_capacity(alloc, room)?,
         })
     }
@@ -69,7 +69,7 @@ impl Told {
 }
 
 /// Texts of Debug and Display are told as they come.
-impl fmt::Write for Told {
+impl fmt::Write for RowLine {
     fn write_str(&mut self, text: &str) -> fmt::Result {
         let _ = self.bytes.extend_from_slice(text.as_bytes());
         Ok(())

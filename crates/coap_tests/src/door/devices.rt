@@ -12,7 +12,7 @@ use std::test::Fail;
 
 /// What happens at the devices of a run.
 #[derive(Drop)]
-pub(super) struct Book {
+pub(super) struct CallLog {
     alloc: Global,
     calls: RefCell<String>,
     written: RefCell<Vec<Vec<u8>>>,
@@ -24,10 +24,10 @@ pub(super) struct Book {
     moment: RefCell<u64>,
 }
 
-impl Book {
+impl CallLog {
     /// Nothing has happened yet.
-    pub(super) fn new(alloc: Global, tells_waits: bool) -> Book {
-        Book {
+    pub(super) fn new(alloc: Global, tells_waits: bool) -> CallLog {
+        CallLog {
             alloc,
             calls: RefCell::new(String::new(alloc)),
             written: RefCell::new(Vec::new(alloc)),
@@ -144,11 +144,11 @@ impl Book {
 /// or `failed`; words with commas between them name one write each, the last one all others. A word `@3` before another
 /// one of either kind says that the wire is not ready for it until the door was told to wait 3 times.
 #[derive(Drop)]
-pub(super) struct Line<'a> {
+pub(super) struct ScriptedWire<'a> {
     place: usize,
     reads: &'a str,
     writes: &'a str,
-    book: &'a Book,
+    book: &'a CallLog,
 }
 
 /// The word at the front of a text behind a word `@3`, if any, and the text behind it.
@@ -217,7 +217,7 @@ fn taken(word: &str, count: usize) -> Got
     }
 }
 
-impl Wire for Line<'_> {
+impl Wire for ScriptedWire<'_> {
     ghost given = { λ line. None };
 
     ghost written = { λ line. None };
@@ -252,7 +252,7 @@ impl Wire for Line<'_> {
     }
 }
 
-impl Ready for Line<'_> {
+impl Ready for ScriptedWire<'_> {
     // What has come stands in the book, and not in the wire.
     ghost readable = { λ line. None };
 
@@ -271,16 +271,16 @@ impl Ready for Line<'_> {
 
 /// A door that hands out the wires that a text names, at most two.
 #[derive(Drop)]
-pub(super) struct Hall<'a> {
+pub(super) struct ScriptedDoor<'a> {
     pub(super) wires: &'a str,
     pub(super) count: usize,
-    pub(super) book: &'a Book,
+    pub(super) book: &'a CallLog,
 }
 
-impl<'a> Door for Hall<'a> {
-    type Wire = Line<'a>;
+impl<'a> Door for ScriptedDoor<'a> {
+    type Wire = ScriptedWire<'a>;
 
-    fn next(&mut self) -> Option<Line<'a>> {
+    fn next(&mut self) -> Option<ScriptedWire<'a>> {
         if self.wires.is_empty() {
             self.book.note("+- ");
             return None;
@@ -291,7 +291,7 @@ impl<'a> Door for Hall<'a> {
         let (wire, rest) = self.wires.split_once(" | ").unwrap_or((self.wires, ""));
         self.wires = rest;
         let (writes, reads) = wire.split_once(' ').unwrap_or((wire, ""));
-        Some(Line {
+        Some(ScriptedWire {
             place,
             reads,
             writes,
@@ -321,7 +321,7 @@ impl Clock for Moments<'_> {
 /// A clock that moves forward while the door waits, and at no other time.
 #[derive(Drop)]
 pub(super) struct Passing<'a> {
-    pub(super) book: &'a Book,
+    pub(super) book: &'a CallLog,
 }
 
 impl Clock for Passing<'_> {

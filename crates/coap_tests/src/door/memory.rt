@@ -21,12 +21,12 @@ pub(super) const WRITTEN: &[u8] =
 
 /// A wire that gives bytes, and whose writes take one byte each.
 #[derive(Drop)]
-pub(super) struct Line<'a> {
+pub(super) struct ScriptedWire<'a> {
     pub(super) rest: &'a [u8],
     pub(super) page: &'a RefCell<Fixed>,
 }
 
-impl Wire for Line<'_> {
+impl Wire for ScriptedWire<'_> {
     ghost given = { λ line. None };
 
     ghost written = { λ line. None };
@@ -52,7 +52,7 @@ impl Wire for Line<'_> {
     }
 }
 
-impl Ready for Line<'_> {
+impl Ready for ScriptedWire<'_> {
     ghost readable = { λ line. Some true };
 
     ghost writable = { λ line. Some true };
@@ -68,20 +68,20 @@ impl Ready for Line<'_> {
 
 /// A door that hands out one wire.
 #[derive(Drop)]
-struct Once<'a> {
+struct SingleWireDoor<'a> {
     is_open: bool,
     page: &'a RefCell<Fixed>,
 }
 
-impl<'a> Door for Once<'a> {
-    type Wire = Line<'a>;
+impl<'a> Door for SingleWireDoor<'a> {
+    type Wire = ScriptedWire<'a>;
 
-    fn next(&mut self) -> Option<Line<'a>> {
+    fn next(&mut self) -> Option<ScriptedWire<'a>> {
         if !self.is_open {
             return None;
         }
         self.is_open = false;
-        Some(Line {
+        Some(ScriptedWire {
             rest: READ,
             page: self.page,
         })
@@ -94,7 +94,7 @@ impl<'a> Door for Once<'a> {
 /// where memory is refused.
 fn served(rt: &(impl Abort + AllocGlobal), config: Config) -> Result<(), IoFault> {
     let page = RefCell::new(Fixed::new(64, None));
-    let mut door = Once {
+    let mut door = SingleWireDoor {
         is_open: true,
         page: &page,
     };

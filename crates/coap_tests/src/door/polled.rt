@@ -1,7 +1,7 @@
 //! A source that only hands out wires, served as a door by `Polled`.
 
 use super::Moments;
-use super::memory::{Line, READ, WRITTEN};
+use super::memory::{ScriptedWire, READ, WRITTEN};
 use crate::devices::Fixed;
 use coap_serve::{Config, IoFault, Limits, Polled, Starts, Wires, serve_door};
 use std::cell::RefCell;
@@ -15,14 +15,14 @@ struct Source<'a> {
 }
 
 impl<'a> Wires for Source<'a> {
-    type Wire = Line<'a>;
+    type Wire = ScriptedWire<'a>;
 
-    fn next(&mut self) -> Option<Line<'a>> {
+    fn next(&mut self) -> Option<ScriptedWire<'a>> {
         if !self.is_open {
             return None;
         }
         self.is_open = false;
-        Some(Line {
+        Some(ScriptedWire {
             rest: READ,
             page: self.page,
         })
