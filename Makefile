@@ -2,7 +2,7 @@
 # gcc, haproxy, libc6-dev, libcoap3-bin, mandoc, openssl, tshark and valgrind where they are missing, and `make bench` gcc, gnuplot-nox,
 # haproxy, libc6-dev, libcoap3-bin and valgrind.
 
-.PHONY: all run test edits faults bench try install uninstall clean
+.PHONY: all run test mutants faults bench try install uninstall clean
 
 # Where `make install` puts the programs, their manuals, the unit of systemd and the configuration of HAProxy; DESTDIR stands before it
 # for what is packed.
@@ -20,17 +20,17 @@ bin/coap-server bin/coap-client &: $(SOURCES)
 # Runs the main job on short recorded streams, and tells what each message means: at once the same source unproved, where the program
 # is not built yet; then the proofs; then the program that is built from them.
 run:
-	@$(MAKE) --silent --question bin/coap-server || python3 tests/vectors/show.py --try
+	@$(MAKE) --silent --question bin/coap-server || python3 tests/vectors/demo.py --try
 	@$(MAKE) --silent bin/coap-server
-	@python3 tests/vectors/show.py bin/coap-server
+	@python3 tests/vectors/demo.py bin/coap-server
 
 # The gate: every proof, row, test and program from nothing, what was built, from outside, and a third of the edits.
 test:
 	tests/gate
 
-# Tries all wrong bodies, of which the gate tries a third, or those of some crates: make edits CRATES="coap_conn coap_wire".
-edits:
-	tests/mutants/edits.py --all $(CRATES)
+# Tries all wrong bodies, of which the gate tries a third, or those of some crates: make mutants CRATES="coap_conn coap_wire".
+mutants:
+	tests/mutants/mutants.py --all $(CRATES)
 
 # What takes too long for the gate: all 16,777,216 streams of three bytes, of which it plays a quarter, in some minutes of all processors;
 # and the proved tests that must pass with each allocation refused, in about an hour.
@@ -47,7 +47,7 @@ bench: bin/coap-server
 
 # UNPROVED: runs the program on the recorded stream before any proof, in up to a minute, for work in progress.
 try:
-	python3 tests/vectors/show.py --try
+	python3 tests/vectors/demo.py --try
 
 # Installs what `make all` built, and builds nothing, so that it can be run by another user.
 install:

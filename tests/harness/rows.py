@@ -5,23 +5,23 @@
 
 A file is tests/vectors/rows/LAYER/NAME.rows. Its lines are rows `EVENT => WANTED`; `= OPENING` opens the value that the rows below it are
 about; `#` begins a comment. How the rows of a layer are spelled for the probe stands in tests/harness/layers/LAYER.py, and what its words mean;
-bytes may be written as text and as messages in words (tests/harness/spelling.py).
+bytes may be written as text and as messages in words (tests/harness/message_syntax.py).
 
 --by-rattle plays them on the programs as Rattle's own compiler made them. --refuse refuses each allocation of each file in turn: the row
 that was struck must tell `memory`, all that only asks must tell what it told before, and the row is made again, from where all goes
 as the file says; a refusal that no row tells must change nothing. A line `allocations: N` in the file is their number; where N is not a
-number, it says why they are not refused. (A line `cuts:` says why tests/vectors/cuts.py does not cut the rows of a file of servers.) Over all files
+number, it says why they are not refused. (A line `cuts:` says why tests/vectors/segmentation.py does not cut the rows of a file of servers.) Over all files
 it counts the refusals of each call, which the table of docs/TESTING.md must tell.
 
 A contract cannot forbid a call to report without cause that memory was refused. So these files run each call that can
 report it, at each of its limits and with enough memory:
 
     takes_the_greatest.rows of frame, queue, link, store, serve and run
-    serve/stores_the_greatest.rows, serve/as_many_as_may_be.rows, stdio/serves_the_greatest.rows
+    serve/stores_the_greatest.rows, serve/maximum_limits.rows, stdio/serves_the_greatest.rows
     client/the_greatest.rows, calls/announces.rows, script/a_mebibyte.rows, words/greatest_words.rows, target/long.rows
 
 The test `serves_as_many_connections_as_there_can_be` of coap_tests does the same for `serve_door`, and
-tests/system/refused.py for the programs.
+tests/system/alloc_failures.py for the programs.
 
 The last line is 'N passed, M failed' over the rows, or over the refused allocations, and the status 0 where M is 0.
 """
@@ -202,8 +202,8 @@ def untold(calls, is_program=False):
 
 
 def compiled_shim(room):
-    shim = f"{room}/refuse.so"
-    subprocess.run(["gcc", "-O2", "-shared", "-fPIC", "-o", shim, f"{HARNESS}/refuse.c"], check=True)
+    shim = f"{room}/fail_malloc.so"
+    subprocess.run(["gcc", "-O2", "-shared", "-fPIC", "-o", shim, f"{HARNESS}/fail_malloc.c"], check=True)
     return shim
 
 

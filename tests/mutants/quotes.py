@@ -16,7 +16,7 @@ import sys
 from dataclasses import dataclass
 
 sys.path.insert(0, os.path.join(os.path.dirname(os.path.abspath(__file__)), "..", "harness"))
-from rooms import ROOT, crates  # noqa: E402
+from workspace import ROOT, crates  # noqa: E402
 
 FUNCTION = re.compile(r"( *)(?:pub(?:\([a-z ]+\))? )?(?:const )?fn (\w+)")
 CLAUSE = re.compile(r" *(?:requires|ensures|ghost)\b")

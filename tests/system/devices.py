@@ -19,7 +19,7 @@ sys.path.insert(0, os.path.join(os.path.dirname(os.path.abspath(__file__)), ".."
 import rows  # noqa: E402
 from checks import CSM, GREETING, Checks  # noqa: E402
 from peers import free_port, line_of  # noqa: E402
-from refused import ASKED, ASKING, HOST, LIMIT, LINES, SCRIPT, SERVER_HOST, answer, received  # noqa: E402
+from alloc_failures import ASKED, ASKING, HOST, LIMIT, LINES, SCRIPT, SERVER_HOST, answer, received  # noqa: E402
 
 # What a peer asks, and what it is answered.
 HELLO, ANSWERED = bytes.fromhex("00e1" "010101" "01e202"), bytes.fromhex(CSM + "a14501" + GREETING + "01e302")

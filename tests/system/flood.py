@@ -23,7 +23,7 @@ from checks import CSM, Checks  # noqa: E402
 from hostile import PACKET, ROOM  # noqa: E402
 from peers import LOCAL as HOST  # noqa: E402
 from peers import Server  # noqa: E402
-from spelling import encoded, uint  # noqa: E402
+from message_syntax import encoded, uint  # noqa: E402
 
 # Seconds for each wait, and for an answer to a client beside a peer that reads slowly.
 LIMIT = 20

@@ -20,7 +20,7 @@ sys.path.insert(0, os.path.join(os.path.dirname(os.path.abspath(__file__)), ".."
 from checks import Checks  # noqa: E402
 from packages import install  # noqa: E402
 from peers import Server  # noqa: E402
-from rooms import ROOT  # noqa: E402
+from workspace import ROOT  # noqa: E402
 
 PACKAGES = {"mandoc": "mandoc"}
 

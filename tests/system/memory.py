@@ -19,7 +19,7 @@ import tempfile
 sys.path.insert(0, os.path.join(os.path.dirname(os.path.abspath(__file__)), "..", "harness"))
 from checks import CSM, GREETING, Checks  # noqa: E402
 from packages import install  # noqa: E402
-from rooms import ROOT  # noqa: E402
+from workspace import ROOT  # noqa: E402
 
 PACKAGES = {"valgrind": "valgrind"}
 

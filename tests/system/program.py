@@ -13,7 +13,7 @@ import tempfile
 
 sys.path.insert(0, os.path.join(os.path.dirname(os.path.abspath(__file__)), "..", "harness"))
 from checks import ABORTS, CSM, GREETING, Checks  # noqa: E402
-from rooms import ROOT  # noqa: E402
+from workspace import ROOT  # noqa: E402
 
 def run(program, words, stream=b"", stdin=None, stdout=subprocess.PIPE):
     source = {"input": stream} if stdin is None else {"stdin": stdin}

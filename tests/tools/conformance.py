@@ -20,8 +20,8 @@ import re
 import sys
 
 sys.path.insert(0, os.path.join(os.path.dirname(os.path.abspath(__file__)), "..", "harness"))
-from clauses import promises  # noqa: E402
-from rooms import ROOT, listed  # noqa: E402
+from contract_diff import promises  # noqa: E402
+from workspace import ROOT, listed  # noqa: E402
 
 DOCUMENT = "docs/CONFORMANCE.md"
 HEADER = ["Section", "Requirement", "Status", "Definition", "Contract or theorem", "Test"]

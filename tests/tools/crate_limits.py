@@ -14,7 +14,7 @@ import re
 import sys
 
 sys.path.insert(0, os.path.join(os.path.dirname(os.path.abspath(__file__)), "..", "harness"))
-from rooms import ROOT, listed  # noqa: E402
+from workspace import ROOT, listed  # noqa: E402
 
 FUNCTIONS, LINES, FILE_LINES, COLUMNS = 160, 2_600, 450, 120
 

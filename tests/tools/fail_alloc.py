@@ -14,7 +14,7 @@ import subprocess
 import sys
 
 sys.path.insert(0, os.path.join(os.path.dirname(os.path.abspath(__file__)), "..", "harness"))
-from rooms import ROOT  # noqa: E402
+from workspace import ROOT  # noqa: E402
 
 # How a test is told, of which names must pass.
 TOLD = re.compile(r"^test (\S+(?:without|no)_memory) \.\.\. (\w+)", re.MULTILINE)

@@ -6,7 +6,7 @@
 A row of the list names a file and lines of it. In a file of rows these are whole lines in this order below one opening, which
 tests/harness/rows.py plays; a line that ends in ` ..` gives the beginning of one. A test of coap_tests must have the lines in a `#[test]` function
 or in a constant that one names. A stored run must be that of a program in crates.txt, and a Python test a step of the gate. `refused` and
-`cut` in the last column ask that tests/harness/rows.py --refuse and tests/vectors/cuts.py play the file too.
+`cut` in the last column ask that tests/harness/rows.py --refuse and tests/vectors/segmentation.py play the file too.
 The last line is 'N passed, M failed' over the places of the list, and the status 0 if M is 0.
 """
 
@@ -19,7 +19,7 @@ from dataclasses import dataclass
 
 sys.path.insert(0, os.path.join(os.path.dirname(os.path.abspath(__file__)), "..", "harness"))
 import rows  # noqa: E402
-from rooms import ROOT, is_program, listed  # noqa: E402
+from workspace import ROOT, is_program, listed  # noqa: E402
 
 LIST = rows.ROWS / "README.md"
 HEADER = ["Row", "Shows", "File", "Lines", "Also"]
@@ -92,7 +92,7 @@ def wrong_besides(place, file, steps):
         if word == "refused":
             is_played = ["python3", "tests/harness/rows.py", "--refuse"] in steps and file.allocations.isdigit()
         else:
-            is_played = word == "cut" and ["python3", "tests/vectors/cuts.py"] in steps and file.path.parent.name in ("serve", "calls") and not file.cuts
+            is_played = word == "cut" and ["python3", "tests/vectors/segmentation.py"] in steps and file.path.parent.name in ("serve", "calls") and not file.cuts
         if not is_played:
             return f"the file is not played as '{word}'"
     return ""

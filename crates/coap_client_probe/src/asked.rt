@@ -4,7 +4,7 @@
 //! are the payload.
 
 use coap_client::{Extras, Method};
-use coap_told::{cut, next_number, read_hex};
+use probe_support::{cut, next_number, read_hex};
 
 /// What a row asks for.
 #[derive(Drop)]

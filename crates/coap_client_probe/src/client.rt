@@ -7,7 +7,7 @@ use crate::target::tell_fault;
 use coap_client::{Client, Event, Target};
 use coap_conn::{RequestFault, first_part};
 use coap_serve::Limits;
-use coap_told::{RowLine, cut, next_number, number, read_hex};
+use probe_support::{RowLine, cut, next_number, number, read_hex};
 use coap_wire::{MessageRef, Token};
 use std::alloc::{AllocError, Global};
 use std::fmt::Write;

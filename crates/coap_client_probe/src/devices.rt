@@ -5,7 +5,7 @@ ghost use Rattle.coap_serve.specs.Prelude.{IsWithin};
 
 use arrayvec::ArrayVec;
 use coap_serve::{Clock, Got, Outlet, Wire};
-use coap_told::number;
+use probe_support::number;
 
 /// The most bytes that are written to a device.
 const ROOM: usize = 1_024;

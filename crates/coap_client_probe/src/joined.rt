@@ -7,7 +7,7 @@ use crate::client;
 use coap_client::Client;
 use coap_serve::{Config, ConnId, Limits, Server, Starts};
 use coap_store::PathKey;
-use coap_told::{RowLine, cut, next_number, number, read_hex};
+use probe_support::{RowLine, cut, next_number, number, read_hex};
 use std::alloc::Global;
 
 /// The most requests that the client may have outstanding.

@@ -1,5 +1,5 @@
 //! Plays rows of text from standard input on clients, targets and the command lines of both programs, and writes a line
-//! for each (`coap_told`).
+//! for each (`probe_support`).
 #![tactic(auto)]
 
 mod asked;
@@ -11,7 +11,7 @@ mod target;
 mod words;
 
 use coap_client::Client;
-use coap_told::{Layers, RowLine, cut};
+use probe_support::{Layers, RowLine, cut};
 use joined::ClientServerPair;
 use std::alloc::{AllocError, Global};
 use std::process::ExitCode;
@@ -73,5 +73,5 @@ impl Layers for Value {
 
 fn main(rt: HostRuntime) -> ExitCode {
     let mut value = Value::Nothing;
-    coap_told::run(&rt, &mut value)
+    probe_support::run(&rt, &mut value)
 }

@@ -6,7 +6,7 @@ use crate::devices::{Line, Moments, ScriptedOutlet};
 use crate::words::{Words, tell_fault};
 use arrayvec::ArrayVec;
 use coap_client::{ClientFault, ClientPlan, client_words, run_client};
-use coap_told::{RowLine, cut, read_hex};
+use probe_support::{RowLine, cut, read_hex};
 use std::alloc::Global;
 use std::fmt::Write;
 

@@ -1,7 +1,7 @@
 //! Targets: `= target`, and then texts, one a row.
 
 use coap_client::{Target, TargetFault};
-use coap_told::RowLine;
+use probe_support::RowLine;
 use std::alloc::Global;
 use std::fmt::Write;
 

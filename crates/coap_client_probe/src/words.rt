@@ -3,7 +3,7 @@
 
 use crate::target::tell_target;
 use coap_client::{ClientPlan, Mode, ServerPlan, WordsFault, client_words, server_words};
-use coap_told::{RowLine, cut};
+use probe_support::{RowLine, cut};
 use std::alloc::Global;
 use std::fmt;
 use std::fmt::Write;

@@ -1,6 +1,6 @@
 //! A reader and a writer that are set by a row, and tell each of their calls.
 
-use coap_told::{RowLine, next_number};
+use probe_support::{RowLine, next_number};
 use std::cell::RefCell;
 use std::io;
 use std::io::{Read, Write};

@@ -1,6 +1,6 @@
 //! The name, the number and the text of a fault.
 
-use coap_told::RowLine;
+use probe_support::RowLine;
 use std::fmt::{Debug, Display, Write};
 
 /// Tells the name of a fault, its number and its text: `TooLarge 2 "frame too large"`.

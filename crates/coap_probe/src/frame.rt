@@ -3,7 +3,7 @@
 
 use crate::faults::tell_fault;
 use coap_frame::{FrameEvent, Framed, Framer};
-use coap_told::{RowLine, cut, number, read_hex};
+use probe_support::{RowLine, cut, number, read_hex};
 use std::alloc::{AllocError, Global};
 
 /// A framer for frames of at most so many bytes; none for a number that is out of its range.

@@ -4,7 +4,7 @@
 use crate::faults::tell_fault;
 use coap_conn::{LimitFault, Limits, Reason, SendFault};
 use coap_serve::{Config, ConfigFault, IoFault, Starts};
-use coap_told::{RowLine, cut, next_number};
+use probe_support::{RowLine, cut, next_number};
 use std::fmt::Write;
 
 /// The limits that six numbers name, or their fault, and the text behind them.

@@ -5,7 +5,7 @@
 
 use crate::limits::limits_of;
 use coap_conn::{Link, Phase, Reject, Role, first_part};
-use coap_told::{RowLine, cut, number, read_hex};
+use probe_support::{RowLine, cut, number, read_hex};
 use coap_wire::{BuildFault, Builder, MessageRef, Token, parse};
 use std::alloc::{AllocError, Global};
 use std::fmt::Write;

@@ -1,5 +1,5 @@
 //! Plays rows of text from standard input on the values of the crates up to the server, and writes a line for each
-//! (`coap_told`).
+//! (`probe_support`).
 #![tactic(auto)]
 
 mod devices;
@@ -18,7 +18,7 @@ use coap_conn::{Link, OutQueue};
 use coap_frame::Framer;
 use coap_serve::{Config, Server};
 use coap_store::Store;
-use coap_told::{Layers, RowLine, cut};
+use probe_support::{Layers, RowLine, cut};
 use std::alloc::{AllocError, Global};
 use std::process::ExitCode;
 
@@ -111,5 +111,5 @@ impl Layers for Value {
 
 fn main(rt: HostRuntime) -> ExitCode {
     let mut value = Value::Nothing;
-    coap_told::run(&rt, &mut value)
+    probe_support::run(&rt, &mut value)
 }

@@ -2,7 +2,7 @@
 //! `part` and `look`.
 
 use coap_conn::{OutQueue, first_part};
-use coap_told::{RowLine, cut, number, read_hex};
+use probe_support::{RowLine, cut, number, read_hex};
 use coap_wire::Sink;
 use std::alloc::{AllocError, Global};
 

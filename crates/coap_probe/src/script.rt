@@ -3,7 +3,7 @@
 
 use coap_serve::{Event, ScriptFault, script};
 use coap_store::PathKey;
-use coap_told::{RowLine, cut, read_hex};
+use probe_support::{RowLine, cut, read_hex};
 use std::alloc::Global;
 use std::fmt::Write;
 

@@ -11,7 +11,7 @@ use coap_serve::{
     AnnounceFault, Config, Handled, ReplayFault, ScriptFault, Server, TakeFault, WriteOutlet,
     WrittenFault, script,
 };
-use coap_told::{RowLine, next_number, read_hex};
+use probe_support::{RowLine, next_number, read_hex};
 use std::alloc::{AllocError, Global};
 
 /// The configuration that thirteen numbers name; none where one is out of its range.

@@ -5,7 +5,7 @@
 
 use crate::devices::{Reader, Setting, Writer, devices_set};
 use coap_serve::{Config, IoFault, Outlet, ReadSource, Report, Source, WriteOutlet, serve_one};
-use coap_told::{RowLine, cut, read_hex};
+use probe_support::{RowLine, cut, read_hex};
 use std::alloc::Global;
 use std::cell::RefCell;
 use std::fmt::Write;

@@ -5,7 +5,7 @@
 
 use arrayvec::ArrayVec;
 use coap_store::{Change, PathKey, Plan, State, Store, StoreFault, UriPath, Watch, request_path};
-use coap_told::{RowLine, cut, next_number, number, read_hex};
+use probe_support::{RowLine, cut, next_number, number, read_hex};
 use coap_wire::option_numbers::URI_PATH;
 use coap_wire::{MessageRef, parse};
 use std::alloc::{AllocError, Global};

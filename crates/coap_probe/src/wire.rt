@@ -2,7 +2,7 @@
 //! NUMBER`, `uint NUMBER` and `value BYTES`. They need no value: `= wire`.
 
 use crate::faults::tell_fault;
-use coap_told::{RowLine, cut, next_number, number, read_hex};
+use probe_support::{RowLine, cut, next_number, number, read_hex};
 use coap_wire::{
     Builder, Code, OptionRef, Sink, SliceSink, Token, declared, kind, parse, uint_bytes, uint_value,
 };

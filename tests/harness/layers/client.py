@@ -13,7 +13,7 @@ import re
 
 from layers import Step
 from layers.target import repeated
-from spelling import digits, spelled
+from message_syntax import digits, spelled
 
 PROBE = "coap_client_probe"
 LOOKS = ("look", "part")

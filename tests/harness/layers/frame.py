@@ -10,7 +10,7 @@ FRAME..` cuts a stream at each two places: its frames must be the same, and whol
 import re
 
 from layers import Step
-from spelling import digits, spelled
+from message_syntax import digits, spelled
 
 PROBE = "coap_probe"
 

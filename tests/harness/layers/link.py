@@ -15,7 +15,7 @@ are free, whether the link is ready, whether it is finished, and the bytes that 
 import re
 
 from layers import Step
-from spelling import digits
+from message_syntax import digits
 
 PROBE = "coap_probe"
 

@@ -4,7 +4,7 @@ What is told is, behind a `part` the front of what waits that it gives, the byte
 """
 
 from layers import Step
-from spelling import spelled
+from message_syntax import spelled
 
 PROBE = "coap_probe"
 

@@ -5,7 +5,7 @@ What is told is the message. The words of what is asked for are those of clients
 
 from layers import Step
 from layers.client import event_of, opened, refused
-from spelling import spelled
+from message_syntax import spelled
 
 PROBE = "coap_client_probe"
 LOOKS = ("look",)

@@ -12,7 +12,7 @@ import re
 from layers import Step
 from layers.client import wanted_of
 from layers.target import repeated
-from spelling import spelled
+from message_syntax import spelled
 
 PROBE = "coap_client_probe"
 

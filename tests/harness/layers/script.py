@@ -6,7 +6,7 @@ import re
 
 from layers import Step
 from layers.target import repeated
-from spelling import bytes_of
+from message_syntax import bytes_of
 
 PROBE = "coap_probe"
 

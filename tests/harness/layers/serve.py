@@ -6,7 +6,7 @@ import itertools
 import re
 
 from layers import Step
-from spelling import spelled
+from message_syntax import spelled
 
 PROBE = "coap_probe"
 

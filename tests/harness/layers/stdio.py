@@ -22,7 +22,7 @@
 from dataclasses import dataclass, field
 
 from layers import Step
-from spelling import bytes_of, spelled
+from message_syntax import bytes_of, spelled
 
 PROBE = "coap_probe"
 

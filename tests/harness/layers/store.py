@@ -16,7 +16,7 @@
 """
 
 from layers import Step
-from spelling import OPTIONS, bytes_of, code_of, encoded, spelled, uint
+from message_syntax import OPTIONS, bytes_of, code_of, encoded, spelled, uint
 
 PROBE = "coap_probe"
 

@@ -10,7 +10,7 @@ A message in words of numbers is its code, its token, its options, each a number
 """
 
 from layers import Step
-from spelling import bytes_of, digits, encoded, spelled
+from message_syntax import bytes_of, digits, encoded, spelled
 
 PROBE = "coap_probe"
 

@@ -1,9 +1,9 @@
 #!/usr/bin/env python3
 """Counts what definitions and proofs could do without, crate by crate:
 
-    tests/tools/cited.py               the figures of every crate, and of all
-    tests/tools/cited.py --list        also each name and line that is counted
-    tests/tools/cited.py [--list] CRATE ..  those of these crates
+    tests/tools/unused_lemmas.py               the figures of every crate, and of all
+    tests/tools/unused_lemmas.py --list        also each name and line that is counted
+    tests/tools/unused_lemmas.py [--list] CRATE ..  those of these crates
 
 uncited   lemmas and definitions of specs/ and proofs/ that nothing which counts cites: the code (its clauses,
           `using(..)`, `unfolding(..)`), the answers to the goals of functions, and worked values, or what these
@@ -25,7 +25,7 @@ from collections import defaultdict
 from dataclasses import dataclass, field
 
 sys.path.insert(0, os.path.join(os.path.dirname(os.path.abspath(__file__)), "..", "harness"))
-from rooms import ROOT, crates  # noqa: E402
+from workspace import ROOT, crates  # noqa: E402
 
 WIDTH = 120
 ANSWERS = ("Answers", "Invariants", "Proof")

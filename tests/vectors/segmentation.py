@@ -1,7 +1,7 @@
 #!/usr/bin/env python3
 """Replays the rows of servers with each `in` cut in two at every place.
 
-    tests/vectors/cuts.py [FILE..]
+    tests/vectors/segmentation.py [FILE..]
 
 A file is tests/vectors/rows/serve/NAME.rows or tests/vectors/rows/calls/NAME.rows. Every line must be as the file says, but for those of
 the two parts: their counts add up, and the last one tells the same stop. All cuts of an `in` are made in one run of the probe. A file

@@ -1,8 +1,8 @@
 """Shows the main jobs: recorded streams through `coap-server --stdio`, with what each message means, and a script of events on
 one server through `coap-server --script -`, with what each line means.
 
-    tests/vectors/show.py bin/coap-server
-    tests/vectors/show.py --try                 the first stream alone, by `rt try`, which runs the same source before any proof
+    tests/vectors/demo.py bin/coap-server
+    tests/vectors/demo.py --try                 the first stream alone, by `rt try`, which runs the same source before any proof
 """
 
 import os
@@ -12,7 +12,7 @@ import tempfile
 
 sys.path.insert(0, os.path.join(os.path.dirname(os.path.abspath(__file__)), "..", "harness"))
 import messages  # noqa: E402
-from rooms import ROOT  # noqa: E402
+from workspace import ROOT  # noqa: E402
 
 CRATE = os.path.join(ROOT, "crates", "coap_server")
 

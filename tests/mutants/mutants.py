@@ -1,14 +1,14 @@
 #!/usr/bin/env python3
 """Tries wrong bodies, many in a check: the prover must refuse each.
 
-    tests/mutants/edits.py               the edits of the gate, and that it tells a harmless edit from a wrong body (the control)
-    tests/mutants/edits.py --all         all edits, and the control
-    tests/mutants/edits.py [--all] CRATE ..  those of these crates
-    tests/mutants/edits.py --control     the control alone
-    tests/mutants/edits.py --rows [CRATE ..]  those alone that rows tell
-    tests/mutants/edits.py --tests [CRATE ..]  those alone that tests of the programs tell
-    tests/mutants/edits.py --types [CRATE ..]  tries nothing: whether all edits are well typed
-    tests/mutants/edits.py --list [CRATE ..]  tries nothing: a line for each edit, with the function and the clause that refuse it, and its name
+    tests/mutants/mutants.py               the edits of the gate, and that it tells a harmless edit from a wrong body (the control)
+    tests/mutants/mutants.py --all         all edits, and the control
+    tests/mutants/mutants.py [--all] CRATE ..  those of these crates
+    tests/mutants/mutants.py --control     the control alone
+    tests/mutants/mutants.py --rows [CRATE ..]  those alone that rows tell
+    tests/mutants/mutants.py --tests [CRATE ..]  those alone that tests of the programs tell
+    tests/mutants/mutants.py --types [CRATE ..]  tries nothing: whether all edits are well typed
+    tests/mutants/mutants.py --list [CRATE ..]  tries nothing: a line for each edit, with the function and the clause that refuse it, and its name
 
 An edit is a file tests/mutants/edits/CRATE/NAME.edit. Its first line says which clause refuses it and whether the gate tries it. Each of
 its parts has four lines:
@@ -69,7 +69,7 @@ from dataclasses import dataclass, field
 sys.path.insert(0, os.path.join(os.path.dirname(os.path.abspath(__file__)), "..", "harness"))
 import quotes  # noqa: E402
 import rows  # noqa: E402
-from rooms import PARTS, ROOT, crates, furnish, is_program, listed  # noqa: E402
+from workspace import PARTS, ROOT, crates, furnish, is_program, listed  # noqa: E402
 from unproved import Unproved  # noqa: E402
 
 KIT = os.path.dirname(os.path.dirname(os.path.realpath(shutil.which("rt") or "/opt/rattle/bin/rt")))

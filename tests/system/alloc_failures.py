@@ -1,9 +1,9 @@
 #!/usr/bin/env python3
 """Refuses the programs each allocation in turn.
 
-    tests/system/refused.py bin/coap-server bin/coap-client [NAME..]
+    tests/system/alloc_failures.py bin/coap-server bin/coap-client [NAME..]
 
-tests/harness/refuse.c is preloaded into a program and refuses it one allocation: the first, then the second, until a run makes fewer. A run that
+tests/harness/fail_malloc.c is preloaded into a program and refuses it one allocation: the first, then the second, until a run makes fewer. A run that
 is refused ends with status 3 and `no memory`, and has written a front of what it writes otherwise, on standard output and over its
 connection; where the refusal was made up for, it is as any other. How many are told the table of docs/TESTING.md must tell. Besides, the
 server is refused every allocation once its connections are open, and must answer as ever: over standard streams one, over sockets two. And
@@ -25,7 +25,7 @@ sys.path.insert(0, os.path.join(os.path.dirname(os.path.abspath(__file__)), ".."
 import rows  # noqa: E402
 from checks import CSM, GREETING  # noqa: E402
 from peers import free_port, line_of  # noqa: E402
-from spelling import encoded  # noqa: E402
+from message_syntax import encoded  # noqa: E402
 
 # Where the clients' peers listen, and where the servers do, so that no peer takes the port that was free for a server.
 HOST, SERVER_HOST = "127.0.0.1", "127.0.0.2"

@@ -1,7 +1,7 @@
 """Runs HAProxy with install/haproxy.cfg in front of our servers, and peers of many addresses before it.
 
-    tests/system/front.py bin/coap-server
-    tests/system/front.py --broken bin/coap-server
+    tests/system/haproxy.py bin/coap-server
+    tests/system/haproxy.py --broken bin/coap-server
 
 It needs Debian's packages haproxy, openssl and libcoap3-bin, and installs what is missing.
 
@@ -33,7 +33,7 @@ from checks import CSM, Checks  # noqa: E402
 from packages import install  # noqa: E402
 from peers import LIMIT, Server, free_port  # noqa: E402
 from peers import LOCAL as HOST  # noqa: E402
-from rooms import ROOT  # noqa: E402
+from workspace import ROOT  # noqa: E402
 
 PACKAGES = {"haproxy": "haproxy", "openssl": "openssl", "coap-client-openssl": "libcoap3-bin"}
 

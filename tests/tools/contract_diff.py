@@ -1,8 +1,8 @@
 #!/usr/bin/env python3
 """Compares what public functions promise with what they promised at an earlier commit:
 
-    tests/tools/clauses.py REV         of every library: the functions that went, and the clauses that went or came
-    tests/tools/clauses.py REV CRATE ..  of these crates
+    tests/tools/contract_diff.py REV         of every library: the functions that went, and the clauses that went or came
+    tests/tools/contract_diff.py REV CRATE ..  of these crates
 
 A clause is a `requires` or an `ensures` with its name and its text, white space made one. A function is known by its
 crate, its type and its name. One that is no longer there is followed: to a new function of another crate with its type
@@ -19,7 +19,7 @@ import subprocess
 import sys
 
 sys.path.insert(0, os.path.join(os.path.dirname(os.path.abspath(__file__)), "..", "harness"))
-from rooms import ROOT, is_program, listed  # noqa: E402
+from workspace import ROOT, is_program, listed  # noqa: E402
 
 FUNCTION = re.compile(r" *(pub )?(?:const )?fn (\w+)")
 BLOCK = re.compile(r"(?:pub )?(?:impl|trait)\b *(.*?) *\{?$")
