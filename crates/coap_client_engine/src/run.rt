@@ -2,8 +2,8 @@
 
 ghost use Rattle.std.specs.Prelude.{◌≡◌, ◌||◌, false, is_err, IfOk, IfSome};
 ghost use Rattle.coap_client_engine.specs.Prelude.{is_output_fault, IfMemory, IsStatus, IsFresh, IsClientRun};
-ghost use Rattle.coap_client_engine.specs.Prelude.{FailedBeforeStart, seen, with_outlets, with_all, HasReadClock, IsFinished};
-ghost use Rattle.coap_client_engine.specs.Prelude.{IsFlushed, ExtendsTrace};
+ghost use Rattle.coap_client_engine.specs.Prelude.{FailedBeforeStart, seen, with_outlets, with_all, HasReadClock};
+ghost use Rattle.coap_client_engine.specs.Prelude.{IsFinished, IsFlushed, ExtendsTrace};
 
 mod deadlines;
 mod receive;

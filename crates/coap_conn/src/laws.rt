@@ -8,11 +8,12 @@ ghost use Rattle.coap_conn.specs.Prelude.{token_announcement, announced_token, A
 ghost use Rattle.coap_conn.specs.Prelude.{History, AnnouncedFirst, link_of, new_history, limit_now, standing_now};
 ghost use Rattle.coap_conn.specs.Prelude.{after, after_send, asking_now, after_asking, Call, release, may_announce};
 ghost use Rattle.coap_conn.specs.Prelude.{needs_live, gives_token, announces, asking_refusal, cancel_refusal};
-ghost use Rattle.coap_conn.specs.Prelude.{next_token, OutstandingValue, matches_response, matches_pong, is_notification};
-ghost use Rattle.coap_conn.specs.Prelude.{is_request_entry, without_asked, without_pinged, stop_of, PendingEntryValue, Answer};
-ghost use Rattle.coap_conn.specs.Prelude.{Pong, NothingIsDue, IsDueFirst, due_moment, first_due, without_due, ConnectionState};
-ghost use Rattle.coap_conn.specs.Prelude.{react, send, abort, stay, due_effect, is_custody_pong, asks_custody};
-ghost use Rattle.coap_conn.specs.Prelude.{is_reserved, is_signal, is_method, Request, Reject, Role, Reason};
+ghost use Rattle.coap_conn.specs.Prelude.{next_token, OutstandingValue, matches_response, matches_pong};
+ghost use Rattle.coap_conn.specs.Prelude.{is_notification, is_request_entry, without_asked, without_pinged, stop_of};
+ghost use Rattle.coap_conn.specs.Prelude.{PendingEntryValue, Answer, Pong, NothingIsDue, IsDueFirst, due_moment};
+ghost use Rattle.coap_conn.specs.Prelude.{first_due, without_due, ConnectionState, react, send, abort, stay};
+ghost use Rattle.coap_conn.specs.Prelude.{due_effect, is_custody_pong, asks_custody, is_reserved, is_signal, is_method};
+ghost use Rattle.coap_conn.specs.Prelude.{Request, Reject, Role, Reason};
 ghost use Rattle.coap_conn.specs.Calls as call;
 ghost use Rattle.coap_wire.specs.Codes as code;
 ghost use Rattle.coap_conn.specs.Verdicts as verdict;

@@ -3,10 +3,10 @@
 
 ghost use Rattle.std.specs.Prelude.{◌≡◌, ◌≤◌, length, map, find, option_map, vec_capacity, ◌<◌, ◌++◌, ◌∷◌, [], not};
 ghost use Rattle.std.specs.Prelude.{nat_lt, IfOk};
-ghost use Rattle.coap_conn.specs.Prelude.{list_any, matches_response as asks, matches_pong as pings, may_cancel as cancellable};
-ghost use Rattle.coap_conn.specs.Prelude.{is_last as is_last_of, is_notification as notifies};
-ghost use Rattle.coap_conn.specs.Prelude.{has_observe as observe_in, without_asked, without_pinged, with_cancelled};
-ghost use Rattle.coap_conn.specs.Prelude.{outstanding_value, cancelled_by};
+ghost use Rattle.coap_conn.specs.Prelude.{list_any, matches_response as asks, matches_pong as pings};
+ghost use Rattle.coap_conn.specs.Prelude.{may_cancel as cancellable, is_last as is_last_of};
+ghost use Rattle.coap_conn.specs.Prelude.{is_notification as notifies, has_observe as observe_in, without_asked};
+ghost use Rattle.coap_conn.specs.Prelude.{without_pinged, with_cancelled, outstanding_value, cancelled_by};
 
 use coap_wire::option_numbers::OBSERVE;
 use coap_wire::{MessageRef, Token, TokenRef};

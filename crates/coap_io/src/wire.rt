@@ -1,8 +1,8 @@
 //! Transport connections, the listener that hands them out, and the clock.
 
 ghost use Rattle.std.specs.Prelude.{◌≡◌, ℕ, Bool, List, [], ◌∷◌, length, Option, None};
-ghost use Rattle.coap_io.specs.Prelude.{AddsBytes, TellsMore, DoorCall, Asked, Waited, IsWithin, MatchesTrace, bytes_passed};
-ghost use Rattle.coap_io.specs.Prelude.{Got, wait_at_most};
+ghost use Rattle.coap_io.specs.Prelude.{AddsBytes, TellsMore, DoorCall, Asked, Waited, IsWithin, MatchesTrace};
+ghost use Rattle.coap_io.specs.Prelude.{bytes_passed, Got, wait_at_most};
 
 /// Result of a read or a write of a wire.
 #[derive(Clone, Copy, Debug, PartialEq, Eq)]

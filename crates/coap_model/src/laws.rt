@@ -9,10 +9,10 @@ ghost use Rattle.coap_model.specs.Prelude.{StoreValue, answer_of, ConfigValues, 
 ghost use Rattle.coap_model.specs.Prelude.{asks_answer, held_for, moment_after, held_message, next_held, side_after};
 ghost use Rattle.coap_model.specs.Prelude.{side_faulted, side_written, side_ended, side_released, side_announced};
 ghost use Rattle.coap_model.specs.Prelude.{settled_once, CorrespondTo, QueuesCustody, IsFirstHeld, KeepsPending};
-ghost use Rattle.coap_model.specs.Prelude.{KeepsPendingOver, World, Step, new_world, side_of, step, after_steps, AcceptedCall};
-ghost use Rattle.coap_model.specs.Prelude.{size_on, stream_on, steps_of, world_after, AreAccepted, kept_on};
-ghost use Rattle.coap_model.specs.Prelude.{FollowsAnswers, view_of, after_view, AreSeen, first_number, view_events};
-ghost use Rattle.coap_model.specs.Prelude.{IsLastNotification, TokensAreDistinct, asked_late};
+ghost use Rattle.coap_model.specs.Prelude.{KeepsPendingOver, World, Step, new_world, side_of, step, after_steps};
+ghost use Rattle.coap_model.specs.Prelude.{AcceptedCall, size_on, stream_on, steps_of, world_after, AreAccepted};
+ghost use Rattle.coap_model.specs.Prelude.{kept_on, FollowsAnswers, view_of, after_view, AreSeen, first_number};
+ghost use Rattle.coap_model.specs.Prelude.{view_events, IsLastNotification, TokensAreDistinct, asked_late};
 ghost use Rattle.coap_conn.specs.Calls as call;
 ghost use Rattle.coap_model.specs.world.World.{Opened};
 

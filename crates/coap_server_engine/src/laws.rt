@@ -3,11 +3,12 @@
 ghost use Rattle.std.specs.Prelude.{◌≡◌, ◌⊎◌, ℕ, Bool, ◌+◌, ◌<◌, ◌^◌, ◌≤◌, List, ◌∷◌, ◌++◌, map, false, Some};
 ghost use Rattle.coap_server_engine.specs.Prelude.{concat, StreamFault, reject_of, reject_reason, takes_messages};
 ghost use Rattle.coap_server_engine.specs.Prelude.{IsStore, ConfigValues, IsNotTaken, ServerValue, AreSettled};
-ghost use Rattle.coap_server_engine.specs.Prelude.{WrittenFault, ReleaseFault, WaitsForDeadlines, Connection, IsUpToDate};
-ghost use Rattle.coap_server_engine.specs.Prelude.{World, new_world, side_of, after_steps, AcceptedCall, Took, stream_on};
-ghost use Rattle.coap_server_engine.specs.Prelude.{steps_of, world_after, AreAccepted, Shows, server_of, normalised_step};
-ghost use Rattle.coap_server_engine.specs.Prelude.{normalised_steps, kept_at, IsRefusedStored, StoresNothing, ScriptEventValue};
-ghost use Rattle.coap_server_engine.specs.Prelude.{in_result, replayed, DifferInCuts, AreInTime, lines_of, other_lines};
+ghost use Rattle.coap_server_engine.specs.Prelude.{WrittenFault, ReleaseFault, WaitsForDeadlines, Connection};
+ghost use Rattle.coap_server_engine.specs.Prelude.{IsUpToDate, World, new_world, side_of, after_steps, AcceptedCall};
+ghost use Rattle.coap_server_engine.specs.Prelude.{Took, stream_on, steps_of, world_after, AreAccepted, Shows};
+ghost use Rattle.coap_server_engine.specs.Prelude.{server_of, normalised_step, normalised_steps, kept_at};
+ghost use Rattle.coap_server_engine.specs.Prelude.{IsRefusedStored, StoresNothing, ScriptEventValue, in_result};
+ghost use Rattle.coap_server_engine.specs.Prelude.{replayed, DifferInCuts, AreInTime, lines_of, other_lines};
 ghost use Rattle.coap_conn.specs.declared.phase.Phase.TheVariants.{Stopped};
 ghost use Rattle.coap_model.specs.declared.answers.TakeFault.TheVariants.{Memory};
 ghost use Rattle.coap_model.specs.declared.answers.WrittenFault.TheVariants as writing;

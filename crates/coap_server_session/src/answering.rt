@@ -2,10 +2,10 @@
 
 ghost use Rattle.std.specs.Prelude.{◌≡◌, ◌<◌, ◌≤◌, ◌++◌, ◌∷◌, [], ℕ, Option, map, true, Some, None, is_some, length};
 ghost use Rattle.std.specs.Prelude.{slice_get, if◌then◌else◌, IfOk, OnOk, OnErr};
-ghost use Rattle.coap_server_session.specs.Prelude.{IsAnswering, AreMarked, IsTagged, marks_after, is_open, PendingEntryValue};
-ghost use Rattle.coap_server_session.specs.Prelude.{first_due, IsReady, can_hold, link_after, changed, without_hold};
-ghost use Rattle.coap_server_session.specs.Prelude.{response_message, change_value, path_of, IsPut, TakesChange};
-ghost use Rattle.coap_server_session.specs.Prelude.{change_hash, MayObserve, asks_entry as asks};
+ghost use Rattle.coap_server_session.specs.Prelude.{IsAnswering, AreMarked, IsTagged, marks_after, is_open};
+ghost use Rattle.coap_server_session.specs.Prelude.{PendingEntryValue, first_due, IsReady, can_hold, link_after};
+ghost use Rattle.coap_server_session.specs.Prelude.{changed, without_hold, response_message, change_value, path_of};
+ghost use Rattle.coap_server_session.specs.Prelude.{IsPut, TakesChange, change_hash, MayObserve, asks_entry as asks};
 ghost use Rattle.coap_server_session.specs.Prelude.{is_whole as is_sent_whole, ObserverValue, answer_on, hold_on};
 ghost use Rattle.coap_server_session.specs.Prelude.{held_in, host_changed, link_sent, new_entry, notification_on};
 ghost use Rattle.coap_server_session.specs.Prelude.{without_entry, IsFirstStale, link_replied, entries_replied};

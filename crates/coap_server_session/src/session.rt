@@ -5,10 +5,10 @@
 
 ghost use Rattle.std.specs.Prelude.{◌≡◌, ℕ, List, [], IfOk, OnOk, OnErr, false, None, ◌≤◌, ◌+◌, ◌++◌, ⊤, Some, length};
 ghost use Rattle.std.specs.Prelude.{take, IfErr};
-ghost use Rattle.coap_server_session.specs.Prelude.{IsLive, IsReady, IsPut, ServerState as HostValue, change_hash, change_by};
-ghost use Rattle.coap_server_session.specs.Prelude.{host_changed, session_handled, session_with, sizes_of, framer_on};
-ghost use Rattle.coap_server_session.specs.Prelude.{sem, follows_so, none, RefusedBy, AreInRange, is_finished};
-ghost use Rattle.coap_server_session.specs.Prelude.{release_refusal, MarkedSession, IsMarked, AreMarked};
+ghost use Rattle.coap_server_session.specs.Prelude.{IsLive, IsReady, IsPut, ServerState as HostValue, change_hash};
+ghost use Rattle.coap_server_session.specs.Prelude.{change_by, host_changed, session_handled, session_with, sizes_of};
+ghost use Rattle.coap_server_session.specs.Prelude.{framer_on, sem, follows_so, none, RefusedBy, AreInRange};
+ghost use Rattle.coap_server_session.specs.Prelude.{is_finished, release_refusal, MarkedSession, IsMarked, AreMarked};
 ghost use Rattle.coap_server_session.specs.Prelude.{observers_left, new_session, session_takes, taking};
 ghost use Rattle.coap_server_session.specs.Prelude.{session_written, session_ended, session_released};
 ghost use Rattle.coap_server_session.specs.Prelude.{session_announced, RefusesPiece, IsAnnounced};

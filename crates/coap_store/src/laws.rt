@@ -3,12 +3,12 @@
 ghost use Rattle.std.specs.Prelude.{◌≡◌, ◌≢◌, ◌↔◌, ℕ, ◌+◌, ◌<◌, ◌≤◌, ◌^◌, List, [], Option, Some, None, IsTrue};
 ghost use Rattle.std.specs.Prelude.{IsFalse, IfSome};
 ghost use Rattle.coap_store.specs.Prelude.{LARGEST_MESSAGE, Message, Path, is_path, Representation, StoreValue};
-ghost use Rattle.coap_store.specs.Prelude.{found_in, put_in, removed_in, kind_of_path, state_of, is_get, path_of, etag_of};
-ghost use Rattle.coap_store.specs.Prelude.{Change, Nothing, Put, Delete, only, delayed_response, is_delayed, answer_of};
-ghost use Rattle.coap_store.specs.Prelude.{immediate_answer, changed, says_change, TakesChange, HasSmallFormat};
-ghost use Rattle.coap_store.specs.Prelude.{changed_by, TakesChanges, AreDistinct, IsStore, put_refusal, WasStored};
-ghost use Rattle.coap_store.specs.Prelude.{notification_of, MayObserve, plain_get, IsStoredCode, ReportsState, ReportsEtag};
-ghost use Rattle.coap_store.specs.Prelude.{IsElsewhere, content_of, put_by};
+ghost use Rattle.coap_store.specs.Prelude.{found_in, put_in, removed_in, kind_of_path, state_of, is_get, path_of};
+ghost use Rattle.coap_store.specs.Prelude.{etag_of, Change, Nothing, Put, Delete, only, delayed_response, is_delayed};
+ghost use Rattle.coap_store.specs.Prelude.{answer_of, immediate_answer, changed, says_change, TakesChange};
+ghost use Rattle.coap_store.specs.Prelude.{HasSmallFormat, changed_by, TakesChanges, AreDistinct, IsStore, put_refusal};
+ghost use Rattle.coap_store.specs.Prelude.{WasStored, notification_of, MayObserve, plain_get, IsStoredCode};
+ghost use Rattle.coap_store.specs.Prelude.{ReportsState, ReportsEtag, IsElsewhere, content_of, put_by};
 ghost use Rattle.coap_wire.specs.Codes as code;
 ghost use Rattle.coap_store.specs.declared.resource_kind.ResourceKind.TheVariants.{Listing, Dynamic};
 ghost use Rattle.coap_store.specs.declared.plan.Watch.TheVariants.{Add};

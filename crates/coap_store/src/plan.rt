@@ -1,8 +1,8 @@
 //! The plan for a request.
 
 ghost use Rattle.std.specs.Prelude.{◌≡◌, ◌≢◌, ◌≤◌, true, [], Some, IfSome, length, option_map};
-ghost use Rattle.coap_store.specs.Prelude.{bytes_in, change_value, says, only, without_hold, changes as is_change, is_path};
-ghost use Rattle.coap_store.specs.Prelude.{effect_value, IsAtPath, IsToldNamed, path_or_root, location_in};
+ghost use Rattle.coap_store.specs.Prelude.{bytes_in, change_value, says, only, without_hold, changes as is_change};
+ghost use Rattle.coap_store.specs.Prelude.{is_path, effect_value, IsAtPath, IsToldNamed, path_or_root, location_in};
 ghost use Rattle.coap_wire.specs.Codes as code;
 
 use crate::found::{Payload, RepresentationRef};

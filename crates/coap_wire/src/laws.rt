@@ -6,10 +6,10 @@ ghost use Rattle.coap_wire.specs.Prelude.{greatest_length, IsOptionForm, option_
 ghost use Rattle.coap_wire.specs.Prelude.{token_form, greatest_token, Spells, spelling, HasSpelling, IsDeclaredSize};
 ghost use Rattle.coap_wire.specs.Prelude.{IsFrame, Declares, declared_of, IsFirstFault, IsFrameFault, IsUnfinished};
 ghost use Rattle.coap_wire.specs.Prelude.{Unfinished, Whole, Faulty, prefix_kind, fault_bytes, Frames, Sizes, FramedAs};
-ghost use Rattle.coap_wire.specs.Prelude.{constant_size, size_for, sizes_behind, sizes_of_rest, sized_frames, frames_on};
-ghost use Rattle.coap_wire.specs.Prelude.{Stream, SplitsAs, sized_split, split, stream_then, sized_split_on, split_on};
-ghost use Rattle.coap_wire.specs.Prelude.{uint_of, bytes_of_uint, IsFirstWithNumber, IsRecognised, is_recognised};
-ghost use Rattle.coap_wire.specs.Prelude.{Declared, FormatFault, FrameFault};
+ghost use Rattle.coap_wire.specs.Prelude.{constant_size, size_for, sizes_behind, sizes_of_rest, sized_frames};
+ghost use Rattle.coap_wire.specs.Prelude.{frames_on, Stream, SplitsAs, sized_split, split, stream_then, sized_split_on};
+ghost use Rattle.coap_wire.specs.Prelude.{split_on, uint_of, bytes_of_uint, IsFirstWithNumber, IsRecognised};
+ghost use Rattle.coap_wire.specs.Prelude.{is_recognised, Declared, FormatFault, FrameFault};
 
 /// States that each length up to 4,295,033,100 has exactly one encoding: a nibble and its extension (RFC 8323 section
 /// 3.2).

@@ -2,7 +2,8 @@
 
 ghost use Rattle.std.specs.Prelude.{◌≡◌, ◌≤◌, ◌||◌, ◌∷◌, false, is_err, [], length, drop, IfOk, IfSome, OnOk};
 ghost use Rattle.coap_client_engine.specs.Prelude.{TellsMore, count_passed, AddsBytes, IsStatus, IsFresh, with_outlets};
-ghost use Rattle.coap_client_engine.specs.Prelude.{with_wire, IsReady, IsHeard, IsTaken, ExtendsTrace, ExtendsAllTraces};
+ghost use Rattle.coap_client_engine.specs.Prelude.{with_wire, IsReady, IsHeard, IsTaken, ExtendsTrace};
+ghost use Rattle.coap_client_engine.specs.Prelude.{ExtendsAllTraces};
 ghost use Rattle.coap_client_engine.specs.ClientValues as value;
 ghost use Rattle.coap_client_engine.specs.RunSteps as spec;
 

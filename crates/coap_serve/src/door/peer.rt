@@ -1,10 +1,11 @@
 //! The transport side of a connection, and how a turn serves it.
 
 ghost use Rattle.std.specs.Prelude.{◌≡◌, ◌≢◌, false, [], length, is_some, OnOk, OnErr, IfOk, IfErr};
-ghost use Rattle.coap_serve.specs.Prelude.{IsPartialIn, in_result, AddsBytes, HasServed, TellsMore, IsServedOnce, trace_by};
-ghost use Rattle.coap_serve.specs.Prelude.{IsLaidOut, is_heard, server_heard, server_wrote, waiting_once, rest_left};
-ghost use Rattle.coap_serve.specs.Prelude.{is_over_in, has_failed, course_of, wants_of, IsWithin, IsMemory, IsOneWrite};
-ghost use Rattle.coap_serve.specs.Prelude.{bytes_passed, stop_on, session_of, IsAsked, CanGoOn, IsRestAnswer, end_of};
+ghost use Rattle.coap_serve.specs.Prelude.{IsPartialIn, in_result, AddsBytes, HasServed, TellsMore, IsServedOnce};
+ghost use Rattle.coap_serve.specs.Prelude.{trace_by, IsLaidOut, is_heard, server_heard, server_wrote, waiting_once};
+ghost use Rattle.coap_serve.specs.Prelude.{rest_left, is_over_in, has_failed, course_of, wants_of, IsWithin, IsMemory};
+ghost use Rattle.coap_serve.specs.Prelude.{IsOneWrite, bytes_passed, stop_on, session_of, IsAsked, CanGoOn};
+ghost use Rattle.coap_serve.specs.Prelude.{IsRestAnswer, end_of};
 ghost use Rattle.coap_serve.specs.declared.door.peer.PeerOutcome.TheVariants.{Open};
 ghost use Rattle.coap_io.specs.declared.wire.Got.TheVariants.{Later, End};
 

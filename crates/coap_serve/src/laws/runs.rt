@@ -1,11 +1,11 @@
 //! Theorems on runs: on a flush, and on an event loop that skips idle connections.
 
 ghost use Rattle.std.specs.Prelude.{◌≡◌, ℕ, Bool, Option, Result, ◌+◌, ◌≤◌, List, [], false};
-ghost use Rattle.coap_serve.specs.Prelude.{ConfigValues, ServerValue, AreSettled, LiesAt, server_opened};
-ghost use Rattle.coap_serve.specs.Prelude.{server_ticked, server_dropped, IsNoOp, IsServedOnce, can_go_on};
-ghost use Rattle.coap_serve.specs.Prelude.{is_over_in, wants_of, IsNoEarlier, KeepsNotes, WhilePassedOver, WireTrace};
-ghost use Rattle.coap_serve.specs.Prelude.{PeerOutcome, ChangeStamp, outlook_of, stamp_of, AcceptedCall, Shows, IsFlushed, AddsBytes};
-ghost use Rattle.coap_serve.specs.Prelude.{waiting_at, Report, IoFault, IsStdioRun, LeavesNothingWaiting};
+ghost use Rattle.coap_serve.specs.Prelude.{ConfigValues, ServerValue, AreSettled, LiesAt, server_opened, server_ticked};
+ghost use Rattle.coap_serve.specs.Prelude.{server_dropped, IsNoOp, IsServedOnce, can_go_on, is_over_in, wants_of};
+ghost use Rattle.coap_serve.specs.Prelude.{IsNoEarlier, KeepsNotes, WhilePassedOver, WireTrace, PeerOutcome};
+ghost use Rattle.coap_serve.specs.Prelude.{ChangeStamp, outlook_of, stamp_of, AcceptedCall, Shows, IsFlushed};
+ghost use Rattle.coap_serve.specs.Prelude.{AddsBytes, waiting_at, Report, IoFault, IsStdioRun, LeavesNothingWaiting};
 
 /// States that an idle connection may be skipped.
 ///

@@ -13,9 +13,9 @@ impl Server {
     ghost use Rattle.coap_server_engine.specs.Prelude.{ShowsMore, ShowsPartlyFed, AddsBytes, WritesPart, waiting_at};
     ghost use Rattle.coap_server_engine.specs.Prelude.{more_at, IsFlushedOnce, session_of, is_there, count_taken};
     ghost use Rattle.coap_server_engine.specs.Prelude.{server_taken, server_written, can_take_on, handled_by};
-    ghost use Rattle.coap_server_engine.specs.Prelude.{IsNotTaken, written_refusal, front_of, stop_on, LiesAt, AcceptedCall};
-    ghost use Rattle.coap_server_engine.specs.Prelude.{Took, Wrote, takes, handled_in, Shows, ShowsRefused};
-    ghost use Rattle.coap_server_engine.specs.Prelude.{IsRefusedFor};
+    ghost use Rattle.coap_server_engine.specs.Prelude.{IsNotTaken, written_refusal, front_of, stop_on, LiesAt};
+    ghost use Rattle.coap_server_engine.specs.Prelude.{AcceptedCall, Took, Wrote, takes, handled_in, Shows};
+    ghost use Rattle.coap_server_engine.specs.Prelude.{ShowsRefused, IsRefusedFor};
     ghost use Rattle.coap_server_engine.specs.contracts.server.Server.{the_row};
 
     /// Returns `true` if a connection accepts bytes.
