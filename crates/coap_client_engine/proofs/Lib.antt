@@ -9,7 +9,7 @@ pub mod TokenLaws
 pub mod HandledLaws
 pub mod FitLaws
 pub mod StandLemmas
-pub mod CourseLaws
+pub mod RunTraceLaws
 pub mod TakenLemmas
 pub mod RunLemmas
 mod WorkedClient

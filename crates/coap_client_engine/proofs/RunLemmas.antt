@@ -27,7 +27,7 @@ use Rattle.coap_io.proofs.streams.DeviceLemmas.{told_none, told_then, bytes_none
 use Rattle.coap_client_engine.specs.ClientValues as value
 use Rattle.coap_client_engine.specs.RunSteps.{asking_refusal, cancelling_refusal}
 use Rattle.coap_client_engine.specs.RunTrace.{Writes}
-use Rattle.coap_client_engine.proofs.CourseLaws.{course_taken, course_queued}
+use Rattle.coap_client_engine.proofs.RunTraceLaws.{course_taken, course_queued}
 use Rattle.coap_client_engine.proofs.ClientShown.{took_takes, took_told, took_shown}
 use Rattle.coap_client_engine.proofs.TakenLemmas.{client_takes_some, cancelled_takes, may_parts, may_not}
 use Rattle.coap_client_engine.proofs.StandLemmas.{bytes_stay, bytes_same, front_length, taking_limits, sent_limits, cancelled_limits, read_limits, read_shown, asked_shown, given_up_shown, send_tells_none, cancel_tells_none}

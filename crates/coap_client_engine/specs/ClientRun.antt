@@ -7,7 +7,7 @@ use Rattle.coap_io.specs.declared.output.WriteFailed.{WriteFailed}
 use Rattle.coap_io.specs.streams.Device.{AddsBytes}
 use Rattle.coap_io.specs.streams.DeviceTraces.{TellsMore}
 use Rattle.coap_client_engine.specs.ClientWorld.{AreAccepted, ClientShows}
-use Rattle.coap_client_engine.specs.RunTrace.{RunTrace, Begins, calls_in, history_in, token_in, moments_in, turns_in, moment_in, started_in, first_in, cancelled_in, answers_in, taken_in, given_in, rest_in, waiting_in, written_in, status_in, output_in, errors_in, has_looked, IsAskedWhereDue, IsTakenUp, IsResting, IsBetween, MayWrite, HasWritten, IsCourse}
+use Rattle.coap_client_engine.specs.RunTrace.{RunTrace, Begins, calls_in, history_in, token_in, moments_in, turns_in, moment_in, started_in, first_in, cancelled_in, answers_in, taken_in, given_in, rest_in, waiting_in, written_in, status_in, output_in, errors_in, has_looked, IsAskedWhereDue, IsTakenUp, IsResting, IsBetween, MayWrite, HasWritten, IsRunTrace}
 use Rattle.coap_request.specs.declared.plan.ClientPlan.{ClientPlan}
 use Rattle.coap_client_engine.specs.declared.run.state.Run.{Run}
 use Rattle.coap_conn.specs.Limits.{default_limits}
@@ -58,7 +58,7 @@ IsOutOfTurns course status = (status_in course ≡ None) × IsBetween course × 
 -- devices recorded exactly this trace. The status is the one that ends the trace, or 4 if all iterations were made.
 pub record IsClientRun (plan : ClientPlan) (start now : RunDevices) (status : ℕ) : Type 0 where
   pub course : RunTrace
-  pub follows : IsCourse plan course
+  pub follows : IsRunTrace plan course
   pub accepted : AreAccepted default_limits 0 (calls_in course)
   pub taken : given_in course ≡ taken_in course ++ rest_in course
   pub queued : bytes_of (history_in course).queued ≡ written_in course ++ waiting_in course
@@ -80,7 +80,7 @@ token_of run = option_map (λ t. t.items) run.token
 
 -- Says that the state of a run is the one to which a trace leads, and that the devices recorded this trace.
 pub record IsAtTrace (plan : ClientPlan) (start now : RunDevices) (run : Run) (course : RunTrace) : Type 0 where
-  pub follows : IsCourse plan course
+  pub follows : IsRunTrace plan course
   pub shows : ClientShows run.client 0 (calls_in course)
   pub limits : run.client.link.limits ≡ default_limits
   pub rest : run.rest ≡ rest_in course

@@ -99,7 +99,7 @@ unfoldable pub use Rattle.coap_client_engine.specs.ClientWorld.{after_steps, ste
 pub use Rattle.coap_client_engine.specs.EventViews.{event_value, answer_read, pong_read, heard_value, taken_event}
 pub use Rattle.coap_client_engine.specs.EventViews.{taking_framed, IsClient}
 pub use Rattle.coap_client_engine.specs.RunTrace.{IsFresh, Begins, Calls, RunTrace, GivesUp, HasWaited}
-pub use Rattle.coap_client_engine.specs.RunTrace.{IsAskedWhereDue, IsBetween, IsCancelledWhereDue, IsCourse, IsDone}
+pub use Rattle.coap_client_engine.specs.RunTrace.{IsAskedWhereDue, IsBetween, IsCancelledWhereDue, IsRunTrace, IsDone}
 pub use Rattle.coap_client_engine.specs.RunTrace.{IsPlanned, IsRefused, IsResting, IsTakenUp, MayWrite, Reads, Refuses}
 pub use Rattle.coap_client_engine.specs.RunTrace.{Rests, Turns, answers_in, calls_in, cancelled_in, client_in}
 pub use Rattle.coap_client_engine.specs.RunTrace.{errors_in, event_in, first_in, given_in, has_looked, history_in}

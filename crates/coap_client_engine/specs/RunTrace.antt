@@ -442,14 +442,14 @@ HasWritten course = MayWrite course → waiting_in course ≡ []
 
 -- Says that each event of a trace may follow the events before it. After the event that ends the run, there is at most
 -- one write.
-abbrev pub IsCourse : ClientPlan → RunTrace → Type 0
-IsCourse plan (Begins moment) = Unit {0}
-IsCourse plan (Turns before moment) = IsCourse plan before × (status_in before ≡ None) × IsBetween before
-IsCourse plan (Reads before got bytes) =
-    IsCourse plan before × (status_in before ≡ None) × IsFresh before × (rest_in before ≡ []) × (length bytes ≡ count_passed got)
-IsCourse plan (Calls before call) = IsCourse plan before × (status_in before ≡ None) × IsPlanned plan before call
-IsCourse plan (Refuses before fault) = IsCourse plan before × (status_in before ≡ None) × IsRefused plan before fault
-IsCourse plan (GivesUp before) = IsCourse plan before × (status_in before ≡ None) × HasWaited plan before
-IsCourse plan (Rests before) = IsCourse plan before × IsDone plan before
-IsCourse plan (Writes before got) =
-    IsCourse plan before × (waiting_in before ≢ []) × MayWrite before × (status_in before ≡ None → IsResting before)
+abbrev pub IsRunTrace : ClientPlan → RunTrace → Type 0
+IsRunTrace plan (Begins moment) = Unit {0}
+IsRunTrace plan (Turns before moment) = IsRunTrace plan before × (status_in before ≡ None) × IsBetween before
+IsRunTrace plan (Reads before got bytes) =
+    IsRunTrace plan before × (status_in before ≡ None) × IsFresh before × (rest_in before ≡ []) × (length bytes ≡ count_passed got)
+IsRunTrace plan (Calls before call) = IsRunTrace plan before × (status_in before ≡ None) × IsPlanned plan before call
+IsRunTrace plan (Refuses before fault) = IsRunTrace plan before × (status_in before ≡ None) × IsRefused plan before fault
+IsRunTrace plan (GivesUp before) = IsRunTrace plan before × (status_in before ≡ None) × HasWaited plan before
+IsRunTrace plan (Rests before) = IsRunTrace plan before × IsDone plan before
+IsRunTrace plan (Writes before got) =
+    IsRunTrace plan before × (waiting_in before ≢ []) × MayWrite before × (status_in before ≡ None → IsResting before)

@@ -8,7 +8,7 @@ use Rattle.coap_client_engine.specs.Prelude.{ClientStep, Handles, Faults, Reques
 use Rattle.coap_client_engine.specs.Prelude.{stream_in, new_fault, steps_by, step, after_steps, client_after, client_of}
 use Rattle.coap_client_engine.specs.Prelude.{AreAcceptedBehind, AreAccepted, calls_read, calls_written, RunTrace, Begins}
 use Rattle.coap_client_engine.specs.Prelude.{Turns, Reads, Calls, Refuses, GivesUp, Rests, default_limits, calls_in, history_in}
-use Rattle.coap_client_engine.specs.Prelude.{waiting_in, taken_in, given_in, rest_in, written_in, IsPlanned, IsCourse}
+use Rattle.coap_client_engine.specs.Prelude.{waiting_in, taken_in, given_in, rest_in, written_in, IsPlanned, IsRunTrace}
 use Rattle.std.proofs.lemmas.List.{append-nil, take-append-drop, take-append-le}
 use Rattle.std.proofs.Math.Seq.{drop-append_seam, take-append-add}
 use Rattle.std.proofs.lemmas.List.Concat.{flat_map-append}
@@ -64,7 +64,7 @@ given_read : (calls : List ClientCall) (given rest bytes : List ℕ) → given �
 given_read calls given rest bytes is none = ap (λ (t : List ℕ). t ++ bytes) (is ∙ ap (λ (t : List ℕ). taken_all calls ++ t) none ∙ append-nil (taken_all calls))
 
 -- The accepted bytes and those left to process are the bytes that the wire gave.
-pub course_taken : (plan : ClientPlan) (c : RunTrace) → IsCourse plan c → given_in c ≡ taken_in c ++ rest_in c
+pub course_taken : (plan : ClientPlan) (c : RunTrace) → IsRunTrace plan c → given_in c ≡ taken_in c ++ rest_in c
 course_taken plan (Begins moment) is = refl
 course_taken plan (Turns before moment) is = course_taken plan before is.0
 course_taken plan (Reads before got bytes) is =
@@ -229,7 +229,7 @@ planned_quiet plan before (Pinged custody) is = tt
 planned_quiet plan before (Wrote n) is = is
 planned_quiet plan before Ended is = tt
 
-course_sent : (plan : ClientPlan) (c : RunTrace) → IsCourse plan c → AreAccepted default_limits 0 (calls_in c) → written_in c ≡ sent_bytes (history_in c)
+course_sent : (plan : ClientPlan) (c : RunTrace) → IsRunTrace plan c → AreAccepted default_limits 0 (calls_in c) → written_in c ≡ sent_bytes (history_in c)
 course_sent plan (Begins moment) is all = sym nothing_sent_at_first
 course_sent plan (Turns before moment) is all = course_sent plan before is.0 all
 course_sent plan (Reads before got bytes) is all = course_sent plan before is.0 (accepted_before (calls_in before) (calls_read got) all) ∙ sym (read_sent (calls_in before) got all)
@@ -242,7 +242,7 @@ course_sent plan (course.Writes before got) is all =
     ap (λ (w : List ℕ). w ++ bytes_passed (waiting_in before) got) (course_sent plan before is.0 (accepted_before (calls_in before) (calls_written got) all)) ∙ sym (written_sent (calls_in before) got all)
 
 -- The written bytes and those still to be written are the queued bytes.
-pub course_queued : (plan : ClientPlan) (c : RunTrace) → IsCourse plan c → AreAccepted default_limits 0 (calls_in c) → bytes_of (history_in c).queued ≡ written_in c ++ waiting_in c
+pub course_queued : (plan : ClientPlan) (c : RunTrace) → IsRunTrace plan c → AreAccepted default_limits 0 (calls_in c) → bytes_of (history_in c).queued ≡ written_in c ++ waiting_in c
 course_queued plan c is all =
     sym (take-append-drop (history_in c).written (bytes_of (history_in c).queued))
     ∙ ap (λ (w : List ℕ). w ++ drop (history_in c).written (bytes_of (history_in c).queued)) (sym (course_sent plan c is all))
