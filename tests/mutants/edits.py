@@ -41,7 +41,7 @@ crate fills it from scratch, and the second one completes it. So a crate is prov
 An edit is rejected if a goal of a function that it changes is not proved; this goal is printed. Two kinds of errors do not count:
 
 - The function calls another one that is not proved.
-- An error in a proof file is outside of the answers to goals, or only reports a missing name of the code or of a lemma. Such an error says
+- An error in a proof file is outside of the answers to goals, or only reports that a name is missing. Such an error says
   nothing about the contract, so the edit is reported as NOT REFUSED.
 
 If a function that no edit of a round changes has an unproved goal of its own, the round is split in two. An edit that no round rejected is tried

@@ -1,9 +1,9 @@
-"""Installs the programs, their manuals, the unit and HAProxy's configuration into temporary folders, and takes them away again.
+"""Installs the programs, their manuals, the systemd unit and the configuration of HAProxy into temporary folders, and uninstalls them.
 
     tests/system/install.py bin/coap-server bin/coap-client
 
-`make` runs over a copy of what is installed, whose sources are newer than the programs and whose builder fails, so that
-nothing can be built on the way. Where systemd-analyze is there, it looks at the unit; it is not installed for that.
+`make` runs on a copy of the installed files, with sources that are newer than the programs and a build script that fails. A build would therefore
+be noticed. If systemd-analyze exists, it checks the unit. The script does not install systemd-analyze.
 """
 
 import os
@@ -24,14 +24,14 @@ UNIT = "lib/systemd/system/coap-server.service"
 
 FRONT = "share/doc/coap-server/examples/haproxy.cfg"
 
-# what systemd-analyze says of the unit's exposure, at most, of 10; what is left is that it speaks to every network
+# Maximum exposure of the unit, of 10, as systemd-analyze reports it. The rest is the access to all networks.
 EXPOSURE = 1.1
 
 LIMIT = 60
 
 
 def wanted_files():
-    """What is installed below the prefix, each with its mode."""
+    """Returns the files installed below the prefix, each with its mode."""
     files = {"bin/%s" % name: 0o755 for name in PROGRAMS}
     files.update({"share/man/man1/%s.1" % name: 0o644 for name in PROGRAMS})
     files.update({UNIT: 0o644, FRONT: 0o644})
@@ -39,20 +39,20 @@ def wanted_files():
 
 
 def run(words, folder):
-    """The status of a run whose files are the owner's alone where nothing else is said, and what it wrote."""
+    """Runs a command with a umask of 077. Returns its status and output."""
     done = subprocess.run(words, cwd=folder, stdin=subprocess.DEVNULL, stdout=subprocess.PIPE, stderr=subprocess.STDOUT,
                           umask=0o077, timeout=LIMIT)
     return done.returncode, done.stdout.decode(errors="replace")
 
 
 def make(folder, target, prefix, destination):
-    """Runs a target of the Makefile; without a prefix it is the Makefile's own."""
+    """Runs a target of the Makefile. Without a prefix, the default of the Makefile is used."""
     words = ["make", target] + (["PREFIX=" + prefix] if prefix else []) + (["DESTDIR=" + destination] if destination else [])
     return run(words, folder)
 
 
 def copy_tree(folder, programs):
-    """Copies what is installed, with sources that are newer and a builder that fails."""
+    """Copies the installed files, with newer sources and a build script that fails."""
     os.makedirs(os.path.join(folder, "bin"))
     for name, program in zip(PROGRAMS, programs):
         shutil.copy(program, os.path.join(folder, "bin", name))
@@ -69,7 +69,7 @@ def copy_tree(folder, programs):
 
 
 def files_below(folder):
-    """The files below a folder, each with its mode."""
+    """Returns the files below a folder, each with its mode."""
     found = {}
     for place, _, names in os.walk(folder):
         for name in names:
@@ -79,7 +79,7 @@ def files_below(folder):
 
 
 def folder_modes(folder):
-    """The modes of the folders below a folder."""
+    """Returns the modes of the folders below a folder."""
     return {stat.S_IMODE(os.lstat(os.path.join(place, name)).st_mode) for place, names, _ in os.walk(folder) for name in names}
 
 
@@ -89,7 +89,7 @@ def read(*parts):
 
 
 def check_prefix(checks, tree, prefix):
-    """One installation: what is there then, what is in it, and what is left of it once it was taken away."""
+    """Checks one installation: the installed files, their content, and the files left after it is uninstalled."""
     told = prefix or "/usr/local"
     with tempfile.TemporaryDirectory(prefix="a folder ") as destination:
         checks.same("%s: install" % told, make(tree, "install", prefix, destination)[0], 0)
@@ -117,7 +117,7 @@ def check_prefix(checks, tree, prefix):
 
 
 def check_unbuilt(checks, tree):
-    """That nothing is installed, and nothing built, where a program is missing."""
+    """Checks that nothing is installed and nothing is built if a program is missing."""
     with tempfile.TemporaryDirectory() as destination:
         missing = os.path.join(tree, "bin", "coap-client")
         os.rename(missing, missing + ".away")
@@ -127,7 +127,7 @@ def check_unbuilt(checks, tree):
 
 
 def check_unit(checks, tree):
-    """What systemd says of the unit, installed where it is to run."""
+    """Checks the installed unit with systemd-analyze."""
     with tempfile.TemporaryDirectory() as prefix:
         make(tree, "install", prefix, "")
         unit = os.path.join(prefix, UNIT)
@@ -140,7 +140,7 @@ def check_unit(checks, tree):
 
 
 def check_numbered_unit(checks, tree):
-    """What systemd says of the unit of several servers, which docs/DEPLOYING.md makes of the installed one."""
+    """Checks the unit for several servers, which docs/DEPLOYING.md derives from the installed one, with systemd-analyze."""
     changes = re.findall(r"-e ('[^']*')", read(ROOT, "docs", "DEPLOYING.md").decode())
     with tempfile.TemporaryDirectory() as prefix:
         make(tree, "install", prefix, "")

@@ -1,5 +1,5 @@
-"""Shows the main jobs: recorded streams through `coap-server --stdio`, with what each message means, and a script of events on
-one server through `coap-server --script -`, with what each line means.
+"""Demonstrates the server: recorded streams through `coap-server --stdio`, with the meaning of each message. Then follows a script on one server
+through `coap-server --script -`, with the meaning of each line.
 
     tests/vectors/show.py bin/coap-server
     tests/vectors/show.py --try                 the first stream alone, by `rt try`, which runs the same source before any proof
@@ -16,14 +16,13 @@ from rooms import ROOT  # noqa: E402
 
 CRATE = os.path.join(ROOT, "crates", "coap_server")
 
-# Capabilities and Settings with nothing in it, Empty, a Ping with the token 07 and Custody, and GET of the root, of the
-# moment, of the listing and of an absent path.
+# An empty CSM, Empty, a Ping with the token 07 and Custody. Then GETs of the root, of /time, of the listing and of an absent path.
 RECORDED = bytes.fromhex(
     "00e1" "0000" "11e20720" "010109" "51010ab474696d65"
     "d104010bbb2e77656c6c2d6b6e6f776e04636f7265" "21010cb178"
 )
 
-# Capabilities and Settings, and then the first bytes of a message of 4,295,033,106 bytes; a Ping behind them.
+# An empty CSM, the first bytes of a message of 4,295,033,106 bytes, and a Ping.
 HOSTILE = bytes.fromhex("00e1" "f0ffffffff01" "01e201")
 
 STREAMS = [
@@ -33,10 +32,10 @@ STREAMS = [
 
 SCRIPT_TITLE = "A script on one server: two connections observe /time, and the second one is not drained. Each event, its line, what that means."
 
-# Some more Pings than there is room for Pongs.
+# More Pings than the queue has space for Pongs.
 PINGS = 22_000
 
-# Each event, and what its line means; of bytes that are written their messages are told.
+# Each event, and the meaning of its line. For an empty text, the messages in the line are described.
 SCRIPT = [
     ("open", "a connection, which gets the number 1"),
     ("drain 1", ""),
@@ -86,12 +85,12 @@ def run(command, title, stream, folder=None):
 
 
 def shortened(line):
-    """A line without the middle of its bytes, where they are many."""
+    """Returns a line with the middle of its bytes left out if there are many."""
     return line if len(line) <= 60 else line[:22] + ".." + line[-6:]
 
 
 def meaning(line, sentence):
-    """The sentence on a line or, where there is none, what the bytes of the line mean."""
+    """Returns the sentence for a line or, if it is empty, the meaning of the bytes of the line."""
     if sentence:
         return sentence
     frames, rest = messages.split(bytes.fromhex(line.split()[2]))
