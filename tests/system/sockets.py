@@ -55,7 +55,7 @@ def client(program, words, stream=b"", seconds=LIMIT, **how):
 class Waits:
     """Programs whose calls are recorded by preloaded libraries: waits.c, and further ones of tests/harness.
 
-    If `at_most` is set, a wait takes at most this number of milliseconds, and the clocks of the program advance as if it had taken all its time.
+    If `at_most` is set, a wait takes at most this number of milliseconds. The clocks of the program advance as if it had taken all its time.
     """
 
     def __init__(self, *libraries, at_most=None, **settings):
