@@ -43,7 +43,7 @@ MOST_MADE = 1 << 10
 # The entry of the table for the output of a program after a failed allocation.
 LEFT = "a front of what it writes with memory"
 
-# The bytes that a peer sends, and the output of the server: a CSM, a GET of the root, and a PUT of `x` at `a`.
+# The bytes that a peer sends (a CSM, a GET of the root, a PUT of `x` at `a`), and the output of the server.
 SENT = bytes.fromhex("00e1" "010101" "410302b161ff78")
 ANSWERED = bytes.fromhex(CSM + "a14501" + GREETING + "014102")
 

@@ -9,8 +9,8 @@ divided by the golden ratio, so that the streams are evenly distributed.
 
 The model is written from RFC 8323 (sections 3.2, 3.3, 3.4, 5) and RFC 7252 (sections 3.1, 5.4, 5.8, 5.10, 12). It shares no code with the
 server, nor with the other parsers of these tests. The root is its only resource, because three bytes can name no other existing one. No response
-exceeds the peer's limit, because no request can follow a Max-Message-Size in three bytes. The RFCs leave some choices to the server, for which
-the model follows the manual: the texts of Aborts, the numbers of the reasons, and the methods of the root.
+exceeds the peer's limit, because no request can follow a Max-Message-Size in three bytes. The RFCs leave some choices to the server: the texts
+of Aborts, the numbers of the reasons, and the methods of the root. There the model follows the manual.
 The last line is 'N passed, M failed' for the streams, and the status is 0 if M is 0.
 """
 
