@@ -51,7 +51,7 @@ try:
 
 # Installs the output of `make all`. Builds nothing, so that another user can run it.
 install:
-	@test -x bin/coap-server -a -x bin/coap-client || { echo "Run 'make all' first: bin/ has not both programs." >&2; exit 1; }
+	@test -x bin/coap-server -a -x bin/coap-client || { echo "Run 'make all' first: bin/ does not have both programs." >&2; exit 1; }
 	install -D -m 0755 -t "$(DESTDIR)$(PREFIX)/bin" bin/coap-server bin/coap-client
 	install -D -m 0644 -t "$(DESTDIR)$(PREFIX)/share/man/man1" man/coap-server.1 man/coap-client.1
 	install -D -m 0644 install/coap-server.service.in "$(DESTDIR)$(PREFIX)/lib/systemd/system/coap-server.service"

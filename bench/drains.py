@@ -42,7 +42,7 @@ def drain_cost(waiting):
 
 def by_script():
     """Prints the table of drains in a script, and returns the ratio of the costs with many and with few queued bytes."""
-    print("\n| `drain N 1000`, where so many bytes wait | Instructions |\n|---|---|")
+    print("\n| `drain N 1000`, by number of queued bytes | Instructions |\n|---|---|")
     costs = []
     for waiting in WAITING:
         costs.append(drain_cost(waiting))

@@ -93,8 +93,8 @@ def judged(rows):
     (_, _, put_alone, _), (_, _, put_beside, tick) = rows[0], rows[-1]
     times, each = put_beside / put_alone, tick / ROWS[1][2][-1].connections
     met = times <= PUT_TIMES, each <= TICK_EACH
-    words = [f"a PUT beside observers of something else, {times:.2f} times, at most {PUT_TIMES}",
-             f"a tick for each connection that does not observe the moment, {each:.0f}, at most {TICK_EACH}"]
+    words = [f"a PUT beside observers of another resource, {times:.2f} times, at most {PUT_TIMES}",
+             f"a tick for each connection that does not observe /time, {each:.0f}, at most {TICK_EACH}"]
     for one, said in zip(met, words):
         print(f"{'met' if one else 'MISSED'}: {said}", flush=True)
     return all(met)

@@ -179,7 +179,7 @@ def refuse_each(file, shim):
         else:
             again, found = struck_again(file, probe, steps, ran.lines, index, shim, first + count)
             calls[file.layer().refused(events[index], ran.lines[index], again)] += 1
-            told = [] if MEMORY.search(ran.lines[index]) else [f"{events[index][:120]}: no memory is told: {ran.lines[index][:120]}"]
+            told = [] if MEMORY.search(ran.lines[index]) else [f"{events[index][:120]}: the failure is not reported: {ran.lines[index][:120]}"]
             wrong += [f"allocation {count + 1}: {text}" for text in told + found]
         count += 1
 
@@ -187,10 +187,10 @@ def refuse_each(file, shim):
 def refuse(file, shim):
     """Makes each allocation of a file fail, and checks their number against the line `allocations:`."""
     if not file.allocations.isdigit():
-        return 0, [] if file.allocations else ["it does not say how many allocations it makes"], Counter()
+        return 0, [] if file.allocations else ["the line `allocations:` is missing"], Counter()
     count, wrong, calls = refuse_each(file, shim)
     if count != int(file.allocations):
-        wrong.append(f"it makes {count} allocations, and says {file.allocations}")
+        wrong.append(f"{count} allocations, but `allocations: {file.allocations}`")
     return count, wrong, calls
 
 
@@ -199,7 +199,7 @@ def untold(calls, is_program=False):
     _, _, behind = TABLE.read_text(encoding="utf-8").partition(BEGINS + "\n")
     told = [it for it in behind.split("\n\n")[0].splitlines()[1:] if (", in `coap-" in it) == is_program]
     wanted = [f"| {call} | {count} | {left} |" for (call, left), count in sorted(calls.items())]
-    lines = [f"there is no line {it}" for it in wanted if it not in told] + [f"nobody tells {it}" for it in told if it not in wanted]
+    lines = [f"missing line {it}" for it in wanted if it not in told] + [f"unexpected line {it}" for it in told if it not in wanted]
     return [f"{TABLE.name}: {it}" for it in lines]
 
 

@@ -194,7 +194,7 @@ class Part:
         begin, end = body_of(text, self.function)
         body = text[begin:end]
         if body.count(self.old) != 1:
-            raise BadEdit(f"the old text stands {body.count(self.old)} times in {self.function}: {self.old}")
+            raise BadEdit(f"the old text occurs {body.count(self.old)} times in {self.function}: {self.old}")
         return text[:begin] + body.replace(self.old, self.new) + text[end:]
 
 
@@ -246,7 +246,7 @@ def read_edit(crate, file):
             if word == "new":
                 edit.parts.append(Part(said["file"], said["in"], said["old"], said["new"]))
     if not edit.layer:
-        raise BadEdit(f"{file}: its first line does not say which clause refuses it")
+        raise BadEdit(f"{file}: its first line has no clause that refuses it")
     if not edit.parts:
         raise BadEdit(f"{file}: nothing is edited")
     return edit
@@ -363,7 +363,7 @@ def type_errors(name, edits):
     lines = check_texts(name, texts, [])
     errors = [it for it in lines if re.match(r"src/\S+: error", it)]
     others = [it for it in errors if not it.startswith(own)]
-    return others if others or errors else [f"the compiler does not tell the error that was put in: {lines[-1:]}"]
+    return others if others or errors else [f"the compiler does not report the added error: {lines[-1:]}"]
 
 
 def wrong_types(name, edits):
@@ -544,7 +544,7 @@ def judge(edits):
                 for edit in outcome.refused:
                     verdicts[edit.crate, edit.name] = tell(edit, True, f"{outcome.goal(edit)}one of {len(one)} in a check")
                 for edit in outcome.cited:
-                    verdicts[edit.crate, edit.name] = tell(edit, False, "only a name that its proof cites is gone")
+                    verdicts[edit.crate, edit.name] = tell(edit, False, "only a name that its proof cites is missing")
                 if len(one) == 1 and outcome.left:
                     verdicts[one[0].crate, one[0].name] = tell(one[0], False, outcome.bad or "alone")
                 work.rounds += left_of(one, outcome)
@@ -620,7 +620,7 @@ def wrong_in(control, verdicts):
     """Returns the number of control edits with a wrong verdict: those named harmless_ must not be rejected, and the others must."""
     wrong = [it for it in control if verdicts[it.crate, it.name] == it.name.startswith("harmless_")]
     for edit in wrong:
-        print(f"control {edit.name}: told as what it is not")
+        print(f"control {edit.name}: wrong verdict")
     return len(wrong)
 
 
@@ -650,7 +650,7 @@ def main(words):
     quoting = sum(it.layer in ("gate", "all") for it in whole)
     print(f"{quoting - unquoted} of {quoting} edits quote a clause{told_of}", flush=True)
     if control:
-        print("The edits named harmless_ are a control, and must be told as NOT REFUSED.", flush=True)
+        print("The edits named harmless_ are a control, and must be reported as NOT REFUSED.", flush=True)
     verdicts = {**judge(control + edits), **judge_by_rows(by_rows), **judge_by_tests(by_tests)}
     edits += by_rows + by_tests
     wrong = wrong_in(control, verdicts) + sum(not verdicts[it.crate, it.name] for it in edits)

@@ -102,7 +102,7 @@ def check_client_socket(checks, client, shim):
             count += 1
             if count > 20:
                 break
-        checks.same(f"a client, {name}: some call fails it, and not all do", 1 <= count <= 20, True)
+        checks.same(f"a client, {name}: some calls fail, and not all", 1 <= count <= 20, True)
 
 
 def conversation(address):
@@ -126,13 +126,13 @@ def check_server_socket(checks, server, shim):
             with subprocess.Popen(command, stdin=subprocess.DEVNULL, stderr=subprocess.PIPE, env=setting(shim, **{name: count})) as process:
                 checks.same("it listens", b"listening" in line_of(process.stderr), True)
                 told = [conversation((SERVER_HOST, port)) for _ in range(3)]
-                checks.same(f"a server goes on, {name} {count}", process.poll(), None)
+                checks.same(f"a server still runs, {name} {count}", process.poll(), None)
                 process.kill()
             fronts = [it for it in told if it != ANSWERED]
-            checks.same(f"a server, {name} {count}: at most one is cut", len(fronts) <= 1, True)
-            checks.same(f"a server, {name} {count}: it is told a front", [it for it in fronts if not ANSWERED.startswith(it)], [])
+            checks.same(f"a server, {name} {count}: at most one is truncated", len(fronts) <= 1, True)
+            checks.same(f"a server, {name} {count}: its output is a prefix", [it for it in fronts if not ANSWERED.startswith(it)], [])
             cut += len(fronts)
-        checks.same(f"a server, {name}: each of three peers is cut once at the least", cut >= 3, True)
+        checks.same(f"a server, {name}: each of three connections is truncated at least once", cut >= 3, True)
 
 
 def main(server, client):

@@ -33,22 +33,22 @@ def check_gateway(checks, program, uri, sensor):
     """Checks a value, a changed value, and the notification of an observer."""
     checks.same("the value", client(program, [uri]), (0, b"20.5", b""))
     sensor.tell("21.0")
-    checks.same("the value that changed", client(program, [uri]), (0, b"21.0", b""))
+    checks.same("the changed value", client(program, [uri]), (0, b"21.0", b""))
     observer = subprocess.Popen([program, "-s", "3", "-w", uri], stdin=subprocess.DEVNULL, stdout=subprocess.PIPE, stderr=subprocess.PIPE)
     first = line_of(observer.stdout)
     sensor.tell("21.5")
     told, complained = observer.communicate(timeout=LIMIT)
     values = [first.decode().strip(), *told.decode().split()]
-    checks.same("what an observer is told", (list(dict.fromkeys(values)), observer.returncode, complained), (["21.0", "21.5"], 0, b""))
+    checks.same("notifications of an observer", (list(dict.fromkeys(values)), observer.returncode, complained), (["21.0", "21.5"], 0, b""))
     # The gateway allows one resource alone.
     checks.same("a second resource", client(program, ["-m", "put", "-e", "x", uri + "/else"]), (2, b"", b"4.06\n"))
-    checks.same("a path where nothing is", client(program, [uri + "/else"]), (2, b"", b"4.04\n"))
+    checks.same("an absent path", client(program, [uri + "/else"]), (2, b"", b"4.04\n"))
 
 
 def check_end(checks, gateway, sensor):
     """Checks that the gateway ends if the sensor cannot be read."""
     os.remove(sensor.name)
-    checks.same("it ends without a sensor", gateway.wait(LIMIT), 1)
+    checks.same("the gateway ends without a sensor", gateway.wait(LIMIT), 1)
 
 
 def main(program, client_program):

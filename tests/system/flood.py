@@ -111,9 +111,9 @@ class Peer:
 def serving(checks, server, words):
     """Yields the process of a listening server, and its address."""
     with Server(server, words) as running:
-        checks.same("it listens", running.said, f"coap-server: listening on {HOST}:{running.port}\n")
+        checks.same("the server listens", running.said, f"coap-server: listening on {HOST}:{running.port}\n")
         yield running.process, (HOST, running.port)
-        checks.same("it goes on", running.process.poll(), None)
+        checks.same("the server still runs", running.process.poll(), None)
 
 
 def observe_all(peer, paths, count):
@@ -136,15 +136,15 @@ def check_observers(checks, server):
     paths = [f"/{number}" for number in range(16)]
     with serving(checks, server, ["-d", "16", "--observers", "256"]) as (process, address):
         with Peer(address) as good, Peer(address, is_narrow=True) as silent:
-            checks.same("resources made", put_often(good, paths, 0, 16), {CREATED})
+            checks.same("resources created", put_often(good, paths, 0, 16), {CREATED})
             observe_all(silent, [*paths, "/time"], 256)
             checks.same("the first PUTs", put_often(good, paths, 16, WARM), {CHANGED})
             before, began = resident(process), time.monotonic()
             checks.same("all PUTs are answered", put_often(good, paths, WARM, PUTS), {CHANGED})
             seconds, after = time.monotonic() - began, resident(process)
-            checks.same("what is resident stays", after - before if after - before > GROWTH else 0, 0)
+            checks.same("resident memory stays the same", after - before if after - before > GROWTH else 0, 0)
             code, _, _, payload = good.ask(request(GET, b"\1\2\3", paths[(PUTS - 1) % 16]), b"\1\2\3")
-            checks.same("the last PUT is there", (code, payload), (CONTENT, b"%d" % (PUTS - 1)))
+            checks.same("the last PUT is stored", (code, payload), (CONTENT, b"%d" % (PUTS - 1)))
     print(f"beside 256 observers that are never read: {(PUTS - WARM) / seconds:,.0f} PUTs a second, "
           f"{before // 1024:,} kB resident, then {after // 1024:,} kB")
 
@@ -166,14 +166,14 @@ def check_puts(checks, server):
         for number, peer in enumerate(peers):
             peer.connection.sendall(request(PUT, b"\0", f"/{number}", payload=b"%d" % number))
         first = [peer.answer(b"\0")[0] for peer in peers]
-        checks.same("as many are made as may be", [first.count(it) for it in (CREATED, NOT_ACCEPTABLE)], [16, 48])
+        checks.same("resources created up to the limit", [first.count(it) for it in (CREATED, NOT_ACCEPTABLE)], [16, 48])
         large = (TOO_LARGE, uint(MOST))
         for number, (peer, made) in enumerate(zip(peers, first)):
             stored = (CHANGED if made == CREATED else NOT_ACCEPTABLE, None)
             checks.same(f"PUTs of peer {number}", greatest_puts(peer, number), [stored, stored, large])
         kept = first.index(CREATED)
         code, _, _, payload = peers[-1].ask(request(GET, b"\4", f"/{kept}"), b"\4")
-        checks.same("one is there whole", (code, payload == b"x" * MOST), (CONTENT, True))
+        checks.same("a stored representation is complete", (code, payload == b"x" * MOST), (CONTENT, True))
         print(f"64 peers, 16 resources of {MOST:,} bytes: {resident(process) // 1024:,} kB resident")
 
 
@@ -236,14 +236,14 @@ def check_slow(checks, server):
             beside()
             after = resident(process)
             answers, moments = read_slowly(slow, count, rest, beside)
-        checks.same("more was asked for than its queue has", count * len(BODY) > 131_072, True)
-        checks.same("what is resident is bounded", after - before if after - before > 131_072 + 65_536 + GROWTH else 0, 0)
-        checks.same("all responses come in order", [number for number, _ in answers], list(range(count)))
-        checks.same("each is whole", [payload == BODY for _, payload in answers], [True] * count)
-        checks.same("moments come in order", (moments == sorted(moments), {is_told for _, is_told in moments}), (True, {True}))
+        checks.same("the responses exceed the queue", count * len(BODY) > 131_072, True)
+        checks.same("resident memory is bounded", after - before if after - before > 131_072 + 65_536 + GROWTH else 0, 0)
+        checks.same("all responses arrive in order", [number for number, _ in answers], list(range(count)))
+        checks.same("each response is complete", [payload == BODY for _, payload in answers], [True] * count)
+        checks.same("times arrive in order", (moments == sorted(moments), {is_told for _, is_told in moments}), (True, {True}))
         checks.same("the client beside it", beside.answers, {(CONTENT, b"coap+tcp")})
-        checks.same("it is answered in time", beside.slowest if beside.slowest > ANSWERED_IN else 0, 0)
-    print(f"{count} requests of {len(BODY):,} bytes unread; {len(moments)} moments; the client beside it waited {beside.slowest:.3f} s at most")
+        checks.same("the client is answered in time", beside.slowest if beside.slowest > ANSWERED_IN else 0, 0)
+    print(f"{count} requests of {len(BODY):,} bytes unread; {len(moments)} times; the client beside it waited {beside.slowest:.3f} s at most")
 
 
 CHECKS = {"observers": check_observers, "puts": check_puts, "slow": check_slow}

@@ -293,7 +293,7 @@ def placed(places):
         text = file.read()
     for old, new in places:
         if text.count(old) != 1:
-            raise NoPlace("%r stands %d times in the configuration" % (old, text.count(old)))
+            raise NoPlace("%r occurs %d times in the configuration" % (old, text.count(old)))
         text = text.replace(old, new)
     return text
 
@@ -353,12 +353,12 @@ def check_libcoap(checks, setting):
             ("the listing", [], "/.well-known/core", (0, listing, b"")),
             ("an absent path", [], "/none", (0, b"", b"4.04")),
             ("PUT", ["-m", "put", "-e", "first"], "/stored", (0, b"", b"")),
-            ("GET of what was stored", [], "/stored", (0, b"first\n", b"")),
+            ("GET of the stored resource", [], "/stored", (0, b"first\n", b"")),
         ):
             checks.same("libcoap over TLS: %s" % name, libcoap(front, path, words), wanted)
         told = libcoap(front, "/", [], "another.pem")[1]
         told = b"unable to get local issuer" in told, b"coap+tcp" in told
-        checks.same("libcoap, which trusts another authority alone", told, (True, False))
+        checks.same("libcoap, with another authority", told, (True, False))
         check_body(checks, front)
         check_observer(checks, front)
 
@@ -443,7 +443,7 @@ def check_tls(checks, setting):
             plain.connection.sendall(PEER_SETTINGS + spelled(GET, b"q", "who"))
             told, seconds = plain.end()
         checks.same("a peer without TLS", (OWN_SETTINGS in told, seconds is None), (False, False))
-        checks.same("connections that these had at the server", front.taken() - taken, 0)
+        checks.same("connections of these peers at the server", front.taken() - taken, 0)
 
 
 def check_constrained(checks, setting):
@@ -465,7 +465,7 @@ def check_certified(checks, setting):
         taken = front.taken()
         checks.same("a peer without a certificate", refused(front, Kind()), b"")
         checks.same("a peer with another one", refused(front, Kind(certificate=("another.pem", "another.key"))), b"")
-        checks.same("connections that these had at the server", front.taken() - taken, 0)
+        checks.same("connections of these peers at the server", front.taken() - taken, 0)
 
 
 # Number of simultaneous peers of one source, and number of those that the file allows.
@@ -492,7 +492,7 @@ def check_silent(checks, setting):
         checks.same("another source beside %d silent peers" % SILENT, (told, seconds < AT_ONCE or seconds), ("one", True))
         checks.same("libcoap beside them", libcoap(front, "/who", ["-a", "127.0.0.4"]), (0, b"one\n", b""))
         front.wait(lambda: held(silent) <= HELD, AT_ONCE)
-        checks.same("silent peers that are held", held(silent), HELD)
+        checks.same("silent peers that stay connected", held(silent), HELD)
 
 
 def check_places(checks, setting):
@@ -503,7 +503,7 @@ def check_places(checks, setting):
         for _ in range(HELD + 20):
             with contextlib.suppress(OSError):
                 greeted += stack.enter_context(front.peer(Kind("127.0.0.2"))).greet()
-        checks.same("peers of one source that have a place", greeted, HELD)
+        checks.same("connected peers of one source", greeted, HELD)
         told, seconds = front.who("127.0.0.3")
         checks.same("another source beside them", (told, seconds < AT_ONCE or seconds), ("one", True))
 
@@ -544,13 +544,13 @@ def check_idle(checks, setting):
     """Checks peers that become silent, at each point of a connection."""
     with setting.front(places=IDLE) as front:
         with Stream(connect(front.port)) as mute:
-            checks.same("a peer that says nothing of TLS", lasted(mute.end(), HANDSHAKE), (b"", True))
+            checks.same("a peer that is silent before TLS", lasted(mute.end(), HANDSHAKE), (b"", True))
         taken = front.taken()
         with front.peer() as peer:
-            checks.same("a peer that says nothing behind its handshake", lasted(peer.end(), FIRST), (b"", True))
-        checks.same("connections that these had at the server", front.taken() - taken, 0)
+            checks.same("a peer that is silent after its handshake", lasted(peer.end(), FIRST), (b"", True))
+        checks.same("connections of these peers at the server", front.taken() - taken, 0)
         with front.greeted(HOST) as peer:
-            checks.same("a peer that says nothing more", lasted(peer.end(), TUNNEL), (b"", True))
+            checks.same("a peer that becomes silent", lasted(peer.end(), TUNNEL), (b"", True))
 
 
 def check_alive(checks, setting):
@@ -577,10 +577,10 @@ def check_alive(checks, setting):
             wanted = (CHANGED, b"p", b""), (CONTENT, b"o", state), (PONG, token, b"")
             troubles += [(number, told)] if told != wanted else []
             time.sleep(TUNNEL / 6)
-        checks.same("changes and Pongs that did not come", troubles, [])
-        checks.same("changes and Pongs enough", number > 2 or number, True)
+        checks.same("missing notifications and Pongs", troubles, [])
+        checks.same("number of changes", number > 2 or number, True)
         changes.ask(spelled(PUT, b"p", "who", payload=b"new"))
-        checks.same("libcoap's observer is told a change afterwards", printed([b"one", b"new"]), [b"one", b"new"])
+        checks.same("libcoap's observer is notified of a change afterwards", printed([b"one", b"new"]), [b"one", b"new"])
 
 
 def check_unread(checks, setting):
@@ -592,11 +592,11 @@ def check_unread(checks, setting):
         stores.greet()
         put = b"\xb4body\xff" + BODY
         told = stores.ask(b"\xe0" + (len(put) - 269).to_bytes(2, "big") + bytes([PUT]) + put)
-        checks.same("a body that is stored", told, (CREATED, b"", b""))
+        checks.same("a stored body", told, (CREATED, b"", b""))
         # The peer has the limits of the server, and the buffers on the path are too small for all responses.
         peer.connection.sendall(OWN_SETTINGS + spelled(GET, b"g", "body") * 1000)
-        checks.same("it has its connection at first", front.counts("coaps")["scur"], "1")
-        checks.same("it is let go", front.wait(lambda: front.counts("coaps")["scur"] == "0"), True)
+        checks.same("the peer is connected at first", front.counts("coaps")["scur"], "1")
+        checks.same("the peer is disconnected", front.wait(lambda: front.counts("coaps")["scur"] == "0"), True)
 
 
 # Seconds that a peer waits for a full server. This is longer than a failing check takes.
@@ -611,14 +611,14 @@ def check_full(checks, setting):
         failed = front.counts("one")["chkfail"]
         late = stack.enter_context(front.peer(Kind("127.0.0.5")))
         late.connection.sendall(PEER_SETTINGS)
-        checks.same("a peer that waits in vain for a place", lasted(late.end(), QUEUED), (b"", True))
+        checks.same("a peer that waits in vain for a connection", lasted(late.end(), QUEUED), (b"", True))
         checks.same("a full server is up", (front.status("one"), front.counts("one")["chkfail"]), (("UP", "L7OK"), failed))
         late = stack.enter_context(front.peer(Kind("127.0.0.6")))
         late.connection.sendall(PEER_SETTINGS)
-        checks.same("a peer that waits for a place", late.is_silent(QUEUED / 4), True)
+        checks.same("a peer that waits for a connection", late.is_silent(QUEUED / 4), True)
         peers.pop().connection.close()
         late.connection.settimeout(LIMIT)
-        checks.same("it is served as one leaves", late.next(), (SETTINGS, b"", b""))
+        checks.same("the peer is served after another one leaves", late.next(), (SETTINGS, b"", b""))
 
 
 def sources_of(front):
@@ -641,14 +641,14 @@ def check_killed(checks, setting):
             checks.same("an observer", observer.ask(spelled(GET, b"o", "who", True)), (CONTENT, b"o", b"one"))
             front.kill("one")
             told, seconds = front.who(source)
-            checks.same("the next connection is the other server's", (told, seconds < AT_ONCE or seconds), ("two", True))
+            checks.same("the next connection goes to the other server", (told, seconds < AT_ONCE or seconds), ("two", True))
             checks.same("the observer's connection ends", observer.end()[1] is not None, True)
         with front.greeted(source) as observer:
             checks.same("it observes again", observer.ask(spelled(GET, b"o", "who", True)), (CONTENT, b"o", b"two"))
-        checks.same("the server is told down", front.wait(lambda: front.status("one")[0] == "DOWN"), True)
+        checks.same("the server is reported down", front.wait(lambda: front.status("one")[0] == "DOWN"), True)
         checks.same("connections while it is down", front.who(source)[0], "two")
         front.start("one")
-        checks.same("it is told up again", front.wait(lambda: front.status("one") == ("UP", "L7OK")), True)
+        checks.same("the server is reported up again", front.wait(lambda: front.status("one") == ("UP", "L7OK")), True)
         checks.same("connections afterwards", [front.who(found[it])[0] for it in ("one", "two")], ["one", "two"])
 
 
@@ -670,9 +670,9 @@ def check_stuck(checks, setting):
         source = sources_of(front)["one"]
         with front.greeted(source) as observer:
             front.processes["one"].send_signal(signal.SIGSTOP)
-            checks.same("the server is told down", front.wait(lambda: front.status("one")[0] == "DOWN"), True)
-            checks.same("who was connected to it is let go", observer.end()[1] is not None, True)
-        checks.same("the next connection is the other server's", front.who(source)[0], "two")
+            checks.same("the server is reported down", front.wait(lambda: front.status("one")[0] == "DOWN"), True)
+            checks.same("peers of the server are disconnected", observer.end()[1] is not None, True)
+        checks.same("the next connection goes to the other server", front.who(source)[0], "two")
 
 
 def check_four(checks, setting):
@@ -682,13 +682,13 @@ def check_four(checks, setting):
         checks.same("servers in use", sorted(found), sorted(SERVERS))
         sources = ["127.0.0.%d" % number for number in range(200, 220)]
         first = [front.who(source)[0] for source in sources]
-        checks.same("each source comes to its server again", [front.who(source)[0] for source in sources], first)
+        checks.same("each source gets its server again", [front.who(source)[0] for source in sources], first)
         with front.greeted(found["one"]) as peer:
             checks.same("a PUT", peer.ask(spelled(PUT, b"p", "here", payload=b"x")), (CREATED, b"p", b""))
         for name, source in found.items():
             with front.greeted(source) as peer:
                 wanted = (CONTENT, b"g", b"x") if name == "one" else (NOT_FOUND, b"g", b"")
-                checks.same("what a peer of %s sees of it" % name, peer.ask(spelled(GET, b"g", "here")), wanted)
+                checks.same("the resource for a peer of %s" % name, peer.ask(spelled(GET, b"g", "here")), wanted)
 
 
 CHECKS = [
@@ -746,7 +746,7 @@ def made(check, server, folder, broken=()):
     try:
         check(checks, Setting(server, folder, broken))
     except (OSError, subprocess.SubprocessError, messages.Malformed, LookupError) as trouble:
-        checks.same("%s is made" % check.__name__, trouble, None)
+        checks.same("%s runs to its end" % check.__name__, trouble, None)
     return checks
 
 
@@ -763,7 +763,7 @@ def check_broken(checks, server, folder):
     """Runs each broken configuration, which its check must detect."""
     for check, old, new in BROKEN:
         print("%s, with %r for %r" % (check.__name__, new, old), flush=True)
-        checks.same("this is seen", made(check, server, folder, [(old, new)]).failed > 0, True)
+        checks.same("the check fails", made(check, server, folder, [(old, new)]).failed > 0, True)
 
 
 def main(words):

@@ -248,7 +248,7 @@ async def act(kind, number, address, peer, over):
         if peer.greeting != OWN_SETTINGS:
             return "greeting %r" % peer.greeting
         told, wanted = await kind(peer, number, over)
-        return "" if told == wanted else "told %r, not %r" % (told[-100:], wanted[-100:])
+        return "" if told == wanted else "received %r, not %r" % (told[-100:], wanted[-100:])
 
 
 async def attack(kind, number, address, peer, over, acts):
@@ -337,7 +337,7 @@ def good_requests():
         token, value = bytes([number]), b"%d" % number
         yield "PUT", request(PUT, token, STORED, value), {token: (CHANGED, False, b""), OBSERVER: (CONTENT, True, value)}
         yield "GET", request(GET, token, STORED), {token: (CONTENT, False, value)}
-        yield "GET of the moment", request(GET, token, TIME), {token: (CONTENT, False, None)}
+        yield "GET of /time", request(GET, token, TIME), {token: (CONTENT, False, None)}
 
 
 def moments_left_out(answers, moments):
@@ -375,7 +375,7 @@ async def be_hostile(checks, address):
     troubles = await asyncio.gather(*attacks)
     for (kind, number, _), trouble in zip(peers, troubles):
         checks.same("%s %d" % (kind.__name__, number), trouble, "")
-    print("the good client waited %.3f s at most" % slowest)
+    print("the good client waited at most %.3f s" % slowest)
 
 
 def told(connections, wanted):
@@ -403,16 +403,16 @@ def connect(stack, address):
 def check_room(checks, stack, address):
     """Checks that the server accepts the maximum number of connections, and one more only after one of them ends."""
     taken = [connect(stack, address) for _ in range(CONNECTIONS)]
-    checks.same("connections taken afterwards", greeted(taken), CONNECTIONS)
+    checks.same("connections accepted afterwards", greeted(taken), CONNECTIONS)
     for it in taken:
         it.sendall(PEER_SETTINGS)
     late = connect(stack, address)
     # Each Pong took a turn of the server, in which the server could have accepted the late connection.
     checks.same("connections served", [ponged(taken), ponged(taken)], [CONNECTIONS] * 2)
-    checks.same("one too many waits", select.select([late], [], [], 0)[0], [])
+    checks.same("one connection too many waits", select.select([late], [], [], 0)[0], [])
     taken.pop().close()
     late.sendall(PEER_SETTINGS + GET_ROOT)
-    checks.same("it is served as one leaves", read_bytes(late, len(OWN_SETTINGS + ROOT)), OWN_SETTINGS + ROOT)
+    checks.same("it is served after one leaves", read_bytes(late, len(OWN_SETTINGS + ROOT)), OWN_SETTINGS + ROOT)
 
 
 def check_idle(checks, server, address):
@@ -429,19 +429,19 @@ def check_idle(checks, server, address):
 def check_attacked(checks, program, port, stack):
     """Checks a server that is attacked, then used by the maximum number of connections, and then killed."""
     with Server(program, WORDS, port=port) as server:
-        checks.same("it listens", server.said, LISTENS % (LOCAL, port))
+        checks.same("the server listens", server.said, LISTENS % (LOCAL, port))
         asyncio.run(be_hostile(checks, (LOCAL, port)))
         check_room(checks, stack, (LOCAL, port))
-        checks.same("it still runs", server.process.poll(), None)
+        checks.same("the server still runs", server.process.poll(), None)
 
 
 def check_again(checks, program, port):
     """Checks a server that is started at the same port at once."""
     with Server(program, WORDS, port=port) as server:
-        checks.same("it listens again", server.said, LISTENS % (LOCAL, port))
+        checks.same("the server listens again", server.said, LISTENS % (LOCAL, port))
         with server.connect() as connection:
             connection.sendall(PEER_SETTINGS + GET_ROOT)
-            checks.same("it serves again", read_bytes(connection, len(OWN_SETTINGS + ROOT)), OWN_SETTINGS + ROOT)
+            checks.same("the server serves again", read_bytes(connection, len(OWN_SETTINGS + ROOT)), OWN_SETTINGS + ROOT)
         check_idle(checks, server, (LOCAL, port))
 
 
@@ -458,9 +458,9 @@ def main(words):
     try:
         check_all(checks, os.path.abspath(words[0]))
     except OSError as trouble:
-        checks.same("all checks are made", trouble, None)
+        checks.same("all checks run", trouble, None)
     seconds = time.monotonic() - began
-    checks.same("seconds of the whole", seconds if seconds > WHOLE else WHOLE, WHOLE)
+    checks.same("total seconds", seconds if seconds > WHOLE else WHOLE, WHOLE)
     print("hostile: %d passed, %d failed" % (checks.passed, checks.failed))
     return 1 if checks.failed else 0
 

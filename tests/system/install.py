@@ -103,17 +103,17 @@ def check_prefix(checks, tree, prefix):
         checks.same("%s: HAProxy's configuration" % told, read(place, FRONT) == read(tree, "install", "haproxy.cfg"), True)
         unit = read(place, UNIT).decode()
         starts = re.findall(r"(?m)^ExecStart=(.*)$", unit)
-        checks.same("%s: what the unit starts" % told, starts, ["%s/bin/coap-server $COAP_SERVER_OPTIONS" % told])
-        checks.same("%s: what is left to be written into the unit" % told, re.findall(r"@\w+@", unit), [])
+        checks.same("%s: command of the unit" % told, starts, ["%s/bin/coap-server $COAP_SERVER_OPTIONS" % told])
+        checks.same("%s: placeholders in the unit" % told, re.findall(r"@\w+@", unit), [])
         others = [os.path.join(os.path.dirname(name), "other") for name in below]
         for name in others:
             with open(os.path.join(destination, name), "w", encoding="utf-8"):
                 pass
         checks.same("%s: uninstall" % told, make(tree, "uninstall", prefix, destination)[0], 0)
-        checks.same("%s: what uninstall leaves" % told, sorted(files_below(destination)), sorted(set(others)))
+        checks.same("%s: files after uninstall" % told, sorted(files_below(destination)), sorted(set(others)))
         for name in set(others):
             os.remove(os.path.join(destination, name))
-        checks.same("%s: nothing but folders" % told, files_below(destination), {})
+        checks.same("%s: folders alone" % told, files_below(destination), {})
 
 
 def check_unbuilt(checks, tree):
@@ -133,7 +133,7 @@ def check_unit(checks, tree):
         unit = os.path.join(prefix, UNIT)
         status, said = run(["systemd-analyze", "verify", "--man=no", unit], prefix)
         remarks = [line for line in said.splitlines() if "coap-server" in line]
-        checks.same("what systemd-analyze verifies", (status, remarks), (0, []))
+        checks.same("remarks of systemd-analyze", (status, remarks), (0, []))
         status, said = run(["systemd-analyze", "security", "--offline=true", "--no-pager", unit], prefix)
         exposure = re.search(r"Overall exposure level for coap-server\.service: ([\d.]+)", said)
         checks.same("the unit's exposure of at most %s" % EXPOSURE, (status, bool(exposure) and float(exposure[1]) <= EXPOSURE), (0, True))
@@ -150,7 +150,7 @@ def check_numbered_unit(checks, tree):
         for line in ("EnvironmentFile=-/etc/default/coap-server-%i", "ExecStartPre=/bin/sleep %i"):
             checks.same("%s in the numbered unit" % line, said.count(line), 1)
         status, said = run(["systemd-analyze", "verify", "--man=no", unit.replace("@", "@1")], prefix)
-        checks.same("what systemd-analyze verifies of it", (status, [line for line in said.splitlines() if "coap-server" in line]), (0, []))
+        checks.same("remarks of systemd-analyze on the numbered unit", (status, [line for line in said.splitlines() if "coap-server" in line]), (0, []))
 
 
 def check(programs):
@@ -165,7 +165,7 @@ def check(programs):
             check_unit(checks, tree)
             check_numbered_unit(checks, tree)
         else:
-            print("systemd-analyze is not there: it did not look at the unit")
+            print("systemd-analyze does not exist: the unit was not checked")
     print("install: %d passed, %d failed" % (checks.passed, checks.failed))
     return 1 if checks.failed else 0
 

@@ -207,10 +207,10 @@ def watch(ends, path, seconds, states):
     with ends.relay(name) as relay:
         process = start(ends.client, WAITS + ["-s", str(seconds)], relay.origin + path)
         for state in states[:1]:
-            ends.checks.same(name + ": told %r" % state, relay.conversation.wait_for(True, state), True)
+            ends.checks.same(name + ": notified of %r" % state, relay.conversation.wait_for(True, state), True)
         for state in states[1:]:
             ends.put(path, state.decode(), CHANGED)
-            ends.checks.same(name + ": told %r" % state, relay.conversation.wait_for(True, state), True)
+            ends.checks.same(name + ": notified of %r" % state, relay.conversation.wait_for(True, state), True)
         told = finish(process)
     return name, told, relay.conversation
 
@@ -221,11 +221,11 @@ def check_end(ends, name, conversation):
     answered = [it for it in parsed_of(conversation, True) if it[0] != SETTINGS]
     first = asked[0][1] if asked else None
     asks = [(code, token == first, [value for number, value in options if number == OBSERVE]) for code, token, options, _ in asked]
-    ends.checks.same(name + ": GET with Observe 0, and then 1, with one token", asks, [(1, True, [b""]), (1, True, [b"\x01"])])
+    ends.checks.same(name + ": GETs with Observe 0 and 1, with one token", asks, [(1, True, [b""]), (1, True, [b"\x01"])])
     tells = [[number for number, _ in options if number == OBSERVE] for _, _, options, _ in answered]
-    ends.checks.same(name + ": Observe in all answers but the last", tells, [[OBSERVE]] * (len(answered) - 1) + [[]])
+    ends.checks.same(name + ": Observe in all responses but the last", tells, [[OBSERVE]] * (len(answered) - 1) + [[]])
     kinds = {(code, token == first) for code, token, _, _ in answered}
-    ends.checks.same(name + ": every answer is content for that token", kinds, {(CONTENT, True)})
+    ends.checks.same(name + ": every response is 2.05 with that token", kinds, {(CONTENT, True)})
     return [it[3] for it in answered]
 
 
@@ -250,7 +250,7 @@ def check_time(ends, seconds):
     name, told, conversation = watch(ends, "/time", seconds, [])
     contents = check_end(ends, name, conversation)
     moments = contents[:-1]
-    ends.checks.same(name + ": moments enough, and each told once", len(set(moments)) == len(moments) >= seconds or moments, True)
+    ends.checks.same(name + ": enough times, each sent once", len(set(moments)) == len(moments) >= seconds or moments, True)
     check_watched(ends, name, told, contents)
     return name, moments
 
@@ -258,7 +258,7 @@ def check_time(ends, seconds):
 def check_rising(ends, name, moments):
     """Checks that the server sends seconds in increasing order."""
     ends.checks.same(name + ": seconds", [re.sub(rb"[0-9]+", b"", it) for it in moments], [b""] * len(moments))
-    ends.checks.same(name + ": one behind the other", moments, sorted(moments))
+    ends.checks.same(name + ": increasing order", moments, sorted(moments))
 
 
 def check_read(checks, conversations):
@@ -270,26 +270,26 @@ def check_read(checks, conversations):
             checks.same("%s: tshark is given %s bytes" % (name, whose), read == conversation.stream(side).hex(), True)
         codes = [str(parsed(frame)[0]) for _, frame in frames]
         checks.same(name + ": the codes that tshark reads", [row["coap.code"] for row in rows], codes)
-        checks.same(name + ": what tshark remarks", faults(rows), [])
+        checks.same(name + ": remarks of tshark", faults(rows), [])
 
 
 def check_our_server(checks, program):
     """Tests libcoap's client with the server. Returns all conversations."""
     with Server(program, ["-d", "16"]) as server:
-        ends = LibcoapAsks(checks, "libcoap's client, our server", "coap-client-notls", server)
+        ends = LibcoapAsks(checks, "libcoap's client, coap-server", "coap-client-notls", server)
         check_resources(ends, OUR_RESOURCES)
         check_stored(ends)
         check_body(ends)
         check_states(ends)
         check_rising(ends, *check_time(ends, LIBCOAP_WATCHES_TIME))
-        checks.same("our server still runs", server.process.poll(), None)
+        checks.same("coap-server still runs", server.process.poll(), None)
     return ends.conversations
 
 
 def check_our_server_at_6(checks, program):
     """Tests libcoap's client with the server over IPv6."""
     with Server(program, ["-d", "16"], "::1") as server:
-        ends = LibcoapAsks(checks, "libcoap's client, our server, IPv6", "coap-client-notls", server)
+        ends = LibcoapAsks(checks, "libcoap's client, coap-server, IPv6", "coap-client-notls", server)
         check_resources(ends, OUR_RESOURCES)
         check_stored(ends)
     return ends.conversations
@@ -299,7 +299,7 @@ def check_our_client(checks, client):
     """Tests coap-client with libcoap's server. Returns all conversations."""
     with Server("coap-server-notls", ["-d", "16"], says=False) as server:
         checks.same("libcoap's server listens", server.accepts(), True)
-        ends = Ends(checks, "our client, libcoap's server", client, server)
+        ends = Ends(checks, "coap-client, libcoap's server", client, server)
         check_resources(ends, LIBCOAP_RESOURCES)
         check_stored(ends)
         check_body(ends)
@@ -312,7 +312,7 @@ def check_our_client_at_6(checks, client):
     """Tests coap-client with libcoap's server over IPv6."""
     with Server("coap-server-notls", ["-d", "16"], "::1", says=False) as server:
         checks.same("libcoap's server listens, IPv6", server.accepts(), True)
-        ends = Ends(checks, "our client, libcoap's server, IPv6", client, server)
+        ends = Ends(checks, "coap-client, libcoap's server, IPv6", client, server)
         check_resources(ends, LIBCOAP_RESOURCES)
         check_stored(ends)
     return ends.conversations
@@ -331,7 +331,7 @@ def main(words):
         checks.same("packages can be installed", install(PACKAGES), True)
         check_all(checks, *(os.path.abspath(it) for it in words))
     except (OSError, struct.error, subprocess.SubprocessError) as trouble:
-        checks.same("all checks are made", trouble, None)
+        checks.same("all checks run", trouble, None)
     print("interop: %d passed, %d failed" % (checks.passed, checks.failed))
     return 1 if checks.failed else 0
 

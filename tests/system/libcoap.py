@@ -94,7 +94,7 @@ def check_bytes(checks, name, code, sent, rows):
     """Checks that tshark decodes every byte of the server without a remark, as two messages."""
     checks.same(name + ": the bytes that tshark is given", "".join(row["tcp.payload"] for row in rows), sent.hex())
     checks.same(name + ": the codes that tshark reads", [row["coap.code"] for row in rows], [str(0xE1), str(code)])
-    checks.same(name + ": what tshark remarks", faults(rows), [])
+    checks.same(name + ": remarks of tshark", faults(rows), [])
 
 
 def check_broken(checks, name, wanted, rows):

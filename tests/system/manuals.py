@@ -173,10 +173,10 @@ def known_options(program):
 def check_form(checks, manual):
     """Checks that mandoc accepts the page without a remark, and renders all its sections."""
     done = run(["mandoc", "-T", "lint", "-W", "warning", manual.path])
-    checks.same("%s: what mandoc says" % manual.name, done, (0, "", ""))
+    checks.same("%s: remarks of mandoc" % manual.name, done, (0, "", ""))
     status, text = manual.rendered()
     checks.same("%s: mandoc's status" % manual.name, status, 0)
-    checks.same("%s: sections that are missing" % manual.name, [it for it in SECTIONS if "\n%s\n" % it not in text], [])
+    checks.same("%s: missing sections" % manual.name, [it for it in SECTIONS if "\n%s\n" % it not in text], [])
 
 
 def check_options(checks, manual, program):
@@ -186,7 +186,7 @@ def check_options(checks, manual, program):
     called = {(name, value.upper()) for name, value in manual.called_with()} | {("-h", ""), ("-V", "")}
     checks.same("%s: options of the synopsis" % manual.name, sorted(called), sorted(described))
     status, output, error = run([program, "--nothing"])
-    checks.same("%s: an option that is not there" % manual.name, (status, output, error[:6]), (USAGE, "", "error:"))
+    checks.same("%s: an unknown option" % manual.name, (status, output, error[:6]), (USAGE, "", "error:"))
 
 
 def check_order(checks, manual, program, more):
@@ -210,7 +210,7 @@ def check_ranges(checks, manual, program, more):
             value = "%d,a" % number if name == "-O" else str(number)
             status, _, error = run([program, name, value] + more)
             refused = error == "%s: bad value for %s\n" % (manual.name, name) and status == USAGE
-            checks.same("%s: %s %d is refused" % (manual.name, name, number), refused, not low <= number <= high)
+            checks.same("%s: %s %d is rejected" % (manual.name, name, number), refused, not low <= number <= high)
     return len(ranges)
 
 
@@ -254,15 +254,15 @@ def check_lines(checks, manual, source):
     said = {front_of(text.removeprefix(manual.name + ": ")) for text in re.findall(r'b?"([^"\n]+?)(?:\\n)?"', source)}
     told = set(re.findall(r'tell\(rt, "([^"]+)"', source)) | set(re.findall(r'"%s: ([^"{]+)' % manual.name, source))
     listed = {front_of(line) for line in manual.lines_told()}
-    checks.same("%s: lines that the source has not" % manual.name, sorted(listed - said), [])
-    checks.same("%s: lines that the manual has not" % manual.name, sorted({front_of(it) for it in told} - UNREACHED - listed), [])
+    checks.same("%s: lines missing in the source" % manual.name, sorted(listed - said), [])
+    checks.same("%s: lines missing in the manual" % manual.name, sorted({front_of(it) for it in told} - UNREACHED - listed), [])
 
 
 def check_hindrances(checks, manual):
     """Checks that the second lines of a client that cannot connect are those of the source."""
     text = "\n".join(next(lines for words, lines in manual.items("DIAGNOSTICS") if words == ["cannot", "connect"]))
     wanted = re.findall(r'#\[error\("([^"]+)"\)\]', source_of(["coap_sockets/src/answers.rt"]))
-    checks.same("%s: what hinders a connection" % manual.name, re.findall(r"(?m)^\.It (.*)", text), wanted)
+    checks.same("%s: errors of a connection" % manual.name, re.findall(r"(?m)^\.It (.*)", text), wanted)
 
 
 def check_faults(checks, manual, program, faults):
@@ -271,7 +271,7 @@ def check_faults(checks, manual, program, faults):
     for words, stream, line in faults:
         status, _, error = run([program] + words, stream)
         told = error.startswith("%s: %s" % (manual.name, front_of(line)))
-        checks.same("%s %r: %r is told, and the status" % (manual.name, words, line), (told, status), (True, statuses[line]))
+        checks.same("%s %r: %r and the status" % (manual.name, words, line), (told, status), (True, statuses[line]))
 
 
 def play(command, folder, programs, lasts=EXAMPLE_LASTS):
@@ -298,9 +298,9 @@ def check_examples(checks, manual, programs):
         with tempfile.TemporaryDirectory() as folder:
             for command, shown in block:
                 status, output, error = play(command, folder, programs)
-                checks.same("%s: %r is understood" % (manual.name, command), (status == USAGE, "error:" in error), (False, False))
+                checks.same("%s: %r is valid" % (manual.name, command), (status == USAGE, "error:" in error), (False, False))
                 if shown.strip():
-                    checks.same("%s: what %r writes" % (manual.name, command), (status, output.rstrip()), (0, shown.rstrip()))
+                    checks.same("%s: output of %r" % (manual.name, command), (status, output.rstrip()), (0, shown.rstrip()))
 
 
 def check_answered(checks, manual, server, programs):

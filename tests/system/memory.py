@@ -34,12 +34,12 @@ PROBE = os.path.join(ROOT, "crates/coap_probe/out/coap_probe")
 # Messages that a peer sends repeatedly, and their responses.
 KINDS = [
     ("GET of the root", "010101", "a14501" + GREETING),
-    ("GET of the moment", "510101b474696d65", "514501c02101ff30"),
+    ("GET of /time", "510101b474696d65", "514501c02101ff30"),
     ("GET of /async without delay", "810101b56173796e634130", "614501c0ff646f6e65"),
     ("GET of the listing", "d1040101bb2e77656c6c2d6b6e6f776e04636f7265", "d11d4501c128ff" + LISTING),
     ("GET of an absent path", "210101b178", "018401"),
     ("DELETE of an absent path", "210401b178", "014201"),
-    ("PUT where nothing may be stored", "410301b178ff79", "018401"),
+    ("PUT with a resource limit of 0", "410301b178ff79", "018401"),
     ("Ping", "01e201", "01e301"),
     ("Ping with Custody", "11e20120", "11e30120"),
     ("Empty", "0000", ""),
@@ -69,7 +69,7 @@ def watched(checks, name, command, stream, written):
         ran = subprocess.run(line, input=stream, stdout=subprocess.PIPE, timeout=300)
         said = log.read()
     checks.same("output of %s" % name, (ran.returncode, ran.stdout == written), (0, True))
-    checks.same("nothing lost by %s" % name, [it in said for it in ("no leaks are possible", "ERROR SUMMARY: 0 errors")], [True] * 2)
+    checks.same("no memory lost by %s" % name, [it in said for it in ("no leaks are possible", "ERROR SUMMARY: 0 errors")], [True] * 2)
     usage = re.search(r"total heap usage: ([\d,]+) allocs, ([\d,]+) frees", said)
     allocated, freed = (int(it.replace(",", "")) for it in usage.groups())
     checks.same("frees of %s" % name, freed, allocated)
@@ -142,7 +142,7 @@ def drained(checks, command):
     def more(times):
         told = ("in 1 %s\ndrain 1\n" % sent * times, ("in 1 3\n" + line) * times)
         untold = ("in 1 %s\ndrain 7\n" % sent * times, "in 1 3\ndrain 7 fault 1\n" * times)
-        return [replayed(checks, "a script with %d %s" % (times, name), command, OPENED, part) for name, part in (("lines of bytes", told), ("refused drains", untold))]
+        return [replayed(checks, "a script with %d %s" % (times, name), command, OPENED, part) for name, part in (("lines of bytes", told), ("rejected drains", untold))]
 
     (first, without), (second, without_second) = more(1000), more(3000)
     checks.same("allocations of 3,000 lines of bytes and of 1,000", second - without_second, 3 * (first - without))
@@ -167,7 +167,7 @@ def telling(checks, storing, word, request):
             replayed(checks, "%d times %s, observed on %d" % (times, word, on), storing + ["--script", "-"], STORED_BEFORE, OPENED, arriving(on, request, 1), changes(word, times))
             for on in (1, 7)
         )
-        checks.same("allocations of telling %d times %s" % (times, word), told, untold)
+        checks.same("allocations of notifications of %d times %s" % (times, word), told, untold)
 
 
 def putting(checks, server, storing):
@@ -176,7 +176,7 @@ def putting(checks, server, storing):
     def more(times):
         text, lines = changes("put", times)
         put = replayed(checks, "%d puts" % times, storing + ["--script", "-"], STORED_BEFORE, (text, lines))
-        refused = replayed(checks, "%d refused puts" % times, [server, "--script", "-"], ("put /a - 78\n", "put fault 3\n"), (text, "put fault 3\n" * times))
+        refused = replayed(checks, "%d rejected puts" % times, [server, "--script", "-"], ("put /a - 78\n", "put fault 3\n"), (text, "put fault 3\n" * times))
         return put - refused
 
     checks.same("allocations of 2,000 more puts", more(3000) - more(1000), 2000)

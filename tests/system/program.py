@@ -237,7 +237,7 @@ def check_help(program, name, told, checks):
     with open("/dev/full", "wb") as full:
         for words in [["--help"], ["--version"]]:
             done = run(program, words, stdout=full)
-            checks.same("%s %r into what is full" % (name, words), (done.returncode, done.stderr), (3, b"%s: cannot write\n" % name.encode()))
+            checks.same("%s %r into a full device" % (name, words), (done.returncode, done.stderr), (3, b"%s: cannot write\n" % name.encode()))
 
 
 def main(words):

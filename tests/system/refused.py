@@ -235,7 +235,7 @@ def wrong_of(ran, usual):
     is_usual = (ran.status, ran.written, ran.sent, ran.fault()) == (usual.status, usual.written, usual.sent, usual.fault())
     is_front = usual.written.startswith(ran.written) and usual.sent.startswith(ran.sent)
     is_told = ran.status == 3 and [it.partition(": ")[2] for it in ran.fault()] == ["no memory"]
-    return "" if is_usual or (is_told and is_front) else f"{ran}, and not as {usual}"
+    return "" if is_usual or (is_told and is_front) else f"{ran}, not {usual}"
 
 
 def refuse_each(name, run, wanted, shim):
@@ -298,19 +298,19 @@ def main(server, client, *named):
             count, told, wrong = it.result()
             passed, failed = passed + count - min(count, len(wrong)), failed + len(wrong)
             calls[f"`{name}`, in `{'coap-client' if name == 'run_client' else 'coap-server'}`", LEFT] = told
-            print(f"{name}: {count} allocations refused, of which {told} end the program")
+            print(f"{name}: {count} failed allocations, of which {told} end the program")
             for text in wrong[:3]:
                 print(text)
         for name, trouble in without_growth(server, shim):
             passed, failed = passed + (not trouble), failed + bool(trouble)
-            print(f"no growth behind the opens, over {name}: {trouble or 'the same bytes'}")
+            print(f"no allocations after the connections open, over {name}: {trouble or 'the same bytes'}")
     wrong = [] if named else rows.untold(calls, is_program=True)
     failed += len(wrong)
     print("".join(f"{text}\n" for text in wrong), end="")
     for name, wrong in (("script", wrong_at_the_greatest_script(server)), ("door", wrong_at_the_greatest_door(server)),
                         ("words", wrong_at_the_greatest_words(client))):
         passed, failed = passed + (not wrong), failed + bool(wrong)
-        print(f"the greatest {name}: {wrong or 'no memory is told'}")
+        print(f"the largest {name}: {wrong or 'no failure is reported'}")
     print(f"{passed} passed, {failed} failed")
     return 1 if failed else 0
 

@@ -184,9 +184,9 @@ def check_bodies(checks, programs):
         checks.same("get into standard output", client(programs.client, ["-o", "-", server.uri("/b")]) == (0, body, b""), True)
         largest = bytes(1 << 20)
         done = client(programs.client, ["-m", "put", "-f", "-", server.uri("/c")], largest)
-        checks.same("the largest payload, which no request has room for", done, (3, b"", b"request fault 3\n"))
+        checks.same("the largest payload, which exceeds any request", done, (3, b"", b"request fault 3\n"))
         done = client(programs.client, ["-m", "put", "-f", "-", server.uri("/c")], largest + b"x")
-        checks.same("a file that is longer than a payload may be", done, (1, b"", b"coap-client: bad value for -f\n"))
+        checks.same("a file that is longer than the largest payload", done, (1, b"", b"coap-client: bad value for -f\n"))
         with open("/dev/full", "wb") as full:
             done = subprocess.run([programs.client, server.uri("/a")], stdout=full, stderr=subprocess.PIPE, timeout=LIMIT)
             checks.same("writing fails", (done.returncode, done.stderr), (3, b"coap-client: cannot write\n"))
@@ -205,12 +205,12 @@ def check_connecting(checks, programs):
         file.flush()
         done = client(programs.client, ["-o", file.name, "coap+tcp://%s:%d/" % (LOCAL, port)])
         with open(file.name, "rb") as it:
-            checks.same("nobody listens", (done, it.read()), ((3, b"", cannot_connect("connection refused")), b"kept"))
+            checks.same("no program listens", (done, it.read()), ((3, b"", cannot_connect("connection refused")), b"kept"))
     with Server(programs.server) as server:
         done = client(programs.client, ["-o", "/nothing/here", server.uri()])
         checks.same("no such file", done, (3, b"", b"coap-client: cannot open /nothing/here\n"))
         done = client(programs.client, ["coap+tcp://localhost:%d/" % server.port])
-        checks.same("by a name of which one address may refuse", done, (0, b"coap+tcp", b""))
+        checks.same("by a name with an address that may refuse", done, (0, b"coap+tcp", b""))
 
 
 def ended(programs, how):
@@ -239,7 +239,7 @@ def check_silent(checks, programs):
             _, status, usage = os.wait4(process.pid, 0)
             process.returncode = os.waitstatus_to_exitcode(status)
         checks.same("status of the client", process.returncode, 4)
-        checks.same("it waits so long", 2 <= time.monotonic() - began < 3, True)
+        checks.same("the client waits for its timeout", 2 <= time.monotonic() - began < 3, True)
         checks.same("an idle client", usage.ru_utime + usage.ru_stime < 0.5, True)
 
 
@@ -252,7 +252,7 @@ def check_address(checks, programs):
     with Server(programs.server) as server:
         for host, port in [(LOCAL, server.port), ("192.0.2.1", free_port())]:
             done = client(programs.server, ["-A", host, "-p", str(port)])
-            checks.same("an address that cannot be had", done, (3, b"", b"coap-server: cannot listen\n"))
+            checks.same("an address that is not available", done, (3, b"", b"coap-server: cannot listen\n"))
     port = free_port()
     told = b"coap-server: listening on %s:%d\ncoap-server: too many turns\n" % (LOCAL.encode(), port)
     checks.same("turns", client(programs.server, ["-A", LOCAL, "-p", str(port), "--turns", "1"]), (3, b"", told))
@@ -270,9 +270,9 @@ def check_files(checks, programs):
             if is_silent(peer):
                 break
             read_bytes(peer, len(GREETED))
-        checks.same("some are served, and not all", 1 < len(peers) < 16, True)
+        checks.same("some peers are served, and not all", 1 < len(peers) < 16, True)
         before = server.processor_time()
-        checks.same("it is served once there is room, and not before", is_silent(peers[-1], 1.2), True)
+        checks.same("the last peer is not served before a connection closes", is_silent(peers[-1], 1.2), True)
         checks.same("no processor time is used", server.processor_time() - before < 0.2, True)
         pongs = []
         for _ in range(10):
@@ -280,10 +280,10 @@ def check_files(checks, programs):
             pongs.append(read_bytes(peers[0], len(PONG)))
         checks.same("others are served", pongs, [PONG] * 10)
         peers[0].close()
-        checks.same("there is room", read_bytes(peers[-1], len(GREETED)), GREETED)
+        checks.same("the last peer is served", read_bytes(peers[-1], len(GREETED)), GREETED)
         accepts = waits.calls("accept")
         pauses = [later - at for (at, result), (later, _) in zip(accepts, accepts[1:]) if result == -errno.EMFILE]
-        checks.same("it tries again after a second", (len(pauses) > 1, [it for it in pauses if not 0.99 < it < 1.9]), (True, []))
+        checks.same("the server tries again after a second", (len(pauses) > 1, [it for it in pauses if not 0.99 < it < 1.9]), (True, []))
 
 
 def check_close(checks, programs):
@@ -293,7 +293,7 @@ def check_close(checks, programs):
         server.process.send_signal(signal.SIGSTOP)
         peer.sendall(bytes.fromhex("00e1" "f0ffffffff01") + bytes(50_000))
         server.process.send_signal(signal.SIGCONT)
-        checks.same("too much", read_to_end(peer), (bytes.fromhex(CSM + ABORTS["message too large"]), "the end"))
+        checks.same("a message that is too large", read_to_end(peer), (bytes.fromhex(CSM + ABORTS["message too large"]), "the end"))
         time.sleep(0.1)
         checks.same("no reset", peer.getsockopt(socket.SOL_SOCKET, socket.SO_ERROR), 0)
 
@@ -357,7 +357,7 @@ def check_timeouts(checks, programs):
             checks.same("%s, -B %d" % (host, seconds), done, wanted)
             checks.same("%s, -B %d: %.2f s" % (host, seconds, waits.passed()), after <= waits.passed() + 0.01 < after + 0.5, True)
             if host == mute:
-                checks.same("%s, -B %d: it speaks at once" % (host, seconds), [at < 0.5 for at, _ in waits.calls("send")], [True])
+                checks.same("%s, -B %d: the client sends at once" % (host, seconds), [at < 0.5 for at, _ in waits.calls("send")], [True])
 
 
 def check_connections(checks, programs):
@@ -368,10 +368,10 @@ def check_connections(checks, programs):
             for it in peers:
                 it.sendall(HELLO)
             served = sum(1 for _ in itertools.takewhile(lambda it: read_bytes(it, len(GREETED)) == GREETED, peers[:count]))
-            checks.same("--connections %d: so many are served" % count, served, count)
-            checks.same("--connections %d: one more is not" % count, is_silent(peers[count]), True)
+            checks.same("--connections %d: served connections" % count, served, count)
+            checks.same("--connections %d: one more is not served" % count, is_silent(peers[count]), True)
             peers[0].close()
-            checks.same("--connections %d: it is served as one leaves" % count, read_bytes(peers[count], len(GREETED)), GREETED)
+            checks.same("--connections %d: it is served after one leaves" % count, read_bytes(peers[count], len(GREETED)), GREETED)
 
 
 def etag_of(peer, number):
@@ -398,7 +398,7 @@ def check_versions(checks, programs):
     time.sleep(1.05)
     second = etags_of(programs, 3)
     checks.same("ETags rise within a run", [sorted(set(it)) == it for it in (first, second)], [True, True])
-    checks.same("no ETag comes again in a later run", min(second) > max(first), True)
+    checks.same("no ETag is repeated in a later run", min(second) > max(first), True)
 
 
 def check_room(checks, programs):
@@ -406,8 +406,8 @@ def check_room(checks, programs):
     with Waits(at_most=200) as waits, Server(programs.server) as server:
         for count in range(4):
             done = client(programs.client, ["-B", "5", server.uri()], **waits.how(SENDS_WITHOUT_ROOM=str(count)))
-            checks.same("a client that finds no room %d times" % count, done, (0, b"coap+tcp", b""))
-            checks.same("a client waits no second for room, %d times: %.2f s" % (count, waits.passed()), waits.passed() < 0.9, True)
+            checks.same("a client whose socket is full %d times" % count, done, (0, b"coap+tcp", b""))
+            checks.same("a client waits less than a second, %d times: %.2f s" % (count, waits.passed()), waits.passed() < 0.9, True)
             checks.same("a client sends without delay", [result for _, result in waits.calls("nodelay")], [1])
     # More bytes than the system buffers between the two.
     body, count = bytes(65_000), 100
@@ -418,8 +418,8 @@ def check_room(checks, programs):
             peer.sendall(bytes.fromhex(CSM) + bytes.fromhex("210102b161") * count)
             waits.until_idle()
             taken = sum(result for _, result in waits.calls("send") if result > 0)
-            checks.same("a peer that does not read is not sent all", taken < count * len(body), True)
-            checks.same("once it reads it gets the rest", len(read_bytes(peer, count * len(body))), count * len(body))
+            checks.same("a peer that does not read does not receive all bytes", taken < count * len(body), True)
+            checks.same("after it reads, the peer receives the rest", len(read_bytes(peer, count * len(body))), count * len(body))
 
 
 def closing(numbers):
@@ -449,15 +449,15 @@ def check_closed(checks, programs):
                 # 4.04 with a payload, which the client writes to standard error.
                 peer.sendall(bytes.fromhex("318401ff6869"))
                 more, _ = read_to_end(peer)
-            checks.same("a client without %r: what stands there" % (numbers,), held, ["/dev/null"] * len(numbers))
-            checks.same("a client without %r: what its peer got" % (numbers,), got + more, asked)
+            checks.same("a client without %r: open files" % (numbers,), held, ["/dev/null"] * len(numbers))
+            checks.same("a client without %r: bytes at its peer" % (numbers,), got + more, asked)
             said = b"" if 2 in numbers else b"4.04 hi\n"
             checks.same("a client without %r" % (numbers,), (process.wait(LIMIT), process.stdout.read(), process.stderr.read()), (2, b"", said))
             process.stdout.close()
             process.stderr.close()
         check_closed_server(checks, programs, numbers)
     done = subprocess.run([programs.server, "--stdio"], stderr=subprocess.PIPE, preexec_fn=closing([0, 1]), timeout=LIMIT)
-    checks.same("--stdio with nothing there", (done.returncode, done.stderr), (0, b""))
+    checks.same("--stdio without standard streams", (done.returncode, done.stderr), (0, b""))
 
 
 def check_closed_server(checks, programs, numbers):
@@ -468,10 +468,10 @@ def check_closed_server(checks, programs, numbers):
         peer = accepted_at(port)
         with peer:
             peer.sendall(HELLO)
-            checks.same("a server without %r: what a peer gets" % (numbers,), read_bytes(peer, len(GREETED)), GREETED)
-            checks.same("a server without %r: and no more" % (numbers,), is_silent(peer), True)
+            checks.same("a server without %r: bytes at a peer" % (numbers,), read_bytes(peer, len(GREETED)), GREETED)
+            checks.same("a server without %r: no more bytes" % (numbers,), is_silent(peer), True)
             held = [os.readlink("/proc/%d/fd/%d" % (process.pid, number)) for number in range(3)]
-            checks.same("a server without %r: what stands there" % (numbers,), held, ["/dev/null"] * 3)
+            checks.same("a server without %r: open files" % (numbers,), held, ["/dev/null"] * 3)
         process.kill()
 
 
@@ -500,10 +500,10 @@ def check_urgent(checks, programs):
             for bytes_, flag in ((request[:place], 0), (b"!", socket.MSG_OOB), (request[place:], 0)):
                 peer.send(bytes_, flag)
             server.process.send_signal(signal.SIGCONT)
-            checks.same("urgent data behind %d bytes of a request" % place, read_bytes(peer, len(answered)), answered)
+            checks.same("urgent data after %d bytes of a request" % place, read_bytes(peer, len(answered)), answered)
         before = server.processor_time()
-        checks.same("nothing more comes", is_silent(peer, 1), True)
-        checks.same("and nothing spins", server.processor_time() - before < 0.2, True)
+        checks.same("no more bytes arrive", is_silent(peer, 1), True)
+        checks.same("no busy waiting", server.processor_time() - before < 0.2, True)
 
 
 def check_flooded_client(checks, programs):

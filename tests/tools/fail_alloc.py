@@ -32,7 +32,7 @@ def main(crate="coap_tests", first="1", last="40"):
     passed = failed = 0
     for number in range(int(first), int(last) + 1):
         told = results(crate, number)
-        wrong = [name for name, came in told if came != "ok"] or ([] if told else ["no such test is told"])
+        wrong = [name for name, came in told if came != "ok"] or ([] if told else ["no such test ran"])
         passed, failed = passed + len(told) - len(wrong) if told else passed, failed + len(wrong)
         print(f"allocation {number}: {', '.join(wrong) or 'ok'}", flush=True)
     print(f"{passed} passed, {failed} failed")

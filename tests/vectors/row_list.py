@@ -80,9 +80,9 @@ def wrong_in_rows(place, steps):
         return "no step of the gate plays this file"
     file = rows.read(path)
     if not any(place.is_in([f"= {opening}", *below]) for opening, below in file.values):
-        return "these lines are not there below one opening"
+        return "these lines are not below one opening"
     if not file.steps():
-        return "nothing of this file is played"
+        return "the file has no rows"
     return wrong_besides(place, file, steps)
 
 
@@ -120,16 +120,16 @@ def wrong_in_run(place, text, steps):
     crate = place.file.split("/")[1]
     if ["rt", "ci"] not in steps or crate not in listed() or not is_program(crate):
         return "no step of the gate plays this run"
-    return "" if place.is_in(text.splitlines()) else "these lines are not there"
+    return "" if place.is_in(text.splitlines()) else "these lines are missing"
 
 
 def wrong_in_script(place, text, steps):
     """Returns the error of a place in a Python test, or an empty text."""
     if not any(step[:2] == ["python3", place.file] for step in steps):
-        return "this is no step of the gate"
+        return "not a step of the gate"
     left = iter(text.splitlines())
     is_there = all(any(line.removesuffix(" ..").removesuffix("..") in it for it in left) for line in place.lines)
-    return "" if is_there else "these lines are not there"
+    return "" if is_there else "these lines are missing"
 
 
 def wrong_of(place, steps):
@@ -142,7 +142,7 @@ def wrong_of(place, steps):
     if place.file.endswith(".rows"):
         return wrong_in_rows(place, steps)
     if place.also:
-        return "this is no file of rows"
+        return "not a file of rows"
     if place.file.startswith("crates/coap_tests/src/"):
         return wrong_in_tests(place, text, steps)
     if re.fullmatch(r"crates/\w+/(args|stdin|stdout|status)", place.file):

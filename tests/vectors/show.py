@@ -26,38 +26,38 @@ RECORDED = bytes.fromhex(
 HOSTILE = bytes.fromhex("00e1" "f0ffffffff01" "01e201")
 
 STREAMS = [
-    ("A peer that keeps to the rules: Capabilities and Settings, Empty, a Ping with Custody, requests.", RECORDED),
-    ("A hostile one: a size of 4,295,033,106 bytes, and more behind it.", HOSTILE),
+    ("A well-behaved peer: Capabilities and Settings Message, Empty, a Ping with Custody, requests.", RECORDED),
+    ("A hostile peer: a message size of 4,295,033,106 bytes, followed by a Ping.", HOSTILE),
 ]
 
-SCRIPT_TITLE = "A script on one server: two connections observe /time, and the second one is not drained. Each event, its line, what that means."
+SCRIPT_TITLE = "A script on one server: two connections observe /time, and the second one is not drained. Each event, its line, and the meaning."
 
 # More Pings than the queue has space for Pongs.
 PINGS = 22_000
 
 # Each event, and the meaning of its line. For an empty text, the messages in the line are described.
 SCRIPT = [
-    ("open", "a connection, which gets the number 1"),
+    ("open", "opens a connection, which gets the number 1"),
     ("drain 1", ""),
-    ("in 1 00e1" "6101076054" "74696d65", "its Capabilities and Settings, and GET of /time with Observe: all 11 bytes are taken"),
+    ("in 1 00e1" "6101076054" "74696d65", "its Capabilities and Settings Message, and a GET of /time with Observe: all 11 bytes are taken"),
     ("drain 1", ""),
-    ("open", "a second connection"),
-    ("in 2 00e1" "6101086054" "74696d65", "it observes /time too"),
+    ("open", "opens a second connection"),
+    ("in 2 00e1" "6101086054" "74696d65", "this connection observes /time too"),
     ("drain 2", ""),
-    ("put /a 0 31", "a put from inside is refused: this program has places for no resources but the built-in ones"),
-    ("tick 5", "the moment is 5 now, and each observer is to be told"),
+    ("put /a 0 31", "a put by the program itself is rejected: its resource limit is 0"),
+    ("tick 5", "the time is 5 now, and each observer is notified"),
     ("drain 1", ""),
     ("drain 2", ""),
-    ("in 2 " + "01e201" * PINGS, f"of {PINGS:,} Pings those are taken whose Pongs have room, as connection 2 is not drained"),
-    ("status 2", "so many bytes of Pongs wait, and there is no room for one more greatest message"),
-    ("tick 6", "the observer on connection 1 is told; the one on connection 2 has to wait"),
+    ("in 2 " + "01e201" * PINGS, f"of {PINGS:,} Pings, those are taken whose Pongs fit into the queue of connection 2, which is not drained"),
+    ("status 2", "these bytes of Pongs are queued, and the queue has no space for another message of maximum size"),
+    ("tick 6", "the observer on connection 1 is notified; the one on connection 2 must wait"),
     ("drain 1", ""),
     ("tick 7", "and again"),
     ("drain 1", ""),
-    (f"drain 2 {3 * PINGS}", "all Pongs that wait, and now there is room for what the observer is to be told"),
+    (f"drain 2 {3 * PINGS}", "all queued Pongs are sent, and the queue has space for the notification"),
     ("drain 2", ""),
-    ("drop 1", "connection 1 is forgotten"),
-    ("status 1", "so nothing is known of it"),
+    ("drop 1", "connection 1 is dropped"),
+    ("status 1", "so connection 1 does not exist"),
 ]
 
 
@@ -111,7 +111,7 @@ def run_script(command):
 
 def main(words):
     if words == ["--try"]:
-        print("First the main job UNPROVED: `rt try` runs the same source before any proof, which takes up to a minute.", flush=True)
+        print("First, the server UNPROVED: `rt try` runs the same source before any proof, in up to a minute.", flush=True)
         return run(["rt", "try", "--", "--stdio"], *STREAMS[0], folder=CRATE)
     print(f"Now {words[0]}, built from the proved crates:")
     statuses = []

@@ -243,9 +243,9 @@ def struck(step, line, again, line_again):
     """
     begun, run = line.rpartition("memory")[0], getattr(step, "run", None)
     if not line_again.startswith(begun):
-        return [f"{again[:120]}: {begun} is not how {line_again} begins"]
+        return [f"{again[:120]}: {begun} is not the beginning of {line_again}"]
     if run and run.refusals is not None and len(calls_of(begun)[0]) not in run.refusals:
-        return [f"{again[:120]}: refused behind {begun or 'nothing'}"]
+        return [f"{again[:120]}: allocation failed after {begun or 'nothing'}"]
     return []
 
 
