@@ -1,5 +1,5 @@
-//! Runs of `serve_door` over a listener, connections and a clock in memory. The result of a run has the calls of its
-//! devices in order, the bytes that each connection accepted, and the error.
+//! Runs of `serve_door` over a listener, connections and a clock in memory. A test compares the calls of the devices in
+//! order, and the bytes that each connection accepted. Each run must end with `IoFault::Turns`.
 //!
 //! The calls are written so:
 //!
