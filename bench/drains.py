@@ -1,8 +1,8 @@
-"""Counts what it costs to write off a queue by parts of 1,000 bytes: by a script, and over a socket.
+"""Counts the cost of removing written bytes from a queue by parts of 1,000 bytes, in a script and over a socket.
 
-By a script, a `drain` of 1,000 bytes is counted where much waits and where little does. From what 100 of them cost is taken what 100
-lines cost that do nothing, for a connection that is not there. Over a socket, a queue of 4 MiB is filled while its peer reads nothing,
-and drained: at once, and with bench/short.c preloaded, whose sends take at most 1,000 bytes each.
+In a script, a `drain` of 1,000 bytes is counted with many and with few queued bytes. The cost of 100 drains is reduced by that of 100 lines for a
+connection that does not exist. Over a socket, a queue of 4 MiB is filled while its peer reads nothing. The queue is then drained at once, and in a
+second run with bench/short.c preloaded, whose sends accept at most 1,000 bytes each.
 """
 
 import contextlib
@@ -14,26 +14,26 @@ import time
 from counting import callgrind, collected, counted_alone
 from servers import HOST, ROOT, Server
 
-# a queue that may hold 4 MiB, and a resource whose representation is put and asked for
+# A queue of 4 MiB, and the size of a stored representation.
 QUEUE, SIZE = 4_194_304, 60_000
 OPTIONS = ["--queue", str(QUEUE), "-d", "1"]
 
-# Capabilities and Settings that take messages of 65,535 bytes, and a GET of the resource
+# A CSM with a Max-Message-Size of 65,535, and a GET of the resource.
 CSM, GET = "30e122ffff", "410101b3626967"
 PUT = bytes.fromhex("e1e9580302b3626967ff") + b"x" * SIZE
 
-# how many of its representations wait, and how many drains are counted; and how much dearer they may be where most waits
+# Numbers of queued representations, number of counted drains, and maximum ratio of their costs with many and with few queued bytes.
 WAITING, DRAINS, TIMES = (3, 60), 100, 1.2
 
-# how many wait in a queue that takes no more, and what a byte may cost more by short sends
+# Number of representations that fill a queue, and maximum additional instructions a byte with short sends.
 FULL, EACH_BYTE = 68, 2
 
-# Seconds: until a server must accept that callgrind runs, and for each wait
+# Seconds: until a server that callgrind runs must accept, and for each wait.
 PATIENCE, LIMIT = 30, 300
 
 
 def drain_cost(waiting):
-    """What a drain of 1,000 bytes costs where so many representations wait."""
+    """Returns the instructions of a drain of 1,000 bytes with this number of queued representations."""
     command = [f"{ROOT}/bin/coap-server", *OPTIONS, "--script", "-"]
     before = [f"put /big - {'78' * SIZE}", "open", f"in 1 {CSM}", *[f"in 1 {GET}"] * waiting]
     spent, nothing = (counted_alone(command, "\n".join([*before, *[it] * DRAINS, ""]).encode()) for it in ("drain 1 1000", "drain 9 1000"))
@@ -41,8 +41,8 @@ def drain_cost(waiting):
 
 
 def by_script():
-    """The table of drains by a script, and how many times as dear they are where most waits."""
-    print("\n| `drain N 1000`, where so many bytes wait | Instructions |\n|---|---|")
+    """Prints the table of drains in a script, and returns the ratio of the costs with many and with few queued bytes."""
+    print("\n| `drain N 1000`, by number of queued bytes | Instructions |\n|---|---|")
     costs = []
     for waiting in WAITING:
         costs.append(drain_cost(waiting))
@@ -64,16 +64,16 @@ def processor_time(process):
 
 
 def received(peer, count):
-    """Reads so many bytes, and tells whether as many came."""
+    """Reads `count` bytes, and returns true if all arrived."""
     while count and (piece := peer.recv(min(count, 65_536))):
         count -= len(piece)
     return not count
 
 
 def ask(server):
-    """Fills the queue of a connection, and reads all once nothing more is queued. Tells how many bytes of representations came."""
+    """Fills the queue of a connection, and reads all bytes after nothing more is queued. Returns the number of bytes of representations."""
     with socket.socket() as peer:
-        # what waits is to wait in the queue and not on its way
+        # A small buffer, so that the bytes stay in the queue and not in the system.
         peer.setsockopt(socket.SOL_SOCKET, socket.SO_RCVBUF, 4096)
         peer.settimeout(LIMIT)
         peer.connect((HOST, server.port))
@@ -83,7 +83,7 @@ def ask(server):
 
 
 def drained(room, shim):
-    """The instructions of a server that drains a full queue, with this library preloaded, or none, and the bytes that it drained."""
+    """Returns the instructions of a server that drains a full queue, and the number of bytes. `shim` is a library to preload, or empty."""
     preload = ["env", f"LD_PRELOAD={shim}"] if shim else []
     words = [f"{ROOT}/bin/coap-server", "-A", HOST, *OPTIONS]
     with Server("ours", lambda port: [*preload, *callgrind(f"{room}/profile"), *words, "-p", str(port)], PATIENCE) as server:
@@ -95,7 +95,7 @@ def drained(room, shim):
 
 
 def over_socket():
-    """What a byte costs more over a socket that takes 1,000 bytes a send, or nothing where there is no figure."""
+    """Prints the costs over a socket. Returns the additional instructions a byte with sends of 1,000 bytes, or None without a figure."""
     with tempfile.TemporaryDirectory() as room:
         shim = f"{room}/short.so"
         words = ["cc", "-std=c11", "-O2", "-Wall", "-Wextra", "-Werror", "-shared", "-fPIC"]

@@ -1,11 +1,11 @@
-"""Counts what a GET, a PUT and a tick cost a server that has many connections, observers or resources.
+"""Counts the cost of a GET, a PUT and a tick on a server with many connections, observers or resources.
 
-They are events of a script. From what 1,000 of them cost is taken what 1,000 lines cost that do nothing: the same bytes for a
-connection that is not there, and ticks that leave the moment. So neither reading a line nor starting the program counts.
+These are events of a script. The cost of 1,000 of them is reduced by that of 1,000 lines without an effect. These lines are the same bytes for a
+connection that does not exist, and ticks that do not change the time. So neither reading a line nor starting the program counts.
 
-Then it counts what a notification costs together with the drain that takes it away: 255 connections observe what is changed, against
-the same changes and drains where they observe something else. It counts the same for the observers of one connection, after a tick
-and after a PUT, and last for one observer among others of its connection that observe something else.
+The script also counts the cost of a notification with its drain. In the first run, 255 connections observe the resource that changes. In the second
+run, with the same changes and drains, they observe another one. The same is counted for the observers of one connection, after a tick and after a
+PUT. Last, it is counted for one observer beside others of its connection that observe another resource.
 """
 
 import collections
@@ -16,42 +16,42 @@ from servers import ROOT
 
 TIMES = 1000
 
-# the program, with as many connections, resources and observers as it can have
+# The program with its maximum numbers of connections and resources.
 COMMAND = [f"{ROOT}/bin/coap-server", "--connections", "256", "-d", "1000", "--script", "-"]
 
-# how many other connections are open, how many observers of another resource they have in all, and how many resources are stored
+# The number of other open connections, the total number of their observers of another resource, and the number of stored resources.
 Setting = collections.namedtuple("Setting", ["connections", "observers", "resources"])
 
-# the three rows of settings: what changes, and the settings
+# The three tables: title, varied field, and settings.
 ROWS = [
     ("other connections", "connections", [Setting(it, 0, 1) for it in (0, 16, 64, 128, 255)]),
     ("observers, beside 255 other connections", "observers", [Setting(255, it, 1) for it in (0, 255, 1020, 2040, 4080)]),
     ("resources", "resources", [Setting(0, 0, it) for it in (1, 10, 100, 300, 998)]),
 ]
 
-# What others may cost, where each of the other connections observes something else as often as it can: a PUT so many times what it costs
-# with nobody observing, and a tick so many instructions for each of these connections.
+# Limits beside connections that each observe another resource as often as possible. The first is the ratio of the cost of a PUT to that without
+# observers. The second is the number of instructions of a tick for each of these connections.
 PUT_TIMES, TICK_EACH = 1.5, 20
 
-# what a notification may cost with its drain, how many connections are told one, and how often
+# Maximum instructions of a notification with its drain, number of notified connections, and number of changes.
 NOTIFIED_EACH, TOLD, CHANGES = 1_500, 255, 20
 
-# the program where a connection may have as many observers as it can, how many one has, and what a notification may cost with its drain: so
-# many instructions, and so many times what it costs with the fewest observers
+# The program with the maximum number of observers of a connection, and the counted numbers of observers. Then the maximum instructions of a
+# notification with its drain, and its maximum ratio to the cost with the fewest observers.
 MANY_OBSERVERS = [*COMMAND[:-2], "--observers", "256", *COMMAND[-2:]]
 TOGETHER, TOGETHER_EACH, TOGETHER_TIMES = (16, 64, 255), 1_300, 1.2
 
-# how many others of the connection observe something else, and how many times what it costs without them a notification may cost
+# Numbers of other observers of the connection, and the maximum ratio of the cost of a notification to that without them.
 BESIDE, BESIDE_TIMES = (0, 16, 64, 255), 1.1
 
-# the resource that observers observe, and the one that is asked for and changed
+# The resource that observers observe, the one that is requested and changed, and /time.
 SEEN, ASKED, MOMENT = b"seen", b"0000", b"time"
 
 CSM = "00e1"
 
 
 def request(code, token, options, payload=b""):
-    """A request with options and payload that fit into 12 bytes, in hexadecimal."""
+    """Returns a request whose options and payload fit into 12 bytes, in hexadecimal."""
     body = options + (b"\xff" + payload if payload else b"")
     return (bytes([len(body) << 4 | len(token), code]) + token + body).hex()
 
@@ -61,12 +61,12 @@ PUT = request(0x03, b"\x02", b"\xb4" + ASKED, b"yz")
 
 
 def observation(number, path=SEEN):
-    """A GET that registers an observer of a path of four letters, with this number as token."""
+    """Returns a GET that registers an observer of a path of four letters, with this number as its token."""
     return request(0x01, number.to_bytes(2, "big"), b"\x60\x54" + path)
 
 
 def before(setting):
-    """The lines that make a setting; the last connection is the one that asks."""
+    """Returns the lines that make a setting. The last connection is the one that sends requests."""
     lines = [f"put /{SEEN.decode()} - 78", *(f"put /{it:04} - 78" for it in range(setting.resources))]
     lines += ["open"] * (setting.connections + 1)
     lines += [f"in {it} {CSM}" for it in range(1, setting.connections + 2)]
@@ -74,7 +74,7 @@ def before(setting):
 
 
 def kinds(setting):
-    """Each kind of event: its lines, and those that do nothing."""
+    """Yields for each kind of event its lines, and the lines without an effect."""
     asking, absent = setting.connections + 1, 999
     for sent in (GET, PUT):
         yield [f"in {asking} {sent}"] * TIMES, [f"in {absent} {sent}"] * TIMES
@@ -82,26 +82,26 @@ def kinds(setting):
 
 
 def costs(setting):
-    """The instructions of an event of each kind."""
+    """Yields the instructions of an event of each kind."""
     for lines, idle in kinds(setting):
         spent, nothing = (counted_alone(COMMAND, "\n".join([*before(setting), *it, ""]).encode()) for it in (lines, idle))
         yield round((spent - nothing) / TIMES)
 
 
 def judged(rows):
-    """Tells whether observers of something else cost what they may, by the first and the last row of settings with observers."""
+    """Prints whether observers of another resource meet the limits, from the first and the last row of settings with observers."""
     (_, _, put_alone, _), (_, _, put_beside, tick) = rows[0], rows[-1]
     times, each = put_beside / put_alone, tick / ROWS[1][2][-1].connections
     met = times <= PUT_TIMES, each <= TICK_EACH
-    words = [f"a PUT beside observers of something else, {times:.2f} times, at most {PUT_TIMES}",
-             f"a tick for each connection that does not observe the moment, {each:.0f}, at most {TICK_EACH}"]
+    words = [f"a PUT beside observers of another resource, {times:.2f} times, at most {PUT_TIMES}",
+             f"a tick for each connection that does not observe /time, {each:.0f}, at most {TICK_EACH}"]
     for one, said in zip(met, words):
         print(f"{'met' if one else 'MISSED'}: {said}", flush=True)
     return all(met)
 
 
 def notified():
-    """Tells what a notification costs with its drain, and whether that is what it may."""
+    """Prints the cost of a notification with its drain, and returns true if it is within its limit."""
     totals = []
     for path in (ASKED, SEEN):
         observers = [f"in {it} {observation(it, path)}" for it in range(1, TOLD + 1)]
@@ -183,7 +183,7 @@ def beside():
 
 
 def over_settings():
-    """Tells the tables, keeps them and draws them, and tells whether they are drawn and the targets met."""
+    """Prints, keeps and draws the tables. Returns true if they are drawn and the targets are met."""
     tables, met = [], True
     for title, changed, settings in ROWS:
         print(f"\n| {title} | GET | PUT | tick |\n|---|---|---|---|")

@@ -1,10 +1,10 @@
-/* The floor: what framing and epoll alone cost.
+/* The floor: the cost of framing and epoll alone.
 
        floor HOST PORT
 
-   This is no CoAP server. It sends Capabilities and Settings, cuts what comes into messages (RFC 8323 section 3.2), and answers each
-   GET by the same 2.05 with the request's token, whatever it asks for. It reads no option, answers nothing else, and closes a connection
-   whose message is longer than 65,536 bytes. What one read brought is answered by one write, which waits until the peer takes it. */
+   This is not a CoAP server. It sends a CSM, splits its input into messages (RFC 8323 section 3.2), and answers each GET with the same 2.05 and the
+   token of the request, whatever its path. It parses no option, responds to no other message, and closes a connection whose message is longer than
+   65,536 bytes. The responses to one read are written by one write, which blocks until the peer accepts it. */
 
 #define _GNU_SOURCE
 
@@ -26,14 +26,14 @@ struct connection {
 };
 
 static const unsigned char capabilities[] = {0x00, CAPABILITIES};
-static const unsigned char text[] = "\xFFJan 01 00:00:00"; /* behind the mark of a payload */
+static const unsigned char text[] = "\xFFJan 01 00:00:00"; /* payload marker and payload */
 
 enum { TEXT = sizeof text - 1 };
 
-/* The answers to one read: a GET has two bytes at least and its answer three and the text, both with a token of one length. */
+/* The responses to one read. A GET has at least two bytes, and its response three and the text, each with a token of the same length. */
 static unsigned char out[ROOM / 2 * (3 + TEXT)];
 
-/* Ends the program where a call failed. */
+/* Ends the program if a call failed. */
 static int checked(int value, const char *what)
 {
     if (value < 0) {
@@ -43,7 +43,7 @@ static int checked(int value, const char *what)
     return value;
 }
 
-/* The size of the message at the front; more than is there where bytes are missing. */
+/* Returns the size of the first message, or more than `count` if more bytes are needed. */
 static uint64_t size_of(const unsigned char *bytes, size_t count, size_t *extension)
 {
     static const uint64_t base[] = {13, 269, 65805};
@@ -57,7 +57,7 @@ static uint64_t size_of(const unsigned char *bytes, size_t count, size_t *extens
     return 2 + *extension + (bytes[0] & 15) + (*extension ? base[nibble - 13] + length : nibble);
 }
 
-/* Answers every whole message, and tells how long the answers are. */
+/* Answers every whole message, and returns the length of the responses. */
 static size_t answer(struct connection *c)
 {
     size_t at = 0, length = 0, extension;
@@ -77,7 +77,7 @@ static size_t answer(struct connection *c)
     return length;
 }
 
-/* Answers what one read brings, or closes the connection. */
+/* Answers the messages of one read, or closes the connection. */
 static void serve(struct connection *c)
 {
     ssize_t count = recv(c->socket, c->in + c->kept, ROOM - c->kept, 0);
@@ -89,7 +89,7 @@ static void serve(struct connection *c)
     }
 }
 
-/* Takes a connection; one whose peer is gone is closed at its first read. */
+/* Accepts a connection. If its peer is gone, the connection is closed at its first read. */
 static void greet(int epoll, int listener)
 {
     int yes = 1;

@@ -2,19 +2,22 @@
 
        load [--idle COUNT] HOST PORT CONNECTIONS OUTSTANDING REQUESTS [PATH]
 
-   First it opens COUNT idle connections and then CONNECTIONS others, one after the other: on each it sends its Capabilities and
-   Settings and reads the peer's. Then it keeps OUTSTANDING GETs of PATH (`time`, unless told) in flight on each connection that is
-   not idle, until REQUESTS in all were answered. PATH is its segments with slashes between them, taken as they are.
+   The program first opens COUNT idle connections and then CONNECTIONS others, one after the other. On each it sends its Capabilities and Settings
+   Message (CSM) and reads that of the peer. Then it keeps OUTSTANDING GETs of PATH (default `time`) in flight on each connection that is not idle,
+   until REQUESTS in all are answered. PATH has its segments with slashes between them, without escapes.
 
-   It prints one line, numbers with blanks between them: the requests that were answered; the seconds from the first write of a
-   request until the last answer; requests for each second; the latency in microseconds that half of the requests do not exceed;
-   and the one that 99 of 100 do not exceed.
+   The output is one line of numbers separated by blanks:
 
-   The latency of a request runs from the moment before its write until all that the read with its answer brought was parsed.
-   Latencies are counted in steps that are 1/256 of their value at the most, and the middle of a step is told.
+   - the number of answered requests,
+   - the seconds from the first write of a request until the last response,
+   - the requests per second,
+   - the latencies in microseconds that 50 and 99 of 100 requests do not exceed.
 
-   Status 1 and a line on standard error: the peer sent what it must not send or closed a connection, or for 10 seconds no connection
-   was opened and no request was answered. */
+   The latency of a request is the time from before its write until all bytes of the read with its response are parsed. Latencies are counted in
+   steps of at most 1/256 of their value. The middle of a step is printed.
+
+   The status is 1, with a line on standard error, if the peer sends an invalid message or closes a connection. The same holds if for 10 seconds no
+   connection is opened and no request is answered. */
 
 #define _GNU_SOURCE
 
@@ -38,21 +41,21 @@ enum {
     URI_PATH = 11,
     TOKEN_LENGTH = 4,
     READ_LENGTH = 65536,
-    GREATEST_MESSAGE = 1048576,     /* what is announced to the peer: a whole message, head and token with it */
-    GREATEST_REQUEST = 1152,        /* what every peer takes that announces nothing else */
-    PONGS_LENGTH = 2 * READ_LENGTH, /* the room for Pongs: those to the Pings of two reads */
+    GREATEST_MESSAGE = 1048576,     /* announced to the peer; counts head and token */
+    GREATEST_REQUEST = 1152,        /* the default Max-Message-Size of a peer (RFC 8323) */
+    PONGS_LENGTH = 2 * READ_LENGTH, /* space for the Pongs to the Pings of two reads */
     EVENTS = 256,
     STEPS = 256,                    /* steps between a power of two and the next one */
 };
 
 #define STALLED UINT64_C(10000000000) /* nanoseconds without progress */
 
-/* Capabilities and Settings with Max-Message-Size GREATEST_MESSAGE */
+/* CSM with the Max-Message-Size GREATEST_MESSAGE. */
 static const unsigned char capabilities[] = {0x40, CAPABILITIES, 0x23, 0x10, 0x00, 0x00};
 
-/* What a token stands for. Its number is its index and how often it was used, so that no two requests in flight have the same. */
+/* A request with one of the tokens. A token has its index and the number of its uses, so that no two requests in flight have the same. */
 struct request {
-    uint64_t sent; /* when it was handed to write */
+    uint64_t sent; /* time before the write */
     uint16_t uses;
     bool outstanding;
 };
@@ -60,13 +63,13 @@ struct request {
 struct connection {
     int socket;
     size_t number;
-    bool connected, greeted; /* greeted: the peer's Capabilities and Settings were read */
-    bool writing;            /* epoll is asked when it takes bytes */
+    bool connected, greeted; /* greeted: the CSM of the peer was read */
+    bool writing;            /* epoll reports when the socket accepts bytes */
     unsigned char *in, *out;
-    size_t kept;            /* bytes of an unfinished message in `in` */
-    size_t queued, written; /* bytes in `out`, and how many of them were written */
+    size_t kept;            /* bytes of an incomplete message in `in` */
+    size_t queued, written; /* bytes in `out`, and the number of them that were written */
     struct request *requests;
-    uint16_t *unused; /* the indices of tokens that are not outstanding */
+    uint16_t *unused; /* indices of the tokens that are not outstanding */
     size_t unused_count;
 };
 
@@ -84,10 +87,10 @@ static struct {
     size_t idle, count, opened, greeted;
     size_t outstanding;
     uint64_t total, handed, answered;
-    uint64_t began, ended, progress; /* moments in nanoseconds */
+    uint64_t began, ended, progress; /* times in nanoseconds */
     unsigned char get[GREATEST_REQUEST];
     size_t get_length, token_at, out_room;
-    uint64_t *sent; /* of the answers that one read brought: when their requests were sent */
+    uint64_t *sent; /* for the responses of one read, the times of their requests */
     size_t sent_count;
     uint64_t latencies[64 * STEPS];
 } run;
@@ -119,7 +122,7 @@ static void *room(size_t count, size_t size)
     return it;
 }
 
-/* The step that a latency is counted in: below 256 ns each value is its own. */
+/* Returns the step in which a latency is counted. Below 256 ns, each value has its own step. */
 static size_t step(uint64_t nanoseconds)
 {
     if (nanoseconds < STEPS)
@@ -128,7 +131,7 @@ static size_t step(uint64_t nanoseconds)
     return (size_t)shift * STEPS + (size_t)(nanoseconds >> shift);
 }
 
-/* The middle of a step, in microseconds. */
+/* Returns the middle of a step, in microseconds. */
 static double middle(size_t index)
 {
     if (index < 2 * STEPS)
@@ -138,7 +141,7 @@ static double middle(size_t index)
     return ((double)lowest + (double)(UINT64_C(1) << shift) / 2) / 1000;
 }
 
-/* The latency that so many of 100 requests do not exceed. */
+/* Returns the latency that `share` of 100 requests do not exceed. */
 static double percentile(uint64_t share)
 {
     uint64_t wanted = (run.answered * share + 99) / 100, seen = 0;
@@ -156,7 +159,7 @@ static void watch(struct connection *c, int operation, bool writing)
     c->writing = writing;
 }
 
-/* Room for so many bytes behind what is queued. */
+/* Returns space for `length` bytes after the queued ones. */
 static unsigned char *queue(struct connection *c, size_t length)
 {
     if (run.out_room - c->queued < length) {
@@ -171,7 +174,7 @@ static unsigned char *queue(struct connection *c, size_t length)
     return it;
 }
 
-/* Writes what is queued, in one write where the socket takes it. */
+/* Writes the queued bytes, in one write if the socket accepts it. */
 static void flush(struct connection *c)
 {
     while (c->written < c->queued) {
@@ -212,7 +215,7 @@ static void open_next(void)
         c->unused[c->unused_count] = (uint16_t)c->unused_count;
 }
 
-/* Sends a GET for each token that is not outstanding, while requests are left. */
+/* Sends a GET for each token that is not outstanding, as long as requests are left. */
 static void ask(struct connection *c, uint64_t now)
 {
     while (c->unused_count > 0 && run.handed < run.total) {
@@ -229,7 +232,7 @@ static void ask(struct connection *c, uint64_t now)
     }
 }
 
-/* Opens the next connection once one is greeted, and begins to ask once all are. */
+/* Opens the next connection after the CSM of the peer has arrived. After the last one, sends the first requests. */
 static void greeted(struct connection *c)
 {
     if (c->greeted)
@@ -248,7 +251,7 @@ static void greeted(struct connection *c)
     }
 }
 
-/* Takes the answer to a request. */
+/* Processes the response to a request. */
 static void answered(struct connection *c, const struct message *m)
 {
     if (m->token_length != TOKEN_LENGTH)
@@ -270,7 +273,7 @@ static void ponged(struct connection *c, const struct message *m)
     memcpy(pong + 2, m->token, m->token_length);
 }
 
-/* Reads a number of so many bytes. */
+/* Returns the number that `count` bytes encode. */
 static uint64_t number(const unsigned char *bytes, size_t count)
 {
     uint64_t value = 0;
@@ -279,7 +282,7 @@ static uint64_t number(const unsigned char *bytes, size_t count)
     return value;
 }
 
-/* Reads the message at the front (RFC 8323 section 3.2), and tells whether all of it is there. */
+/* Parses the first message (RFC 8323 section 3.2), and returns true if it is complete. */
 static bool whole(const struct connection *c, const unsigned char *bytes, size_t count, struct message *m)
 {
     static const uint64_t base[] = {13, 269, 65805};
@@ -305,7 +308,7 @@ static bool whole(const struct connection *c, const unsigned char *bytes, size_t
     return true;
 }
 
-/* Reads the number or the length of an option behind its first byte, and tells whether it is there. */
+/* Reads the extension of an option delta or length, and returns true if it is valid and complete. */
 static bool extended(const unsigned char **at, const unsigned char *end, unsigned nibble, uint64_t *value)
 {
     size_t extension = nibble < 13 ? 0 : nibble - 12;
@@ -316,7 +319,7 @@ static bool extended(const unsigned char **at, const unsigned char *end, unsigne
     return true;
 }
 
-/* Whether these bytes are options and a payload (RFC 7252 section 3.1). */
+/* Returns true if these bytes are options and a payload (RFC 7252 section 3.1). */
 static bool well_formed(const unsigned char *at, const unsigned char *end)
 {
     uint64_t delta, length, last = 0;
@@ -348,7 +351,7 @@ static void take(struct connection *c, const struct message *m)
         fail("connection %zu: a message with code %d.%02d", c->number, m->code >> 5, m->code & 31);
 }
 
-/* Takes all messages that are whole, sends requests for those that were answered, and counts latencies. */
+/* Processes all whole messages, sends requests for the answered ones, and counts latencies. */
 static void take_all(struct connection *c)
 {
     struct message m;
@@ -420,7 +423,7 @@ static void run_all(void)
     }
 }
 
-/* Writes an option whose number is so much above the last one's, and gives its length. */
+/* Writes an option whose number is `delta` above the last one, and returns its length. */
 static size_t write_option(unsigned char *at, unsigned delta, const char *value, size_t length)
 {
     size_t head = length < 13 ? 1 : 2;
@@ -431,7 +434,7 @@ static size_t write_option(unsigned char *at, unsigned delta, const char *value,
     return head + length;
 }
 
-/* Spells the GET, with room for its token. */
+/* Encodes the GET, with space for its token. */
 static void spell_get(const char *path)
 {
     unsigned char options[GREATEST_REQUEST];
@@ -464,7 +467,7 @@ static void spell_get(const char *path)
     run.get_length = at + TOKEN_LENGTH + length;
 }
 
-/* Reads a word that is a whole number between two others. */
+/* Returns the number that a word represents, which must be in this range. */
 static uint64_t count_of(const char *name, const char *word, uint64_t least, uint64_t greatest)
 {
     char *end;

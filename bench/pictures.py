@@ -1,4 +1,4 @@
-"""Keeps what the bench measures as data files in bench/out, and draws the pictures of docs/pictures from them by gnuplot."""
+"""Keeps the figures of the bench as data files in bench/out, and draws the pictures of docs/pictures from them with gnuplot."""
 
 import os
 import subprocess
@@ -7,25 +7,25 @@ from servers import ROOT
 
 DATA, PICTURES = f"{ROOT}/bench/out", f"{ROOT}/docs/pictures"
 
-# the program that draws, with its package
+# The program that draws, with its package.
 PACKAGES = {"gnuplot": "gnuplot-nox"}
 
 
 def table(title, columns, rows):
-    """A table of a data file: its title, the names of its columns, and its rows. What was not measured is `nan`."""
+    """Returns a table of a data file: its title, the names of its columns, and its rows. A value that was not measured is `nan`."""
     words = [["nan" if it is None else str(it) for it in row] for row in rows]
     return "\n".join([f"# {title}", " ".join(f'"{it}"' for it in columns), *(" ".join(it) for it in words)])
 
 
 def keep(name, tables):
-    """Writes the data file of a picture. Two empty lines stand between its tables."""
+    """Writes the data file of a picture. There are two empty lines between its tables."""
     os.makedirs(DATA, exist_ok=True)
     with open(f"{DATA}/{name}.dat", "w", encoding="utf-8") as file:
         file.write("\n\n\n".join(tables) + "\n")
 
 
 def draw(name):
-    """Draws a picture from its data file, as bench/NAME.gnuplot says, and tells whether that went well."""
+    """Draws a picture from its data file with bench/NAME.gnuplot, and returns true if that succeeded."""
     os.makedirs(PICTURES, exist_ok=True)
     names = f"data='{DATA}/{name}.dat'; picture='{PICTURES}/{name}.svg'"
     return subprocess.run(["gnuplot", "-e", names, f"{ROOT}/bench/{name}.gnuplot"]).returncode == 0

@@ -16,21 +16,21 @@ from packages import install  # noqa: E402
 from peers import LOCAL as HOST  # noqa: E402
 from peers import free_port  # noqa: E402
 
-# gencat comes with the headers of the C library, which the package gcc alone does not bring
+# gencat belongs to the headers of the C library, which the package gcc alone does not install.
 PACKAGES = {"cc": "gcc", "gencat": "libc6-dev"}
 
 # Seconds: until a server must accept, until it must have ended, and for one run of the load program.
 STARTS, ENDS, LIMIT = 5, 5, 60
 
-# Seconds of a measurement and how often it is made; the same for --quick; and the least of a run that tells how many requests to send.
+# Seconds of a measurement and its repetitions, the same for --quick, and the minimum seconds of a run that determines the number of requests.
 USUAL, QUICK, SAMPLE = (1.5, 3), (0.3, 1), 0.05
 
-# requests that were answered, seconds, requests for each second, and the latencies in microseconds
+# Answered requests, seconds, requests per second, and two percentiles of the latency in microseconds.
 Figures = collections.namedtuple("Figures", ["requests", "seconds", "rate", "p50", "p99"])
 
 
 def prepare(packages):
-    """Installs what is missing, builds the programs of bench/, and tells whether all is there."""
+    """Installs missing packages, builds the programs of bench/, and returns true if all of that succeeded."""
     if not install({**PACKAGES, **packages}):
         return False
     os.makedirs(f"{ROOT}/bin", exist_ok=True)
@@ -39,12 +39,12 @@ def prepare(packages):
 
 
 def ours(port):
-    """The command of the program that is measured."""
+    """Returns the command of the program that is measured."""
     return [f"{ROOT}/bin/coap-server", "-A", HOST, "-p", str(port), "--connections", "256"]
 
 
 class Server:
-    """A server on a port of its own. `trouble` says why it cannot be measured, and is empty where it can."""
+    """A server on its own port. `trouble` says why it cannot be measured, and is empty if it can."""
 
     def __init__(self, name, command, patience=STARTS):
         self.name, self.port, self.output = name, free_port(), tempfile.TemporaryFile()
@@ -63,7 +63,7 @@ class Server:
         self.output.close()
 
     def wait(self, patience):
-        """Waits so many seconds at the most until the port accepts, and says what is wrong where it does not."""
+        """Waits at most `patience` seconds until the port accepts. Returns an error, or an empty text."""
         limit = time.monotonic() + patience
         while time.monotonic() < limit:
             if self.process.poll() is not None:
@@ -75,24 +75,24 @@ class Server:
         return f"does not accept within {patience} s"
 
     def greet(self):
-        """Opens a connection, and lets the server close it, so that it takes no place of a later one."""
+        """Opens a connection, and lets the server close it, so that it does not count for later ones."""
         with socket.create_connection((HOST, self.port), 1) as it, contextlib.suppress(OSError):
             it.shutdown(socket.SHUT_WR)
             while it.recv(4096):
                 pass
 
     def told(self):
-        """What the server wrote."""
+        """Returns the output of the server."""
         self.output.seek(0)
         return self.output.read().decode(errors="replace")
 
     def ended(self):
-        """How the server ended, and what it wrote, without what valgrind writes of itself."""
+        """Returns the status and the output of a server that has ended, without the lines of valgrind."""
         lines = [it for it in self.told().splitlines() if not it.startswith("==")]
         return f"ended with status {self.process.returncode}: " + ("\n".join(lines) or "it wrote nothing")
 
     def end(self):
-        """Ends the server by SIGTERM, or where that does not do, at once."""
+        """Ends the server with SIGTERM, or kills it after a timeout."""
         if self.process and self.process.poll() is None:
             self.process.terminate()
             try:
@@ -102,7 +102,7 @@ class Server:
                 self.process.wait()
 
     def load(self, connections, outstanding, requests, idle=0):
-        """What the load program measures, or nothing where not every request was answered: then there is a trouble."""
+        """Returns the figures of the load program, or None if a request was not answered; `trouble` then says why."""
         words = [f"{ROOT}/bin/load", "--idle", idle, HOST, self.port, connections, outstanding, requests]
         try:
             ran = subprocess.run([str(it) for it in words], stdin=subprocess.DEVNULL, capture_output=True, text=True, timeout=LIMIT)
@@ -119,7 +119,7 @@ class Server:
 
 
 def count_for(server, cell, seconds):
-    """How many requests take about so long: the first runs grow until one is long enough to tell."""
+    """Returns the number of requests that take about this time. The first runs grow until one is long enough to estimate it."""
     count = max(200, 4 * cell[0] * cell[1])
     while figures := server.load(*cell, count):
         if figures.seconds >= SAMPLE:
@@ -129,12 +129,12 @@ def count_for(server, cell, seconds):
 
 
 def medians(rounds):
-    """The median of each figure over the rounds."""
+    """Returns the median of each figure over the rounds."""
     return Figures(*(statistics.median(it) for it in zip(*rounds)))
 
 
 def measure(servers, cell, seconds, rounds):
-    """The figures of each server that answered every request, by its name."""
+    """Returns the figures of each server that answered every request, by its name."""
     healthy = [it for it in servers if not it.trouble]
     counts = {it.name: count_for(it, cell, seconds) for it in healthy}
     taken = {it.name: [] for it in healthy}

@@ -1,8 +1,7 @@
-/* Lets each send of a program take at most 1,000 bytes, as it is preloaded.
+/* Preloaded library that lets each send of a program accept at most 1,000 bytes.
 
-   A send that takes less than it is offered says that there is no room (epoll(7)), and a program that is told of changes alone waits
-   for room then. So behind a send that was cut short here the socket's registration is made again, and the next wait tells of room,
-   where there is any. */
+   A send that accepts fewer bytes than offered means that the socket has no space (epoll(7)). An edge-triggered program then waits for space. Therefore
+   this library registers the socket again after a send that it shortened, so that the next wait reports space if there is any. */
 
 #define _GNU_SOURCE
 

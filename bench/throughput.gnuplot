@@ -1,4 +1,4 @@
-# Requests a second and latencies, from bench/out/throughput.dat: docs/pictures/throughput.svg
+# Requests per second, from bench/out/throughput.dat: docs/pictures/throughput.svg
 
 set terminal svg size 960,420 font "sans,13" background "white"
 set output picture

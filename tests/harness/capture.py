@@ -1,4 +1,4 @@
-"""Lets tshark read what two ends sent each other, each message in a packet of its own."""
+"""Decodes the traffic between two ends with tshark, with each message in its own packet."""
 
 import contextlib
 import socket
@@ -11,9 +11,9 @@ import messages
 from peers import LIMIT
 from checks import CSM
 
-# tshark 4.0 takes the options of Capabilities and Settings for those of a request, where number 2 (here
-# Max-Message-Size) means nothing, and number 4 (here Block-Wise-Transfer, which libcoap 4.3 sends too) is never empty.
-# No other remark is let pass.
+# tshark 4.0 interprets the options of a CSM as those of a request. There, number 2 (here Max-Message-Size) is undefined,
+# and number 4 (here Block-Wise-Transfer, which libcoap 4.3 sends too) is never empty. Any other remark of tshark is a
+# failure.
 KNOWN_REMARKS = {
     CSM: "Invalid Option Number 2",
     "50e12380010020": "Invalid Option Number 2,Invalid Option Range: 0 (1 < x < 8)",
@@ -25,7 +25,7 @@ FIELDS = ["tcp.srcport", "tcp.dstport", "tcp.payload", "coap.length", "coap.code
 
 
 class Conversation:
-    """What both ends of a connection have sent so far: for each piece, whether it came from the server, and its bytes."""
+    """Bytes that both ends of a connection have sent so far: for each chunk, whether the server sent it, and its bytes."""
 
     def __init__(self):
         self.pieces = []
@@ -37,17 +37,17 @@ class Conversation:
             self.changed.notify_all()
 
     def stream(self, from_server):
-        """All bytes of one side."""
+        """Returns all bytes that one side has sent."""
         return b"".join(piece for side, piece in self.pieces if side == from_server)
 
     def wait_for(self, from_server, part):
-        """Waits until one side has sent these bytes, and tells whether it has."""
+        """Waits until one side has sent these bytes, and returns true if it has."""
         with self.changed:
             return self.changed.wait_for(lambda: part in self.stream(from_server), LIMIT)
 
     def pump(self, source, sink, from_server):
-        """Hands on what comes from `source` until it ends, and keeps it, also where `sink` is gone."""
-        # Where one of them is gone or silent for too long, the checks tell what is missing.
+        """Forwards and records all bytes from `source` until it ends, even if `sink` is closed."""
+        # If one of them is closed or silent for too long, the checks report the missing bytes.
         with contextlib.suppress(OSError):
             while piece := source.recv(65536):
                 self.add(from_server, piece)
@@ -57,7 +57,7 @@ class Conversation:
             sink.shutdown(socket.SHUT_WR)
 
     def join(self, client, server):
-        """Hands on what both ends send, until both have ended."""
+        """Forwards the bytes of both ends until both have ended."""
         client.settimeout(LIMIT)
         server.settimeout(LIMIT)
         upward = threading.Thread(target=self.pump, args=(client, server, False))
@@ -70,7 +70,7 @@ class Conversation:
 
 
 def cut(stream):
-    """The messages of a stream, and the bytes that are left."""
+    """Returns the messages of a stream, and the bytes that are left."""
     try:
         return messages.split(stream)
     except messages.Malformed:
@@ -78,7 +78,7 @@ def cut(stream):
 
 
 def messages_of(pieces):
-    """Who sent which message, in the order in which they were complete; an unfinished one stands last."""
+    """Returns the sender and the bytes of each message, in the order of completion. Incomplete messages come last."""
     sent, left = [], {False: b"", True: b""}
     for from_server, piece in pieces:
         frames, left[from_server] = cut(left[from_server] + piece)
@@ -87,7 +87,7 @@ def messages_of(pieces):
 
 
 def packet(source, target, sequence, acknowledged, payload):
-    """A record of a capture file: IPv4 and TCP headers without checksums, and a payload."""
+    """Returns a record of a capture file: IPv4 and TCP headers without checksums, and a payload."""
     tcp = struct.pack(">HHIIBBHHH", source, target, sequence, acknowledged, 5 << 4, 0x18, 65535, 0, 0)
     local = socket.inet_aton("127.0.0.1")
     size = 20 + len(tcp) + len(payload)
@@ -96,7 +96,7 @@ def packet(source, target, sequence, acknowledged, payload):
 
 
 def packets_of(client_port, sent):
-    """The packets of one connection, one for each message: of several in one packet tshark 4.0 reads the first alone."""
+    """Returns the packets of one connection, one for each message, because tshark 4.0 reads only the first in a packet."""
     packets, following = [], {False: 1, True: 1}
     for from_server, message in sent:
         ports = (SERVER_PORT, client_port) if from_server else (client_port, SERVER_PORT)
@@ -106,12 +106,12 @@ def packets_of(client_port, sent):
 
 
 def decode(conversations):
-    """What tshark reads: for each conversation a list of the messages of both sides, each a dictionary of FIELDS."""
+    """Returns the output of tshark: for each conversation the messages of both sides, each a dictionary of FIELDS."""
     command = ["tshark", "-d", "tcp.port==%d,coap" % SERVER_PORT, "-o", "tcp.check_checksum:FALSE", "-T", "fields"]
     for field in FIELDS:
         command += ["-e", field]
     with tempfile.NamedTemporaryFile(suffix=".pcap") as capture:
-        # the header of a capture file whose packets begin with their IP header
+        # The header of a capture file, with link type 101: each packet begins with its IP header.
         capture.write(struct.pack("<IHHiIII", 0xA1B2C3D4, 2, 4, 0, 0, 65535, 101))
         for number, sent in enumerate(conversations):
             capture.write(packets_of(FIRST_CLIENT_PORT + number, sent))
@@ -123,12 +123,12 @@ def decode(conversations):
 
 
 def of_side(rows, from_server):
-    """The rows of one side."""
+    """Returns the rows of one side."""
     return [row for row in rows if (row["tcp.srcport"] == str(SERVER_PORT)) == from_server]
 
 
 def fault(row):
-    """What is wrong with a message as tshark reads it, or nothing."""
+    """Returns the error that tshark reports for a message, or an empty text."""
     payload, remarks = row["tcp.payload"], row["_ws.expert.message"]
     if row["coap.length"] != str(len(payload) // 2):
         return "unread"

@@ -1,4 +1,4 @@
-"""Counts checks, and the bytes that many tests compare with: the server's Capabilities and Settings, each Abort, the greeting."""
+"""Counts checks, and has the bytes that many tests expect: the CSM of the server, each Abort, and the greeting."""
 
 CSM = "60e1230100004140"
 
@@ -13,12 +13,12 @@ ABORTS = {
     "bad signal option": "d005e5ff626164207369676e616c206f7074696f6e",
 }
 
-# 2.05 of the root, behind its token: Content-Format 0 and the greeting
+# 2.05 of the root, without the bytes up to its token: Content-Format 0 and the greeting.
 GREETING = "c0ff636f61702b746370"
 
 
 class Checks:
-    """Counts what passed."""
+    """Counts passed and failed checks."""
 
     def __init__(self):
         self.passed = 0

@@ -1,8 +1,16 @@
-/* Standard input and output as a run sets them. READ_BY: a read gives so many bytes at most; READ_CUTS: two places, past neither of which
-   a read gives bytes; READ_FAILS: the read behind so many fails. WRITE_TAKING: a write takes so many bytes at most; WRITE_ROOM: all
-   writes together; WRITE_FAILS: the write behind so many fails. Where it is not set, a device gives and takes all. Of sockets RECV_FAILS and
-   SEND_FAILS are the calls behind so many that fail, and RECV_ENDS the one that finds the end.
-   Each call of standard input and output is told on the descriptor DEVICES_TOLD, in one line: `read ROOM GIVEN` and `write BYTES TAKEN`, where `failed` may stand for the count. */
+/* Standard input and output that follow the settings of a run:
+
+   READ_BY      maximum number of bytes of a read
+   READ_CUTS    two offsets in the input that no read passes
+   READ_FAILS   number of reads before the one that fails
+   WRITE_TAKING maximum number of bytes that a write accepts
+   WRITE_ROOM   maximum number of bytes that all writes together accept
+   WRITE_FAILS  number of writes before the one that fails
+
+   Without a setting, a read returns all bytes and a write accepts all. For sockets, RECV_FAILS and SEND_FAILS are the numbers of calls
+   before the one that fails, and RECV_ENDS is the number of calls before the one that returns the end of input.
+   Each call on standard input and output is recorded on the descriptor DEVICES_TOLD, in one line: `read ROOM GIVEN` and `write BYTES TAKEN`,
+   with `failed` in place of the count if the call fails. */
 #include <errno.h>
 #include <stdio.h>
 #include <stdlib.h>
@@ -36,7 +44,7 @@ static void tell_bytes(const unsigned char *bytes, size_t size) {
     tell(" ", 1);
 }
 
-/* How many bytes the next read gives at most. */
+/* Returns the maximum number of bytes of the next read. */
 static long most(long room) {
     long by = set("READ_BY", ALL), first = 0, second = 0;
     const char *cuts = getenv("READ_CUTS");

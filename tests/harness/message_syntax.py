@@ -1,14 +1,16 @@
-"""Spells what rows write in words as hex digits.
+"""Converts the bytes and messages that rows have in words to hex digits.
 
-Bytes in a row are hex digits, and beside these, one behind the other in one word:
-    -                         no bytes, alone
-    ff+3*7879+00              parts with `+` between them; a count and `*` before what is repeated
+Bytes in a row are hex digits. In the same word, these forms can be used too:
+
+    -                         no bytes, alone in its word
+    ff+3*7879+00              parts with `+` between them; a count and `*` before a part repeat it
     'coap+tcp'                the bytes of a text
-    (GET /time observe 0)     a message in words, spelled as RFC 8323 section 3.2 and RFC 8974 section 2.1 have it
+    (GET /time observe 0)     a message in words, encoded as in RFC 8323 section 3.2 and RFC 8974 section 2.1
 
-A message in words is its code (`GET`, `CSM`, `2.05`), `token HEX`, its options, and behind ` | ` its payload. A path `/a/b` is two
-options Uri-Path, and `/` is none. An option is a name and, but for those that are always empty, its value: a number, a text between
-`'`, hex digits, `-` for none. `option 9 ff` has any number. Options are spelled in the order of their numbers.
+A message in words is its code (`GET`, `CSM`, `2.05`), `token HEX`, its options, and its payload after ` | `. A path `/a/b` is two options
+Uri-Path, and `/` is none. An option is a name, followed by its value unless the option is always empty. A value is a number, a text between
+two `'`, hex digits, or `-` for an empty value. `option 9 ff` is an option with any number. The options are encoded in the order of their
+numbers.
 """
 
 import re
@@ -18,26 +20,28 @@ CODES = {
     "CSM": 0xE1, "Ping": 0xE2, "Pong": 0xE3, "Release": 0xE4, "Abort": 0xE5,
 }
 
-# The options of requests and responses, and whether their values are numbers.
+# Number of each option of requests and responses, and whether its value is a number; None if it is always empty.
 OPTIONS = {
     "if-match": (1, False), "uri-host": (3, False), "etag": (4, False), "if-none-match": (5, None), "observe": (6, True),
     "uri-port": (7, True), "location-path": (8, False), "uri-path": (11, False), "content-format": (12, True), "max-age": (14, True),
     "uri-query": (15, False), "accept": (17, True), "location-query": (20, False), "proxy-uri": (35, False),
     "proxy-scheme": (39, False), "size1": (60, True),
-    # those of signalling messages
+    # The options of signalling messages.
     "max-message-size": (2, True), "custody": (2, None), "block-wise-transfer": (4, None), "alternative-address": (2, False),
     "hold-off": (4, True), "bad-csm-option": (2, True), "extended-token-length": (6, True),
 }
 
 
 def uint(number):
-    """The fewest bytes of a number (RFC 7252 section 3.2)."""
+    """Returns the shortest encoding of a number (RFC 7252 section 3.2)."""
     return number.to_bytes((number.bit_length() + 7) // 8, "big")
 
 
 def nibble(value):
-    """The nibble of a delta or a length in an option's first byte, or of a token's length, and its extension (RFC 7252 section 3.1, RFC
-    8974 section 2.1)."""
+    """Returns the nibble and the extension bytes of a number (RFC 7252 section 3.1, RFC 8974 section 2.1).
+
+    The number is an option delta, an option length or a token length.
+    """
     if value < 13:
         return value, b""
     if value < 269:
@@ -46,7 +50,7 @@ def nibble(value):
 
 
 def encoded(code, token, options, payload):
-    """The bytes of a message whose options are in order."""
+    """Returns the encoding of a message whose options are in order."""
     body, last = b"", 0
     for number, value in options:
         (delta, more), (length, further) = nibble(number - last), nibble(len(value))
@@ -67,7 +71,7 @@ def encoded(code, token, options, payload):
 
 
 def code_of(word):
-    """The byte of a code in words."""
+    """Returns the byte of a code in words."""
     if word in CODES:
         return CODES[word]
     class_, detail = word.split(".")
@@ -75,12 +79,12 @@ def code_of(word):
 
 
 def value_of(word, is_number):
-    """The bytes of an option's value."""
+    """Returns the bytes of an option value."""
     return uint(int(word)) if is_number and word.isdigit() else bytes_of(word)
 
 
 def parts_of(words):
-    """The token that words name, and the options in the order of their numbers."""
+    """Returns the token in these words, and the options in the order of their numbers."""
     token, options, words = b"", [], iter(words)
     for word in words:
         if word.startswith("/"):
@@ -97,19 +101,19 @@ def parts_of(words):
 
 
 def message_of(text):
-    """The bytes of a message in words."""
+    """Returns the encoding of a message in words."""
     head, _, payload = text.partition(" | ")
     words = re.findall(r"(?:'[^']*'|[^\s'])+", head)
     return encoded(code_of(words[0]), *parts_of(words[1:]), bytes_of(payload) if payload else b"")
 
 
 def bytes_of(word):
-    """The bytes that a word names."""
+    """Returns the bytes that a word names."""
     return bytes.fromhex("" if word == "-" else digits(word))
 
 
 def digits(word):
-    """The hex digits of a word of bytes."""
+    """Returns the hex digits for a word of bytes."""
     word = re.sub(r"\(([^()]*)\)", lambda message: message_of(message[1]).hex(), word)
     word = re.sub(r"'([^']*)'", lambda text: text[1].encode().hex(), word)
     parts = []
@@ -119,11 +123,11 @@ def digits(word):
     return "".join(parts)
 
 
-# A word of bytes that are not all written as hex digits.
+# Matches a word of bytes that is not only hex digits.
 WRITTEN = re.compile(r".*[('].*|[0-9a-f+]*\d+\*[0-9a-f+*]+|[0-9a-f]+(\+[0-9a-f]+)+")
 
 
 def spelled(text):
-    """A text in which every word of bytes is hex digits."""
+    """Returns the text with hex digits in place of every word of bytes."""
     words = re.findall(r"(?:\([^()]*\)|'[^']*'|[^\s'(])+", text)
     return " ".join(digits(word) if WRITTEN.fullmatch(word) else word for word in words)

@@ -1,6 +1,6 @@
-"""Reads CoAP messages over a reliable transport (RFC 8323 section 3.2, RFC 8974 section 2.1) and tells what they mean.
+"""Parses CoAP messages over a reliable transport (RFC 8323 section 3.2, RFC 8974 section 2.1) and describes them.
 
-It shares no line with the programs, so that what they write is read by somebody else.
+This module shares no code with the programs, so their output is read by an independent implementation.
 """
 
 CODES = {
@@ -21,7 +21,7 @@ SIGNAL_OPTIONS = {
 }
 
 
-# Numbers of options in requests and responses, and whether the value is a number (RFC 7252 section 5.10).
+# Name of each option of requests and responses, and whether its value is a number (RFC 7252 section 5.10).
 OPTIONS = {
     1: ("If-Match", False), 3: ("Uri-Host", False), 4: ("ETag", False), 5: ("If-None-Match", False),
     6: ("Observe", True), 7: ("Uri-Port", True), 8: ("Location-Path", False), 11: ("Uri-Path", False),
@@ -33,22 +33,22 @@ TEXTS = {"Uri-Host", "Location-Path", "Uri-Path", "Uri-Query", "Location-Query",
 
 
 class Malformed(Exception):
-    """The bytes spell no message."""
+    """The bytes are not the encoding of a message."""
 
 
-# The bytes that extend a nibble and what is added to their number, and the longest token that is taken (RFC 8974 section 2.1).
+# Number of extension bytes and offset of each nibble, and the maximum token length (RFC 8974 section 2.1).
 EXTENSIONS = {13: (1, 13), 14: (2, 269)}
 GREATEST_TOKEN = 64
 
 
 def token_at(nibble, behind):
-    """The length of a token, where behind the code stands `behind`."""
+    """Returns the length of a token. `behind` has the bytes after the code."""
     extension, least = EXTENSIONS.get(nibble, (0, nibble))
     return least + int.from_bytes(behind[:extension], "big")
 
 
 def length_of(stream):
-    """The size that the first bytes of `stream` declare, or None where bytes are missing."""
+    """Returns the message size that the first bytes of `stream` declare, or None if more bytes are needed."""
     if not stream:
         return None
     nibble, token_nibble = stream[0] >> 4, stream[0] & 15
@@ -67,7 +67,7 @@ def length_of(stream):
 
 
 def split(stream):
-    """The frames of a stream, and the bytes that are left."""
+    """Returns the frames of a stream, and the bytes that are left."""
     frames = []
     while True:
         size = length_of(stream)
@@ -90,7 +90,7 @@ def number_of(nibble, bytes_left):
 
 
 def parse(frame):
-    """Code, token, options (number, value) and payload of a frame."""
+    """Returns code, token, options (number, value) and payload of a frame."""
     nibble, token_nibble = frame[0] >> 4, frame[0] & 15
     at = 1 + {13: 1, 14: 2, 15: 4}.get(nibble, 0)
     code, at = frame[at], at + 1
@@ -113,7 +113,7 @@ def parse(frame):
 
 
 def tell_option(code, number, value):
-    """What one option means in a message with this code."""
+    """Returns a description of an option in a message with this code."""
     if code >> 5 == 7:
         name, is_number = SIGNAL_OPTIONS.get((code, number), "option %d" % number), number in (2, 6) and code == 0xE1
     else:
@@ -126,7 +126,7 @@ def tell_option(code, number, value):
 
 
 def tell(frame):
-    """One line of what a frame means."""
+    """Returns a description of a frame in one line."""
     code, token, options, payload = parse(frame)
     words = ["%d.%02d %s" % (code >> 5, code & 31, CODES.get(code, ""))]
     if token:

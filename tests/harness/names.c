@@ -1,5 +1,5 @@
-/* Names and addresses as a run sets them. NAMES are the IPv4 addresses, with spaces between them, that each name has; where it is not set, no
-   name is known. UNREACHABLE is an IPv4 address to which no way leads. */
+/* Host names and addresses that follow the settings of a run. NAMES has the IPv4 addresses of every name, separated by spaces. If it is not
+   set, no name is known. UNREACHABLE is an IPv4 address without a route. */
 #include <arpa/inet.h>
 #include <errno.h>
 #include <netdb.h>
@@ -10,7 +10,7 @@
 #include <sys/syscall.h>
 #include <unistd.h>
 
-/* One address of a list, in one piece of memory. */
+/* An address of a list and its socket address, in one allocation. */
 struct place {
     struct addrinfo info;
     struct sockaddr_in address;

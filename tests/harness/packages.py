@@ -1,11 +1,11 @@
-"""Installs programs of Debian's packages where they are missing."""
+"""Installs programs of Debian packages if they are missing."""
 
 import os
 import shutil
 import subprocess
 import sys
 
-# HAProxy is in a folder that not everybody's PATH has.
+# HAProxy is in a directory that is not in every user's PATH.
 os.environ["PATH"] += os.pathsep + "/usr/sbin"
 
 
@@ -17,14 +17,14 @@ def apt(words):
 
 
 def install(packages):
-    """Installs what is missing of these programs, each with its package, and tells whether all is there now."""
+    """Installs the missing programs, each from its package, and returns true if all exist afterwards."""
     missing = [package for program, package in packages.items() if not shutil.which(program)]
     if not missing:
         return True
     words = ["install", "--no-install-recommends"] + missing
     done = apt(words)
     if done.returncode:
-        # the lists of packages may be missing or old
+        # The package lists may be missing or old.
         apt(["update"])
         done = apt(words)
     if done.returncode:

@@ -1,4 +1,4 @@
-"""What the tests over sockets share: free ports, servers that they start, and how they read and end connections."""
+"""Helpers of the tests over sockets: free ports, servers, and functions that read from and end connections."""
 
 import contextlib
 import os
@@ -9,7 +9,7 @@ import struct
 import subprocess
 import time
 
-# Seconds for each wait.
+# Timeout of each wait, in seconds.
 LIMIT = 15
 
 LOCAL = "127.0.0.1"
@@ -20,18 +20,18 @@ def family_of(host):
 
 
 def authority(host, port):
-    """A host and a port as a URI has them."""
+    """Returns a host and a port in the form of a URI."""
     return ("[%s]:%d" if ":" in host else "%s:%d") % (host, port)
 
 
 def free_port(host=LOCAL):
-    """A port at which nobody listens."""
+    """Returns a port at which no program listens."""
     with socket.create_server((host, 0), family=family_of(host)) as it:
         return it.getsockname()[1]
 
 
 def line_of(stream):
-    """The next line that a program writes, or what came of it in time."""
+    """Returns the next line that a program writes. At a timeout or at the end, returns the bytes so far with a remark."""
     text = b""
     while not text.endswith(b"\n"):
         if not select.select([stream], [], [], LIMIT)[0]:
@@ -44,17 +44,20 @@ def line_of(stream):
 
 
 def processor_time(process):
-    """The seconds of processor time that a process has used."""
+    """Returns the processor time of a process, in seconds."""
     with open("/proc/%d/stat" % process.pid, encoding="ascii") as file:
         fields = file.read().rpartition(")")[2].split()
     return (int(fields[11]) + int(fields[12])) / os.sysconf("SC_CLK_TCK")
 
 
 class Server:
-    """A server that listens at an address of this machine until its block is left. It takes its address by -A and -p."""
+    """A server that listens at an address of this machine until its block ends. It must take its address from -A and -p."""
 
     def __init__(self, program, words=(), host=LOCAL, port=None, files=None, says=True, **how):
-        """Starts it, with a limit on its open files where one is told, and as `how` tells Popen. `said` is its first line, where it says one."""
+        """Starts the server, with a limit on its open files if `files` is set, and with `how` for Popen.
+
+        `said` is the first line that the server writes to standard error, or an empty text if not `says`.
+        """
         self.host, self.port = host, port or free_port(host)
         limit = (lambda: resource.setrlimit(resource.RLIMIT_NOFILE, (files, files))) if files else None
         self.process = subprocess.Popen([program, "-A", host, "-p", str(self.port), *words], stdin=subprocess.DEVNULL,
@@ -62,7 +65,7 @@ class Server:
         self.said = line_of(self.process.stderr).decode() if says else ""
 
     def accepts(self):
-        """Waits until it takes connections, where it says nothing of that, and tells whether it does."""
+        """Waits until the server accepts connections, and returns true if it does. For servers that print no line."""
         ends = time.monotonic() + LIMIT
         while time.monotonic() < ends and self.process.poll() is None:
             with contextlib.suppress(ConnectionRefusedError):
@@ -84,7 +87,7 @@ class Server:
         return self
 
     def __exit__(self, *_):
-        """Kills it, and tells where it had ended by itself."""
+        """Kills the server, and prints its status if it had already ended."""
         has_ended = self.process.poll() is not None
         self.process.kill()
         self.process.wait(LIMIT)
@@ -94,7 +97,7 @@ class Server:
 
 
 def read_bytes(peer, count):
-    """So many bytes of a connection, or as many as come in time and before its end."""
+    """Returns `count` bytes of a connection, or fewer at a timeout or at its end."""
     peer.settimeout(LIMIT)
     got = b""
     with contextlib.suppress(OSError):
@@ -104,7 +107,7 @@ def read_bytes(peer, count):
 
 
 def read_to_end(peer):
-    """All bytes of a connection, and how it ended."""
+    """Returns all bytes of a connection, and how it ended."""
     peer.settimeout(LIMIT)
     got = b""
     try:
@@ -116,11 +119,11 @@ def read_to_end(peer):
 
 
 def is_silent(peer, seconds=0.3):
-    """Whether nothing comes of a connection for a while."""
+    """Returns true if no bytes and no end arrive on a connection for this time."""
     return not select.select([peer], [], [], seconds)[0]
 
 
 def reset(peer):
-    """Closes a connection so that the other side gets a reset."""
+    """Closes a connection so that the other side receives a reset."""
     peer.setsockopt(socket.SOL_SOCKET, socket.SO_LINGER, struct.pack("ii", 1, 0))
     peer.close()

@@ -1,4 +1,4 @@
-"""Stands between a server and one client, and keeps every byte of both directions."""
+"""Forwards the bytes between one client and a server, and records both directions."""
 
 import contextlib
 import socket
@@ -9,7 +9,7 @@ from peers import LIMIT, authority, family_of
 
 
 class Relay:
-    """Listens for one client, and joins it with a connection of its own to the server."""
+    """Listens for one client, and connects it to the server."""
 
     def __init__(self, host, port):
         self.server = (host, port)
@@ -19,9 +19,9 @@ class Relay:
         self.thread = threading.Thread(target=self.take)
 
     def take(self):
-        """Joins the client with the server, until both have ended."""
+        """Forwards bytes between the client and the server until both have ended."""
         self.listener.settimeout(LIMIT)
-        # Where one of them did not come, the checks tell that nothing was said.
+        # If one of them is missing, the checks report that no message was sent.
         with contextlib.suppress(OSError):
             client, _ = self.listener.accept()
             with client, socket.create_connection(self.server, LIMIT) as server:
@@ -32,7 +32,7 @@ class Relay:
         return self
 
     def __exit__(self, *_):
-        # This ends the wait for a client that never came.
+        # Ends the wait for a client that never connected.
         with contextlib.suppress(OSError):
             self.listener.shutdown(socket.SHUT_RDWR)
         self.thread.join()

@@ -1,20 +1,22 @@
 #!/usr/bin/env python3
-"""Plays files of rows on the probes, two proved programs, and compares what these tell.
+"""Plays files of rows on the two probes, which are proved programs, and compares the results.
 
     tests/harness/rows.py [--by-rattle] [--refuse] [FILE..]
 
-A file is tests/vectors/rows/LAYER/NAME.rows. Its lines are rows `EVENT => WANTED`; `= OPENING` opens the value that the rows below it are
-about; `#` begins a comment. How the rows of a layer are spelled for the probe stands in tests/harness/layers/LAYER.py, and what its words mean;
-bytes may be written as text and as messages in words (tests/harness/message_syntax.py).
+A file is tests/vectors/rows/LAYER/NAME.rows. Its lines are rows `EVENT => WANTED`. A line `= OPENING` creates the value that the rows after it
+use. A line `#` is a comment. The module tests/harness/layers/LAYER.py describes the words of the rows of a layer, and converts them for the
+probe. Bytes may be written as text and as messages in words (tests/harness/message_syntax.py).
 
---by-rattle plays them on the programs as Rattle's own compiler made them. --refuse refuses each allocation of each file in turn: the row
-that was struck must tell `memory`, all that only asks must tell what it told before, and the row is made again, from where all goes
-as the file says; a refusal that no row tells must change nothing. A line `allocations: N` in the file is their number; where N is not a
-number, it says why they are not refused. (A line `cuts:` says why tests/vectors/segmentation.py does not cut the rows of a file of servers.) Over all files
-it counts the refusals of each call, which the table of docs/TESTING.md must tell.
+--by-rattle plays the rows on the programs as Rattle's own compiler made them.
 
-A contract cannot forbid a call to report without cause that memory was refused. So these files run each call that can
-report it, at each of its limits and with enough memory:
+--refuse makes each allocation of each file fail in turn. The row in which the allocation fails must report `memory`. All queries (`LOOKS` of
+the layer) must return the same results as before. The row is then repeated, and from there on all results must be as in the file. A failure
+that no row reports must change nothing. A line `allocations: N` in the file is the number of allocations. If N is not a number, it is the
+reason why the allocations are not made to fail. Over all files, the failures of each call are counted, and the table in docs/TESTING.md must
+have these counts. (A line `cuts:` is the reason why tests/vectors/segmentation.py does not split the input of a file of servers.)
+
+A contract cannot forbid that a call reports an allocation failure without cause. Therefore these files run each call that can
+report one, at each of its limits and with enough memory:
 
     takes_the_greatest.rows of frame, queue, link, store, serve and run
     serve/stores_the_greatest.rows, serve/maximum_limits.rows, stdio/serves_the_greatest.rows
@@ -23,7 +25,7 @@ report it, at each of its limits and with enough memory:
 The test `serves_as_many_connections_as_there_can_be` of coap_tests does the same for `serve_door`, and
 tests/system/alloc_failures.py for the programs.
 
-The last line is 'N passed, M failed' over the rows, or over the refused allocations, and the status 0 where M is 0.
+The last line is 'N passed, M failed', for the rows or for the failed allocations. The status is 0 if M is 0.
 """
 
 import importlib
@@ -41,10 +43,10 @@ HARNESS = pathlib.Path(__file__).resolve().parent
 ROOT = HARNESS.parent.parent
 ROWS = ROOT / "tests" / "vectors" / "rows"
 
-# How a row tells that memory was refused.
+# Matches a result that reports an allocation failure.
 MEMORY = re.compile(r"\bmemory\b", re.IGNORECASE)
 
-# Where the refusals of each call are told, behind which line, and what is said of those that no call tells.
+# File with the counts of failures of each call, the line before them, and the entry for failures that no call reports.
 TABLE = ROOT / "docs" / "TESTING.md"
 BEGINS = "| Call | Growths refused | What is left, until it is made again |"
 MADE_UP_FOR = ("none, since it was made up for", "what there is without a refusal")
@@ -52,7 +54,7 @@ MADE_UP_FOR = ("none, since it was made up for", "what there is without a refusa
 
 @dataclass
 class RowFile:
-    """A file of rows: its values, each an opening and the rows behind it, and what it says of its allocations and of cuts."""
+    """A file of rows: its values, each an opening and the rows after it, and its lines `allocations:` and `cuts:`."""
 
     path: pathlib.Path
     allocations: str = ""
@@ -70,7 +72,7 @@ class RowFile:
 
 
 def read(path):
-    """Reads a file of rows."""
+    """Returns the content of a file of rows."""
     file = RowFile(path)
     for line in path.read_text(encoding="utf-8").splitlines():
         if line.startswith("allocations: "):
@@ -85,14 +87,14 @@ def read(path):
 
 
 def probe_of(file, ending=""):
-    """The program that plays the rows of a file, as a compiler made it."""
+    """Returns the path of the probe that plays the rows of a file, for one compiler."""
     crate = file.layer().PROBE
     return f"{ROOT}/crates/{crate}/out/{crate}{ending}"
 
 
 @dataclass
 class Ran:
-    """A run of a probe: its lines, whether it came to its end, and whether an allocation was refused."""
+    """A run of a probe: its lines, whether it ended normally, and whether an allocation failed."""
 
     lines: list
     ended: bool
@@ -100,7 +102,7 @@ class Ran:
 
 
 def run(probe, events, shim="", number=0):
-    """Has the probe play these events, with the allocation of a number refused."""
+    """Runs the probe on these events. The allocation with this number fails, unless the number is 0."""
     environment = {**os.environ, "LD_PRELOAD": shim, "REFUSE_ALLOCATION": str(number)} if number else None
     sent = "".join(event + "\n" for event in events).encode()
     ran = subprocess.run([probe], input=sent, env=environment, capture_output=True, timeout=600)
@@ -108,7 +110,7 @@ def run(probe, events, shim="", number=0):
 
 
 def differences(found, steps):
-    """What is not as wanted, one text for each row."""
+    """Returns a text for each row whose result is not the expected one."""
     wrong = []
     for line, step in zip(found, steps):
         try:
@@ -121,23 +123,23 @@ def differences(found, steps):
 
 
 def play(file, ending):
-    """Plays a file, and returns how many rows it has and what is wrong."""
+    """Plays a file, and returns the number of its rows and the differences."""
     steps = file.steps()
     return len(steps), differences(run(probe_of(file, ending), [step.event for step in steps]).lines, steps)
 
 
 def looks_of(file):
-    """The words of a layer's events that only ask."""
+    """Returns the first words of the events of a layer that are queries."""
     return getattr(file.layer(), "LOOKS", ())
 
 
 def again_of(file):
-    """What a layer makes again of an event that was refused memory; the event itself where it says nothing."""
+    """Returns the function of a layer that gives the event to repeat after a failure. By default that is the whole event."""
     return getattr(file.layer(), "again", lambda probe, events, index, found: events[index])
 
 
 def struck_again(file, probe, steps, found, index, shim, number):
-    """What is made again of the event that was refused memory, and what is wrong once it was."""
+    """Repeats the event in which an allocation failed. Returns the repeated event and the differences."""
     events = [step.event for step in steps]
     opening = max(at for at, event in enumerate(events[: index + 1]) if event.startswith("= "))
     asking = dict.fromkeys(it for it in events[opening:] if it.split(" ")[0] in looks_of(file))
@@ -150,7 +152,7 @@ def struck_again(file, probe, steps, found, index, shim, number):
     behind = index + 1 + len(between)
     after, rest = lines[index + 1 : index + 1 + len(looks)], lines[:index] + lines[behind:]
     if again != events[index]:
-        # what is made again is a part of the event, so that its line tells less, and what is kept is not as before
+        # Only a part of the event is repeated. Its line has less, and the bytes kept differ.
         rest[index], before, after = found[index], [], []
         steps = steps[:index] + [type(steps[index])(again, found[index].strip())] + steps[index + 1 :]
     wrong = [] if after == before else [f"{events[index][:120]}: {before} became {after}"]
@@ -161,11 +163,11 @@ def struck_again(file, probe, steps, found, index, shim, number):
 
 
 def refuse_each(file, shim):
-    """Refuses each allocation of a file's rows in turn, and returns their number, what is wrong, and how many each call was refused."""
+    """Makes each allocation of the rows of a file fail in turn. Returns their number, the differences, and the count for each call."""
     probe, steps, wrong, count, calls = probe_of(file), file.steps(), [], 0, Counter()
     events = [step.event for step in steps]
     usual = run(probe, events).lines
-    # the first ones are the probe's own room, which is had before the first row
+    # The first allocations are those of the probe itself, before the first row.
     first = next(it for it in range(1, 100) if run(probe, [], shim, it).ended)
     while True:
         ran = run(probe, events, shim, first + count)
@@ -177,27 +179,27 @@ def refuse_each(file, shim):
         else:
             again, found = struck_again(file, probe, steps, ran.lines, index, shim, first + count)
             calls[file.layer().refused(events[index], ran.lines[index], again)] += 1
-            told = [] if MEMORY.search(ran.lines[index]) else [f"{events[index][:120]}: no memory is told: {ran.lines[index][:120]}"]
+            told = [] if MEMORY.search(ran.lines[index]) else [f"{events[index][:120]}: the failure is not reported: {ran.lines[index][:120]}"]
             wrong += [f"allocation {count + 1}: {text}" for text in told + found]
         count += 1
 
 
 def refuse(file, shim):
-    """Refuses each allocation of a file, whose number must be the one that the file says."""
+    """Makes each allocation of a file fail, and checks their number against the line `allocations:`."""
     if not file.allocations.isdigit():
-        return 0, [] if file.allocations else ["it does not say how many allocations it makes"], Counter()
+        return 0, [] if file.allocations else ["the line `allocations:` is missing"], Counter()
     count, wrong, calls = refuse_each(file, shim)
     if count != int(file.allocations):
-        wrong.append(f"it makes {count} allocations, and says {file.allocations}")
+        wrong.append(f"{count} allocations, but `allocations: {file.allocations}`")
     return count, wrong, calls
 
 
 def untold(calls, is_program=False):
-    """What the table does not tell of the refusals of each call, or tells besides: of those in the programs, or of all others."""
+    """Returns the differences between the counts and the table: for calls in the programs if `is_program`, otherwise for all others."""
     _, _, behind = TABLE.read_text(encoding="utf-8").partition(BEGINS + "\n")
     told = [it for it in behind.split("\n\n")[0].splitlines()[1:] if (", in `coap-" in it) == is_program]
     wanted = [f"| {call} | {count} | {left} |" for (call, left), count in sorted(calls.items())]
-    lines = [f"there is no line {it}" for it in wanted if it not in told] + [f"nobody tells {it}" for it in told if it not in wanted]
+    lines = [f"missing line {it}" for it in wanted if it not in told] + [f"unexpected line {it}" for it in told if it not in wanted]
     return [f"{TABLE.name}: {it}" for it in lines]
 
 

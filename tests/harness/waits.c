@@ -1,9 +1,13 @@
-/* Waits as a run sets them. WAIT_AT_MOST: a wait for events takes so many milliseconds at most. If it was to last longer and nothing came, the
-   clocks of the program are put forward by the rest: so a wait of hours ends at once, and the program finds that hours have passed.
-   SENDS_WITHOUT_ROOM: so many calls of send find no room at first.
-   WAITS_TOLD: a descriptor to which each call is written as a line, `MILLISECONDS CALL RESULT`: the time since the program began, by its own
-   clock, and the calls `wait`, `send` and `accept`, of which one that fails has its error's number as a negative result, and `nodelay`, which
-   sets TCP_NODELAY to that. */
+/* Waits that follow the settings of a run:
+
+   WAIT_AT_MOST       maximum duration of a wait for events, in milliseconds. If the program asked for a longer wait and no event came, the
+                      clocks of the program are advanced by the rest. A wait of hours then ends at once, and the program finds that hours have
+                      passed.
+   SENDS_WITHOUT_ROOM number of calls of send, from the first, that fail with EAGAIN
+   WAITS_TOLD         descriptor to which each call is written as a line, `MILLISECONDS CALL RESULT`
+
+   The milliseconds are the time since the program began, by its own clock. The calls are `wait`, `send`, `accept` and `nodelay`. If a call fails,
+   the result is the negative error number. The result of `nodelay` is the value to which the program set TCP_NODELAY. */
 #define _GNU_SOURCE
 #include <errno.h>
 #include <netinet/in.h>
@@ -19,7 +23,7 @@
 #define MILLION 1000000L
 #define BILLION 1000000000L
 
-/* How many nanoseconds the clocks are put forward, when the program began, and how many calls of send there were. */
+/* Nanoseconds by which the clocks are advanced, start time of the program, and number of calls of send. */
 static long ahead, begun, sendings;
 
 static long set(const char *name) {

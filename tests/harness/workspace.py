@@ -1,6 +1,7 @@
-"""Rooms: copies of the repository in which one crate is checked while others are checked beside it, since only one `rt` works in a crate
-and in those below it at a time. A room has the sources of every crate, what the libraries below the crate were built to, and what the
-crate's last proof kept.
+"""Copies of the repository ("rooms"), in each of which one crate is checked, so that several crates are checked in parallel.
+
+Only one `rt` can work in a crate and in the crates below it at a time. A room has the sources of every crate, the compiled libraries below
+its crate, and the data kept by the last proof of its crate.
 """
 
 import os
@@ -9,12 +10,12 @@ import shutil
 ROOT = os.path.dirname(os.path.dirname(os.path.dirname(os.path.abspath(__file__))))
 
 
-# What a crate is made of.
+# Directories of a crate.
 PARTS = ("src", "specs", "proofs")
 
 
 def listed():
-    """The crates of the repository with the libraries that each uses."""
+    """Returns the crates of the repository, with the libraries that each uses."""
     found = {}
     with open(f"{ROOT}/crates.txt", encoding="utf-8") as lines:
         for line in lines:
@@ -25,7 +26,7 @@ def listed():
 
 
 def crates():
-    """The crates of the repository with those below each, lowest first."""
+    """Returns the crates of the repository, with all crates below each, lowest first."""
     found, below = listed(), {}
     for name, uses in found.items():
         own = [it for it in uses if it in found]
@@ -38,7 +39,7 @@ def is_program(crate):
 
 
 def linked(source, target):
-    """Copies a file that nobody writes to."""
+    """Links or copies a file to which nothing is written."""
     try:
         os.link(source, target)
     except OSError:
@@ -46,11 +47,11 @@ def linked(source, target):
 
 
 def furnish(room, name, below, kept=True):
-    """Fills a room for a crate. What its last proof kept comes along where it is there and wanted."""
+    """Fills a room for a crate. If `kept`, the data of the last proof of the crate is copied too, if it exists."""
     os.makedirs(f"{room}/.git", exist_ok=True)
     shutil.copy(f"{ROOT}/crates.txt", room)
     for crate in crates():
-        # rt reads the list of crates, and so wants the folder of each
+        # rt reads the list of crates, and needs the directory of each.
         os.makedirs(f"{room}/crates/{crate}", exist_ok=True)
         for part in PARTS:
             if os.path.isdir(f"{ROOT}/crates/{crate}/{part}"):

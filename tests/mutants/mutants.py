@@ -1,58 +1,63 @@
 #!/usr/bin/env python3
-"""Tries wrong bodies, many in a check: the prover must refuse each.
+"""Tries mutants of the code, several in one check: the prover must reject each.
 
-    tests/mutants/mutants.py               the edits of the gate, and that it tells a harmless edit from a wrong body (the control)
+    tests/mutants/mutants.py               the edits of the gate, and the control, which has harmless edits too
     tests/mutants/mutants.py --all         all edits, and the control
     tests/mutants/mutants.py [--all] CRATE ..  those of these crates
     tests/mutants/mutants.py --control     the control alone
-    tests/mutants/mutants.py --rows [CRATE ..]  those alone that rows tell
-    tests/mutants/mutants.py --tests [CRATE ..]  those alone that tests of the programs tell
-    tests/mutants/mutants.py --types [CRATE ..]  tries nothing: whether all edits are well typed
-    tests/mutants/mutants.py --list [CRATE ..]  tries nothing: a line for each edit, with the function and the clause that refuse it, and its name
+    tests/mutants/mutants.py --rows [CRATE ..]  those alone that rows detect
+    tests/mutants/mutants.py --tests [CRATE ..]  those alone that tests of the programs detect
+    tests/mutants/mutants.py --types [CRATE ..]  tries no edit; checks that all edits are well typed
+    tests/mutants/mutants.py --list [CRATE ..]  tries no edit; prints for each its function, the clause that rejects it, and its name
 
-An edit is a file tests/mutants/edits/CRATE/NAME.edit. Its first line says which clause refuses it and whether the gate tries it. Each of
-its parts has four lines:
+An edit is a file tests/mutants/edits/CRATE/NAME.edit. Its first line has the clause that rejects it, and whether the gate tries it. Each of its
+parts has four lines:
 
-    gate: refused by 'after' of Link::on      or `all: refused by ..`, where the gate does not try it; or
-    rows: told by tests/vectors/rows/script/a_mebibyte.rows     where no clause refuses it, since it only tells refused memory
-    server: told by tests/system/sockets.py files     or `client: ..`, if no clause can refuse it: the program that is built with it, and the test
+    gate: refused by 'after' of Link::on      or `all: refused by ..`, if the gate does not try it; or
+    rows: told by tests/vectors/rows/script/a_mebibyte.rows     if no clause rejects it, because the edit only reports allocation failures
+    server: told by tests/system/sockets.py files     or `client: ..`, if no clause can reject it: the program that has it, and the test
     file: src/limits.rt          a file of the crate
     in: Limits::queue            a function of that file, as a check names it without crate and module (the impl of a trait
                                  for a type is both names in one, as SliceSinkSink::push), or `const NAME`
-    old: self.queue              a text that stands once in the function's body, or in the constant
-    new: self.max_sent           what stands there in the wrong body
+    old: self.queue              a text that is exactly once in the function's body, or in the constant
+    new: self.max_sent           the text in its place
 
-Whatever is tried, the first line of every edit must quote a clause that the function has which it names (tests/mutants/quotes.py has the forms), and
-the function must be one that the edit changes, or one that names a constant that it changes. And every edit must be well typed: all edits
-of a crate are put into a few copies of it, each with one type error of this script's own, so that the compiler tells all type errors and
-proves nothing.
+In every mode, two checks are made of all edits. First, the first line must quote a clause of the function that it names (tests/mutants/quotes.py
+has the forms). That function must be one that the edit changes, or one that names a constant that the edit changes. Second, every edit must be
+well typed. For this check, all edits of a crate are put into a few copies of the crate. Each copy also gets one type error, so that the compiler
+reports all type errors and proves nothing.
 
-An edit of the layer `rows` is told where a row of the file that it names comes to something else, once the probe that plays it is built with
-the wrong body, unproved (`rt try`). --all tries these too, each in a build of its own; --rows tries them alone.
-An edit of the layer `server` or `client` is told if the test that it names fails with that program built with the wrong body, unproved, and
-passes with the program built alike without it (tests/mutants/unproved.py). --all tries these too, in one to three minutes each; --tests tries them
+An edit of the layer `rows` is detected if a row of the file that it names has another result. The probe is built unproved with the edit
+(`rt try`). --all tries these too, each in its own build; --rows tries them alone.
+
+An edit of the layer `server` or `client` is detected if its test fails with that program built unproved with the edit. The test must pass with the
+program built in the same way without the edit (tests/mutants/unproved.py). --all tries these too, in one to three minutes each; --tests tries them
 alone.
 
-Edits of different functions go into one copy of the crate, a round, which is checked once over what earlier checks proved: what
-the crate's own check keeps in out/incremental, or, where there is none, a folder of this run, in which the crate's first round
-is proved from nothing, and the second one behind it. So a crate is proved once here, with the wrong bodies in it.
-An edit is refused if a goal of a function that it edits stays open, which is then named. That the function calls one that is not proved
-does not count. Nor does an error in a file of its proof that stands in no answer to a goal, or that only says that a name is gone, of the
-code or of a lemma, since that tells nothing of the contract: such an edit is told as NOT REFUSED. Where a function that nobody edited has an open goal of
-its own, the round is cut in two. An edit that no round refused is tried alone, and so is one of a constant, for which any
-function's goal and any lemma counts. Rounds run side by side, one for each processor, those of the largest crates first.
-The libraries below a crate are taken from out/rlib, and proved where they are not there or older than their files.
-The last line is 'N passed, M failed', and the status 0 where M is 0.
+Edits of different functions go into one copy of the crate, called a round. A round is checked once, on top of the incremental data of earlier
+checks. These are the data of the crate's own check in out/incremental. If there are none, a folder of this run is used. The first round of the
+crate fills it from scratch, and the second one completes it. So a crate is proved once by this script, with edits in it.
 
-Costs, in processor time. A round takes some 15 s before its first edit. Each edit adds 3 to 4 s, one of a long function (`fill`) 20 s. Over kept
-work the 26 edits of coap_wire took 117 s, and one alone 19 to 34 s. So the edits of the gate should change different functions: most crates
-then need one or two rounds. All edits of both layers took 51 rounds, those of the gate 17. The gate's took 4,592 s without kept work of
-coap_serve, which then was one crate with its engine, on a machine on which the proof of coap_wire takes 253 s. Those of coap_frame took 70 s,
-and 73 s from nothing. A build for an edit of another layer takes some two minutes. The check of all quotes takes some 2 s, a copy of a crate for
-the type errors some 4 s.
+An edit is rejected if a goal of a function that it changes is not proved; this goal is printed. Two kinds of errors do not count:
 
-`rt try` keeps 1 MiB of output: what the rows of an edit write must stay below that with the wrong body. A program that it builds is slow: a test
-that measures processor time may fail with it, and then shows nothing of the edit.
+- The function calls another one that is not proved.
+- An error in a proof file is outside of the answers to goals, or only reports that a name is missing. Such an error says
+  nothing about the contract, so the edit is reported as NOT REFUSED.
+
+If a function that no edit of a round changes has an unproved goal of its own, the round is split in two. An edit that no round rejected is tried
+alone. So is an edit of a constant, for which a goal of any function counts, and any lemma. Rounds run in parallel, one for each processor, those
+of the largest crates first. The libraries below a crate are taken from out/rlib, and proved if they are missing or older than their files.
+The last line is 'N passed, M failed', and the status is 0 if M is 0.
+
+Costs, in processor time: a round takes about 15 s before its first edit. Each edit adds 3 to 4 s, and one of a long function (`fill`) 20 s. With
+incremental data, the 26 edits of coap_wire took 117 s, and one alone 19 to 34 s. The edits of the gate should therefore change different functions:
+most crates then need one or two rounds. All edits of both layers took 51 rounds, those of the gate 17. The gate's took 4,592 s without incremental
+data of coap_serve, which was then one crate with its engine. On that machine the proof of coap_wire takes 253 s. The edits of coap_frame took 70 s,
+and 73 s from scratch. A build for an edit of another layer takes about two minutes. The check of all quotes takes about 2 s, and a copy of a crate
+for the type errors about 4 s.
+
+`rt try` keeps 1 MiB of output, so the output of the rows of an edit must stay below that with the edit. A program that `rt try` builds is slow. A
+test that measures processor time may fail for that reason, and then says nothing about the edit.
 """
 
 import os
@@ -73,32 +78,32 @@ from workspace import PARTS, ROOT, crates, furnish, is_program, listed  # noqa: 
 from unproved import Unproved  # noqa: E402
 
 KIT = os.path.dirname(os.path.dirname(os.path.realpath(shutil.which("rt") or "/opt/rattle/bin/rt")))
-# How many rounds of a crate without kept work run in turn over its folder: behind two, nearly every function was once proved.
+# Number of rounds of a crate without incremental data that run in turn on its folder. After two, nearly every function was proved once.
 IN_TURN = 2
 FUNCTION = re.compile(r"( *)(?:pub(?:\([a-z ]+\))? )?(?:const )?fn (\w+)")
 BLOCK = re.compile(r"(?:pub(?:\([a-z]+\))? )?(?:impl\b *(.*?)|trait (\w+).*?) ?\{?$")
-# The layers of the edits that tests of a program tell.
+# The layers of the edits that tests of a program detect.
 PROGRAMS = ("server", "client")
 VERDICT = re.compile(r"fn (\w+)::(.*?): (no proof|not proved)(.*)")
-# What is said of a file of a proof where it names something that is not there, and where it cites what was refused for that.
+# Matches an error in a proof file that names a missing thing, or cites a thing that was rejected for that reason.
 GONE = re.compile(r"has no field|is not in scope|has no `|was not admitted")
-# Where an error stands in the proofs of a crate, and what is stated there: an answer to a goal, or a lemma.
+# The place of an error in the proofs of a crate, and the statement at that place: an answer to a goal, or a lemma.
 PLACE = re.compile(r"\./(proofs/[^:]+\.antt):(\d+)\b.*: error: ")
 STATED = re.compile(r"(?:pub |abbrev |unfoldable )*(\S+) : (?:goal\.(\S+))?")
 
 
 class BadEdit(Exception):
-    """Why an edit cannot be tried."""
+    """An edit cannot be tried; the text has the reason."""
 
 
 def words_of(text, parameters):
-    """The name that a check gives a type or a trait: its words, but for those in parameters and lifetimes."""
+    """Returns the name that a check gives a type or a trait: its words, without those of parameters and lifetimes."""
     words = re.findall(r"\w+", re.sub(r"'\w+", "", text))
     return "".join(it[0].upper() + it[1:] for it in words if it not in parameters)
 
 
 def split_parameters(text):
-    """The parameters that stand in brackets at the beginning of a text, and what is behind them."""
+    """Returns the parameters in angle brackets at the beginning of a text, and the text after them."""
     if not text.startswith("<"):
         return "", text
     depth = 0
@@ -110,14 +115,14 @@ def split_parameters(text):
 
 
 def names_of(parameters):
-    """The names of parameters, without their bounds."""
+    """Returns the names of parameters, without their bounds."""
     while (bare := re.sub(r"<[^<>]*>|\([^()]*\)", "", parameters)) != parameters:
         parameters = bare
     return [re.sub(r"^const ", "", it.partition(":")[0].strip()) for it in parameters.split(",")]
 
 
 def block_name(line):
-    """The name under which a check names the functions of this impl or trait."""
+    """Returns the name under which a check names the functions of this impl or trait."""
     head = BLOCK.match(line)
     if not head:
         raise BadEdit(f"not understood: {line}")
@@ -129,7 +134,7 @@ def block_name(line):
 
 
 def body_of(text, name):
-    """Where the body of a function begins and ends in the text of its file, as `rt fmt` lays it out."""
+    """Returns the offsets of the beginning and the end of the body of a function, in a text formatted by `rt fmt`."""
     if name.startswith("const "):
         begin = text.index(f"{name}:")
         return begin, text.index(";", begin)
@@ -158,8 +163,11 @@ def body_of(text, name):
 
 
 def told(path):
-    """The name of a function that tells it from the others of its crate: of a type's its own and the type's, which a check
-    names by the type's module and not by its impl's; of another its path; of a closure that of its function."""
+    """Returns the name of a function that is unique in its crate.
+
+    For a function of a type, this is the name of the type and its own name. (A check names it by the module of the type, not by that of the
+    impl.) For another function it is its path, and for a closure that of the function around it.
+    """
     path = [it for it in path if it]
     if "fn" in path:
         inside = path.index("fn")
@@ -178,7 +186,7 @@ class Part:
     new: str
 
     def path(self):
-        """The function as told() names it."""
+        """Returns the function in the form of `told`."""
         module = re.sub(r"^src/|/?(lib|main|mod)?\.rt$", "", self.file).replace("/", "::")
         return told([*module.split("::"), *self.function.split("::")])
 
@@ -186,13 +194,13 @@ class Part:
         begin, end = body_of(text, self.function)
         body = text[begin:end]
         if body.count(self.old) != 1:
-            raise BadEdit(f"the old text stands {body.count(self.old)} times in {self.function}: {self.old}")
+            raise BadEdit(f"the old text occurs {body.count(self.old)} times in {self.function}: {self.old}")
         return text[:begin] + body.replace(self.old, self.new) + text[end:]
 
 
 @dataclass
 class Edit:
-    """A wrong body, as a file of edits says it."""
+    """A mutant, as its edit file describes it."""
 
     crate: str
     name: str
@@ -201,7 +209,7 @@ class Edit:
     parts: list = field(default_factory=list)
 
     def row(self):
-        """The function whose clause refuses it, that clause, and the edit. Where no one function does, the first that is edited."""
+        """Returns the function whose clause rejects the edit, that clause, and the edit. Without one such function, the first one edited."""
         clause, _, function = self.refusal.rpartition(" of ")
         if not clause or " " in function:
             clause, function = self.refusal, self.parts[0].function
@@ -214,7 +222,7 @@ class Edit:
         return any(it.function.startswith("const ") for it in self.parts)
 
     def applied(self, texts):
-        """The texts of the crate's files with this edit. Files that are not in texts are read."""
+        """Returns the texts of the files of the crate with this edit. Files that are not in `texts` are read."""
         texts = dict(texts)
         for part in self.parts:
             if part.file not in texts:
@@ -238,14 +246,14 @@ def read_edit(crate, file):
             if word == "new":
                 edit.parts.append(Part(said["file"], said["in"], said["old"], said["new"]))
     if not edit.layer:
-        raise BadEdit(f"{file}: its first line does not say which clause refuses it")
+        raise BadEdit(f"{file}: its first line has no clause that refuses it")
     if not edit.parts:
         raise BadEdit(f"{file}: nothing is edited")
     return edit
 
 
 def wrong_quote(edit):
-    """What is wrong with the clause that an edit's first line quotes, or nothing."""
+    """Returns the error in the clause that the first line of an edit quotes, or an empty text."""
     said, files = quotes.Quotes(edit.crate, block_name), {it.file for it in edit.parts}
     if wrong := said.why_not(edit.refusal, files):
         return wrong
@@ -264,7 +272,7 @@ def wrong_quote(edit):
 
 
 def tell_wrong_quotes(edits):
-    """Tells of each edit that quotes no clause of what it changes, and returns how many there are."""
+    """Prints each edit whose quote is no clause of what it changes, and returns their number."""
     wrong = {f"{it.crate}/{it.name}": wrong_quote(it) for it in edits if it.layer in ("gate", "all")}
     for name, why in wrong.items():
         if why:
@@ -273,7 +281,7 @@ def tell_wrong_quotes(edits):
 
 
 def edits_of(folder, names, layers):
-    """The edits of these layers in a folder with one folder for each crate."""
+    """Returns the edits of these layers in a folder with one folder for each crate."""
     found = []
     for crate in names:
         if os.path.isdir(f"{folder}/{crate}"):
@@ -283,7 +291,7 @@ def edits_of(folder, names, layers):
 
 
 def rounds_of(edits):
-    """Shares the edits of one crate out: no two of a round edit one function."""
+    """Groups the edits of one crate into rounds in which no two edits change one function."""
     rounds = []
     for edit in edits:
         for one in rounds:
@@ -296,7 +304,7 @@ def rounds_of(edits):
 
 
 def words_to_check(name):
-    """The words of a check of the crate over the libraries in out/rlib."""
+    """Returns the command line of a check of the crate with the libraries in out/rlib."""
     uses, below = listed()[name], crates()[name]
     words = [f"{KIT}/bin/rattle", "check", "--crate-name", name, "src/main.rt" if is_program(name) else "src/lib.rt"]
     for it in ["std", *uses]:
@@ -308,7 +316,7 @@ def words_to_check(name):
 
 
 def check(name, kept, edits):
-    """The lines of a check of the crate with these edits, over what is kept in that folder."""
+    """Returns the lines of a check of the crate with these edits, on top of the incremental data in that folder."""
     texts = {}
     for edit in edits:
         texts = edit.applied(texts)
@@ -316,7 +324,7 @@ def check(name, kept, edits):
 
 
 def check_texts(name, texts, more):
-    """The lines of a check of the crate with these texts in place of its own files."""
+    """Returns the lines of a check of the crate with these texts in place of its own files."""
     with tempfile.TemporaryDirectory(prefix="edits-", ignore_cleanup_errors=True) as room:
         for part in PARTS:
             if os.path.isdir(f"{ROOT}/crates/{name}/{part}"):
@@ -330,7 +338,7 @@ def check_texts(name, texts, more):
 
 
 def typed_rounds(edits):
-    """Shares the edits of one crate out so that no two of a round change one function or constant."""
+    """Groups the edits of one crate so that no two of a group change one function or constant."""
     rounds = []
     for edit in edits:
         one = next((it for it in rounds if not any(other.functions() & edit.functions() for other in it)), None)
@@ -342,7 +350,7 @@ def typed_rounds(edits):
 
 
 def type_errors(name, edits):
-    """The compiler's errors in a crate with these edits, but for the one that is put in so that nothing is proved."""
+    """Returns the compiler's errors in a crate with these edits, without the one that is added so that nothing is proved."""
     texts = {}
     for edit in edits:
         texts = edit.applied(texts)
@@ -355,11 +363,11 @@ def type_errors(name, edits):
     lines = check_texts(name, texts, [])
     errors = [it for it in lines if re.match(r"src/\S+: error", it)]
     others = [it for it in errors if not it.startswith(own)]
-    return others if others or errors else [f"the compiler does not tell the error that was put in: {lines[-1:]}"]
+    return others if others or errors else [f"the compiler does not report the added error: {lines[-1:]}"]
 
 
 def wrong_types(name, edits):
-    """The edits of a round that are not well typed, each with the first error."""
+    """Returns the edits of a round that are not well typed, each with its first error."""
     try:
         errors = type_errors(name, edits)
     except (BadEdit, ValueError, OSError) as why:
@@ -373,7 +381,7 @@ def wrong_types(name, edits):
 
 
 def tell_wrong_types(edits):
-    """Tells of each edit that is not well typed, and returns how many there are."""
+    """Prints each edit that is not well typed, and returns their number."""
     names = dict.fromkeys(it.crate for it in edits)
     with ThreadPoolExecutor(len(os.sched_getaffinity(0))) as pool:
         found = [pool.submit(wrong_types, name, one) for name in names for one in typed_rounds([it for it in edits if it.crate == name])]
@@ -384,13 +392,13 @@ def tell_wrong_types(edits):
 
 
 def is_real(line):
-    """Whether this tells of an error, and of none that is there only since something that it names is gone or was refused itself."""
+    """Returns true if the line is an error that is not merely caused by a missing or rejected name."""
     return ": error: " in line and not GONE.search(line)
 
 
 def goal_at(name, line):
-    """The goal whose answer, or else the lemma whose proof, an error of a crate's proofs stands in; nothing where it stands in neither, as in
-    a line that imports what is not there."""
+    """Returns the goal whose answer has an error of a crate's proofs, or the lemma whose proof has it. Returns an empty text for an error
+    elsewhere, such as in an import of a missing name."""
     at = PLACE.match(line)
     if not at:
         return ""
@@ -403,8 +411,8 @@ def goal_at(name, line):
 
 
 def open_functions(name, lines):
-    """The functions that have an open goal of their own, each with the goals that are named, and those of which only a file of the proof
-    names what is not there. A goal of a closure is its function's."""
+    """Returns the functions that have an unproved goal of their own, each with the goals that are named. Also returns those whose only error
+    is a missing name in a proof file. A goal of a closure counts for the function around it."""
     goals, cites = {}, set()
     for line in lines:
         at = VERDICT.match(line)
@@ -422,15 +430,15 @@ def open_functions(name, lines):
 
 
 def all_functions(lines):
-    """The functions that the check speaks of."""
+    """Returns the functions that the check names."""
     found = (re.match(r"fn \w+::(.*?): ", it) for it in lines)
     return {told(it[1].split("::")) for it in found if it}
 
 
 @dataclass
 class Outcome:
-    """What a round showed: the edits that it refused, those that are left to be tried, why an edit cannot be tried, the edits of which
-    only a proof's names are gone, and the goals that are open of each function."""
+    """Result of a round: the edits that it rejected, those still to be tried, and the reason why an edit cannot be tried. `cited` has the
+    edits for which only a name of a proof is missing, and `goals` the unproved goals of each function."""
 
     refused: list
     left: list
@@ -439,13 +447,13 @@ class Outcome:
     goals: dict = field(default_factory=dict)
 
     def goal(self, edit):
-        """A goal that refuses an edit, in words."""
+        """Returns a text with a goal that rejects an edit."""
         named = [goal for it in sorted(edit.functions()) for goal in self.goals.get(it, [])]
         return f"by the goal {named[0]}, " if named else ""
 
 
 def try_round(name, kept, is_own, edits):
-    """Checks a round over a folder of what is kept, or, where it is not the round's own, over a copy of it."""
+    """Checks a round on top of a folder of incremental data. If the folder is not the round's own, a copy of it is used."""
     try:
         if is_own:
             lines = check(name, kept, edits)
@@ -453,7 +461,7 @@ def try_round(name, kept, is_own, edits):
             with tempfile.TemporaryDirectory(prefix="edits-", ignore_cleanup_errors=True) as room:
                 lines = check(name, shutil.copytree(kept, f"{room}/kept"), edits)
     except (BadEdit, OSError, shutil.Error) as why:
-        # what the machine refused may be had by a smaller round
+        # A smaller round may need fewer resources.
         return Outcome([], edits, str(why) or repr(why))
     judged = any(it.startswith(("logic=not-proved", "logic=proved")) for it in lines)
     if not judged:
@@ -463,7 +471,7 @@ def try_round(name, kept, is_own, edits):
     if strange:
         return Outcome([], edits, f"the check names no function {strange[0]}")
     if edits[0].is_constant():
-        # what a constant is may be said by a lemma of its own
+        # The value of a constant may be stated by a lemma of its own.
         named = [goal for it in goals.values() for goal in it] or [goal for it in filter(is_real, lines) if (goal := goal_at(name, it))]
         return Outcome(edits, [], goals={it: named for it in edits[0].functions()}) if named else Outcome([], edits)
     if (goals.keys() | cites) - {it for edit in edits for it in edit.functions()}:
@@ -480,12 +488,12 @@ def tell(edit, refused, how):
 
 @dataclass
 class Work:
-    """What is left to be tried of a crate, and over what."""
+    """The rounds of a crate that are still to be tried, and the incremental data for them."""
 
     crate: str
     kept: str
     rounds: list
-    # how many more rounds run in turn over the folder itself
+    # Number of further rounds that run in turn on the folder itself.
     in_turn: int
     is_busy: bool = False
 
@@ -494,7 +502,7 @@ class Work:
 
 
 def work_on(crate, edits, room):
-    """A crate's rounds, over what its own check kept or over a new folder."""
+    """Returns the rounds of a crate, on top of the incremental data of its own check or of a new folder."""
     kept = f"{ROOT}/crates/{crate}/out/incremental"
     if os.path.isdir(kept) and os.listdir(kept):
         return Work(crate, kept, rounds_of(edits), 0)
@@ -503,12 +511,12 @@ def work_on(crate, edits, room):
 
 
 def size_of(crate):
-    """How many bytes its files have, by which the dearest crate is told."""
+    """Returns the number of bytes of the files of a crate, which is used to find the most expensive crate."""
     return sum(os.path.getsize(it) for it in files_of(crate))
 
 
 def left_of(one, outcome):
-    """The rounds in which what this one left is tried."""
+    """Returns the rounds that try the edits that this round left."""
     if len(one) == 1 or not outcome.left:
         return []
     if outcome.refused or outcome.cited:
@@ -518,7 +526,7 @@ def left_of(one, outcome):
 
 
 def judge(edits):
-    """Tries all edits, rounds side by side, and returns for each whether it was refused."""
+    """Tries all edits, with rounds in parallel, and returns for each whether it was rejected."""
     verdicts, running, lanes = {}, {}, len(os.sched_getaffinity(0))
     with tempfile.TemporaryDirectory(prefix="edits-", ignore_cleanup_errors=True) as room, ThreadPoolExecutor(lanes) as pool:
         names = sorted(dict.fromkeys(it.crate for it in edits), key=size_of, reverse=True)
@@ -536,7 +544,7 @@ def judge(edits):
                 for edit in outcome.refused:
                     verdicts[edit.crate, edit.name] = tell(edit, True, f"{outcome.goal(edit)}one of {len(one)} in a check")
                 for edit in outcome.cited:
-                    verdicts[edit.crate, edit.name] = tell(edit, False, "only a name that its proof cites is gone")
+                    verdicts[edit.crate, edit.name] = tell(edit, False, "only a name that its proof cites is missing")
                 if len(one) == 1 and outcome.left:
                     verdicts[one[0].crate, one[0].name] = tell(one[0], False, outcome.bad or "alone")
                 work.rounds += left_of(one, outcome)
@@ -544,7 +552,7 @@ def judge(edits):
 
 
 def is_told(edit):
-    """Whether the rows that an edit names tell its wrong body: what is built with it, unproved, plays them otherwise."""
+    """Returns true if the rows that an edit names detect it: a probe built unproved with the edit gives other results."""
     file = rows.read(pathlib.Path(ROOT, edit.refusal.removeprefix(" told by ")))
     steps, probe = file.steps(), file.layer().PROBE
     sent = "".join(step.event + "\n" for step in steps)
@@ -555,18 +563,18 @@ def is_told(edit):
                 it.write(text)
         how = {"cwd": f"{room}/crates/{probe}", "input": sent, "capture_output": True, "text": True, "errors": "replace"}
         ran = subprocess.run(["rt", "try"], **how)
-    # a line that is not there tells nothing: the build may have failed
+    # A missing line detects nothing, because the build may have failed.
     lines = ran.stdout.splitlines()[: len(steps)]
     return bool(rows.differences(lines, steps[: len(lines)]))
 
 
 def judge_by_rows(edits):
-    """Tries the edits that rows tell, and returns for each whether they did."""
+    """Tries the edits that rows detect, and returns for each whether they did."""
     return {(it.crate, it.name): tell(it, is_told(it), "by rows") for it in edits}
 
 
 def judge_by_tests(edits):
-    """Tries the edits that tests of the programs tell, and returns for each whether they did."""
+    """Tries the edits that tests of the programs detect, and returns for each whether they did."""
     if not edits:
         return {}
     with tempfile.TemporaryDirectory(prefix="edits-", ignore_cleanup_errors=True) as room:
@@ -584,8 +592,8 @@ def files_of(crate):
 
 
 def is_made(library, below):
-    """Whether the library lies there as `rt ci` leaves it, with no stamp by which `rt` could tell, and nothing of it or below it
-    is newer."""
+    """Returns true if the library exists as `rt ci` leaves it, without a stamp for `rt`. It must be at least as new as its files and those
+    of the libraries below it."""
     made = rlib(library)
     if not os.path.isdir(made) or os.path.exists(f"{os.path.dirname(made)}/stamp"):
         return False
@@ -594,8 +602,8 @@ def is_made(library, below):
 
 
 def make_libraries(names, below):
-    """Proves the libraries below these crates where they are not there, lowest first. A proof that ended for want of memory is
-    begun again."""
+    """Proves the libraries below these crates if they are missing, lowest first. A proof that ended for lack of memory is started
+    again."""
     for library in dict.fromkeys(it for name in names for it in below[name]):
         if is_made(library, below[library]):
             continue
@@ -609,10 +617,10 @@ def make_libraries(names, below):
 
 
 def wrong_in(control, verdicts):
-    """The control edits that were told as what they are not: those named harmless_ must not be refused, the others must."""
+    """Returns the number of control edits with a wrong verdict: those named harmless_ must not be rejected, and the others must."""
     wrong = [it for it in control if verdicts[it.crate, it.name] == it.name.startswith("harmless_")]
     for edit in wrong:
-        print(f"control {edit.name}: told as what it is not")
+        print(f"control {edit.name}: wrong verdict")
     return len(wrong)
 
 
@@ -642,7 +650,7 @@ def main(words):
     quoting = sum(it.layer in ("gate", "all") for it in whole)
     print(f"{quoting - unquoted} of {quoting} edits quote a clause{told_of}", flush=True)
     if control:
-        print("The edits named harmless_ are a control, and must be told as NOT REFUSED.", flush=True)
+        print("The edits named harmless_ are a control, and must be reported as NOT REFUSED.", flush=True)
     verdicts = {**judge(control + edits), **judge_by_rows(by_rows), **judge_by_tests(by_tests)}
     edits += by_rows + by_tests
     wrong = wrong_in(control, verdicts) + sum(not verdicts[it.crate, it.name] for it in edits)

@@ -1,6 +1,6 @@
-"""What the contracts of functions say, as their sources have it: whether a function has the clause that an edit of tests/mutants/edits quotes.
+"""Reads the contracts of functions from the sources, and checks that a function has the clause that an edit of tests/mutants/edits quotes.
 
-An edit's first line quotes in one of these forms, and `..` in a quoted text stands for any words:
+The first line of an edit quotes in one of these forms. `..` in a quoted text matches any words:
 
     'after' of Link::on              a clause by its name: of the function, of the trait's method that it implements, or of the impl
     'a', 'b' and 'c' of Server::take several of these
@@ -26,23 +26,23 @@ QUOTED = re.compile(r"'(\w+)'|\"([^\"]*)\"")
 
 @dataclass
 class Contract:
-    """The head of a function with its clauses, its body, and what its impl or trait says of all of its functions."""
+    """The contract of a function: its head with its clauses, its body, and the ghost items of its impl or trait."""
 
     file: str
     head: str
     body: str
     block: str
-    # the trait's method that it implements, or nothing
+    # The method of a trait that the function implements, or an empty text.
     implements: str = ""
 
 
 def joined(text):
-    """A text with its white space made one."""
+    """Returns a text with its white space normalized."""
     return " ".join(text.split())
 
 
 def head_of(lines):
-    """How many of these lines are the head of a function: up to the one that opens its body, or the end of one without a body."""
+    """Returns the number of lines of the head of a function. The head ends with the line that opens the body, or with the function."""
     depth, has_clause = 0, False
     for number, line in enumerate(lines):
         text = line.strip()
@@ -56,12 +56,12 @@ def head_of(lines):
 
 
 def end_of(lines, indent):
-    """How many of these lines a function has, with its body."""
+    """Returns the number of lines of a function, with its body."""
     return next((number + 1 for number, line in enumerate(lines) if number and line == indent + "}"), len(lines))
 
 
 def contracts_in(file, text, name_of_block):
-    """The contracts of a file's functions, by the name under which a check names them."""
+    """Returns the contracts of the functions of a file, by the name under which a check names them."""
     found, block, says, trait, of = [], "", [], "", ""
     lines = [it for it in text.splitlines() if not it.strip().startswith("//")]
     for number, line in enumerate(lines):
@@ -81,7 +81,7 @@ def contracts_in(file, text, name_of_block):
             inside = block if head[1] else ""
             implements = f"{trait}::{head[2]}" if trait and head[1] else ""
             contract = Contract(file, "\n".join(rest[:size]), body, "", implements)
-            # a method of a trait is also known by its type alone, and a function by its module
+            # A method of a trait is also known by its type alone, and a function by its module.
             own = f"{of}::{head[2]}" if implements else f"{os.path.basename(file).removesuffix('.rt')}::{head[2]}"
             found.append(({inside + head[2], own} if implements or not inside else {inside + head[2]}, contract, says))
     for _, contract, says in found:
@@ -90,7 +90,7 @@ def contracts_in(file, text, name_of_block):
 
 
 def sources_of(folder):
-    """The source files below a folder, by their names in it."""
+    """Yields the source files below a folder, by their names in it."""
     for at, _, names in os.walk(folder):
         for name in sorted(it for it in names if it.endswith(".rt")):
             with open(f"{at}/{name}", encoding="utf-8") as it:
@@ -99,7 +99,7 @@ def sources_of(folder):
 
 @functools.cache
 def contracts_of(crate, name_of_block):
-    """The contracts of a crate's functions, by their names."""
+    """Returns the contracts of the functions of a crate, by name."""
     found = {}
     for file, text in sources_of(f"{ROOT}/crates/{crate}/src"):
         for name, contract in contracts_in(file, text, name_of_block):
@@ -109,7 +109,7 @@ def contracts_of(crate, name_of_block):
 
 @functools.cache
 def invariants_of(crate):
-    """The types of a crate, and of those below it, that have an invariant."""
+    """Returns the types of a crate, and of those below it, that have an invariant."""
     texts = [text for it in [crate, *crates()[crate]] for _, text in sources_of(f"{ROOT}/crates/{it}/src")]
     blocks = (re.split(r"^impl(?:<.*?>)? Model for (\w+).*\{$", it, flags=re.MULTILINE) for it in texts)
     return {name for it in blocks for name, body in zip(it[1::2], it[2::2]) if "ghost invariant" in body.split("\n}\n")[0]}
@@ -122,8 +122,8 @@ class Quotes:
         self.crate, self.name_of_block = crate, name_of_block
 
     def contracts(self, name, files=()):
-        """The contracts of a function of this name: those of these files of the crate where there are any, else of the crate, else of
-        those below it."""
+        """Returns the contracts of a function with this name in these files of the crate. If there are none, returns those of the crate,
+        and otherwise those of the crates below it."""
         for crate in [self.crate, *reversed(crates()[self.crate])]:
             found = contracts_of(crate, self.name_of_block).get(name, [])
             if found:
@@ -132,7 +132,7 @@ class Quotes:
         return []
 
     def clauses(self, name, files=()):
-        """The texts in which a function of this name has clauses: its own head, its trait's, and what its impl says."""
+        """Yields the texts with the clauses of a function: its own head, that of its trait, and the ghost items of its impl."""
         for contract in self.contracts(name, files):
             yield contract.head[contract.head.index("fn ") :]
             yield contract.block
@@ -141,7 +141,7 @@ class Quotes:
                 yield method.block
 
     def has(self, quote, name, files):
-        """Whether a function has a clause: by its name, or by words of it."""
+        """Returns true if a function has a clause with this name or with these words."""
         label, words = quote
         if label:
             clause = rf"\b(?:(?:requires|ensures)\*? {label} \{{|ghost {label} =)"
@@ -150,7 +150,7 @@ class Quotes:
         return any(re.search(clause, one) for it in self.clauses(name, files) for one in CLAUSES.split(joined(it)))
 
     def why_not(self, refusal, files):
-        """Why what a first line quotes is no clause of the function that it names, or nothing."""
+        """Returns why the first line of an edit quotes no clause of the function that it names, or an empty text."""
         if said := re.fullmatch(r"the invariant of (\w+),? (?:in|of) ([\w:]+)", refusal):
             if said[1] not in invariants_of(self.crate):
                 return f"{said[1]} has no invariant"

@@ -1,14 +1,16 @@
 #!/usr/bin/env python3
-"""Refuses the programs each allocation in turn.
+"""Makes each allocation of the programs fail in turn.
 
     tests/system/alloc_failures.py bin/coap-server bin/coap-client [NAME..]
 
-tests/harness/fail_malloc.c is preloaded into a program and refuses it one allocation: the first, then the second, until a run makes fewer. A run that
-is refused ends with status 3 and `no memory`, and has written a front of what it writes otherwise, on standard output and over its
-connection; where the refusal was made up for, it is as any other. How many are told the table of docs/TESTING.md must tell. Besides, the
-server is refused every allocation once its connections are open, and must answer as ever: over standard streams one, over sockets two. And
-the programs run at their greatest inputs with nothing refused, and must not tell otherwise. The last line is 'N passed, M failed' over the
-runs, and the status 0 where M is 0.
+tests/harness/fail_malloc.c is preloaded into a program and makes one allocation fail: the first, then the second, until a run makes fewer. Such a run
+ends with status 3 and `no memory`. Its output, on standard output and over its connection, is a prefix of the output without a failure. If the
+program handles the failure in another way, the run is as without one. The number of failures that end a program must be in the table of
+docs/TESTING.md.
+
+The script also makes every allocation of the server fail after its connections are open. The server must respond as before, over standard streams
+on one connection and over sockets on two. Finally, the programs run with their largest inputs and without a failure, and must report none.
+The last line is 'N passed, M failed' for the runs, and the status is 0 if M is 0.
 """
 
 import contextlib
@@ -27,10 +29,10 @@ from checks import CSM, GREETING  # noqa: E402
 from peers import free_port, line_of  # noqa: E402
 from message_syntax import encoded  # noqa: E402
 
-# Where the clients' peers listen, and where the servers do, so that no peer takes the port that was free for a server.
+# Addresses of the clients' peers and of the servers. They differ, so that no peer takes a port that was found free for a server.
 HOST, SERVER_HOST = "127.0.0.1", "127.0.0.2"
 
-# Seconds for each wait.
+# Timeout of each wait, in seconds.
 LIMIT = 20
 
 MEBIBYTE = 1 << 20
@@ -38,10 +40,10 @@ MEBIBYTE = 1 << 20
 # More allocations than a server makes until two connections are open.
 MOST_MADE = 1 << 10
 
-# What is left of a program that was refused memory.
+# The entry of the table for the output of a program after a failed allocation.
 LEFT = "a front of what it writes with memory"
 
-# What a peer sends: Capabilities and Settings, a GET of the root, and a PUT of `x` at `a`; and what it is answered.
+# The bytes that a peer sends (a CSM, a GET of the root, a PUT of `x` at `a`), and the output of the server.
 SENT = bytes.fromhex("00e1" "010101" "410302b161ff78")
 ANSWERED = bytes.fromhex(CSM + "a14501" + GREETING + "014102")
 
@@ -49,7 +51,7 @@ SCRIPT = b"open\ndrain 1\nin 1 00e1010101410302b161ff78\ndrain 1\nput /b 0 78787
 LINES = (f"open 1\nout 1 {CSM}\nin 1 12\nout 1 a14501{GREETING}014102\nput 2\nput 3\nstatus 1 open kept 0 waiting 0 pending 0 observers 0\n"
          "remove /b\nopen 2\ndrop 2\nend 1\n").encode()
 
-# The client's words and what it sends for them; what the peer answers, and what is written of that.
+# The client's arguments, the bytes that it sends for them, and the response of the peer.
 ASKING = ["-m", "put", "-e", "a%20b", "-t", "0", "-O", "2048,0x0102", "-w"]
 ASKED = bytes.fromhex(CSM + "c10301b17810e206e70102ff612062")
 SETTINGS, RESPONSE = bytes.fromhex("00e1"), bytes.fromhex("314401ff6869")
@@ -57,7 +59,7 @@ SETTINGS, RESPONSE = bytes.fromhex("00e1"), bytes.fromhex("314401ff6869")
 
 @dataclass
 class Ran:
-    """A run of a program: its status, what it wrote to standard output and over its connection, and what it said."""
+    """A run of a program: its status, its standard output, its error output, and the bytes sent over its connection."""
 
     status: int
     written: bytes
@@ -68,13 +70,13 @@ class Ran:
         return b"refused\n" in self.said
 
     def fault(self):
-        """What it said of itself: how a server begins, and that memory was refused, aside."""
+        """Returns the lines of its error output, without the startup line of a server and the lines of fail_malloc.c."""
         lines = self.said.decode().splitlines()
         return [it for it in lines if it != "refused" and " listening on " not in it]
 
 
 def over_streams(*command, stream):
-    """What runs a program over standard streams."""
+    """Returns a function that runs a program over standard streams."""
 
     def run(environment):
         with tempfile.TemporaryFile() as file:
@@ -87,7 +89,7 @@ def over_streams(*command, stream):
 
 
 def received(peer, ends, least=0):
-    """What comes of a peer until this end, after so many bytes at least, or the connection's."""
+    """Returns the bytes received from a peer, up to this ending after at least `least` bytes, or up to the end of the connection."""
     told = b""
     peer.settimeout(LIMIT)
     with contextlib.suppress(ConnectionError):
@@ -97,7 +99,7 @@ def received(peer, ends, least=0):
 
 
 def asked_once(port, process):
-    """What a server answers one peer. Where that is not all, or it takes none, it must end by itself."""
+    """Returns the bytes that a server sends to one peer. If these are not all, or the connection fails, the server must end by itself."""
     sent = b""
     with contextlib.suppress(ConnectionError), socket.create_connection((SERVER_HOST, port), LIMIT) as peer:
         peer.sendall(SENT)
@@ -108,7 +110,7 @@ def asked_once(port, process):
 
 
 def asked_two(port, sent, answered):
-    """What a server writes to two peers that send this once both are greeted. A server that is refused memory ends."""
+    """Returns the bytes that a server sends to two peers, which send their requests after both CSMs. The server ends if an allocation fails."""
     told, greeting = [], bytes.fromhex(CSM)
     with contextlib.suppress(ConnectionError), contextlib.ExitStack() as stack:
         peers = [stack.enter_context(socket.create_connection((SERVER_HOST, port), LIMIT)) for _ in range(2)]
@@ -120,7 +122,7 @@ def asked_two(port, sent, answered):
 
 
 def listened(server, port, environment, ask):
-    """A run of a server that listens at a port, until its peers are answered."""
+    """Runs a server that listens at a port, until its peers have their responses."""
     command = [server, "-A", SERVER_HOST, "-p", str(port), "-d", "1"]
     with subprocess.Popen(command, stdin=subprocess.DEVNULL, stdout=subprocess.PIPE, stderr=subprocess.PIPE, env=environment) as process:
         said = line_of(process.stderr)
@@ -134,7 +136,7 @@ def listened(server, port, environment, ask):
 
 
 def listening(server, ask=asked_once):
-    """What runs a server that listens, and asks it so. Where somebody else has its port by then, it runs once more."""
+    """Returns a function that runs a listening server with these peers. If another program has its port by then, the server runs again."""
 
     def run(environment):
         for _ in range(3):
@@ -147,21 +149,21 @@ def listening(server, ask=asked_once):
 
 
 def answer(listener, got, settings=SETTINGS, asked=ASKED, response=RESPONSE):
-    """Answers a client as a server would, if one comes and asks this."""
+    """Accepts a client, and sends the response if the client sends the expected request."""
     try:
         peer = listener.accept()[0]
     except OSError:
         return
     with peer:
         peer.sendall(settings)
-        # the payload may be one byte over and over, so that its end stands in the middle too
+        # The payload may repeat one byte, so that its last bytes also occur in the middle.
         got.append(received(peer, asked[-20:], len(asked)))
         if got[0] == asked:
             peer.sendall(response)
 
 
 def asking(client):
-    """What runs a client over a connection."""
+    """Returns a function that runs a client over a connection."""
 
     def run(environment):
         got = []
@@ -170,7 +172,7 @@ def asking(client):
             peer.start()
             command = [client, *ASKING, "coap+tcp://%s:%d/x" % listener.getsockname()]
             ran = subprocess.run(command, stdin=subprocess.DEVNULL, capture_output=True, env=environment, timeout=LIMIT)
-            # (wakes the peer where no client came)
+            # Wakes the peer if no client came.
             listener.shutdown(socket.SHUT_RDWR)
             peer.join()
         return Ran(ran.returncode, ran.stdout, ran.stderr, b"".join(got))
@@ -179,7 +181,7 @@ def asking(client):
 
 
 def wrong_at_the_greatest_script(server):
-    """What is wrong with a script of 1,048,576 bytes, or nothing."""
+    """Returns the error of a script of 1,048,576 bytes, or an empty text."""
     put = b"put /a - " + b"78" * 65_000 + b"\n"
     script = b"open\n" + put + b"status 1\n" * ((MEBIBYTE - len(put) - 5) // 9)
     script += b"#" * (MEBIBYTE - len(script) - 1) + b"\n"
@@ -190,7 +192,7 @@ def wrong_at_the_greatest_script(server):
 
 
 def wrong_at_the_greatest_door(server):
-    """What is wrong with a server of the greatest limits over sockets, or nothing."""
+    """Returns the error of a server with the largest limits over sockets, or an empty text."""
     port = free_port(SERVER_HOST)
     limits = ["--max-message", "1048576", "--max-sent", "65536", "--queue", "4194304", "--pending", "256", "--observers", "256"]
     command = [server, "-A", SERVER_HOST, "-p", str(port), "-d", "1000", "--connections", "256", *limits]
@@ -210,7 +212,7 @@ def wrong_at_the_greatest_door(server):
 
 
 def wrong_at_the_greatest_words(client):
-    """What is wrong with a client of the longest words, whose response is the greatest, or nothing."""
+    """Returns the error of a client with the longest arguments and the largest response, or an empty text."""
     got, payload = [], b"y" * 65_000
     target = "coap+tcp://%s:%d" + ("/" + "p" * 255) * 16 + "?" + "&".join(["q" * 255] * 16)
     paths, queries = [(11, b"p" * 255)] * 16, [(15, b"q" * 255)] * 16
@@ -229,15 +231,15 @@ def wrong_at_the_greatest_words(client):
 
 
 def wrong_of(ran, usual):
-    """What is wrong with a run that was refused, or nothing."""
+    """Returns the error of a run with a failed allocation, or an empty text."""
     is_usual = (ran.status, ran.written, ran.sent, ran.fault()) == (usual.status, usual.written, usual.sent, usual.fault())
     is_front = usual.written.startswith(ran.written) and usual.sent.startswith(ran.sent)
     is_told = ran.status == 3 and [it.partition(": ")[2] for it in ran.fault()] == ["no memory"]
-    return "" if is_usual or (is_told and is_front) else f"{ran}, and not as {usual}"
+    return "" if is_usual or (is_told and is_front) else f"{ran}, not {usual}"
 
 
 def refuse_each(name, run, wanted, shim):
-    """Refuses each allocation of a run in turn; gives how many were refused, how many of these were told, and what is wrong."""
+    """Makes each allocation of a run fail in turn. Returns the number of failures, the number of those that end the program, and the errors."""
     usual, wrong, count, told = run(dict(os.environ)), [], 0, 0
     if (usual.status, usual.written, usual.sent) != (0, *wanted):
         return 0, 0, [f"{name}: {usual}"]
@@ -251,7 +253,7 @@ def refuse_each(name, run, wanted, shim):
 
 
 def made(run, shim):
-    """How many allocations a run makes: behind fewer of them one is refused."""
+    """Returns the number of allocations of a run, by bisection."""
     least, most = 0, MOST_MADE
     while least < most:
         middle = (least + most) // 2
@@ -265,13 +267,13 @@ def refusing_behind(count, shim):
 
 
 def wrong_without_growth(opens, run, wanted, shim):
-    """What is wrong with a run that is refused every allocation behind those of a run that opens its connections alone, or nothing."""
+    """Returns the error of a run in which every allocation fails that `opens`, a run that only opens the connections, does not make."""
     ran = run(refusing_behind(made(opens, shim), shim))
     return "" if (ran.status, ran.written, ran.sent) == (0, *wanted) else f"{ran}"
 
 
 def without_growth(server, shim):
-    """The same over standard streams and over sockets, by name."""
+    """Yields the errors of such runs over standard streams and over sockets, by name."""
     greeting, asked, answered = bytes.fromhex(CSM), bytes.fromhex("00e1" "010101"), bytes.fromhex("a14501" + GREETING)
     streams = [over_streams(server, "--stdio", stream=it) for it in (b"", asked)]
     yield "standard streams", wrong_without_growth(*streams, (greeting + answered, b""), shim)
@@ -296,19 +298,19 @@ def main(server, client, *named):
             count, told, wrong = it.result()
             passed, failed = passed + count - min(count, len(wrong)), failed + len(wrong)
             calls[f"`{name}`, in `{'coap-client' if name == 'run_client' else 'coap-server'}`", LEFT] = told
-            print(f"{name}: {count} allocations refused, of which {told} end the program")
+            print(f"{name}: {count} failed allocations, of which {told} end the program")
             for text in wrong[:3]:
                 print(text)
         for name, trouble in without_growth(server, shim):
             passed, failed = passed + (not trouble), failed + bool(trouble)
-            print(f"no growth behind the opens, over {name}: {trouble or 'the same bytes'}")
+            print(f"no allocations after the connections open, over {name}: {trouble or 'the same bytes'}")
     wrong = [] if named else rows.untold(calls, is_program=True)
     failed += len(wrong)
     print("".join(f"{text}\n" for text in wrong), end="")
     for name, wrong in (("script", wrong_at_the_greatest_script(server)), ("door", wrong_at_the_greatest_door(server)),
                         ("words", wrong_at_the_greatest_words(client))):
         passed, failed = passed + (not wrong), failed + bool(wrong)
-        print(f"the greatest {name}: {wrong or 'no memory is told'}")
+        print(f"the largest {name}: {wrong or 'no failure is reported'}")
     print(f"{passed} passed, {failed} failed")
     return 1 if failed else 0
 

@@ -1,11 +1,11 @@
 #!/usr/bin/env python3
-"""Runs the programs over devices that fail, take nothing, end, or move a byte at a time, at each call in turn.
+"""Runs the programs over devices that fail, accept nothing, end, or transfer one byte at a time, at each call in turn.
 
     tests/system/devices.py bin/coap-server bin/coap-client
 
-The devices are set by a preloaded library (tests/harness/devices.c): standard input and output of `--script` and of the client, and both
-programs' sockets, whose calls fail and end. (tests/vectors/stdio.py does so for `--stdio`; a socket that gives or takes a byte at a time is its
-peer's doing: tests/system/sockets.py.) What was written until then is a front of what is written otherwise.
+A preloaded library (tests/harness/devices.c) sets up the devices. These are standard input and output of `--script` and of the client, and the
+sockets of both programs, whose calls fail and end. (tests/vectors/stdio.py does this for `--stdio`. A socket that transfers one byte at a time is tested with
+slow peers in tests/system/sockets.py.) The output until the failure must be a prefix of the output without a failure.
 """
 
 import os
@@ -21,20 +21,20 @@ from checks import CSM, GREETING, Checks  # noqa: E402
 from peers import free_port, line_of  # noqa: E402
 from alloc_failures import ASKED, ASKING, HOST, LIMIT, LINES, SCRIPT, SERVER_HOST, answer, received  # noqa: E402
 
-# What a peer asks, and what it is answered.
+# The bytes that a peer sends, and the response of the server.
 HELLO, ANSWERED = bytes.fromhex("00e1" "010101" "01e202"), bytes.fromhex(CSM + "a14501" + GREETING + "01e302")
 
-# So many calls of the server's sockets are made to fail in turn: three peers make no more of a kind.
+# Number of calls of the server's sockets that fail in turn. Three peers cause no more calls of a kind.
 CALLS = 9
 
 
 def setting(shim, **set_):
-    """The environment of a program over devices that are set so, and tell nobody."""
+    """Returns the environment of a program over devices with these settings. The calls are not recorded."""
     return {**os.environ, "LD_PRELOAD": shim, "DEVICES_TOLD": "-1", **{name: str(value) for name, value in set_.items()}}
 
 
 def ran(command, stream, environment):
-    """A run over standard input, from a file: its status, what it wrote, and what it said."""
+    """Runs a command with standard input from a file. Returns its status, its output and its error output."""
     with tempfile.TemporaryFile() as file:
         file.write(stream)
         file.seek(0)
@@ -43,7 +43,7 @@ def ran(command, stream, environment):
 
 
 def check_script(checks, server, shim):
-    """A script that is read and whose lines are written, each call in turn."""
+    """Checks a script whose reads and writes fail, each call in turn."""
 
     def play(**set_):
         return ran([server, "--script", "-", "-d", "2"], SCRIPT, setting(shim, **set_))
@@ -63,20 +63,20 @@ def check_script(checks, server, shim):
 
 
 def asked(client, words, stream, environment):
-    """A client's run with a peer that answers it as a server would: what ran, and what the peer got."""
+    """Runs a client with a peer that responds as a server does. Returns the result of the run, and the bytes that the peer received."""
     got = []
     with socket.create_server((HOST, 0)) as listener:
         peer = threading.Thread(target=answer, args=(listener, got))
         peer.start()
         done = ran([client, *words, "coap+tcp://%s:%d/x" % listener.getsockname()], stream, environment)
-        # (wakes the peer where no client came)
+        # Wakes the peer if no client came.
         listener.shutdown(socket.SHUT_RDWR)
         peer.join()
     return done, b"".join(got)
 
 
 def check_client_streams(checks, client, shim):
-    """A client whose payload is read, and whose answer is written, each call in turn."""
+    """Checks a client whose reads of the payload and writes of the response fail, each call in turn."""
     words = ["-m", "put", "-f", "-", "-t", "0", "-O", "2048,0x0102", "-w"]
 
     def play(**set_):
@@ -92,7 +92,7 @@ def check_client_streams(checks, client, shim):
 
 
 def check_client_socket(checks, client, shim):
-    """A client whose connection fails or ends, at each call in turn."""
+    """Checks a client whose connection fails or ends, at each call in turn."""
     whole = ((0, b"hi\n", b""), ASKED)
     for name, fault in (("RECV_FAILS", b"stopped 11\n"), ("RECV_ENDS", b"stopped 11\n"), ("SEND_FAILS", b"stopped 11\n")):
         count = 0
@@ -102,11 +102,11 @@ def check_client_socket(checks, client, shim):
             count += 1
             if count > 20:
                 break
-        checks.same(f"a client, {name}: some call fails it, and not all do", 1 <= count <= 20, True)
+        checks.same(f"a client, {name}: some calls fail, and not all", 1 <= count <= 20, True)
 
 
 def conversation(address):
-    """What a peer of a server is told until all is answered, or the connection ends."""
+    """Returns the bytes that a peer of a server receives until all requests are answered, or the connection ends."""
     with socket.create_connection(address, LIMIT) as peer:
         peer.sendall(HELLO[:5])
         told = received(peer, ANSWERED[: len(ANSWERED) - 3])
@@ -117,7 +117,7 @@ def conversation(address):
 
 
 def check_server_socket(checks, server, shim):
-    """A server of which a connection fails or ends, at each call in turn: all others are served."""
+    """Checks a server with a connection that fails or ends, at each call in turn. All other connections must be served."""
     for name in ("RECV_FAILS", "RECV_ENDS", "SEND_FAILS"):
         cut = 0
         for count in range(CALLS):
@@ -126,13 +126,13 @@ def check_server_socket(checks, server, shim):
             with subprocess.Popen(command, stdin=subprocess.DEVNULL, stderr=subprocess.PIPE, env=setting(shim, **{name: count})) as process:
                 checks.same("it listens", b"listening" in line_of(process.stderr), True)
                 told = [conversation((SERVER_HOST, port)) for _ in range(3)]
-                checks.same(f"a server goes on, {name} {count}", process.poll(), None)
+                checks.same(f"a server still runs, {name} {count}", process.poll(), None)
                 process.kill()
             fronts = [it for it in told if it != ANSWERED]
-            checks.same(f"a server, {name} {count}: at most one is cut", len(fronts) <= 1, True)
-            checks.same(f"a server, {name} {count}: it is told a front", [it for it in fronts if not ANSWERED.startswith(it)], [])
+            checks.same(f"a server, {name} {count}: at most one is truncated", len(fronts) <= 1, True)
+            checks.same(f"a server, {name} {count}: its output is a prefix", [it for it in fronts if not ANSWERED.startswith(it)], [])
             cut += len(fronts)
-        checks.same(f"a server, {name}: each of three peers is cut once at the least", cut >= 3, True)
+        checks.same(f"a server, {name}: each of three connections is truncated at least once", cut >= 3, True)
 
 
 def main(server, client):

@@ -1,9 +1,9 @@
 #!/usr/bin/env python3
-"""Runs the example of a program that embeds the server, and reads by coap-client what it measures.
+"""Runs the example of a program that embeds the server, and reads its values with coap-client.
 
     tests/system/embedding.py bin/example-gateway bin/coap-client
 
-A file of this script is the sensor. Each wait ends after some seconds.
+The sensor is a file of this script. Each wait has a timeout.
 """
 
 import os
@@ -18,7 +18,7 @@ from sockets import client  # noqa: E402
 
 
 class Sensor:
-    """A file with a measured value, which changes at once."""
+    """A file with a measured value, which is replaced atomically."""
 
     def __init__(self, folder):
         self.name = f"{folder}/sensor"
@@ -30,25 +30,25 @@ class Sensor:
 
 
 def check_gateway(checks, program, uri, sensor):
-    """A value, the next one, and how an observer is told one more."""
+    """Checks a value, a changed value, and the notification of an observer."""
     checks.same("the value", client(program, [uri]), (0, b"20.5", b""))
     sensor.tell("21.0")
-    checks.same("the value that changed", client(program, [uri]), (0, b"21.0", b""))
+    checks.same("the changed value", client(program, [uri]), (0, b"21.0", b""))
     observer = subprocess.Popen([program, "-s", "3", "-w", uri], stdin=subprocess.DEVNULL, stdout=subprocess.PIPE, stderr=subprocess.PIPE)
     first = line_of(observer.stdout)
     sensor.tell("21.5")
     told, complained = observer.communicate(timeout=LIMIT)
     values = [first.decode().strip(), *told.decode().split()]
-    checks.same("what an observer is told", (list(dict.fromkeys(values)), observer.returncode, complained), (["21.0", "21.5"], 0, b""))
-    # one resource is all that it has a place for
+    checks.same("notifications of an observer", (list(dict.fromkeys(values)), observer.returncode, complained), (["21.0", "21.5"], 0, b""))
+    # The gateway allows one resource alone.
     checks.same("a second resource", client(program, ["-m", "put", "-e", "x", uri + "/else"]), (2, b"", b"4.06\n"))
-    checks.same("a path where nothing is", client(program, [uri + "/else"]), (2, b"", b"4.04\n"))
+    checks.same("an absent path", client(program, [uri + "/else"]), (2, b"", b"4.04\n"))
 
 
 def check_end(checks, gateway, sensor):
-    """It ends where the sensor cannot be read."""
+    """Checks that the gateway ends if the sensor cannot be read."""
     os.remove(sensor.name)
-    checks.same("it ends without a sensor", gateway.wait(LIMIT), 1)
+    checks.same("the gateway ends without a sensor", gateway.wait(LIMIT), 1)
 
 
 def main(program, client_program):

@@ -1,12 +1,13 @@
 #!/usr/bin/env python3
-"""Peers that cost a server as much as they may, over sockets, and what is left for others beside them.
+"""Checks a server with peers that cause as much cost as they can, over sockets, and the service for other peers.
 
     tests/system/flood.py bin/coap-server [observers|puts|slow ..]
 
-observers: a peer registers as many observers as it may, on every path, and never reads, while another one makes 10,000 PUTs: each is
-answered, and what is resident stays. (How many a second: `make bench`.) puts: many peers PUT what may just be stored, and a byte more,
-at more paths than there may be. slow: a peer observes /time and asks for 60,000 bytes until nothing more is taken of it; then it reads
-100 bytes at a time, while another one is served: all its bytes come, in order.
+observers: a peer registers the maximum number of observers on all paths and never reads, while another one makes 10,000 PUTs. Each PUT must be
+    answered, and the resident memory must stay the same. (`make bench` reports the PUTs per second.)
+puts: many peers PUT representations of the maximum size, and of one byte more, at more paths than the server allows.
+slow: a peer observes /time and requests 60,000 bytes repeatedly until the server accepts no more. Then it reads 100 bytes at a time, while another
+    peer is served. All its bytes must arrive, in order.
 """
 
 import contextlib
@@ -25,7 +26,7 @@ from peers import LOCAL as HOST  # noqa: E402
 from peers import Server  # noqa: E402
 from message_syntax import encoded, uint  # noqa: E402
 
-# Seconds for each wait, and for an answer to a client beside a peer that reads slowly.
+# Seconds for each wait, and for a response to a client beside a slow peer.
 LIMIT = 20
 ANSWERED_IN = 2
 
@@ -33,31 +34,31 @@ ANSWERED_IN = 2
 GET, PUT, CREATED, CHANGED, CONTENT, NOT_ACCEPTABLE, TOO_LARGE = 0x01, 0x03, 0x41, 0x44, 0x45, 0x86, 0x8D
 OBSERVE, URI_PATH, SIZE1 = 6, 11, 60
 
-# The Capabilities and Settings of a peer that takes as much as the server.
+# The CSM of a peer with the same limits as the server.
 SETTINGS = bytes.fromhex(CSM)
 
-# What is resident may grow by so much, in bytes, over all PUTs but the first ones: less than any list of what they did.
+# Maximum growth of the resident memory in bytes, over all PUTs but the first ones. A list of the PUTs would need more.
 PUTS, WARM = 10_000, 500
 GROWTH = 256 * 1024
 
-# The most bytes that the program stores of a representation.
+# Maximum number of bytes of a representation.
 MOST = 65_000
 
 
 def request(code, token, path, options=(), payload=b""):
-    """A request; a path is text."""
+    """Returns a request; the path is a text."""
     named = [(URI_PATH, it.encode()) for it in path.split("/")[1:]]
     return encoded(code, token, sorted([*options, *named], key=lambda it: it[0]), payload)
 
 
 def resident(process):
-    """The bytes of a process that are in memory."""
+    """Returns the resident memory of a process, in bytes."""
     with open(f"/proc/{process.pid}/status", encoding="ascii") as lines:
         return int(re.search(r"VmRSS:\s*(\d+) kB", lines.read())[1]) * 1024
 
 
 class Peer:
-    """A connection that reads messages one by one; a narrow one has little room for what it does not read."""
+    """A connection that reads messages one by one. A narrow one has small socket buffers."""
 
     def __init__(self, address, is_narrow=False):
         self.connection = socket.socket()
@@ -77,7 +78,7 @@ class Peer:
         self.connection.close()
 
     def front(self):
-        """The message at the front of what came, if it is whole."""
+        """Returns the first message of the bytes received, or None if it is incomplete."""
         size = messages.length_of(self.left)
         if size is None or size > len(self.left):
             return None
@@ -85,7 +86,7 @@ class Peer:
         return messages.parse(frame)
 
     def next(self, most=65_536):
-        """The next message; of what has not come yet so many bytes are read at once."""
+        """Returns the next message. Each read receives at most `most` bytes."""
         while (message := self.front()) is None:
             piece = self.connection.recv(most)
             if not piece:
@@ -94,35 +95,35 @@ class Peer:
         return message
 
     def answer(self, token):
-        """The next message with a token."""
+        """Returns the next message with a token."""
         while True:
             message = self.next()
             if message[1] == token:
                 return message
 
     def ask(self, stream, token):
-        """Sends a request and reads until it is answered."""
+        """Sends a request and reads until its response arrives."""
         self.connection.sendall(stream)
         return self.answer(token)
 
 
 @contextlib.contextmanager
 def serving(checks, server, words):
-    """A server that listens, and its address."""
+    """Yields the process of a listening server, and its address."""
     with Server(server, words) as running:
-        checks.same("it listens", running.said, f"coap-server: listening on {HOST}:{running.port}\n")
+        checks.same("the server listens", running.said, f"coap-server: listening on {HOST}:{running.port}\n")
         yield running.process, (HOST, running.port)
-        checks.same("it goes on", running.process.poll(), None)
+        checks.same("the server still runs", running.process.poll(), None)
 
 
 def observe_all(peer, paths, count):
-    """Registers so many observers, on one path after the other, and reads nothing."""
+    """Registers `count` observers, on one path after the other, and reads nothing."""
     for number in range(count):
         peer.connection.sendall(request(GET, number.to_bytes(2, "big"), paths[number % len(paths)], [(OBSERVE, b"")]))
 
 
 def put_often(peer, paths, first, last):
-    """PUTs from one number to another, one path after the other, each answered before the next; gives the codes that came."""
+    """Makes PUTs with the numbers of a range, on one path after the other, each after the response to the one before. Returns the codes."""
     codes = set()
     for number in range(first, last):
         token = uint(number) or b"\0"
@@ -131,25 +132,25 @@ def put_often(peer, paths, first, last):
 
 
 def check_observers(checks, server):
-    """10,000 PUTs beside a peer that observes everything and never reads."""
+    """Checks 10,000 PUTs beside a peer that observes every path and never reads."""
     paths = [f"/{number}" for number in range(16)]
     with serving(checks, server, ["-d", "16", "--observers", "256"]) as (process, address):
         with Peer(address) as good, Peer(address, is_narrow=True) as silent:
-            checks.same("resources made", put_often(good, paths, 0, 16), {CREATED})
+            checks.same("resources created", put_often(good, paths, 0, 16), {CREATED})
             observe_all(silent, [*paths, "/time"], 256)
             checks.same("the first PUTs", put_often(good, paths, 16, WARM), {CHANGED})
             before, began = resident(process), time.monotonic()
             checks.same("all PUTs are answered", put_often(good, paths, WARM, PUTS), {CHANGED})
             seconds, after = time.monotonic() - began, resident(process)
-            checks.same("what is resident stays", after - before if after - before > GROWTH else 0, 0)
+            checks.same("resident memory stays the same", after - before if after - before > GROWTH else 0, 0)
             code, _, _, payload = good.ask(request(GET, b"\1\2\3", paths[(PUTS - 1) % 16]), b"\1\2\3")
-            checks.same("the last PUT is there", (code, payload), (CONTENT, b"%d" % (PUTS - 1)))
+            checks.same("the last PUT is stored", (code, payload), (CONTENT, b"%d" % (PUTS - 1)))
     print(f"beside 256 observers that are never read: {(PUTS - WARM) / seconds:,.0f} PUTs a second, "
           f"{before // 1024:,} kB resident, then {after // 1024:,} kB")
 
 
 def greatest_puts(peer, number):
-    """The codes of a peer's PUTs of the most bytes: twice at its own path, and a byte more."""
+    """Returns the codes of two PUTs of the maximum size at the peer's own path, and of one with a byte more."""
     codes = []
     for token, size in ((b"\1", MOST), (b"\2", MOST), (b"\3", MOST + 1)):
         code, _, options, _ = peer.ask(request(PUT, token, f"/{number}", payload=b"x" * size), token)
@@ -158,32 +159,32 @@ def greatest_puts(peer, number):
 
 
 def check_puts(checks, server):
-    """PUTs of the most bytes from 64 peers, where 16 resources may be."""
+    """Checks PUTs of the maximum size from 64 peers, with a limit of 16 resources."""
     with serving(checks, server, ["-d", "16", "--connections", "64"]) as (process, address), contextlib.ExitStack() as stack:
         peers = [stack.enter_context(Peer(address)) for _ in range(64)]
-        # the first PUTs of all are under way before any is answered
+        # All first PUTs are sent before any response is read.
         for number, peer in enumerate(peers):
             peer.connection.sendall(request(PUT, b"\0", f"/{number}", payload=b"%d" % number))
         first = [peer.answer(b"\0")[0] for peer in peers]
-        checks.same("as many are made as may be", [first.count(it) for it in (CREATED, NOT_ACCEPTABLE)], [16, 48])
+        checks.same("resources created up to the limit", [first.count(it) for it in (CREATED, NOT_ACCEPTABLE)], [16, 48])
         large = (TOO_LARGE, uint(MOST))
         for number, (peer, made) in enumerate(zip(peers, first)):
             stored = (CHANGED if made == CREATED else NOT_ACCEPTABLE, None)
             checks.same(f"PUTs of peer {number}", greatest_puts(peer, number), [stored, stored, large])
         kept = first.index(CREATED)
         code, _, _, payload = peers[-1].ask(request(GET, b"\4", f"/{kept}"), b"\4")
-        checks.same("one is there whole", (code, payload == b"x" * MOST), (CONTENT, True))
+        checks.same("a stored representation is complete", (code, payload == b"x" * MOST), (CONTENT, True))
         print(f"64 peers, 16 resources of {MOST:,} bytes: {resident(process) // 1024:,} kB resident")
 
 
-# What is asked for, of which each place tells where it is; and so many bytes of an option that nobody knows in each request, so that a few
-# requests fill what the system keeps for the server.
+# The requested bytes, in which each position is identifiable. Each request has an unknown elective option of 4,000 bytes, so that a few requests
+# fill the socket buffers of the server.
 BODY = b"".join(b"%06d" % number for number in range(10_000))
 PADDING = (65_000, b"p" * 4_000)
 
 
 def ask_until_full(peer):
-    """Asks for the resource again and again until nothing more is taken; gives how many requests went, and what is left of the last."""
+    """Requests the resource until the server accepts no more. Returns the number of requests, and the unsent rest of the last one."""
     count, rest = 0, b""
     peer.connection.setblocking(False)
     while select.select([], [peer.connection], [], 1)[1]:
@@ -196,7 +197,7 @@ def ask_until_full(peer):
 
 
 def read_slowly(slow, count, rest, beside):
-    """Reads all responses 100 bytes at a time, and sends what was left of the last request; gives them, and the moments that came."""
+    """Reads all responses 100 bytes at a time, and sends the rest of the last request. Returns the responses, and the times received."""
     answers, moments = [], []
     while len(answers) < count:
         code, token, options, payload = slow.next(100)
@@ -211,7 +212,7 @@ def read_slowly(slow, count, rest, beside):
 
 
 class Beside:
-    """A client beside others, and how long it waited at most."""
+    """A client beside others, which records its longest wait."""
 
     def __init__(self, address):
         self.peer, self.slowest, self.answers = Peer(address), 0, set()
@@ -224,7 +225,7 @@ class Beside:
 
 
 def check_slow(checks, server):
-    """A peer that reads 100 bytes at a time what it asked for while it did not read."""
+    """Checks a peer that reads 100 bytes at a time, after it sent many requests without reading."""
     with serving(checks, server, ["-d", "1"]) as (process, address):
         beside = Beside(address)
         with beside.peer, Peer(address, is_narrow=True) as slow:
@@ -235,14 +236,14 @@ def check_slow(checks, server):
             beside()
             after = resident(process)
             answers, moments = read_slowly(slow, count, rest, beside)
-        checks.same("more was asked for than its queue has", count * len(BODY) > 131_072, True)
-        checks.same("what is resident is bounded", after - before if after - before > 131_072 + 65_536 + GROWTH else 0, 0)
-        checks.same("all responses come in order", [number for number, _ in answers], list(range(count)))
-        checks.same("each is whole", [payload == BODY for _, payload in answers], [True] * count)
-        checks.same("moments come in order", (moments == sorted(moments), {is_told for _, is_told in moments}), (True, {True}))
+        checks.same("the responses exceed the queue", count * len(BODY) > 131_072, True)
+        checks.same("resident memory is bounded", after - before if after - before > 131_072 + 65_536 + GROWTH else 0, 0)
+        checks.same("all responses arrive in order", [number for number, _ in answers], list(range(count)))
+        checks.same("each response is complete", [payload == BODY for _, payload in answers], [True] * count)
+        checks.same("times arrive in order", (moments == sorted(moments), {is_told for _, is_told in moments}), (True, {True}))
         checks.same("the client beside it", beside.answers, {(CONTENT, b"coap+tcp")})
-        checks.same("it is answered in time", beside.slowest if beside.slowest > ANSWERED_IN else 0, 0)
-    print(f"{count} requests of {len(BODY):,} bytes unread; {len(moments)} moments; the client beside it waited {beside.slowest:.3f} s at most")
+        checks.same("the client is answered in time", beside.slowest if beside.slowest > ANSWERED_IN else 0, 0)
+    print(f"{count} requests of {len(BODY):,} bytes unread; {len(moments)} times; the client beside it waited {beside.slowest:.3f} s at most")
 
 
 CHECKS = {"observers": check_observers, "puts": check_puts, "slow": check_slow}

@@ -1,15 +1,15 @@
-"""Runs HAProxy with install/haproxy.cfg in front of our servers, and peers of many addresses before it.
+"""Runs HAProxy with install/haproxy.cfg in front of the server, with peers of many source addresses.
 
     tests/system/haproxy.py bin/coap-server
     tests/system/haproxy.py --broken bin/coap-server
 
-It needs Debian's packages haproxy, openssl and libcoap3-bin, and installs what is missing.
+The script needs Debian's packages haproxy, openssl and libcoap3-bin, and installs the missing ones.
 
-The configuration is the file itself, and what is put into it are places: pairs of texts, of which the first stands in
-the file once, and the second stands in its place. They are what another user than root may not have, the ports, the
-certificate, and of each check the numbers that it names: shorter times, smaller counts. All else is as it is installed.
+The configuration is the file itself with replacements: pairs of texts, of which the first must be in the file exactly once. The replacements adapt
+the parts that require root, the ports and the certificate. Each check also replaces the numbers that it names, with shorter times or smaller
+counts. The rest is as installed.
 
-With --broken each configuration of BROKEN, a place more, is run by its check, and passes where that check fails.
+With --broken, each entry of BROKEN adds one replacement to the configuration of its check. The entry passes if that check fails.
 """
 
 import collections
@@ -39,10 +39,10 @@ PACKAGES = {"haproxy": "haproxy", "openssl": "openssl", "coap-client-openssl": "
 
 CONFIGURATION = os.path.join(ROOT, "install", "haproxy.cfg")
 
-# The servers of the file, and their ports there.
+# The servers of the file, with their ports in it.
 SERVERS = {"one": 5701, "two": 5702, "three": 5703, "four": 5704}
 
-# What another user than root may not have, and files enough for 2,000 connections.
+# Replacements for parts that require root, and a lower limit for fewer file descriptors.
 ANY_USER = [
     ("log /dev/log local0", "log stdout format raw local0"),
     ("    chroot /var/lib/haproxy\n", ""),
@@ -51,10 +51,10 @@ ANY_USER = [
     ("maxconn 2000", "maxconn 400"),
 ]
 
-# Checks of a server more often.
+# Replacements for more frequent checks of a server.
 QUICK_CHECKS = [("check inter 2s fastinter 500ms", "check inter 200ms fastinter 100ms")]
 
-# Seconds in which a peer is served at once: its handshake, and an answer.
+# Maximum seconds of a TLS handshake and a response, for a peer that is served without waiting.
 AT_ONCE = 5
 
 GET, PUT, CREATED, CHANGED, CONTENT, NOT_FOUND = 0x01, 0x03, 0x41, 0x44, 0x45, 0x84
@@ -67,13 +67,13 @@ PEER_SETTINGS = bytes.fromhex("00e1")
 
 BODY = random.Random(5684).randbytes(60_000)
 
-# A peer: its address, the protocols that it offers, and where it insists, its TLS, its only cipher and its certificate.
+# A peer: its address, the protocols that it offers, and optionally its TLS version, its only cipher and its certificate.
 FIELDS = ["source", "protocols", "tls", "cipher", "certificate"]
 Kind = collections.namedtuple("Kind", FIELDS, defaults=[HOST, ("coap",), None, "DEFAULT", None])
 
 
 def spelled(code, token, path="", observes=False, payload=b""):
-    """A request of less than 13 bytes behind its token, with a path of one segment at most."""
+    """Returns a request of less than 13 bytes after its token, with a path of at most one segment."""
     options = b"\x60" if observes else b""
     if path:
         options += bytes([URI_PATH - (OBSERVE if observes else 0) << 4 | len(path)]) + path.encode()
@@ -83,14 +83,14 @@ def spelled(code, token, path="", observes=False, payload=b""):
 
 
 def context(folder, kind):
-    """What a peer wants of TLS: the authority of the test must have signed, and the certificate is for this address."""
+    """Returns the TLS context of a peer: the server needs a certificate of the test's authority for this address."""
     it = ssl.create_default_context(cafile=os.path.join(folder, "authority.pem"))
     if kind.protocols:
         it.set_alpn_protocols(list(kind.protocols))
     if kind.certificate:
         it.load_cert_chain(*(os.path.join(folder, name) for name in kind.certificate))
     if kind.tls:
-        # the system may not let its own programs speak what is old or short; this peer is to try
+        # The system may disallow old versions and short keys for its own programs, but this peer must try them.
         it.set_ciphers(kind.cipher + ":@SECLEVEL=0")
         with warnings.catch_warnings():
             warnings.simplefilter("ignore", DeprecationWarning)
@@ -99,11 +99,11 @@ def context(folder, kind):
 
 
 class NoPlace(Exception):
-    """A place is not in the configuration, or not only once."""
+    """The text of a replacement is not in the configuration exactly once."""
 
 
 class Stream:
-    """A connection on which messages come and go."""
+    """A connection that sends and receives messages."""
 
     def __init__(self, connection):
         self.connection = connection
@@ -116,7 +116,7 @@ class Stream:
         self.connection.close()
 
     def next(self):
-        """The next message: its code, token and payload; or nothing at the connection's end or where nothing comes."""
+        """Returns the code, token and payload of the next message, or None at a timeout or at the end of the connection."""
         with contextlib.suppress(OSError):
             while not self.frames and (piece := self.connection.recv(65536)):
                 self.frames, self.left = messages.split(self.left + piece)
@@ -126,19 +126,19 @@ class Stream:
         return code, token, payload
 
     def greet(self):
-        """Sends Capabilities and Settings, and tells whether those of our server come."""
+        """Sends an empty CSM, and returns true if the CSM of the server arrives."""
         with contextlib.suppress(OSError):
             self.connection.sendall(PEER_SETTINGS)
         return self.next() == (SETTINGS, b"", b"")
 
     def ask(self, stream):
-        """Sends a message, and gives the next one that comes."""
+        """Sends a message, and returns the next one received."""
         with contextlib.suppress(OSError):
             self.connection.sendall(stream)
         return self.next()
 
     def end(self, patience=LIMIT):
-        """The bytes that come before the connection ends, and the seconds until then, or nothing where it does not end."""
+        """Returns the bytes received before the connection ends, and the seconds until then, or None if it does not end."""
         began, told = time.monotonic(), self.left
         self.connection.settimeout(patience)
         try:
@@ -151,7 +151,7 @@ class Stream:
         return told, time.monotonic() - began
 
     def is_silent(self, seconds):
-        """Whether nothing comes, and no end, for so long."""
+        """Returns true if no bytes and no end arrive within this time."""
         return self.end(seconds) == (b"", None)
 
 
@@ -160,7 +160,7 @@ def connect(port, source=HOST):
 
 
 class Front:
-    """HAProxy, and servers of ours behind it."""
+    """HAProxy, and servers behind HAProxy."""
 
     def __init__(self, server, folder, names, words, places):
         self.server, self.folder, self.words = server, folder, words
@@ -210,7 +210,7 @@ class Front:
         self.stack.close()
 
     def tell(self, words):
-        """What HAProxy answers to a command."""
+        """Returns the output of HAProxy for a command."""
         told = b""
         with contextlib.suppress(OSError), socket.socket(socket.AF_UNIX) as it:
             it.settimeout(LIMIT)
@@ -221,25 +221,25 @@ class Front:
         return told.decode(errors="replace")
 
     def counts(self, name):
-        """What HAProxy counts of a server or of its frontend, by the words of its manual."""
+        """Returns the counters of HAProxy for a server or for its frontend, by the names in its manual."""
         rows = csv.DictReader(self.tell("show stat").removeprefix("# ").splitlines())
         return next((row for row in rows if name in (row["svname"], row["pxname"])), collections.defaultdict(str))
 
     def status(self, name):
-        """Whether HAProxy takes a server for up, and what its last check came to."""
+        """Returns the state of a server in HAProxy, and the result of its last check."""
         row = self.counts(name)
         return row["status"], row["check_status"].removeprefix("* ")
 
     def are_up(self):
-        """Whether every server is up, and has passed a check."""
+        """Returns true if every server is up, and has passed a check."""
         return all(state == "UP" and check.endswith("OK") for state, check in map(self.status, self.ports))
 
     def taken(self):
-        """How many connections the servers have had of HAProxy in all."""
+        """Returns the total number of connections that HAProxy has made to the servers."""
         return sum(int(self.counts(name)["stot"] or 0) for name in self.ports)
 
     def wait(self, happens, seconds=LIMIT):
-        """Waits until something is so, and tells whether it came."""
+        """Waits until a condition holds, and returns false at a timeout."""
         ends = time.monotonic() + seconds
         while not happens():
             if time.monotonic() > ends:
@@ -248,18 +248,18 @@ class Front:
         return True
 
     def peer(self, kind=Kind()):
-        """A peer behind its handshake."""
+        """Returns a connection after its TLS handshake."""
         return Stream(context(self.folder, kind).wrap_socket(connect(self.port, kind.source), server_hostname=HOST))
 
     def greeted(self, source):
-        """A peer that our server has greeted."""
+        """Returns a connection that has exchanged CSMs with a server."""
         peer = self.peer(Kind(source))
         if not peer.greet():
             raise OSError("no greeting for %s" % source)
         return peer
 
     def who(self, source=HOST):
-        """The name of the server that answers a peer of this address, or what is wrong; and the seconds that it took."""
+        """Returns the name of the server that responds to a peer of this address, or an error; and the seconds that it took."""
         began = time.monotonic()
         try:
             with self.peer(Kind(source)) as peer:
@@ -271,7 +271,7 @@ class Front:
 
 
 def places_for(folder, port, ports):
-    """What stands in place of the file's folder and addresses; a server without a port is not there."""
+    """Returns the replacements for directories and addresses. A server without a port is removed."""
     places = ANY_USER + [
         ("stats socket /run/haproxy/admin.sock mode 660", "stats socket %s/admin" % folder),
         ("bind :::5684 v4v6", "bind %s:%d" % (HOST, port)),
@@ -283,23 +283,23 @@ def places_for(folder, port, ports):
 
 
 def certificate_in(folder):
-    """The certificate of the test in place of the file's."""
+    """Returns the replacement that inserts the certificate of the test."""
     return [("/etc/haproxy/coap.pem", os.path.join(folder, "server.pem"))]
 
 
 def placed(places):
-    """The installed configuration with these texts in place of its own."""
+    """Returns the installed configuration with these replacements."""
     with open(CONFIGURATION, encoding="utf-8") as file:
         text = file.read()
     for old, new in places:
         if text.count(old) != 1:
-            raise NoPlace("%r stands %d times in the configuration" % (old, text.count(old)))
+            raise NoPlace("%r occurs %d times in the configuration" % (old, text.count(old)))
         text = text.replace(old, new)
     return text
 
 
 class Setting:
-    """What all checks have: the program, a folder with certificates, and what is to break the configuration, if it is to."""
+    """Common input of all checks: the program, a folder with certificates, and the replacements that break the configuration."""
 
     def __init__(self, server, folder, broken=()):
         self.server, self.folder, self.broken = server, folder, list(broken)
@@ -309,7 +309,7 @@ class Setting:
 
 
 def certify(folder):
-    """Makes an authority, a certificate that it signed for this address, and another authority."""
+    """Creates an authority, a certificate that it signed for this address, and another authority."""
     key = ["-newkey", "ec", "-pkeyopt", "ec_paramgen_curve:P-256", "-nodes", "-days", "2"]
     names = ["-subj", "/CN=localhost", "-addext", "subjectAltName=DNS:localhost,IP:%s" % HOST]
     signs = ["-CA", "authority.pem", "-CAkey", "authority.key", "-addext", "basicConstraints=critical,CA:FALSE"]
@@ -327,7 +327,7 @@ def certify(folder):
 
 
 def check_file(checks, setting):
-    """That HAProxy takes the file as it is installed, but for the certificate, with no remark."""
+    """Checks that HAProxy accepts the installed file without a remark. Only the certificate is replaced."""
     name = os.path.join(setting.folder, "installed.cfg")
     with open(name, "w", encoding="utf-8") as file:
         file.write(placed(certificate_in(setting.folder) + setting.broken))
@@ -337,7 +337,7 @@ def check_file(checks, setting):
 
 
 def libcoap(front, path, words=(), authority="authority.pem"):
-    """Runs libcoap's client over TLS: its status, what it prints, and the first word of its errors."""
+    """Runs libcoap's client over TLS. Returns its status, its output, and the first word of its errors."""
     uri = "coaps+tcp://%s:%d%s" % (HOST, front.port, path)
     line = ["coap-client-openssl", "-R", os.path.join(front.folder, authority), "-B", "5", *words, uri]
     done = subprocess.run(line, stdin=subprocess.DEVNULL, capture_output=True, timeout=2 * LIMIT)
@@ -345,7 +345,7 @@ def libcoap(front, path, words=(), authority="authority.pem"):
 
 
 def check_libcoap(checks, setting):
-    """libcoap's client over TLS: what it gets, stores and observes."""
+    """Checks GET, PUT and observations of libcoap's client over TLS."""
     with setting.front() as front:
         listing = b"</>;ct=0,</time>;ct=0;obs,</async>;ct=0,</who>;obs\n"
         for name, words, path, wanted in (
@@ -353,18 +353,18 @@ def check_libcoap(checks, setting):
             ("the listing", [], "/.well-known/core", (0, listing, b"")),
             ("an absent path", [], "/none", (0, b"", b"4.04")),
             ("PUT", ["-m", "put", "-e", "first"], "/stored", (0, b"", b"")),
-            ("GET of what was stored", [], "/stored", (0, b"first\n", b"")),
+            ("GET of the stored resource", [], "/stored", (0, b"first\n", b"")),
         ):
             checks.same("libcoap over TLS: %s" % name, libcoap(front, path, words), wanted)
         told = libcoap(front, "/", [], "another.pem")[1]
         told = b"unable to get local issuer" in told, b"coap+tcp" in told
-        checks.same("libcoap, which trusts another authority alone", told, (True, False))
+        checks.same("libcoap, with another authority", told, (True, False))
         check_body(checks, front)
         check_observer(checks, front)
 
 
 def check_body(checks, front):
-    """A body of 60,000 bytes, there and back."""
+    """Checks a PUT and a GET of a body of 60,000 bytes."""
     there, back = (os.path.join(front.folder, name) for name in ("there", "back"))
     with open(there, "wb") as file:
         file.write(BODY)
@@ -377,7 +377,7 @@ def check_body(checks, front):
 
 @contextlib.contextmanager
 def observing(front, path, words=()):
-    """libcoap's client as it observes, and what waits for it to print these states, and gives what it printed."""
+    """Observes with libcoap's client. Yields a function that waits until the client has printed these states, and returns its output."""
     output = os.path.join(front.folder, "observed")
     uri = "coaps+tcp://%s:%d%s" % (HOST, front.port, path)
     line = ["coap-client-openssl", "-R", os.path.join(front.folder, "authority.pem"), "-w", "-s", "60", *words, uri]
@@ -400,7 +400,7 @@ def observing(front, path, words=()):
 
 
 def check_observer(checks, front):
-    """An observer of what another client changes, each time as the last change was told."""
+    """Checks an observer of a resource that another client changes. Each change follows the notification of the one before."""
     states = [b"first", b"second", b"third"]
     with observing(front, "/stored") as printed:
         checks.same("libcoap over TLS: the observer's first state", printed(states[:1]), states[:1])
@@ -411,7 +411,7 @@ def check_observer(checks, front):
 
 
 def refused(front, kind):
-    """What comes of a peer that is not to be served: what it was told before its end, or how its handshake failed."""
+    """Returns the bytes that a rejected peer receives before the end of its connection, or the error of its handshake."""
     try:
         with front.peer(kind) as peer:
             with contextlib.suppress(OSError):
@@ -423,7 +423,7 @@ def refused(front, kind):
 
 
 def check_tls(checks, setting):
-    """Who is served over TLS, and who is not."""
+    """Checks which peers are served over TLS, and which are rejected."""
     with setting.front() as front:
         for version in (ssl.TLSVersion.TLSv1_2, ssl.TLSVersion.TLSv1_3):
             with front.peer(Kind(tls=version)) as peer:
@@ -443,11 +443,11 @@ def check_tls(checks, setting):
             plain.connection.sendall(PEER_SETTINGS + spelled(GET, b"q", "who"))
             told, seconds = plain.end()
         checks.same("a peer without TLS", (OWN_SETTINGS in told, seconds is None), (False, False))
-        checks.same("connections that these had at the server", front.taken() - taken, 0)
+        checks.same("connections of these peers at the server", front.taken() - taken, 0)
 
 
 def check_constrained(checks, setting):
-    """A device that has the one cipher that all devices have, where the configuration has it."""
+    """Checks a device with the one mandatory cipher, if the configuration allows that cipher."""
     device = Kind(tls=ssl.TLSVersion.TLSv1_2, cipher="ECDHE-ECDSA-AES128-CCM8")
     with setting.front(places=[("    # ssl-default-bind-ciphers", "    ssl-default-bind-ciphers")]) as front:
         with front.peer(device) as peer:
@@ -457,7 +457,7 @@ def check_constrained(checks, setting):
 
 
 def check_certified(checks, setting):
-    """Peers with certificates, where the configuration wants them."""
+    """Checks peers with certificates, if the configuration requires them."""
     wants = " verify required ca-file %s/authority.pem" % setting.folder
     with setting.front(places=[(" tcp-ut 1m", " tcp-ut 1m" + wants)]) as front:
         with front.peer(Kind(certificate=("server.pem",))) as peer:
@@ -465,15 +465,15 @@ def check_certified(checks, setting):
         taken = front.taken()
         checks.same("a peer without a certificate", refused(front, Kind()), b"")
         checks.same("a peer with another one", refused(front, Kind(certificate=("another.pem", "another.key"))), b"")
-        checks.same("connections that these had at the server", front.taken() - taken, 0)
+        checks.same("connections of these peers at the server", front.taken() - taken, 0)
 
 
-# Of one source: peers at once, and those that the file lets in.
+# Number of simultaneous peers of one source, and number of those that the file allows.
 SILENT, HELD = 300, 32
 
 
 def held(connections):
-    """How many of these connections have not ended."""
+    """Returns the number of these connections that have not ended."""
     poll = select.poll()
     for it in connections:
         poll.register(it, select.POLLIN)
@@ -481,35 +481,35 @@ def held(connections):
 
 
 def check_silent(checks, setting):
-    """Many peers of one source that say nothing at all, and good ones of another source. None of them leaves meanwhile."""
+    """Checks many peers of one source that send nothing at all, beside peers of another source. No silent peer ends by itself."""
     with setting.front(places=[("timeout client 10s", "timeout client 60s")]) as front, contextlib.ExitStack() as stack:
         silent = []
         for _ in range(SILENT):
-            # one that is let go at once may be so before it knows that it is connected
+            # A rejected connection may be reset before this call returns.
             with contextlib.suppress(ConnectionResetError):
                 silent.append(stack.enter_context(connect(front.port, "127.0.0.2")))
         told, seconds = front.who("127.0.0.3")
         checks.same("another source beside %d silent peers" % SILENT, (told, seconds < AT_ONCE or seconds), ("one", True))
         checks.same("libcoap beside them", libcoap(front, "/who", ["-a", "127.0.0.4"]), (0, b"one\n", b""))
         front.wait(lambda: held(silent) <= HELD, AT_ONCE)
-        checks.same("silent peers that are held", held(silent), HELD)
+        checks.same("silent peers that stay connected", held(silent), HELD)
 
 
 def check_places(checks, setting):
-    """Many peers of one source that take places of a server and then say nothing, and one of another source."""
+    """Checks many peers of one source that use connections of a server and then are silent, beside a peer of another source."""
     places = [("maxconn 255", "maxconn 39"), ("sc0_conn_rate gt 100", "sc0_conn_rate gt 1000")]
     with setting.front(words=["--connections", "40"], places=places) as front, contextlib.ExitStack() as stack:
         greeted = 0
         for _ in range(HELD + 20):
             with contextlib.suppress(OSError):
                 greeted += stack.enter_context(front.peer(Kind("127.0.0.2"))).greet()
-        checks.same("peers of one source that have a place", greeted, HELD)
+        checks.same("connected peers of one source", greeted, HELD)
         told, seconds = front.who("127.0.0.3")
         checks.same("another source beside them", (told, seconds < AT_ONCE or seconds), ("one", True))
 
 
 def check_rate(checks, setting):
-    """A source that opens connections faster than it may, one after the other, and another source."""
+    """Checks a source that opens connections faster than allowed, one after the other, beside another source."""
     allowed = 20
     places = [("conn_rate(10s)", "conn_rate(3s)"), ("sc0_conn_rate gt 100", "sc0_conn_rate gt %d" % allowed)]
     with setting.front(places=places) as front:
@@ -517,13 +517,13 @@ def check_rate(checks, setting):
         while len(told) < allowed + 5:
             told.append(front.who("127.0.0.2")[0] == "one")
         took = time.monotonic() - began
-        # a slow machine may have opened some of them in the next period
+        # On a slow machine, some of them may fall into the next period.
         checks.same("connections of a quick source", told == [True] * allowed + [False] * 5 or took > 2 or told, True)
         checks.same("another source beside it", front.who("127.0.0.3")[0], "one")
         checks.same("the quick source later", front.wait(lambda: front.who("127.0.0.2")[0] == "one" or time.sleep(1)), True)
 
 
-# Seconds of a silent connection, and of one whose peer has said nothing yet, or nothing of TLS.
+# Timeouts in seconds: for a silent connection, before the first message, and in the TLS handshake.
 TUNNEL, FIRST, HANDSHAKE = 3, 1, 2
 
 IDLE = [
@@ -535,27 +535,30 @@ IDLE = [
 
 
 def lasted(told, least):
-    """What came before the end of a connection, and that it came in its time: not before, and not never."""
+    """Returns the bytes received before the end of a connection, and true if the end came after its timeout."""
     stream, seconds = told
     return stream, seconds is not None and seconds >= least - 0.5 or seconds
 
 
 def check_idle(checks, setting):
-    """Peers that say nothing, at each point of a connection."""
+    """Checks peers that become silent, at each point of a connection."""
     with setting.front(places=IDLE) as front:
         with Stream(connect(front.port)) as mute:
-            checks.same("a peer that says nothing of TLS", lasted(mute.end(), HANDSHAKE), (b"", True))
+            checks.same("a peer that is silent before TLS", lasted(mute.end(), HANDSHAKE), (b"", True))
         taken = front.taken()
         with front.peer() as peer:
-            checks.same("a peer that says nothing behind its handshake", lasted(peer.end(), FIRST), (b"", True))
-        checks.same("connections that these had at the server", front.taken() - taken, 0)
+            checks.same("a peer that is silent after its handshake", lasted(peer.end(), FIRST), (b"", True))
+        checks.same("connections of these peers at the server", front.taken() - taken, 0)
         with front.greeted(HOST) as peer:
-            checks.same("a peer that says nothing more", lasted(peer.end(), TUNNEL), (b"", True))
+            checks.same("a peer that becomes silent", lasted(peer.end(), TUNNEL), (b"", True))
 
 
 def check_alive(checks, setting):
-    """Peers that say little, for twice as long as a silent one lasts: one sends Pings; an observer says nothing, but is
-    told changes; and libcoap's client observes what does not change, and sends Pings."""
+    """Checks peers that send little, for twice the timeout of a silent connection.
+
+    One peer sends Pings. Another one is an observer that sends nothing, but is notified of changes. The third is libcoap's client, which observes
+    a resource that does not change, and sends Pings.
+    """
     with contextlib.ExitStack() as stack:
         front = stack.enter_context(setting.front(places=IDLE))
         pings, observes = (stack.enter_context(front.greeted(HOST)) for _ in range(2))
@@ -574,14 +577,14 @@ def check_alive(checks, setting):
             wanted = (CHANGED, b"p", b""), (CONTENT, b"o", state), (PONG, token, b"")
             troubles += [(number, told)] if told != wanted else []
             time.sleep(TUNNEL / 6)
-        checks.same("changes and Pongs that did not come", troubles, [])
-        checks.same("changes and Pongs enough", number > 2 or number, True)
+        checks.same("missing notifications and Pongs", troubles, [])
+        checks.same("number of changes", number > 2 or number, True)
         changes.ask(spelled(PUT, b"p", "who", payload=b"new"))
-        checks.same("libcoap's observer is told a change afterwards", printed([b"one", b"new"]), [b"one", b"new"])
+        checks.same("libcoap's observer is notified of a change afterwards", printed([b"one", b"new"]), [b"one", b"new"])
 
 
 def check_unread(checks, setting):
-    """A peer that asks and never reads."""
+    """Checks a peer that sends requests and never reads."""
     with contextlib.ExitStack() as stack:
         front = stack.enter_context(setting.front(places=[("tcp-ut 1m", "tcp-ut 2s")]))
         stores = stack.enter_context(Stream(connect(front.ports["one"])))
@@ -589,37 +592,37 @@ def check_unread(checks, setting):
         stores.greet()
         put = b"\xb4body\xff" + BODY
         told = stores.ask(b"\xe0" + (len(put) - 269).to_bytes(2, "big") + bytes([PUT]) + put)
-        checks.same("a body that is stored", told, (CREATED, b"", b""))
-        # it takes messages as large as we do, and no buffer on the way has room for the answers to all of these
+        checks.same("a stored body", told, (CREATED, b"", b""))
+        # The peer has the limits of the server, and the buffers on the path are too small for all responses.
         peer.connection.sendall(OWN_SETTINGS + spelled(GET, b"g", "body") * 1000)
-        checks.same("it has its connection at first", front.counts("coaps")["scur"], "1")
-        checks.same("it is let go", front.wait(lambda: front.counts("coaps")["scur"] == "0"), True)
+        checks.same("the peer is connected at first", front.counts("coaps")["scur"], "1")
+        checks.same("the peer is disconnected", front.wait(lambda: front.counts("coaps")["scur"] == "0"), True)
 
 
-# How long a peer waits for a place of a full server: longer than a check that fails.
+# Seconds that a peer waits for a full server. This is longer than a failing check takes.
 QUEUED = 4
 
 
 def check_full(checks, setting):
-    """A server whose places are taken but for that of the check."""
+    """Checks a server all of whose connections are in use, except that of the check."""
     places = QUICK_CHECKS + [("maxconn 255", "maxconn 3"), ("timeout queue 10s", "timeout queue %ds" % QUEUED)]
     with setting.front(words=["--connections", "4"], places=places) as front, contextlib.ExitStack() as stack:
         peers = [stack.enter_context(front.greeted("127.0.0.%d" % number)) for number in (2, 3, 4)]
         failed = front.counts("one")["chkfail"]
         late = stack.enter_context(front.peer(Kind("127.0.0.5")))
         late.connection.sendall(PEER_SETTINGS)
-        checks.same("a peer that waits in vain for a place", lasted(late.end(), QUEUED), (b"", True))
+        checks.same("a peer that waits in vain for a connection", lasted(late.end(), QUEUED), (b"", True))
         checks.same("a full server is up", (front.status("one"), front.counts("one")["chkfail"]), (("UP", "L7OK"), failed))
         late = stack.enter_context(front.peer(Kind("127.0.0.6")))
         late.connection.sendall(PEER_SETTINGS)
-        checks.same("a peer that waits for a place", late.is_silent(QUEUED / 4), True)
+        checks.same("a peer that waits for a connection", late.is_silent(QUEUED / 4), True)
         peers.pop().connection.close()
         late.connection.settimeout(LIMIT)
-        checks.same("it is served as one leaves", late.next(), (SETTINGS, b"", b""))
+        checks.same("the peer is served after another one leaves", late.next(), (SETTINGS, b"", b""))
 
 
 def sources_of(front):
-    """An address for each server that one of many comes to."""
+    """Returns an address for each server whose peers with that address use the server."""
     found = {}
     for source in ("127.0.0.%d" % number for number in range(10, 200)):
         found.setdefault(front.who(source)[0], source)
@@ -629,7 +632,7 @@ def sources_of(front):
 
 
 def check_killed(checks, setting):
-    """A server that is killed, and comes again."""
+    """Checks a server that is killed and started again."""
     with setting.front(("one", "two"), places=QUICK_CHECKS) as front:
         found = sources_of(front)
         checks.same("servers that have a source", sorted(found), ["one", "two"])
@@ -638,19 +641,19 @@ def check_killed(checks, setting):
             checks.same("an observer", observer.ask(spelled(GET, b"o", "who", True)), (CONTENT, b"o", b"one"))
             front.kill("one")
             told, seconds = front.who(source)
-            checks.same("the next connection is the other server's", (told, seconds < AT_ONCE or seconds), ("two", True))
+            checks.same("the next connection goes to the other server", (told, seconds < AT_ONCE or seconds), ("two", True))
             checks.same("the observer's connection ends", observer.end()[1] is not None, True)
         with front.greeted(source) as observer:
             checks.same("it observes again", observer.ask(spelled(GET, b"o", "who", True)), (CONTENT, b"o", b"two"))
-        checks.same("the server is told down", front.wait(lambda: front.status("one")[0] == "DOWN"), True)
+        checks.same("the server is reported down", front.wait(lambda: front.status("one")[0] == "DOWN"), True)
         checks.same("connections while it is down", front.who(source)[0], "two")
         front.start("one")
-        checks.same("it is told up again", front.wait(lambda: front.status("one") == ("UP", "L7OK")), True)
+        checks.same("the server is reported up again", front.wait(lambda: front.status("one") == ("UP", "L7OK")), True)
         checks.same("connections afterwards", [front.who(found[it])[0] for it in ("one", "two")], ["one", "two"])
 
 
 def check_drained(checks, setting):
-    """A server that is to be replaced: who is connected to it stays, and new connections are another's."""
+    """Checks a server in state drain: its connections stay, and new connections go to another server."""
     with setting.front(("one", "two")) as front:
         source = sources_of(front)["one"]
         with front.greeted(source) as peer:
@@ -662,30 +665,30 @@ def check_drained(checks, setting):
 
 
 def check_stuck(checks, setting):
-    """A server that takes connections and says nothing."""
+    """Checks a server that accepts connections and sends nothing."""
     with setting.front(("one", "two"), places=QUICK_CHECKS + [("timeout check 2s", "timeout check 1s")]) as front:
         source = sources_of(front)["one"]
         with front.greeted(source) as observer:
             front.processes["one"].send_signal(signal.SIGSTOP)
-            checks.same("the server is told down", front.wait(lambda: front.status("one")[0] == "DOWN"), True)
-            checks.same("who was connected to it is let go", observer.end()[1] is not None, True)
-        checks.same("the next connection is the other server's", front.who(source)[0], "two")
+            checks.same("the server is reported down", front.wait(lambda: front.status("one")[0] == "DOWN"), True)
+            checks.same("peers of the server are disconnected", observer.end()[1] is not None, True)
+        checks.same("the next connection goes to the other server", front.who(source)[0], "two")
 
 
 def check_four(checks, setting):
-    """Four servers: each source has one of them, and what is stored at one is not at the others."""
+    """Checks four servers: each source uses one of them, and a resource stored at one does not exist at the others."""
     with setting.front(tuple(SERVERS)) as front:
         found = sources_of(front)
         checks.same("servers in use", sorted(found), sorted(SERVERS))
         sources = ["127.0.0.%d" % number for number in range(200, 220)]
         first = [front.who(source)[0] for source in sources]
-        checks.same("each source comes to its server again", [front.who(source)[0] for source in sources], first)
+        checks.same("each source gets its server again", [front.who(source)[0] for source in sources], first)
         with front.greeted(found["one"]) as peer:
             checks.same("a PUT", peer.ask(spelled(PUT, b"p", "here", payload=b"x")), (CREATED, b"p", b""))
         for name, source in found.items():
             with front.greeted(source) as peer:
                 wanted = (CONTENT, b"g", b"x") if name == "one" else (NOT_FOUND, b"g", b"")
-                checks.same("what a peer of %s sees of it" % name, peer.ask(spelled(GET, b"g", "here")), wanted)
+                checks.same("the resource for a peer of %s" % name, peer.ask(spelled(GET, b"g", "here")), wanted)
 
 
 CHECKS = [
@@ -693,14 +696,14 @@ CHECKS = [
     check_idle, check_alive, check_unread, check_full, check_killed, check_drained, check_stuck, check_four,
 ]
 
-# What a check of a server says and must be told.
+# The lines of the check of a server in the configuration.
 EXCHANGE = """    tcp-check send-binary 00e1
     tcp-check expect binary 60e1230100004140
     tcp-check send-binary 00e2
     tcp-check expect binary 00e3
 """
 
-# Each configuration that a check must refuse: the check, a text of what it runs, and what stands in its place.
+# Broken configurations: the check that must fail, a text of its configuration, and the replacement.
 BROKEN = [
     (check_file, "mode tcp", "mode http"),
     (check_file, "timeout connect 2s\n", "timeout conect 2s\n"),
@@ -738,17 +741,17 @@ BROKEN = [
 
 
 def made(check, server, folder, broken=()):
-    """What a check counts, with what keeps it from its end."""
+    """Runs a check and returns its counts. An exception counts as a failure."""
     checks = Checks()
     try:
         check(checks, Setting(server, folder, broken))
     except (OSError, subprocess.SubprocessError, messages.Malformed, LookupError) as trouble:
-        checks.same("%s is made" % check.__name__, trouble, None)
+        checks.same("%s runs to its end" % check.__name__, trouble, None)
     return checks
 
 
 def check_all(checks, server, folder):
-    """All checks on the configuration as it is."""
+    """Runs all checks on the unchanged configuration."""
     for check in CHECKS:
         began, counted = time.monotonic(), made(check, server, folder)
         checks.passed, checks.failed = checks.passed + counted.passed, checks.failed + counted.failed
@@ -757,10 +760,10 @@ def check_all(checks, server, folder):
 
 
 def check_broken(checks, server, folder):
-    """All broken configurations, of which each must be seen by its check."""
+    """Runs each broken configuration, which its check must detect."""
     for check, old, new in BROKEN:
         print("%s, with %r for %r" % (check.__name__, new, old), flush=True)
-        checks.same("this is seen", made(check, server, folder, [(old, new)]).failed > 0, True)
+        checks.same("the check fails", made(check, server, folder, [(old, new)]).failed > 0, True)
 
 
 def main(words):

@@ -1,8 +1,8 @@
-"""Lets 200 hostile peers at our server at once, with a good client beside them, and then looks at what is left of the server.
+"""Runs 200 hostile peers against the server at once, beside one well-behaved client, and then checks the state of the server.
 
     tests/system/hostile.py bin/coap-server
 
-Each hostile peer does its worst again and again, until the good client has all its answers.
+Each hostile peer repeats its attack until the well-behaved client has all its responses.
 """
 
 import asyncio
@@ -25,7 +25,7 @@ from peers import LIMIT, LOCAL, Server, free_port, read_bytes, reset  # noqa: E4
 CONNECTIONS = 256
 EACH = 25
 
-# Seconds: for an answer to the good client, for the whole, and of the server's idleness with its processor time.
+# Maximum seconds for a response to the well-behaved client, and for the whole script. Seconds of idling, and their maximum processor time.
 ANSWERED_IN = 2
 WHOLE = 60
 IDLE = 2
@@ -38,7 +38,7 @@ LISTENS = "coap-server: listening on %s:%d\n"
 
 GREATEST = 65_536
 
-# The codes of CoAP that are wanted here.
+# The codes of CoAP that this script uses.
 GET, PUT, CREATED, CHANGED, CONTENT = 0x01, 0x03, 0x41, 0x44, 0x45
 SETTINGS, RELEASE, ABORT = 0xE1, 0xE4, 0xE5
 
@@ -49,12 +49,12 @@ PEER_SETTINGS = bytes.fromhex("00e1")
 GET_ROOT = bytes.fromhex("010101")
 ROOT = bytes.fromhex("a14501" + GREETING)
 
-# What a peer has that never reads: bytes of room each way, and in a packet. So little that the system keeps some 100,000 bytes of Pongs
-# for it, and not some millions.
+# Sizes of the socket buffers of a peer that never reads, and of its packets, in bytes. With these, the system buffers about 100,000 bytes of
+# Pongs, and not some millions.
 ROOM = 4096
 PACKET = 1460
 
-# Pings whose tokens count, and their Pongs; a flood has so many at most, and sends so many at once.
+# Pings with their numbers as tokens, and their Pongs. PINGS is the maximum number for each flood, and BURST the number sent at once.
 PINGS = 200_000
 BURST = 500
 FLOOD = b"".join(b"\x04\xe2" + struct.pack(">I", it) for it in range(PINGS))
@@ -63,7 +63,7 @@ ONE_PING = 6
 
 
 def aborted(text):
-    """The Abort with this text."""
+    """Returns the Abort with this text."""
     return bytes.fromhex(ABORTS[text])
 
 
@@ -80,22 +80,22 @@ class Peer:
         self.greeting = b""
 
     async def open(self, address):
-        """Connects, and waits until the server has greeted it."""
+        """Connects, and waits for the CSM of the server."""
         await asyncio.get_running_loop().sock_connect(self.connection, address)
         self.greeting = await self.read(len(OWN_SETTINGS))
 
     async def send(self, stream):
-        """Sends bytes, as far as the server takes them."""
+        """Sends bytes, as far as the server accepts them."""
         with contextlib.suppress(ConnectionError):
             await asyncio.get_running_loop().sock_sendall(self.connection, stream)
 
     def end(self):
-        """Sends nothing more."""
+        """Ends the output of the connection."""
         with contextlib.suppress(OSError):
             self.connection.shutdown(socket.SHUT_WR)
 
     async def read(self, size):
-        """So many bytes, or fewer at the connection's end."""
+        """Returns `size` bytes, or fewer at the end of the connection."""
         told = b""
         with contextlib.suppress(ConnectionError):
             while len(told) < size and (piece := await asyncio.get_running_loop().sock_recv(self.connection, size - len(told))):
@@ -103,7 +103,7 @@ class Peer:
         return told
 
     async def rest(self):
-        """All bytes until the connection's end."""
+        """Returns all bytes until the end of the connection."""
         pieces = []
         with contextlib.suppress(ConnectionError):
             while piece := await asyncio.get_running_loop().sock_recv(self.connection, 65536):
@@ -111,12 +111,12 @@ class Peer:
         return b"".join(pieces)
 
 
-# What a hostile peer of each kind does, once the server has greeted it: what it is told until the connection's end, and what it
-# should be told.
+# The attacks, one function for each kind. Each begins after the CSM of the server, and returns the bytes received until the end of the
+# connection, and the expected bytes.
 
 
 async def slow(peer, number, over):
-    """A byte a second."""
+    """Sends one byte a second."""
     for byte in PEER_SETTINGS + GET_ROOT:
         await peer.send(bytes([byte]))
         await asyncio.sleep(1)
@@ -125,41 +125,41 @@ async def slow(peer, number, over):
 
 
 async def broken_off(peer, number, over):
-    """A reset within a message."""
+    """Resets the connection within a message."""
     await peer.send(PEER_SETTINGS + b"\xe1\x03\x6e" + bytes(number * 40))
     reset(peer.connection)
     return b"", b""
 
 
 async def half_closed(peer, number, over):
-    """A request, and nothing more."""
+    """Sends a request, and ends its output."""
     await peer.send(PEER_SETTINGS + GET_ROOT)
     peer.end()
     return await peer.rest(), ROOT
 
 
 async def too_long(peer, number, over):
-    """A message of one byte more than is taken, or of more than any machine has; and many bytes of it."""
+    """Sends many bytes of a message that is one byte too long, or longer than the memory of any machine."""
     head = b"\xe0\xfe\xf0\x01" if number % 2 else b"\xf0\xff\xff\xff\xff\x01"
     await peer.send(PEER_SETTINGS + head + bytes(GREATEST))
     return await peer.rest(), aborted("message too large")
 
 
 async def long_token(peer, number, over):
-    """A token length of nibble 15, or a token of 65 bytes and more."""
+    """Sends a token length of nibble 15, or a token of 65 bytes or more."""
     head = [b"\x0f", b"\x0d\x01\x34", b"\x0e\x01\x00\x00"][number % 3]
     await peer.send(PEER_SETTINGS + head + GET_ROOT)
     return await peer.rest(), aborted("bad token length")
 
 
 async def unsettled(peer, number, over):
-    """A request with no Capabilities and Settings before it."""
+    """Sends a request before its CSM."""
     await peer.send(GET_ROOT + PEER_SETTINGS)
     return await peer.rest(), aborted("CSM expected")
 
 
 async def send_pings(peer, over):
-    """Sends Pings until it is over, and then the connection's end; gives how many bytes."""
+    """Sends Pings until `over` is set, and then ends its output. Returns the number of bytes sent."""
     sent = 0
     await peer.send(PEER_SETTINGS)
     while sent < len(FLOOD) and not over.is_set():
@@ -170,7 +170,7 @@ async def send_pings(peer, over):
 
 
 async def flooding(peer, number, over):
-    """Pings, and no read until all others are done: then every one must have its Pong."""
+    """Sends Pings, and reads nothing until all others are done. Then every Ping must have its Pong."""
     sending = asyncio.create_task(send_pings(peer, over))
     try:
         await over.wait()
@@ -180,7 +180,7 @@ async def flooding(peer, number, over):
 
 
 async def rambling(peer, number, over):
-    """Bytes at random, the same in each run; every second peer begins with Capabilities and Settings."""
+    """Sends random bytes, the same in each run. Every second peer begins with a CSM."""
     chance = random.Random(number)
     stream = (PEER_SETTINGS if number % 2 else b"") + chance.randbytes(chance.randrange(1, 2000))
     await peer.send(stream)
@@ -192,7 +192,7 @@ KINDS = [slow, broken_off, half_closed, too_long, long_token, unsettled, floodin
 
 
 def last_text(told):
-    """The text of the Abort at the end of what a peer was told, or nothing; what cannot be read is given as it is."""
+    """Returns the text of the Abort at the end of the bytes received, or an empty text. Returns malformed bytes unchanged."""
     try:
         frames, left = messages.split(told)
         parsed = [messages.parse(frame) for frame in frames]
@@ -204,7 +204,7 @@ def last_text(told):
 
 
 def judged(frame, is_open):
-    """The text of the Abort that a message earns, or nothing where it earns none."""
+    """Returns the text of the Abort that a message must cause, or an empty text."""
     try:
         code, _, options, _ = messages.parse(frame)
     except messages.Malformed:
@@ -219,7 +219,7 @@ def judged(frame, is_open):
 
 
 def earned(stream):
-    """The text of the Abort that a stream earns, or nothing where it earns none. Signalling is not looked into."""
+    """Returns the text of the Abort that a stream must cause, or an empty text. Options of signalling messages are not checked."""
     is_open = False
     while stream:
         try:
@@ -241,18 +241,18 @@ def earned(stream):
 
 
 async def act(kind, number, address, peer, over):
-    """One connection of a hostile peer: what is wrong with what it was told, or nothing."""
+    """Makes one connection of a hostile peer. Returns the error in the bytes received, or an empty text."""
     with peer.connection:
         if not peer.greeting:
             await peer.open(address)
         if peer.greeting != OWN_SETTINGS:
             return "greeting %r" % peer.greeting
         told, wanted = await kind(peer, number, over)
-        return "" if told == wanted else "told %r, not %r" % (told[-100:], wanted[-100:])
+        return "" if told == wanted else "received %r, not %r" % (told[-100:], wanted[-100:])
 
 
 async def attack(kind, number, address, peer, over, acts):
-    """A hostile peer, on one connection after the other until it is over: what was wrong first, or nothing."""
+    """Repeats the attack of a hostile peer on new connections until `over` is set. Returns the first error, or an empty text."""
     trouble = ""
     try:
         while not trouble:
@@ -267,7 +267,7 @@ async def attack(kind, number, address, peer, over, acts):
 
 
 async def open_all(checks, address):
-    """All hostile peers, each greeted by the server while all others stay."""
+    """Opens all hostile connections at once, and waits for the CSM of the server on each."""
     peers = [(kind, number, Peer(kind is flooding)) for kind in KINDS for number in range(EACH)]
     opened = await asyncio.gather(*(asyncio.wait_for(it.open(address), LIMIT) for _, _, it in peers), return_exceptions=True)
     checks.same("hostile connections at once", [repr(it) for it in opened if it], [])
@@ -275,18 +275,18 @@ async def open_all(checks, address):
 
 
 def request(code, token, options, payload=b""):
-    """A request with options and a payload that fit into 12 bytes."""
+    """Returns a request whose options and payload fit into 12 bytes."""
     rest = options + (b"\xff" + payload if payload else b"")
     return bytes([len(rest) << 4 | len(token), code]) + token + rest
 
 
 def path_option(last, segment):
-    """Uri-Path behind an option with the number `last`."""
+    """Returns the option Uri-Path after an option with the number `last`."""
     return bytes([URI_PATH - last << 4 | len(segment)]) + segment
 
 
 class GoodClient:
-    """A client that asks one request after the other on one connection."""
+    """A client that sends one request after the other on one connection."""
 
     def __init__(self, address):
         self.connection = socket.create_connection(address, ANSWERED_IN)
@@ -296,7 +296,7 @@ class GoodClient:
         self.slowest = 0
 
     def next(self, ends):
-        """The next message, as far as it matters: its token with code, whether it has Observe, and payload."""
+        """Returns the token of the next message, and its code, whether it has Observe, and its payload."""
         while not self.told:
             self.connection.settimeout(max(ends - time.monotonic(), 0.001))
             piece = self.connection.recv(4096)
@@ -308,7 +308,7 @@ class GoodClient:
         return token, (code, OBSERVE in [number for number, _ in options], payload)
 
     def ask(self, stream, count):
-        """Sends a request, and gives the next messages but Capabilities and Settings, by their tokens."""
+        """Sends a request, and returns the next messages by their tokens, without a CSM."""
         began = time.monotonic()
         self.connection.sendall(stream)
         answers = {}
@@ -324,30 +324,30 @@ TIME = path_option(0, b"time")
 STORED = path_option(0, b"good")
 OBSERVED = bytes([OBSERVE << 4]) + path_option(OBSERVE, b"good")
 
-# The good client's requests: it makes the resource, observes it, and then changes, reads and asks for the moment in turn.
+# The requests of the well-behaved client: it creates a resource and observes it. Then it changes it, reads it, and reads /time, in turn.
 ROUNDS = 66
 OBSERVER = b"\x00"
 
 
 def good_requests():
-    """Each of the good client's 200 requests: its name, its bytes, and the answers to it; `None` stands for the moment."""
+    """Yields the 200 requests of the well-behaved client: name, bytes, and the expected messages, with `None` for a time."""
     yield "PUT", request(PUT, b"\x01", STORED, b"0"), {b"\x01": (CREATED, False, b"")}
     yield "observation", request(GET, OBSERVER, OBSERVED), {OBSERVER: (CONTENT, True, b"0")}
     for number in range(1, ROUNDS + 1):
         token, value = bytes([number]), b"%d" % number
         yield "PUT", request(PUT, token, STORED, value), {token: (CHANGED, False, b""), OBSERVER: (CONTENT, True, value)}
         yield "GET", request(GET, token, STORED), {token: (CONTENT, False, value)}
-        yield "GET of the moment", request(GET, token, TIME), {token: (CONTENT, False, None)}
+        yield "GET of /time", request(GET, token, TIME), {token: (CONTENT, False, None)}
 
 
 def moments_left_out(answers, moments):
-    """Answers with `None` for each payload that is one of these moments."""
+    """Returns the messages with `None` for each payload that is one of these times."""
     return {token: (code, observe, None if payload in moments else payload) for token, (code, observe, payload) in answers.items()}
 
 
 def be_good(address, acts):
-    """Asks all requests, each once another hostile peer has done its worst: of each its name, what was answered and what should be, up
-    to the first that is not answered in time; and the seconds of the slowest."""
+    """Sends all requests, each after an attack of another hostile peer. Stops at the first request without a response in time. Returns the
+    names of the requests with the messages received and expected, and the seconds of the slowest response."""
     client, answered, go_on = GoodClient(address), [], True
     with client.connection:
         for name, stream, wanted in good_requests():
@@ -363,7 +363,7 @@ def be_good(address, acts):
 
 
 async def be_hostile(checks, address):
-    """All hostile peers at once, and the good client beside them."""
+    """Runs all hostile peers at once, and the well-behaved client beside them."""
     over, acts = asyncio.Event(), threading.Semaphore(0)
     peers = await open_all(checks, address)
     attacks = [asyncio.create_task(attack(kind, number, address, peer, over, acts)) for kind, number, peer in peers]
@@ -375,48 +375,48 @@ async def be_hostile(checks, address):
     troubles = await asyncio.gather(*attacks)
     for (kind, number, _), trouble in zip(peers, troubles):
         checks.same("%s %d" % (kind.__name__, number), trouble, "")
-    print("the good client waited %.3f s at most" % slowest)
+    print("the good client waited at most %.3f s" % slowest)
 
 
 def told(connections, wanted):
-    """How many of these connections are told this, up to the first that is not."""
+    """Returns the number of these connections that receive the expected bytes, up to the first that does not."""
     return len(list(itertools.takewhile(lambda it: read_bytes(it, len(wanted)) == wanted, connections)))
 
 
 def greeted(connections):
-    """How many of these connections the server has greeted."""
+    """Returns the number of these connections that receive the CSM of the server."""
     return told(connections, OWN_SETTINGS)
 
 
 def ponged(connections):
-    """How many of these connections get a Pong for a Ping."""
+    """Returns the number of these connections that receive a Pong for a Ping."""
     for it in connections:
         it.sendall(FLOOD[:ONE_PING])
     return told(connections, PONGS[:ONE_PING])
 
 
 def connect(stack, address):
-    """A connection that is closed with the stack."""
+    """Returns a connection that is closed with the stack."""
     return stack.enter_context(socket.create_connection(address, LIMIT))
 
 
 def check_room(checks, stack, address):
-    """That the server takes as many connections as ever, and one more only once one of them leaves."""
+    """Checks that the server accepts the maximum number of connections, and one more only after one of them ends."""
     taken = [connect(stack, address) for _ in range(CONNECTIONS)]
-    checks.same("connections taken afterwards", greeted(taken), CONNECTIONS)
+    checks.same("connections accepted afterwards", greeted(taken), CONNECTIONS)
     for it in taken:
         it.sendall(PEER_SETTINGS)
     late = connect(stack, address)
-    # Each Pong took a turn of the server, in which it could have taken the late one.
+    # Each Pong took a turn of the server, in which the server could have accepted the late connection.
     checks.same("connections served", [ponged(taken), ponged(taken)], [CONNECTIONS] * 2)
-    checks.same("one too many waits", select.select([late], [], [], 0)[0], [])
+    checks.same("one connection too many waits", select.select([late], [], [], 0)[0], [])
     taken.pop().close()
     late.sendall(PEER_SETTINGS + GET_ROOT)
-    checks.same("it is served as one leaves", read_bytes(late, len(OWN_SETTINGS + ROOT)), OWN_SETTINGS + ROOT)
+    checks.same("it is served after one leaves", read_bytes(late, len(OWN_SETTINGS + ROOT)), OWN_SETTINGS + ROOT)
 
 
 def check_idle(checks, server, address):
-    """That a server costs next to nothing while nobody says anything."""
+    """Checks that a server with silent connections uses almost no processor time."""
     with contextlib.ExitStack() as stack:
         silent = [connect(stack, address) for _ in range(SILENT)]
         checks.same("silent connections", greeted(silent), SILENT)
@@ -427,26 +427,26 @@ def check_idle(checks, server, address):
 
 
 def check_attacked(checks, program, port, stack):
-    """A server that is attacked, asked for all its room, and killed while that is taken."""
+    """Checks a server that is attacked, then used by the maximum number of connections, and then killed."""
     with Server(program, WORDS, port=port) as server:
-        checks.same("it listens", server.said, LISTENS % (LOCAL, port))
+        checks.same("the server listens", server.said, LISTENS % (LOCAL, port))
         asyncio.run(be_hostile(checks, (LOCAL, port)))
         check_room(checks, stack, (LOCAL, port))
-        checks.same("it still runs", server.process.poll(), None)
+        checks.same("the server still runs", server.process.poll(), None)
 
 
 def check_again(checks, program, port):
-    """The server that is started at the same port at once."""
+    """Checks a server that is started at the same port at once."""
     with Server(program, WORDS, port=port) as server:
-        checks.same("it listens again", server.said, LISTENS % (LOCAL, port))
+        checks.same("the server listens again", server.said, LISTENS % (LOCAL, port))
         with server.connect() as connection:
             connection.sendall(PEER_SETTINGS + GET_ROOT)
-            checks.same("it serves again", read_bytes(connection, len(OWN_SETTINGS + ROOT)), OWN_SETTINGS + ROOT)
+            checks.same("the server serves again", read_bytes(connection, len(OWN_SETTINGS + ROOT)), OWN_SETTINGS + ROOT)
         check_idle(checks, server, (LOCAL, port))
 
 
 def check_all(checks, program):
-    """The attack, and what is left behind it. The connections to the server that is killed stay open until the end."""
+    """Runs the attack and the later checks. The connections to the killed server stay open until the end."""
     port = free_port()
     with contextlib.ExitStack() as stack:
         check_attacked(checks, program, port, stack)
@@ -458,9 +458,9 @@ def main(words):
     try:
         check_all(checks, os.path.abspath(words[0]))
     except OSError as trouble:
-        checks.same("all checks are made", trouble, None)
+        checks.same("all checks run", trouble, None)
     seconds = time.monotonic() - began
-    checks.same("seconds of the whole", seconds if seconds > WHOLE else WHOLE, WHOLE)
+    checks.same("total seconds", seconds if seconds > WHOLE else WHOLE, WHOLE)
     print("hostile: %d passed, %d failed" % (checks.passed, checks.failed))
     return 1 if checks.failed else 0
 

@@ -1,9 +1,9 @@
-"""Installs the programs, their manuals, the unit and HAProxy's configuration into temporary folders, and takes them away again.
+"""Installs the programs, their manuals, the systemd unit and the configuration of HAProxy into temporary folders, and uninstalls them.
 
     tests/system/install.py bin/coap-server bin/coap-client
 
-`make` runs over a copy of what is installed, whose sources are newer than the programs and whose builder fails, so that
-nothing can be built on the way. Where systemd-analyze is there, it looks at the unit; it is not installed for that.
+`make` runs on a copy of the installed files, with sources that are newer than the programs and a build script that fails. A build would therefore
+be noticed. If systemd-analyze exists, it checks the unit. The script does not install systemd-analyze.
 """
 
 import os
@@ -24,14 +24,14 @@ UNIT = "lib/systemd/system/coap-server.service"
 
 FRONT = "share/doc/coap-server/examples/haproxy.cfg"
 
-# what systemd-analyze says of the unit's exposure, at most, of 10; what is left is that it speaks to every network
+# Maximum exposure of the unit, of 10, as systemd-analyze reports it. The rest is the access to all networks.
 EXPOSURE = 1.1
 
 LIMIT = 60
 
 
 def wanted_files():
-    """What is installed below the prefix, each with its mode."""
+    """Returns the files installed below the prefix, each with its mode."""
     files = {"bin/%s" % name: 0o755 for name in PROGRAMS}
     files.update({"share/man/man1/%s.1" % name: 0o644 for name in PROGRAMS})
     files.update({UNIT: 0o644, FRONT: 0o644})
@@ -39,20 +39,20 @@ def wanted_files():
 
 
 def run(words, folder):
-    """The status of a run whose files are the owner's alone where nothing else is said, and what it wrote."""
+    """Runs a command with a umask of 077. Returns its status and output."""
     done = subprocess.run(words, cwd=folder, stdin=subprocess.DEVNULL, stdout=subprocess.PIPE, stderr=subprocess.STDOUT,
                           umask=0o077, timeout=LIMIT)
     return done.returncode, done.stdout.decode(errors="replace")
 
 
 def make(folder, target, prefix, destination):
-    """Runs a target of the Makefile; without a prefix it is the Makefile's own."""
+    """Runs a target of the Makefile. Without a prefix, the default of the Makefile is used."""
     words = ["make", target] + (["PREFIX=" + prefix] if prefix else []) + (["DESTDIR=" + destination] if destination else [])
     return run(words, folder)
 
 
 def copy_tree(folder, programs):
-    """Copies what is installed, with sources that are newer and a builder that fails."""
+    """Copies the installed files, with newer sources and a build script that fails."""
     os.makedirs(os.path.join(folder, "bin"))
     for name, program in zip(PROGRAMS, programs):
         shutil.copy(program, os.path.join(folder, "bin", name))
@@ -69,7 +69,7 @@ def copy_tree(folder, programs):
 
 
 def files_below(folder):
-    """The files below a folder, each with its mode."""
+    """Returns the files below a folder, each with its mode."""
     found = {}
     for place, _, names in os.walk(folder):
         for name in names:
@@ -79,7 +79,7 @@ def files_below(folder):
 
 
 def folder_modes(folder):
-    """The modes of the folders below a folder."""
+    """Returns the modes of the folders below a folder."""
     return {stat.S_IMODE(os.lstat(os.path.join(place, name)).st_mode) for place, names, _ in os.walk(folder) for name in names}
 
 
@@ -89,7 +89,7 @@ def read(*parts):
 
 
 def check_prefix(checks, tree, prefix):
-    """One installation: what is there then, what is in it, and what is left of it once it was taken away."""
+    """Checks one installation: the installed files, their content, and the files left after it is uninstalled."""
     told = prefix or "/usr/local"
     with tempfile.TemporaryDirectory(prefix="a folder ") as destination:
         checks.same("%s: install" % told, make(tree, "install", prefix, destination)[0], 0)
@@ -103,21 +103,21 @@ def check_prefix(checks, tree, prefix):
         checks.same("%s: HAProxy's configuration" % told, read(place, FRONT) == read(tree, "install", "haproxy.cfg"), True)
         unit = read(place, UNIT).decode()
         starts = re.findall(r"(?m)^ExecStart=(.*)$", unit)
-        checks.same("%s: what the unit starts" % told, starts, ["%s/bin/coap-server $COAP_SERVER_OPTIONS" % told])
-        checks.same("%s: what is left to be written into the unit" % told, re.findall(r"@\w+@", unit), [])
+        checks.same("%s: command of the unit" % told, starts, ["%s/bin/coap-server $COAP_SERVER_OPTIONS" % told])
+        checks.same("%s: placeholders in the unit" % told, re.findall(r"@\w+@", unit), [])
         others = [os.path.join(os.path.dirname(name), "other") for name in below]
         for name in others:
             with open(os.path.join(destination, name), "w", encoding="utf-8"):
                 pass
         checks.same("%s: uninstall" % told, make(tree, "uninstall", prefix, destination)[0], 0)
-        checks.same("%s: what uninstall leaves" % told, sorted(files_below(destination)), sorted(set(others)))
+        checks.same("%s: files after uninstall" % told, sorted(files_below(destination)), sorted(set(others)))
         for name in set(others):
             os.remove(os.path.join(destination, name))
-        checks.same("%s: nothing but folders" % told, files_below(destination), {})
+        checks.same("%s: folders alone" % told, files_below(destination), {})
 
 
 def check_unbuilt(checks, tree):
-    """That nothing is installed, and nothing built, where a program is missing."""
+    """Checks that nothing is installed and nothing is built if a program is missing."""
     with tempfile.TemporaryDirectory() as destination:
         missing = os.path.join(tree, "bin", "coap-client")
         os.rename(missing, missing + ".away")
@@ -127,20 +127,20 @@ def check_unbuilt(checks, tree):
 
 
 def check_unit(checks, tree):
-    """What systemd says of the unit, installed where it is to run."""
+    """Checks the installed unit with systemd-analyze."""
     with tempfile.TemporaryDirectory() as prefix:
         make(tree, "install", prefix, "")
         unit = os.path.join(prefix, UNIT)
         status, said = run(["systemd-analyze", "verify", "--man=no", unit], prefix)
         remarks = [line for line in said.splitlines() if "coap-server" in line]
-        checks.same("what systemd-analyze verifies", (status, remarks), (0, []))
+        checks.same("remarks of systemd-analyze", (status, remarks), (0, []))
         status, said = run(["systemd-analyze", "security", "--offline=true", "--no-pager", unit], prefix)
         exposure = re.search(r"Overall exposure level for coap-server\.service: ([\d.]+)", said)
         checks.same("the unit's exposure of at most %s" % EXPOSURE, (status, bool(exposure) and float(exposure[1]) <= EXPOSURE), (0, True))
 
 
 def check_numbered_unit(checks, tree):
-    """What systemd says of the unit of several servers, which docs/DEPLOYING.md makes of the installed one."""
+    """Checks the unit for several servers, which docs/DEPLOYING.md derives from the installed one, with systemd-analyze."""
     changes = re.findall(r"-e ('[^']*')", read(ROOT, "docs", "DEPLOYING.md").decode())
     with tempfile.TemporaryDirectory() as prefix:
         make(tree, "install", prefix, "")
@@ -150,7 +150,7 @@ def check_numbered_unit(checks, tree):
         for line in ("EnvironmentFile=-/etc/default/coap-server-%i", "ExecStartPre=/bin/sleep %i"):
             checks.same("%s in the numbered unit" % line, said.count(line), 1)
         status, said = run(["systemd-analyze", "verify", "--man=no", unit.replace("@", "@1")], prefix)
-        checks.same("what systemd-analyze verifies of it", (status, [line for line in said.splitlines() if "coap-server" in line]), (0, []))
+        checks.same("remarks of systemd-analyze on the numbered unit", (status, [line for line in said.splitlines() if "coap-server" in line]), (0, []))
 
 
 def check(programs):
@@ -165,7 +165,7 @@ def check(programs):
             check_unit(checks, tree)
             check_numbered_unit(checks, tree)
         else:
-            print("systemd-analyze is not there: it did not look at the unit")
+            print("systemd-analyze does not exist: the unit was not checked")
     print("install: %d passed, %d failed" % (checks.passed, checks.failed))
     return 1 if checks.failed else 0
 

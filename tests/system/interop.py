@@ -1,9 +1,9 @@
-"""Lets libcoap's client talk to our server and our client to libcoap's server, over sockets, and lets tshark read what both sent.
+"""Tests libcoap's client with the server, and the client with libcoap's server, over sockets, and decodes the bytes of both sides with tshark.
 
     tests/system/interop.py bin/coap-server bin/coap-client
 
-It needs Debian's packages libcoap3-bin and tshark, and installs what is missing. Each run of a client has a relay of its own between
-itself and the server, which keeps every byte of both directions.
+The script needs Debian's packages libcoap3-bin and tshark, and installs the missing ones. Each run of a client uses its own relay to the server,
+which records every byte of both directions.
 """
 
 import collections
@@ -25,12 +25,12 @@ from relay import Relay  # noqa: E402
 
 PACKAGES = {"coap-client-notls": "libcoap3-bin", "coap-server-notls": "libcoap3-bin", "tshark": "tshark"}
 
-# The codes of CoAP that are wanted here.
+# The codes of CoAP that this script uses.
 CREATED, DELETED, CHANGED, CONTENT, NOT_FOUND, SETTINGS = 0x41, 0x42, 0x44, 0x45, 0x84, 0xE1
 
 OBSERVE = 6
 
-# Resources that the servers have: a path, and what its content is like.
+# Resources of the servers: a path, and a pattern for the content.
 OUR_RESOURCES = [
     ("/", rb"coap\+tcp"),
     ("/time", rb"[1-9][0-9]{9}"),
@@ -47,7 +47,7 @@ LIBCOAP_RESOURCES = [
     ("/example_data", rb"(?:[a-z]123456789)+"),
 ]
 
-# What is done with one stored resource: a method, its payload, the code of the answer, and what the client prints.
+# Requests for one stored resource: method, payload, code of the response, and pattern for the output of the client.
 STORED = [
     ("put", "one", CREATED, rb""),
     ("put", "two", CHANGED, rb""),
@@ -56,24 +56,24 @@ STORED = [
     ("get", "", NOT_FOUND, rb""),
 ]
 
-# What an observer of a stored resource is told: its first state, and three changes.
+# States of an observed resource: the first one, and three changes.
 STATES = [b"first", b"second", b"third", b"fourth"]
 
-# Seconds of that observation, of one of the moment by libcoap's client, and of one by ours.
+# Seconds of that observation, and of those of /time by libcoap's client and by coap-client.
 WATCHES_STATES = 3
 LIBCOAP_WATCHES_TIME = 2
 WE_WATCH_TIME = 3
 
 BODY = random.Random(8323).randbytes(65_000)
 
-# How long a client waits for an answer.
+# Timeout of a client.
 WAITS = ["-B", "5"]
 
 Told = collections.namedtuple("Told", "status output error")
 
 
 def finish(process):
-    """What a client tells until it ends."""
+    """Waits for the end of a client, and returns its status, output and error output."""
     try:
         output, error = process.communicate(timeout=LIMIT)
         return Told(process.returncode, output, error.decode(errors="replace"))
@@ -84,12 +84,12 @@ def finish(process):
 
 
 def start(client, words, uri):
-    """Runs a client."""
+    """Starts a client."""
     return subprocess.Popen([client, *words, uri], stdin=subprocess.DEVNULL, stdout=subprocess.PIPE, stderr=subprocess.PIPE)
 
 
 def like(pattern, output):
-    """The pattern where the output is like it, else the output."""
+    """Returns the pattern if the output matches it, otherwise the output."""
     return pattern if re.fullmatch(pattern, output, re.DOTALL) else output
 
 
@@ -98,7 +98,7 @@ def first_word(text):
 
 
 def parsed(frame):
-    """Code, token, options and payload of a message, or nothing where it cannot be read."""
+    """Returns code, token, options and payload of a message, or empty values if it is malformed."""
     try:
         return messages.parse(frame)
     except (messages.Malformed, IndexError):
@@ -106,7 +106,7 @@ def parsed(frame):
 
 
 def parsed_of(conversation, from_server):
-    """The messages of one side, each as `parsed` gives it."""
+    """Returns the messages of one side, in the form of `parsed`."""
     return [parsed(frame) for side, frame in conversation.messages() if side == from_server]
 
 
@@ -115,10 +115,10 @@ def code_text(code):
 
 
 class Ends:
-    """A client, the server that it asks, and what they have sent in all their conversations."""
+    """A client and a server, with all conversations between them."""
 
-    # What our client adds to content that it prints, its status for an answer that is not 2.xx, and whether it waits for the
-    # answer to the end of an observation.
+    # For coap-client: the bytes that it prints after the content, and its status for a response other than 2.xx. Last, whether it waits for the
+    # last response of an observation.
     ending = b""
     declined = 2
     waits_for_the_end = True
@@ -131,19 +131,19 @@ class Ends:
         self.conversations = []
 
     def relay(self, name):
-        """A relay for one client, and its conversation under a name."""
+        """Returns a relay for one client, and records its conversation under a name."""
         relay = Relay(self.server.host, self.server.port)
         self.conversations.append((name, relay.conversation))
         return relay
 
     def run(self, name, words, path):
-        """Runs the client once: what it tells, and the conversation."""
+        """Runs the client once. Returns its result, and the conversation."""
         with self.relay(name) as relay:
             told = finish(start(self.client, WAITS + words, relay.origin + path))
         return told, relay.conversation
 
     def expect(self, words, path, code, pattern):
-        """Runs the client once, checks what it tells and the code that the server sends, and gives the conversation."""
+        """Runs the client once, checks its result and the code that the server sends, and returns the conversation."""
         name = " ".join([self.name + ":", *words, path])
         told, conversation = self.run(name, words, path)
         pattern += self.ending if pattern else b""
@@ -159,7 +159,7 @@ class Ends:
 
 
 class LibcoapAsks(Ends):
-    """libcoap's client and the server that it asks."""
+    """libcoap's client, and the server that it uses."""
 
     ending = b"\n"
     declined = 0
@@ -167,20 +167,20 @@ class LibcoapAsks(Ends):
 
 
 def check_resources(ends, resources):
-    """Resources that the server has, and one that it does not have."""
+    """Checks existing resources, and an absent one."""
     for path, pattern in resources:
         ends.expect([], path, CONTENT, pattern)
     ends.expect([], "/none", NOT_FOUND, b"")
 
 
 def check_stored(ends):
-    """A resource that a client makes, changes, reads and deletes."""
+    """Checks a resource that a client creates, changes, reads and deletes."""
     for method, payload, code, pattern in STORED:
         ends.expect(["-m", method] + (["-e", payload] if payload else []), "/stored", code, pattern)
 
 
 def content_of(name):
-    """The bytes of a file, where there is one."""
+    """Returns the bytes of a file, or None if it does not exist."""
     if not os.path.exists(name):
         return None
     with open(name, "rb") as file:
@@ -188,7 +188,7 @@ def content_of(name):
 
 
 def check_body(ends):
-    """A great body, in one message, and back."""
+    """Checks a large body, in one message in each direction."""
     with tempfile.TemporaryDirectory() as folder:
         there, back = os.path.join(folder, "there"), os.path.join(folder, "back")
         with open(there, "wb") as file:
@@ -201,43 +201,43 @@ def check_body(ends):
 
 
 def watch(ends, path, seconds, states):
-    """Observes a resource, lets another client put these states one by one, each as the one before was told, and gives what the
-    observer tells and its conversation."""
+    """Observes a resource while another client stores these states, each after the notification of the one before. Returns a name, the result of
+    the observer, and its conversation."""
     name = "%s: -s %d %s" % (ends.name, seconds, path)
     with ends.relay(name) as relay:
         process = start(ends.client, WAITS + ["-s", str(seconds)], relay.origin + path)
         for state in states[:1]:
-            ends.checks.same(name + ": told %r" % state, relay.conversation.wait_for(True, state), True)
+            ends.checks.same(name + ": notified of %r" % state, relay.conversation.wait_for(True, state), True)
         for state in states[1:]:
             ends.put(path, state.decode(), CHANGED)
-            ends.checks.same(name + ": told %r" % state, relay.conversation.wait_for(True, state), True)
+            ends.checks.same(name + ": notified of %r" % state, relay.conversation.wait_for(True, state), True)
         told = finish(process)
     return name, told, relay.conversation
 
 
 def check_end(ends, name, conversation):
-    """How an observation ends in the bytes, and the contents of which it told while it lasted."""
+    """Checks the messages at the end of an observation. Returns the payloads of all responses and notifications."""
     asked = [it for it in parsed_of(conversation, False) if it[0] != SETTINGS]
     answered = [it for it in parsed_of(conversation, True) if it[0] != SETTINGS]
     first = asked[0][1] if asked else None
     asks = [(code, token == first, [value for number, value in options if number == OBSERVE]) for code, token, options, _ in asked]
-    ends.checks.same(name + ": GET with Observe 0, and then 1, with one token", asks, [(1, True, [b""]), (1, True, [b"\x01"])])
+    ends.checks.same(name + ": GETs with Observe 0 and 1, with one token", asks, [(1, True, [b""]), (1, True, [b"\x01"])])
     tells = [[number for number, _ in options if number == OBSERVE] for _, _, options, _ in answered]
-    ends.checks.same(name + ": Observe in all answers but the last", tells, [[OBSERVE]] * (len(answered) - 1) + [[]])
+    ends.checks.same(name + ": Observe in all responses but the last", tells, [[OBSERVE]] * (len(answered) - 1) + [[]])
     kinds = {(code, token == first) for code, token, _, _ in answered}
-    ends.checks.same(name + ": every answer is content for that token", kinds, {(CONTENT, True)})
+    ends.checks.same(name + ": every response is 2.05 with that token", kinds, {(CONTENT, True)})
     return [it[3] for it in answered]
 
 
 def check_watched(ends, name, told, contents):
-    """What the observer prints, of these contents of which the last one came at its end."""
+    """Checks the output of the observer. The last of these contents is that of the last response."""
     printed = contents if ends.waits_for_the_end else contents[:-1]
     wanted = (0, b"".join(printed) + ends.ending, "")
     ends.checks.same(name + ": the client's status, output and error", tuple(told), wanted)
 
 
 def check_states(ends):
-    """An observation of a stored resource that another client changes."""
+    """Checks an observation of a stored resource that another client changes."""
     ends.put("/watched", STATES[0].decode(), CREATED)
     name, told, conversation = watch(ends, "/watched", WATCHES_STATES, STATES)
     contents = check_end(ends, name, conversation)
@@ -246,23 +246,23 @@ def check_states(ends):
 
 
 def check_time(ends, seconds):
-    """An observation of the moment."""
+    """Checks an observation of /time. Returns a name and the times received."""
     name, told, conversation = watch(ends, "/time", seconds, [])
     contents = check_end(ends, name, conversation)
     moments = contents[:-1]
-    ends.checks.same(name + ": moments enough, and each told once", len(set(moments)) == len(moments) >= seconds or moments, True)
+    ends.checks.same(name + ": enough times, each sent once", len(set(moments)) == len(moments) >= seconds or moments, True)
     check_watched(ends, name, told, contents)
     return name, moments
 
 
 def check_rising(ends, name, moments):
-    """That our server tells seconds, each behind the one before."""
+    """Checks that the server sends seconds in increasing order."""
     ends.checks.same(name + ": seconds", [re.sub(rb"[0-9]+", b"", it) for it in moments], [b""] * len(moments))
-    ends.checks.same(name + ": one behind the other", moments, sorted(moments))
+    ends.checks.same(name + ": increasing order", moments, sorted(moments))
 
 
 def check_read(checks, conversations):
-    """That tshark reads every message of both sides, with no remark."""
+    """Checks that tshark decodes every message of both sides without a remark."""
     sent = [conversation.messages() for _, conversation in conversations]
     for (name, conversation), frames, rows in zip(conversations, sent, decode(sent)):
         for side, whose in ((False, "the client's"), (True, "the server's")):
@@ -270,36 +270,36 @@ def check_read(checks, conversations):
             checks.same("%s: tshark is given %s bytes" % (name, whose), read == conversation.stream(side).hex(), True)
         codes = [str(parsed(frame)[0]) for _, frame in frames]
         checks.same(name + ": the codes that tshark reads", [row["coap.code"] for row in rows], codes)
-        checks.same(name + ": what tshark remarks", faults(rows), [])
+        checks.same(name + ": remarks of tshark", faults(rows), [])
 
 
 def check_our_server(checks, program):
-    """libcoap's client against our server: all that was said."""
+    """Tests libcoap's client with the server. Returns all conversations."""
     with Server(program, ["-d", "16"]) as server:
-        ends = LibcoapAsks(checks, "libcoap's client, our server", "coap-client-notls", server)
+        ends = LibcoapAsks(checks, "libcoap's client, coap-server", "coap-client-notls", server)
         check_resources(ends, OUR_RESOURCES)
         check_stored(ends)
         check_body(ends)
         check_states(ends)
         check_rising(ends, *check_time(ends, LIBCOAP_WATCHES_TIME))
-        checks.same("our server still runs", server.process.poll(), None)
+        checks.same("coap-server still runs", server.process.poll(), None)
     return ends.conversations
 
 
 def check_our_server_at_6(checks, program):
-    """The same over IPv6, as far as that matters."""
+    """Tests libcoap's client with the server over IPv6."""
     with Server(program, ["-d", "16"], "::1") as server:
-        ends = LibcoapAsks(checks, "libcoap's client, our server, IPv6", "coap-client-notls", server)
+        ends = LibcoapAsks(checks, "libcoap's client, coap-server, IPv6", "coap-client-notls", server)
         check_resources(ends, OUR_RESOURCES)
         check_stored(ends)
     return ends.conversations
 
 
 def check_our_client(checks, client):
-    """Our client against libcoap's server: all that was said."""
+    """Tests coap-client with libcoap's server. Returns all conversations."""
     with Server("coap-server-notls", ["-d", "16"], says=False) as server:
         checks.same("libcoap's server listens", server.accepts(), True)
-        ends = Ends(checks, "our client, libcoap's server", client, server)
+        ends = Ends(checks, "coap-client, libcoap's server", client, server)
         check_resources(ends, LIBCOAP_RESOURCES)
         check_stored(ends)
         check_body(ends)
@@ -309,17 +309,17 @@ def check_our_client(checks, client):
 
 
 def check_our_client_at_6(checks, client):
-    """The same over IPv6, as far as that matters."""
+    """Tests coap-client with libcoap's server over IPv6."""
     with Server("coap-server-notls", ["-d", "16"], "::1", says=False) as server:
         checks.same("libcoap's server listens, IPv6", server.accepts(), True)
-        ends = Ends(checks, "our client, libcoap's server, IPv6", client, server)
+        ends = Ends(checks, "coap-client, libcoap's server, IPv6", client, server)
         check_resources(ends, LIBCOAP_RESOURCES)
         check_stored(ends)
     return ends.conversations
 
 
 def check_all(checks, server, client):
-    """Both directions, and then every byte that was said."""
+    """Runs both directions, and then decodes all bytes."""
     conversations = check_our_server(checks, server) + check_our_server_at_6(checks, server)
     conversations += check_our_client(checks, client) + check_our_client_at_6(checks, client)
     check_read(checks, conversations)
@@ -331,7 +331,7 @@ def main(words):
         checks.same("packages can be installed", install(PACKAGES), True)
         check_all(checks, *(os.path.abspath(it) for it in words))
     except (OSError, struct.error, subprocess.SubprocessError) as trouble:
-        checks.same("all checks are made", trouble, None)
+        checks.same("all checks run", trouble, None)
     print("interop: %d passed, %d failed" % (checks.passed, checks.failed))
     return 1 if checks.failed else 0
 

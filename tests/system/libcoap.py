@@ -1,8 +1,7 @@
-"""Lets a real client, libcoap's, talk to the built program, and lets tshark read what both sent.
+"""Tests libcoap's client with the server over standard input and output, and decodes the bytes of both sides with tshark.
 
-It needs Debian's packages libcoap3-bin (its client without TLS is called `coap-client-notls`) and tshark, and installs
-what is missing. Each case is a connection of its own: this script takes it, starts the program for it, hands the
-bytes on both ways and keeps them.
+The script needs Debian's packages libcoap3-bin (its client without TLS is `coap-client-notls`) and tshark, and installs the missing ones. Each case
+uses its own connection. The script accepts it, starts the program for it, and forwards and records the bytes of both directions.
 """
 
 import concurrent.futures
@@ -21,7 +20,7 @@ from peers import LIMIT, LOCAL  # noqa: E402
 PACKAGES = {"coap-client-notls": "libcoap3-bin", "tshark": "tshark"}
 
 CASES = [
-    # method, path, payload, what the client prints, the error that it tells, the code that the server sends
+    # Method, path, payload, output of the client, error of the client, and code that the server sends.
     ("get", "/", "", "coap+tcp", "", 0x45),
     ("get", "/time", "", "0", "", 0x45),
     ("get", "/.well-known/core", "", "</>;ct=0,</time>;ct=0;obs,</async>;ct=0", "", 0x45),
@@ -33,14 +32,14 @@ CASES = [
 ]
 
 BROKEN = [
-    # what a server must not send, and what `fault` has to say of it
+    # Malformed bytes from a server, and the result of `fault` for them.
     ("an option that runs past the end", "31450159ff30", "malformed"),
     ("the same in Capabilities and Settings", "50e12301000029", "malformed"),
     ("half a message", "614501c0ff", "unread"),
     ("a token length of 15", "0fe1", "unread"),
 ]
 
-# Seconds for an answer to the client.
+# Timeout of the client in seconds.
 CLIENT_WAITS = 5
 
 
@@ -54,7 +53,7 @@ def status_of(process):
 
 
 def serve(listener, program, conversation):
-    """Joins the client that connects with a program of its own, and gives the program's status."""
+    """Connects the client to a new process of the program, and returns the status of the program."""
     connection, _ = listener.accept()
     ours, theirs = socket.socketpair()
     with connection, ours:
@@ -65,7 +64,7 @@ def serve(listener, program, conversation):
 
 
 def ask(port, method, path, payload):
-    """Runs the client once: its status, what it prints, and the first word of what it tells as an error."""
+    """Runs the client once. Returns its status, its output, and the first word of its errors."""
     command = ["coap-client-notls", "-m", method, "-B", str(CLIENT_WAITS)]
     if payload:
         command += ["-e", payload]
@@ -75,7 +74,7 @@ def ask(port, method, path, payload):
 
 
 def talk(program, case):
-    """One case: what the client tells, the program's status, and what both sent."""
+    """Runs one case. Returns the result of the client, the status of the program, and the conversation."""
     conversation = Conversation()
     with socket.create_server((LOCAL, 0)) as listener, concurrent.futures.ThreadPoolExecutor(1) as pool:
         listener.settimeout(LIMIT)
@@ -85,21 +84,21 @@ def talk(program, case):
 
 
 def check_client(checks, name, case, told, status):
-    """What the client tells, and how the program ends."""
+    """Checks the result of the client, and the status of the program."""
     _, _, _, output, error, _ = case
     checks.same(name + ": the client's status, output and error", told, (0, output, error))
     checks.same(name + ": the server's status", status, 0)
 
 
 def check_bytes(checks, name, code, sent, rows):
-    """That tshark reads every byte that the server sent, with no remark, as two messages."""
+    """Checks that tshark decodes every byte of the server without a remark, as two messages."""
     checks.same(name + ": the bytes that tshark is given", "".join(row["tcp.payload"] for row in rows), sent.hex())
     checks.same(name + ": the codes that tshark reads", [row["coap.code"] for row in rows], [str(0xE1), str(code)])
-    checks.same(name + ": what tshark remarks", faults(rows), [])
+    checks.same(name + ": remarks of tshark", faults(rows), [])
 
 
 def check_broken(checks, name, wanted, rows):
-    """That a broken message does not get past `fault`."""
+    """Checks that `fault` reports a malformed message."""
     checks.same("broken, %s" % name, faults(rows), [wanted])
 
 

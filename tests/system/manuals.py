@@ -1,8 +1,8 @@
-"""Holds the manuals against the programs and their sources: form, options, ranges, defaults, statuses, lines and examples.
+"""Compares the manuals with the programs and their sources: form, options, ranges, defaults, statuses, lines and examples.
 
     tests/system/manuals.py bin/coap-server bin/coap-client
 
-It needs Debian's package mandoc, and installs it where it is missing.
+The script needs Debian's package mandoc, and installs it if it is missing.
 """
 
 import contextlib
@@ -26,34 +26,34 @@ PACKAGES = {"mandoc": "mandoc"}
 
 SECTIONS = ["NAME", "SYNOPSIS", "DESCRIPTION", "EXIT STATUS", "EXAMPLES", "DIAGNOSTICS", "SEE ALSO", "STANDARDS", "LIMITATIONS"]
 
-# the status for words that are not understood
+# The status for an invalid command line.
 USAGE = 1
 
-# Seconds: for an example, which may listen or wait; for one of the client whose server answers, of which the longest observes
-# for ten; and for everything else, which ends by itself.
+# Timeouts in seconds. EXAMPLE_LASTS is for an example, which may listen or wait. ANSWERED_LASTS is for one of the client with a server that
+# responds; the longest observes for ten seconds. LIMIT is for all others, which end by themselves.
 EXAMPLE_LASTS = 1
 ANSWERED_LASTS = 30
 LIMIT = 30
 
-# what both programs have of libraries that tell faults
+# Sources of both programs that are in libraries with error texts.
 LIBRARIES = ["coap_io/src/*.rt", "coap_program/src/*.rt", "coap_sockets/src/*.rt", "coap_command_line/src/arguments.rt"]
 
 SOURCES = {
-    # where a program has its lines and statuses
+    # Source files with the lines and statuses of a program.
     "coap-server": ["coap_server/src/*.rt", "coap_serve/src/*.rt", "coap_script/src/*.rt", "coap_model/src/*.rt",
                     "coap_server_engine/src/*.rt"] + LIBRARIES,
     "coap-client": ["coap_client_main/src/*.rt", "coap_client_engine/src/run.rt", "coap_client_engine/src/run/*.rt",
                     "coap_client_engine/src/error_lines.rt"] + LIBRARIES,
 }
 
-# what a plan that the words cannot ask for would be told, which is no matter of a manual
+# Text for a plan that no command line can make. The manual does not have it.
 UNREACHED = {"a limit is out of its range"}
 
 URI = "coap+tcp://127.0.0.1:%d/"
 
 
 def server_faults(port):
-    """Words, standard input, and the line of the manual that they lead to. The port cannot be listened at."""
+    """Returns arguments, standard input, and the line of the manual for them. The server cannot listen at the port."""
     return [
         (["-p", "0"], b"", "bad value for option"),
         (["--stdio", "--script", "-"], b"", "options exclude each other"),
@@ -67,7 +67,7 @@ def server_faults(port):
 
 
 def client_faults(port):
-    """Words, standard input, and the line of the manual that they lead to. Nobody listens at the port."""
+    """Returns arguments, standard input, and the line of the manual for them. No program listens at the port."""
     uri = URI % port
     return [
         (["x"], b"", "bad target n"),
@@ -82,7 +82,7 @@ def client_faults(port):
 
 
 def run(words, stream=b""):
-    """The status of a run that ends by itself, and what it wrote to standard output and to standard error."""
+    """Runs a program that ends by itself. Returns its status, its output and its error output."""
     done = subprocess.run(words, input=stream, capture_output=True, timeout=LIMIT)
     return done.returncode, done.stdout.decode(errors="replace"), done.stderr.decode(errors="replace")
 
@@ -98,7 +98,7 @@ class Manual:
         self.sections = dict(zip(parts[1::2], (part.splitlines() for part in parts[2::2])))
 
     def items(self, section):
-        """The items of the outer lists of a section: the words behind `.It`, and the lines up to the next item."""
+        """Returns the items of the outer lists of a section: the words after `.It`, and the lines up to the next item."""
         found, depth = [], 0
         for line in self.sections[section]:
             depth += line.startswith(".Bl") - line.startswith(".El")
@@ -109,7 +109,7 @@ class Manual:
         return found
 
     def options(self):
-        """The options that are described: name, name of the value or nothing, and description."""
+        """Returns the described options: name, name of the value or nothing, and description."""
         found = []
         for words, lines in self.items("DESCRIPTION"):
             text = " ".join(line for line in lines if not line.startswith("."))
@@ -120,12 +120,12 @@ class Manual:
         return found
 
     def called_with(self):
-        """The options of the synopsis in their order: name, and name of the value or nothing."""
+        """Returns the options of the synopsis in order: name, and name of the value or nothing."""
         text = "\n".join(self.sections["SYNOPSIS"])
         return [("-" + name, value or "") for name, value in re.findall(r"\bFl (\S+)(?: Ar (\S+))?", text)]
 
     def lines_told(self):
-        """The lines that are listed as diagnostics, each with its status."""
+        """Returns the lines listed as diagnostics, each with its status."""
         found, status, depth = {}, None, 0
         for line in self.sections["DIAGNOSTICS"]:
             depth += line.startswith(".Bl") - line.startswith(".El")
@@ -136,20 +136,20 @@ class Manual:
         return found
 
     def examples(self):
-        """The blocks of examples as they are shown: each a list of commands with the lines that they write."""
+        """Returns the blocks of examples as they are rendered: each a list of commands with the lines that they write."""
         shown = re.split(r"(?m)^(?=\S)", self.rendered()[1])
         text = next(part for part in shown if part.startswith("EXAMPLES\n"))
         blocks = [textwrap.dedent(block) for block in text.split("\n\n") if block.lstrip().startswith("$ ")]
         return [[command.partition("\n")[::2] for command in re.split(r"(?m)^\$ ", block)[1:]] for block in blocks]
 
     def rendered(self):
-        """The status of mandoc, and the manual as a text without bold and underlined letters."""
+        """Returns the status of mandoc, and the manual as a text without bold and underlined letters."""
         status, text, _ = run(["mandoc", "-T", "ascii", self.path])
         return status, re.sub(r".\x08", "", text)
 
 
 def source_of(patterns):
-    """The text of these source files of crates."""
+    """Returns the text of these source files of crates."""
     files = sorted(name for pattern in patterns for name in glob.glob(os.path.join(ROOT, "crates", pattern)))
     text = ""
     for name in files:
@@ -159,38 +159,38 @@ def source_of(patterns):
 
 
 def front_of(line):
-    """A line up to the first of its parts that differ from run to run."""
+    """Returns a line up to the first part that differs from run to run."""
     return re.split(r"[{]| (?:n|file|option|address|-\w)$", line)[0].strip()
 
 
 def known_options(program):
-    """The options that the program lists itself: name, and name of the value or nothing."""
+    """Returns the options that the program lists itself: name, and name of the value or nothing."""
     _, output, error = run([program, "--help"])
     rows = re.findall(r"(?m)^ +(-[^\s,]+(?:, --\S+)?)(?: <(.*?)>)?", output + error)
     return {(name, value) for names, value in rows for name in names.split(", ")}
 
 
 def check_form(checks, manual):
-    """That mandoc has nothing to say against the page, and shows it with all its sections."""
+    """Checks that mandoc accepts the page without a remark, and renders all its sections."""
     done = run(["mandoc", "-T", "lint", "-W", "warning", manual.path])
-    checks.same("%s: what mandoc says" % manual.name, done, (0, "", ""))
+    checks.same("%s: remarks of mandoc" % manual.name, done, (0, "", ""))
     status, text = manual.rendered()
     checks.same("%s: mandoc's status" % manual.name, status, 0)
-    checks.same("%s: sections that are missing" % manual.name, [it for it in SECTIONS if "\n%s\n" % it not in text], [])
+    checks.same("%s: missing sections" % manual.name, [it for it in SECTIONS if "\n%s\n" % it not in text], [])
 
 
 def check_options(checks, manual, program):
-    """That the program has the options of its manual and no others, and names their values alike."""
+    """Checks that the program has the options of its manual and no others, with the same names of their values."""
     described = {(name, value.upper()) for name, value, _ in manual.options()}
     checks.same("%s: options" % manual.name, sorted(described), sorted(known_options(program)))
     called = {(name, value.upper()) for name, value in manual.called_with()} | {("-h", ""), ("-V", "")}
     checks.same("%s: options of the synopsis" % manual.name, sorted(called), sorted(described))
     status, output, error = run([program, "--nothing"])
-    checks.same("%s: an option that is not there" % manual.name, (status, output, error[:6]), (USAGE, "", "error:"))
+    checks.same("%s: an unknown option" % manual.name, (status, output, error[:6]), (USAGE, "", "error:"))
 
 
 def check_order(checks, manual, program, more):
-    """That of bad values the first one in the order of the synopsis is told."""
+    """Checks that of several bad values the first one in the order of the synopsis is reported."""
     left = [name for name, value in manual.called_with() if value and name not in ("-e", "-f", "-o", "--script")]
     while left:
         words = [program] + [word for name in reversed(left) for word in (name, "x")] + more
@@ -200,7 +200,7 @@ def check_order(checks, manual, program, more):
 
 
 def check_ranges(checks, manual, program, more):
-    """That the ends of each range are taken, and what lies beyond them is not."""
+    """Checks that the ends of each range are accepted, and the numbers beyond them are rejected."""
     ranges = [(name, found) for name, _, text in manual.options() if (found := re.search(r"([\d,]+) to ([\d,]+)", text))]
     for name, found in ranges:
         low, high = (int(end.replace(",", "")) for end in found.groups())
@@ -210,12 +210,12 @@ def check_ranges(checks, manual, program, more):
             value = "%d,a" % number if name == "-O" else str(number)
             status, _, error = run([program, name, value] + more)
             refused = error == "%s: bad value for %s\n" % (manual.name, name) and status == USAGE
-            checks.same("%s: %s %d is refused" % (manual.name, name, number), refused, not low <= number <= high)
+            checks.same("%s: %s %d is rejected" % (manual.name, name, number), refused, not low <= number <= high)
     return len(ranges)
 
 
 def number_in(word, source):
-    """The number that a word of a source is: digits, a size of coap_wire, or a local name of one."""
+    """Returns the number for a word of a source: digits, a size of coap_wire, or a local name of one."""
     word = word.removesuffix(" as u64")
     if named := re.search(r"let %s = (\w+) as u64;" % re.escape(word), source):
         word = named[1]
@@ -224,7 +224,7 @@ def number_in(word, source):
 
 
 def check_defaults(checks, manual, source):
-    """That the default of each option with a number is that of the source."""
+    """Checks that the default of each option with a number is that of the source."""
     rows = re.findall(r'number\(\s*matches,\s*"(-[\w-]+)",\s*[\w ]+,\s*[\w ]+,\s*([\w ]+?),?\s*\)', source)
     checks.same("%s: options with numbers are found" % manual.name, bool(rows), True)
     texts = {name: text for name, _, text in manual.options()}
@@ -234,7 +234,7 @@ def check_defaults(checks, manual, source):
 
 
 def check_formats(checks, manual, program, more):
-    """That the content formats by name are those of the source, and are taken."""
+    """Checks that the named Content-Formats are those of the source, and are accepted."""
     _, lines = next(item for item in manual.items("DESCRIPTION") if item[0][:2] == ["Fl", "t"])
     named = re.findall(r"\.Dq (\S+)\n\((\d+)\)", "\n".join(lines))
     source = source_of(["coap_command_line/src/arguments/client.rt"])
@@ -244,38 +244,38 @@ def check_formats(checks, manual, program, more):
 
 
 def check_statuses(checks, manual, source):
-    """That the statuses are those that the program has a name for."""
+    """Checks that the statuses are those for which the program has a constant."""
     listed = {int(words[0]) for words, _ in manual.items("EXIT STATUS")}
     checks.same("%s: statuses" % manual.name, listed, {int(it) for it in re.findall(r"const [A-Z]+: u8 = (\d);", source)})
 
 
 def check_lines(checks, manual, source):
-    """That each line of the manual stands in the source, and each line that the source tells in the manual."""
+    """Checks that the source has each line of the manual, and the manual each line of the source."""
     said = {front_of(text.removeprefix(manual.name + ": ")) for text in re.findall(r'b?"([^"\n]+?)(?:\\n)?"', source)}
     told = set(re.findall(r'tell\(rt, "([^"]+)"', source)) | set(re.findall(r'"%s: ([^"{]+)' % manual.name, source))
     listed = {front_of(line) for line in manual.lines_told()}
-    checks.same("%s: lines that the source has not" % manual.name, sorted(listed - said), [])
-    checks.same("%s: lines that the manual has not" % manual.name, sorted({front_of(it) for it in told} - UNREACHED - listed), [])
+    checks.same("%s: lines missing in the source" % manual.name, sorted(listed - said), [])
+    checks.same("%s: lines missing in the manual" % manual.name, sorted({front_of(it) for it in told} - UNREACHED - listed), [])
 
 
 def check_hindrances(checks, manual):
-    """That the second lines of a client that cannot connect are those of the source."""
+    """Checks that the second lines of a client that cannot connect are those of the source."""
     text = "\n".join(next(lines for words, lines in manual.items("DIAGNOSTICS") if words == ["cannot", "connect"]))
     wanted = re.findall(r'#\[error\("([^"]+)"\)\]', source_of(["coap_sockets/src/io_results.rt"]))
-    checks.same("%s: what hinders a connection" % manual.name, re.findall(r"(?m)^\.It (.*)", text), wanted)
+    checks.same("%s: errors of a connection" % manual.name, re.findall(r"(?m)^\.It (.*)", text), wanted)
 
 
 def check_faults(checks, manual, program, faults):
-    """That what goes wrong is told by the line and the status of the manual."""
+    """Checks that each error is reported with the line and the status of the manual."""
     statuses = manual.lines_told()
     for words, stream, line in faults:
         status, _, error = run([program] + words, stream)
         told = error.startswith("%s: %s" % (manual.name, front_of(line)))
-        checks.same("%s %r: %r is told, and the status" % (manual.name, words, line), (told, status), (True, statuses[line]))
+        checks.same("%s %r: %r and the status" % (manual.name, words, line), (told, status), (True, statuses[line]))
 
 
 def play(command, folder, programs, lasts=EXAMPLE_LASTS):
-    """The status of an example, nothing where it had to be ended, and what it wrote to standard output and to standard error."""
+    """Runs an example. Returns its status, or None if it had to be killed, its output and its error output."""
     words = dict(os.environ, PATH=programs + os.pathsep + os.environ["PATH"])
     ran = subprocess.Popen(["sh", "-c", command], cwd=folder, env=words, stdin=subprocess.DEVNULL, stdout=subprocess.PIPE,
                            stderr=subprocess.PIPE, start_new_session=True)
@@ -283,7 +283,7 @@ def play(command, folder, programs, lasts=EXAMPLE_LASTS):
         output, error = ran.communicate(timeout=lasts)
         status = ran.returncode
     except subprocess.TimeoutExpired:
-        # it listens, or waits for an answer
+        # The example listens, or waits for a response.
         os.killpg(ran.pid, signal.SIGKILL)
         output, error = ran.communicate()
         status = None
@@ -291,20 +291,20 @@ def play(command, folder, programs, lasts=EXAMPLE_LASTS):
 
 
 def check_examples(checks, manual, programs):
-    """That the program takes the words of each example, and that an example whose output is shown writes it."""
+    """Checks that the program accepts the arguments of each example, and that an example with output writes it."""
     blocks = manual.examples()
     checks.same("%s: examples are found" % manual.name, bool(blocks), True)
     for block in blocks:
         with tempfile.TemporaryDirectory() as folder:
             for command, shown in block:
                 status, output, error = play(command, folder, programs)
-                checks.same("%s: %r is understood" % (manual.name, command), (status == USAGE, "error:" in error), (False, False))
+                checks.same("%s: %r is valid" % (manual.name, command), (status == USAGE, "error:" in error), (False, False))
                 if shown.strip():
-                    checks.same("%s: what %r writes" % (manual.name, command), (status, output.rstrip()), (0, shown.rstrip()))
+                    checks.same("%s: output of %r" % (manual.name, command), (status, output.rstrip()), (0, shown.rstrip()))
 
 
 def check_answered(checks, manual, server, programs):
-    """That the client's examples end well with a server that answers, where they name its port."""
+    """Checks that the examples of the client succeed with a server that responds, with its port in their URIs."""
     with Server(server, ["-d", "100"]) as listening, tempfile.TemporaryDirectory() as folder:
         for command, _ in (example for block in manual.examples() for example in block):
             there = re.sub(r"//(127\.0\.0\.1|\[::1\]:5700)/", "//127.0.0.1:%d/" % listening.port, command)
@@ -314,7 +314,7 @@ def check_answered(checks, manual, server, programs):
 
 @contextlib.contextmanager
 def named_programs(server, client):
-    """A folder in which the programs have their names, whatever the files are called."""
+    """Yields a folder in which the programs have their names, whatever the names of the files are."""
     with tempfile.TemporaryDirectory() as folder:
         os.symlink(server, os.path.join(folder, "coap-server"))
         os.symlink(client, os.path.join(folder, "coap-client"))
@@ -323,7 +323,7 @@ def named_programs(server, client):
 
 @contextlib.contextmanager
 def closed_port():
-    """A port of this machine at which nobody listens, and nobody else can."""
+    """Yields a port of this machine at which no program listens, and none can."""
     with socket.socket() as taken:
         taken.bind(("127.0.0.1", 0))
         yield taken.getsockname()[1]

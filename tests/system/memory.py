@@ -1,13 +1,16 @@
-"""Counts what the built programs allocate, by valgrind: what no contract sees.
+"""Counts the allocations of the built programs with valgrind, since no contract states them.
 
     tests/system/memory.py bin/coap-server
 
-No message but one that stores a representation allocates anything; a replacing PUT allocates the room of
-its bytes alone; a framer that is raised requests its new size in bytes (measured with the probe); a queue requests as many bytes
-as it can hold; nothing is lost.
+The checks are:
 
-Of a script, its events and the lines that need memory are allocated too. So two scripts are compared that are read alike and
-write as many lines of each kind: in one of them the events are of a connection that is not there.
+- Only messages that store a representation allocate. A PUT that replaces one allocates its bytes alone.
+- Raising the maximum size of a framer requests the new size in bytes (measured with the probe).
+- A queue requests as many bytes as it can hold.
+- No memory is lost.
+
+A script also allocates its events and the lines that need memory. Therefore two scripts are compared that have events of the same form and write
+the same number of lines of each kind. In one of them, the events are for a connection that does not exist.
 """
 
 import os
@@ -25,28 +28,28 @@ PACKAGES = {"valgrind": "valgrind"}
 
 LISTING = b"</>;ct=0,</time>;ct=0;obs,</async>;ct=0".hex()
 
-# plays events on a framer alone
+# Plays events on a framer alone.
 PROBE = os.path.join(ROOT, "crates/coap_probe/out/coap_probe")
 
-# what a peer sends over and over, and its answer
+# Messages that a peer sends repeatedly, and their responses.
 KINDS = [
     ("GET of the root", "010101", "a14501" + GREETING),
-    ("GET of the moment", "510101b474696d65", "514501c02101ff30"),
+    ("GET of /time", "510101b474696d65", "514501c02101ff30"),
     ("GET of /async without delay", "810101b56173796e634130", "614501c0ff646f6e65"),
     ("GET of the listing", "d1040101bb2e77656c6c2d6b6e6f776e04636f7265", "d11d4501c128ff" + LISTING),
     ("GET of an absent path", "210101b178", "018401"),
     ("DELETE of an absent path", "210401b178", "014201"),
-    ("PUT where nothing may be stored", "410301b178ff79", "018401"),
+    ("PUT with a resource limit of 0", "410301b178ff79", "018401"),
     ("Ping", "01e201", "01e301"),
     ("Ping with Custody", "11e20120", "11e30120"),
     ("Empty", "0000", ""),
     ("Capabilities and Settings", "00e1", ""),
 ]
 
-# PUT of `x` at `a`, and its answer
+# A PUT of `x` at `a`, and its response.
 STORED = ("410301b161ff78", "014101")
 
-# the same once a resource is there, for requests that store nothing
+# The same with an existing resource, for requests that store nothing.
 STORED_KINDS = [
     ("GET of a stored resource", "210101b161", "4145014101ff78"),
     ("GET of a longer listing", "d1040101bb2e77656c6c2d6b6e6f776e04636f7265", "d1264501c128ff" + LISTING + b",</a>;obs".hex()),
@@ -55,18 +58,18 @@ STORED_KINDS = [
     ("DELETE of another path", "210401b178", "014201"),
 ]
 
-# PUT of another byte at `a`, and of two
+# A PUT of another byte at `a`, and of two bytes.
 REPLACING = ("410302b161ff79" "510302b161ff7978", "014402" "014402")
 
 
 def watched(checks, name, command, stream, written):
-    """How often the program allocates over its input."""
+    """Runs the program with valgrind, checks its output, and returns its number of allocations."""
     with tempfile.NamedTemporaryFile("r") as log:
         line = ["valgrind", "--leak-check=full", "--show-leak-kinds=all", "--log-file=" + log.name] + command
         ran = subprocess.run(line, input=stream, stdout=subprocess.PIPE, timeout=300)
         said = log.read()
     checks.same("output of %s" % name, (ran.returncode, ran.stdout == written), (0, True))
-    checks.same("nothing lost by %s" % name, [it in said for it in ("no leaks are possible", "ERROR SUMMARY: 0 errors")], [True] * 2)
+    checks.same("no memory lost by %s" % name, [it in said for it in ("no leaks are possible", "ERROR SUMMARY: 0 errors")], [True] * 2)
     usage = re.search(r"total heap usage: ([\d,]+) allocs, ([\d,]+) frees", said)
     allocated, freed = (int(it.replace(",", "")) for it in usage.groups())
     checks.same("frees of %s" % name, freed, allocated)
@@ -74,12 +77,12 @@ def watched(checks, name, command, stream, written):
 
 
 def counted(checks, name, command, sent, answered):
-    """How often the program allocates over what the peer sends."""
+    """Returns the number of allocations of the program for the bytes that the peer sends."""
     return watched(checks, name, command, bytes.fromhex(sent), bytes.fromhex(CSM + answered))
 
 
 def flat(checks, command, before, kind):
-    """As many allocations for 3,000 messages of a kind as for 1,000."""
+    """Checks that 3,000 messages of a kind make as many allocations as 1,000."""
     name, sent, answered = kind
     few, many = (
         counted(checks, "%s, %d times" % (name, times), command, "00e1" + before[0] + sent * times, before[1] + answered * times)
@@ -89,7 +92,7 @@ def flat(checks, command, before, kind):
 
 
 def replacing(checks, storing):
-    """Each replacing PUT allocates once."""
+    """Checks that each replacing PUT allocates once."""
     counts = [
         counted(checks, "%d PUTs" % (2 * pairs), storing + ["--stdio"], "00e1" + STORED[0] + REPLACING[0] * pairs, STORED[1] + REPLACING[1] * pairs)
         for pairs in (0, 500, 1000, 1500)
@@ -99,29 +102,30 @@ def replacing(checks, storing):
     checks.same("one allocation for each PUT, its bytes", first, 1000)
 
 
-# a script that opens a connection, where this is stored, and its lines
+# A script that opens a connection, a script for a stored resource before it, and their lines.
 OPENED = ("open\ndrain 1\nin 1 00e1\n", "open 1\nout 1 %s\nin 1 2\n" % CSM)
 STORED_BEFORE = ("put /a - 78\n", "put 1\n")
 
-# all answers to a script must wait in the queue: it has 131,072 bytes, and takes messages while 65,536 of these are free
+# Maximum number of bytes of all responses to a script, which must fit into the queue. The queue has 131,072 bytes, and messages are processed while
+# 65,536 of these are free.
 WAITING = 65_536
 
 
 def replayed(checks, name, command, *parts):
-    """How often the program allocates over a script, whose parts are texts with the lines that they write."""
+    """Returns the number of allocations of the program for a script, whose parts are texts with the lines that they write."""
     script, lines = ("".join(texts) for texts in zip(*parts))
     return watched(checks, name, command, script.encode(), lines.encode())
 
 
 def arriving(connection, sent, times):
-    """So many messages on a connection, each an event, and their lines. Connection 7 is not there."""
+    """Returns `times` messages on a connection, each an event, and their lines. Connection 7 does not exist."""
     line = "in 1 %d" % (len(sent) // 2) if connection == 1 else "in 7 fault 1"
     return "in %d %s\n" % (connection, sent) * times, (line + "\n") * times
 
 
 def scripted(checks, command, before, kind):
-    """A script of 1,000 messages of a kind allocates as much as one whose messages are on no connection, and so does one of 3,000,
-    where all answers fit into the queue."""
+    """Checks that a script of 1,000 messages of a kind allocates as much as one whose messages are for a connection that does not exist. Checks
+    3,000 messages too, if all responses fit into the queue."""
     name, sent, answered = kind
     for times in (1000, 3000):
         if times * len(answered) // 2 <= WAITING:
@@ -132,24 +136,24 @@ def scripted(checks, command, before, kind):
 
 
 def drained(checks, command):
-    """What a line with bytes allocates it allocates for each such line, whatever was drained before."""
+    """Checks that the allocations for a line with bytes are the same for each such line, whatever was drained before."""
     sent, line = "01e201", "out 1 01e301\n"
 
     def more(times):
         told = ("in 1 %s\ndrain 1\n" % sent * times, ("in 1 3\n" + line) * times)
         untold = ("in 1 %s\ndrain 7\n" % sent * times, "in 1 3\ndrain 7 fault 1\n" * times)
-        return [replayed(checks, "a script with %d %s" % (times, name), command, OPENED, part) for name, part in (("lines of bytes", told), ("refused drains", untold))]
+        return [replayed(checks, "a script with %d %s" % (times, name), command, OPENED, part) for name, part in (("lines of bytes", told), ("rejected drains", untold))]
 
     (first, without), (second, without_second) = more(1000), more(3000)
     checks.same("allocations of 3,000 lines of bytes and of 1,000", second - without_second, 3 * (first - without))
 
 
-# what changes a resource, and the GET that registers an observer of it
+# Events that change a resource, and the GET that registers an observer of it.
 OBSERVING = ("put", "310104605161"), ("tick", "61010460" "5474696d65")
 
 
 def changes(word, times):
-    """So many changes of what is observed, and their lines."""
+    """Returns `times` changes of the observed resource, and their lines."""
     if word == "tick":
         text = "".join("tick %d\n" % it for it in range(1, times + 1))
         return text, text
@@ -157,29 +161,29 @@ def changes(word, times):
 
 
 def telling(checks, storing, word, request):
-    """What changes is told an observer without any allocation."""
+    """Checks that the notification of an observer makes no allocation."""
     for times in (1000, 3000):
         told, untold = (
             replayed(checks, "%d times %s, observed on %d" % (times, word, on), storing + ["--script", "-"], STORED_BEFORE, OPENED, arriving(on, request, 1), changes(word, times))
             for on in (1, 7)
         )
-        checks.same("allocations of telling %d times %s" % (times, word), told, untold)
+        checks.same("allocations of notifications of %d times %s" % (times, word), told, untold)
 
 
 def putting(checks, server, storing):
-    """What the program itself puts allocates once, its bytes: the server refuses the same script, since nothing may be stored."""
+    """Checks that a put of the program itself allocates once, for its bytes. In the script for comparison, the server rejects all puts."""
 
     def more(times):
         text, lines = changes("put", times)
         put = replayed(checks, "%d puts" % times, storing + ["--script", "-"], STORED_BEFORE, (text, lines))
-        refused = replayed(checks, "%d refused puts" % times, [server, "--script", "-"], ("put /a - 78\n", "put fault 3\n"), (text, "put fault 3\n" * times))
+        refused = replayed(checks, "%d rejected puts" % times, [server, "--script", "-"], ("put /a - 78\n", "put fault 3\n"), (text, "put fault 3\n" * times))
         return put - refused
 
     checks.same("allocations of 2,000 more puts", more(3000) - more(1000), 2000)
 
 
 def requested(command, stream):
-    """The bytes that a program requests over its input."""
+    """Returns the number of bytes that a program requests for its input."""
     with tempfile.NamedTemporaryFile("r") as log:
         line = ["valgrind", "--log-file=" + log.name] + command
         subprocess.run(line, input=stream, stdout=subprocess.DEVNULL, timeout=300, check=True)
@@ -187,20 +191,20 @@ def requested(command, stream):
 
 
 def raised(sizes):
-    """The bytes that the probe requests for a framer of 1,152 bytes that is raised to these sizes."""
+    """Returns the number of bytes that the probe requests for a framer of 1,152 bytes that is raised to these sizes."""
     events = ["= frame 1152", *("raise %d" % it for it in sizes)]
     return requested([PROBE], "".join(it + "\n" for it in events).encode())
 
 
 def raising(checks):
-    """A framer that is raised requests as many bytes as its new size."""
+    """Checks that raising a framer requests as many bytes as its new size."""
     before = raised([1152, 1152])
     checks.same("bytes of a framer raised to 2,000", raised([2000, 2000]) - before, 2000)
     checks.same("bytes of a framer raised to 1,153 and to 1,500", raised([1153, 1500]) - before, 1153 + 1500)
 
 
 def queueing(checks, server):
-    """A connection requests as many bytes for its queue as the queue can hold."""
+    """Checks that a connection requests as many bytes for its queue as the queue can hold."""
     sizes = [65_536, 65_537, 131_072, 4_194_304]
     first, *others = (requested([server, "--queue", str(it), "--script", "-"], b"open\n") for it in sizes)
     for size, bytes_of_all in zip(sizes[1:], others):

@@ -1,4 +1,4 @@
-"""Runs the built programs from outside: their words, their bytes, their fault lines and their statuses.
+"""Runs the built programs, and checks their command lines, output, error lines and statuses.
 
     tests/system/program.py bin/coap-server bin/coap-client
 """
@@ -21,11 +21,11 @@ def run(program, words, stream=b"", stdin=None, stdout=subprocess.PIPE):
 
 
 STREAMS = [
-    # what the peer sends, and what it gets behind our Capabilities and Settings; tests/vectors/stdio.py plays the rows of such runs
+    # The bytes that the peer sends, and the output after the CSM of the server. tests/vectors/stdio.py plays the rows of such runs.
     ("00e1" "0000" "11e20720", "11e30720"),
     ("70e123100000202108" "00e2", "00e3"),
     ("f0ffffffff01" "00e1" "00e2", ABORTS["message too large"]),
-    # the resources: the moment, the listing, an absent one; nothing can be stored, and what is held at the end is given up
+    # Resources: /time, the listing, and an absent one. Nothing can be stored, and a delayed response is dropped at the end.
     ("00e1" "510107b474696d65", "514507c02101ff30"),
     ("00e1" "d1040106bb2e77656c6c2d6b6e6f776e04636f7265", "d11d4506c128ff" + b"</>;ct=0,</time>;ct=0;obs,</async>;ct=0".hex()),
     ("00e1" "210102b161", "018402"),
@@ -34,51 +34,51 @@ STREAMS = [
     ("00e1" "610104b56173796e63" "11e20620" "01e207", "01e307"),
     ("00e1" "810104b56173796e634130" "11e20620", "614504c0ff646f6e65" "11e30620"),
     ("00e1" "b10104b56173796e634433363031", "018004"),
-    # a request between Pings
+    # A request between Pings.
     ("00e1" "01e201" "01e202" "0001" "01e203", "01e301" "01e302" "a045" + GREETING + "01e303"),
-    # more than one read takes
+    # More bytes than one read returns.
     ("00e1" + "01e205" * 3000, "01e305" * 3000),
-    # the greatest message, nearly all of it options of no length, and one that is a byte longer
+    # A message of the maximum size, mainly options of length 0, and one that is a byte longer.
     ("00e1" "e0feef01" + "00" * 65532 + "01e203", "a045" + GREETING + "01e303"),
     ("00e1" "e0fef001", ABORTS["message too large"]),
-    # stops, each with more bytes behind it
+    # Stops, each followed by more bytes.
     ("00e1" "1001ff" "00e2", ABORTS["bad message"]),
     ("00e1" "10e210" "00e2", ABORTS["bad signal option"]),
     ("10e110" "00e2", ABORTS["bad CSM option 1"]),
     ("60e1250000000001" "00e2", ABORTS["bad CSM option 2"]),
     ("00e1" "00e2" "00e4" "00e2", "00e3"),
-    # the peer takes few bytes, and less from one message on to the next
+    # The peer's limit is small, and becomes smaller from one message to the next.
     ("20e12103" "11e20620" "010107", "01e306" "01a007"),
     ("20e12114" "20e12102" "0001" "010107" "0001", "00a0"),
 ]
 
 SCRIPTS = [
-    # a script, and what is written: the line of each event
+    # A script, and its output: the line of each event.
     ("", ""),
     ("\n# open\n\n", ""),
     ("open\ndrain 1\n", f"open 1\nout 1 {CSM}\n"),
     ("open\n# é\n\nopen\ndrain 2 3\nstatus 1\nin 3 00\n", "open 1\nopen 2\nout 2 60e123\nstatus 1 waiting kept 0 waiting 8 pending 0 observers 0\nin 3 fault 1\n"),
-    # the program's settings: 16 connections, no dynamic resource, counts that begin at 0
+    # The settings of the program: 16 connections, no created resource, and counters that begin at 0.
     ("open\n" * 17, "".join(f"open {it}\n" for it in range(1, 17)) + "open fault 1\n"),
     ("put /a - 00\nremove /a\ntick 0\n", "put fault 3\nremove fault 1\ntick 0\n"),
-    # connections see the same moment
+    # All connections have the same time.
     (
         "open\ndrain 1\nopen\ndrain 2\nin 1 00e16101076054" "74696d65\nin 2 00e1510108b4" "74696d65\ntick 5\ndrain 1\ndrain 2\n",
         f"open 1\nout 1 {CSM}\nopen 2\nout 2 {CSM}\nin 1 11\nin 2 10\ntick 5\nout 1 61450760602101ff3061450760602101ff35\nout 2 514508c02101ff30\n",
     ),
-    # a Pong with Custody waits for an answer that is held, also once the peer released the connection
+    # A Pong with Custody waits for a delayed response, even after the peer sent Release.
     (
         "open\ndrain 1\nin 1 00e1\nin 1 810105b56173796e634133\nin 1 11e20620\nin 1 00e4\ntick 2\ndrain 1\ntick 3\ndrain 1\nstatus 1\n",
         f"open 1\nout 1 {CSM}\nin 1 2\nin 1 11\nin 1 4\nin 1 2 stop 9\ntick 2\nout 1 -\ntick 3\nout 1 614505c0ff646f6e6511e30620\n"
         "status 1 releasing 9 kept 0 waiting 0 pending 0 observers 0\n",
     ),
-    # 10,000 answers are held and sent on one connection, and nothing is left
+    # 10,000 delayed responses are sent on one connection, and none is left.
     (
         "open\ndrain 1\nin 1 00e1\n" + "".join(f"in 1 810105b56173796e634131\ntick {it}\ndrain 1\n" for it in range(1, 10001)) + "status 1\n",
         f"open 1\nout 1 {CSM}\nin 1 2\n" + "".join(f"in 1 11\ntick {it}\nout 1 614505c0ff646f6e65\n" for it in range(1, 10001))
         + "status 1 open kept 0 waiting 0 pending 0 observers 0\n",
     ),
-    # more than one read takes, and a line that is longer than one write
+    # More bytes than one read returns, and a line that is longer than one write.
     (
         "open\ndrain 1\nin 1 00e1" + "01e205" * 20000 + "\ndrain 1\n" + "status 1\n" * 3000,
         f"open 1\nout 1 {CSM}\nin 1 60002\nout 1 " + "01e305" * 20000 + "\n" + "status 1 open kept 0 waiting 0 pending 0 observers 0\n" * 3000,
@@ -86,7 +86,7 @@ SCRIPTS = [
 ]
 
 BAD_SCRIPTS = [
-    # a script, and the number of the first line that is no event
+    # A script, and the number of the first line that is not an event.
     ("opens\n", 1),
     ("open\n\n# in\nin 1\nopen\n", 4),
     ("open\ndrain 1", 2),
@@ -94,7 +94,7 @@ BAD_SCRIPTS = [
     ("open\n" * 1000 + "é\n", 1001),
 ]
 
-# the words of coap-server and of coap-client, the status, and what is told behind the program's name; None is a text of clap's
+# The arguments of coap-server and of coap-client, the status, and the text after the program's name; None is a text of clap.
 SERVER_WORDS = [
     (["--stdio", "--stdio"], 1, None), (["--script"], 1, None), (["--stdio=1"], 1, None), (["-"], 1, None), (["stdio"], 1, None), ([""], 1, None),
     (["--script", "-", "-"], 1, None), (["-", "--script"], 1, None), (["-x"], 1, None), (["--stdio", "--Queue", "70000"], 1, None), (["-d"], 1, None),
@@ -112,7 +112,7 @@ SERVER_WORDS = [
     (["--turns", "0"], 1, "bad value for --turns"), (["--turns", "1000000000001"], 1, "bad value for --turns"),
     (["--turns", "0", "-p", "0", "--script", "-", "--stdio"], 1, "bad value for -p"),
     (["--queue", "1000", "--stdio"], 1, "bad value for --queue"),
-    # addresses for documentation, which no machine has
+    # Addresses for documentation, which no machine has.
     (["-A", "192.0.2.1"], 3, "cannot listen"), (["-A", "2001:db8::1", "-p", "0005683"], 3, "cannot listen"),
     (["-A", "192.0.2.1", "-p", "1", "--turns", "1"], 3, "cannot listen"),
 ]
@@ -120,7 +120,7 @@ SERVER_WORDS = [
 
 
 def hindrance_v6():
-    """What hinders a connection to port 1 of this machine over IPv6, which a system may not have."""
+    """Returns the error of a connection to port 1 of this machine over IPv6, which a system may not support."""
     unreachable = dict.fromkeys((errno.EADDRNOTAVAIL, errno.ENETUNREACH, errno.EHOSTUNREACH), "host unreachable")
     try:
         with socket.socket(socket.AF_INET6) as it:
@@ -130,7 +130,7 @@ def hindrance_v6():
     return {errno.ECONNREFUSED: "connection refused", **unreachable}.get(code, "system fault")
 
 
-# what is told behind the program's name where nobody listens, and of a name that is not known
+# Texts after the program's name if no program listens, and for an unknown name.
 REFUSED, REFUSED_V6, UNKNOWN = (
     "cannot connect\ncoap-client: %s" % why for why in ("connection refused", hindrance_v6(), "unknown name")
 )
@@ -150,11 +150,11 @@ CLIENT_WORDS = [
     (["-f", "/nothing/here", "-m", "put", "coap+tcp://h/"], 3, "cannot open /nothing/here"), (["-f", "/", "coap+tcp://h/"], 3, "cannot read"),
     (["-f", "/dev/zero", "coap+tcp://h/"], 1, "bad value for -f"), (["-o", "/nothing/here", "coap+tcp://127.0.0.1:1/"], 3, REFUSED),
     (["coap+tcp://127.0.0.1:1/"], 3, REFUSED), (["-f", "-", "-m", "put", "-t", "application/cbor", "coap+tcp://[::1]:1/a"], 3, REFUSED_V6),
-    # names that no host has
+    # Names that no host has.
     (["coap+tcp://%ff/"], 3, UNKNOWN), (["coap+tcp://a%00b/"], 3, UNKNOWN),
 ]
 
-# how the help of each program begins, and what it explains, each in one line
+# The beginning of the help of each program, and the options and arguments that it explains, each in one line.
 SERVER_HELP = (
     b"A CoAP server over TCP (RFC 8323)\n\nUsage: coap-server [OPTIONS]\n\nOptions:\n",
     ["-A <ADDRESS>", "-p <PORT>", "-d <MAX>", "--stdio", "--script <FILE>", "--max-message <N>", "--max-sent <N>", "--queue <N>", "--pending <N>"]
@@ -167,7 +167,7 @@ CLIENT_HELP = (
     + ["-U", "-w", "-h, --help", "-V, --version"],
 )
 
-# the words before --stdio, what is sent, and what is answered behind our Capabilities and Settings
+# The arguments before --stdio, the input, and the output after the CSM.
 STDIO_WORDS = [
     (["--max-message", "1152"], "00e1", "50e12204804140", ""),
     (["-d", "1"], "00e1410301b161ff78210102b161", CSM, "0141014145024101ff78"),
@@ -177,13 +177,13 @@ STDIO_WORDS = [
 
 
 def stored(name):
-    """A file beside the program's sources."""
+    """Returns the content of a file beside the sources of the program."""
     with open(os.path.join(ROOT, "crates", "coap_server", name), "rb") as it:
         return it.read()
 
 
 def replay(program, script):
-    """What comes of a script on standard input, and of the same script in a file."""
+    """Returns the results of a script on standard input, and of the same script in a file."""
     with tempfile.NamedTemporaryFile() as file:
         file.write(script)
         file.flush()
@@ -192,7 +192,7 @@ def replay(program, script):
 
 
 def check_scripts(program, checks):
-    """Scripts that are run, and those that are not."""
+    """Checks scripts that are run, and invalid ones."""
     checks.same("stored script", replay(program, stored("stdin")), [(0, stored("stdout"), b"")] * 2)
     for script, lines in SCRIPTS:
         checks.same("lines for %r" % script, replay(program, script.encode()), [(0, lines.encode(), b"")] * 2)
@@ -213,16 +213,16 @@ def check_scripts(program, checks):
 
 
 def check_words(program, name, rows, checks):
-    """What words come to that ask for nothing that the program does."""
+    """Checks arguments that are invalid, or with which the program fails."""
     for words, status, told in rows:
         done = run(program, words, b"open\n")
-        # clap's own text is some lines, whatever they say
+        # The text of clap has several lines, which are not compared.
         wanted = (done.stderr or None) if told is None else b"%s: %s\n" % (name.encode(), told.encode())
         checks.same("%s %r" % (name, words), (done.returncode, done.stdout, done.stderr), (status, b"", wanted))
 
 
 def check_help(program, name, told, checks):
-    """Help and the version, which go to standard output."""
+    """Checks the help and the version, which are printed to standard output."""
     begins, explained = told
     for words in [["--help"], ["-h"], ["--help", "x", "-x"]]:
         done = run(program, words)
@@ -237,7 +237,7 @@ def check_help(program, name, told, checks):
     with open("/dev/full", "wb") as full:
         for words in [["--help"], ["--version"]]:
             done = run(program, words, stdout=full)
-            checks.same("%s %r into what is full" % (name, words), (done.returncode, done.stderr), (3, b"%s: cannot write\n" % name.encode()))
+            checks.same("%s %r into a full device" % (name, words), (done.returncode, done.stderr), (3, b"%s: cannot write\n" % name.encode()))
 
 
 def main(words):

@@ -1,10 +1,10 @@
 #!/usr/bin/env python3
-"""Runs both programs over real sockets, against each other and against peers that this script plays.
+"""Runs both programs over real sockets, with each other and with peers of this script.
 
     tests/system/sockets.py bin/coap-server bin/coap-client [NAME ..]
 
-A NAME is that of a check, as `files` of check_files; without one all are made. Nothing sleeps where a line or a connection can be
-waited for. libcoap's programs are asked by tests/system/interop.py, and hostile peers are played by tests/system/hostile.py.
+A NAME selects a check, such as `files` for check_files; without a NAME all checks run. The script does not sleep if it can wait for a line or a
+connection. tests/system/interop.py uses libcoap's programs, and tests/system/hostile.py has hostile peers.
 """
 
 import contextlib
@@ -30,13 +30,13 @@ ETAG = 4
 
 PING, PONG = bytes.fromhex("00e2"), bytes.fromhex("00e3")
 
-# GET of the root with token 1 behind the peer's Capabilities and Settings, and all that the server says to it
+# An empty CSM and a GET of the root with the token 01, and all bytes that the server sends for them.
 HELLO = bytes.fromhex("00e1" "010101")
 GREETED = bytes.fromhex(CSM + "a14501" + GREETING)
 
 
 def flood(peer, piece):
-    """Sends a piece again and again, until nothing more goes for a while."""
+    """Sends the same bytes repeatedly, until no more are accepted for a while."""
     peer.setblocking(False)
     until = time.monotonic() + LIMIT / 2
     while select.select([], [peer], [], 0.3)[1] and time.monotonic() < until:
@@ -44,7 +44,7 @@ def flood(peer, piece):
 
 
 def client(program, words, stream=b"", seconds=LIMIT, **how):
-    """What a client comes to: its status, standard output and standard error. It is started as `how` tells Popen."""
+    """Runs a client, with `how` for Popen. Returns its status, its output and its error output."""
     try:
         done = subprocess.run([program, *words], input=stream, capture_output=True, timeout=seconds, **how)
         return done.returncode, done.stdout, done.stderr
@@ -53,8 +53,10 @@ def client(program, words, stream=b"", seconds=LIMIT, **how):
 
 
 class Waits:
-    """Programs whose calls are recorded by preloaded libraries: waits.c, and what else is named of tests/harness. A wait takes so many
-    milliseconds at most, if that is said, and the program's clocks go on as if it had taken all its time."""
+    """Programs whose calls are recorded by preloaded libraries: waits.c, and further ones of tests/harness.
+
+    If `at_most` is set, a wait takes at most this number of milliseconds. The clocks of the program advance as if it had taken all its time.
+    """
 
     def __init__(self, *libraries, at_most=None, **settings):
         self.folder, self.told = tempfile.TemporaryDirectory(prefix="waits-"), tempfile.TemporaryFile()
@@ -70,25 +72,25 @@ class Waits:
         return library
 
     def how(self, **settings):
-        """How such a program is started, with nothing recorded yet."""
+        """Returns the arguments of Popen for such a program, and clears the record."""
         os.ftruncate(self.told.fileno(), 0)
         os.lseek(self.told.fileno(), 0, os.SEEK_SET)
         return {"env": {**self.settings, **settings}, "pass_fds": [self.told.fileno()]}
 
     def calls(self, kind):
-        """The calls of a kind (wait, send, accept, nodelay): of each the seconds since the program began, by its own clock, and the result."""
+        """Returns the calls of a kind (wait, send, accept, nodelay): the seconds since the program began, by its own clock, and the result."""
         lines = os.pread(self.told.fileno(), 1 << 24, 0).decode().splitlines()
         return [(int(at) / 1000, int(result)) for at, call, result in map(str.split, lines) if call == kind]
 
     def until_idle(self):
-        """Waits until nothing is recorded for a while."""
+        """Waits until no call is recorded for a while."""
         before, size = None, 0
         while before != size:
             time.sleep(0.4)
             before, size = size, os.fstat(self.told.fileno()).st_size
 
     def passed(self):
-        """The seconds from the beginning of a program to its last wait, by its own clock."""
+        """Returns the seconds from the start of a program to its last wait, by its own clock."""
         return max([at for at, _ in self.calls("wait")], default=0)
 
     def __enter__(self):
@@ -100,12 +102,12 @@ class Waits:
 
 
 def listens(server):
-    """The line of a server that listens."""
+    """Returns the line of a server that listens."""
     return "coap-server: listening on %s\n" % authority(server.host, server.port)
 
 
 def check_requests(checks, programs):
-    """Requests of our client to our server."""
+    """Checks requests of the client to the server."""
     with Server(programs.server, ["-d", "16"]) as server:
         checks.same("line", server.said, listens(server))
         rows = [
@@ -126,7 +128,7 @@ def check_requests(checks, programs):
 
 
 def asked_by(length):
-    """A GET of the root with a token of so many bytes behind Capabilities and Settings, and all that a server says to it."""
+    """Returns an empty CSM and a GET of the root with a token of this length, and all bytes that a server sends for them."""
     token = bytes(range(100, 100 + length))
     nibble, extension = (length, b"") if length < 13 else (13, bytes([length - 13]))
     sent = bytes.fromhex("00e1") + bytes([nibble, 1]) + extension + token
@@ -134,7 +136,7 @@ def asked_by(length):
 
 
 def check_tokens(checks, programs):
-    """Requests with long tokens are answered with them, and one whose token is too long by an Abort (RFC 8974 section 2.1)."""
+    """Checks that responses have long tokens, and that a token that is too long causes an Abort (RFC 8974 section 2.1)."""
     with Server(programs.server) as server:
         for length in (8, 9, 12, 13, 64):
             with server.connect() as peer:
@@ -142,17 +144,17 @@ def check_tokens(checks, programs):
                 peer.sendall(sent)
                 checks.same("a token of %d bytes" % length, read_bytes(peer, len(wanted)), wanted)
         with server.connect() as peer:
-            # Capabilities and Settings, and the message up to the byte that states its token's length
+            # An empty CSM, and the message up to the byte that completes its token length.
             peer.sendall(asked_by(65)[0][:5])
             checks.same("a token of 65 bytes", read_to_end(peer), (bytes.fromhex(CSM + ABORTS["bad token length"]), "the end"))
 
 
 def check_observers(checks, programs):
-    """Notifications as the moment goes on, and as another connection changes a resource."""
+    """Checks notifications when the time advances, and when another connection changes a resource."""
     with Server(programs.server, ["-d", "16"]) as server:
         done = client(programs.client, ["-s", "2", "-w", "-B", "5", server.uri("/time")])
         moments = [int(it) for it in done[1].split()]
-        # the first one, two more as the moment goes on, and the response to the cancellation
+        # The first response, two notifications, and the response to the cancellation.
         are_all = sorted(set(moments)) == list(range(moments[0], moments[-1] + 1))
         checks.same("observe /time", (done[0], len(moments) in (3, 4, 5), are_all, done[2]), (0, True, True, b""))
         client(programs.client, ["-m", "put", "-e", "one", server.uri("/a")])
@@ -164,14 +166,14 @@ def check_observers(checks, programs):
 
 
 def check_bodies(checks, programs):
-    """A body of 65,000 bytes there and back, by files and by standard streams."""
+    """Checks a PUT and a GET of 65,000 bytes, with files and with standard streams."""
     body = bytes(range(256)) * 253 + bytes(232)
     with Server(programs.server, ["-d", "16"]) as server, tempfile.TemporaryDirectory() as folder:
         sent, got = os.path.join(folder, "sent"), os.path.join(folder, "got")
         with open(sent, "wb") as it:
             it.write(body)
         checks.same("put of a file", client(programs.client, ["-m", "put", "-f", sent, server.uri("/a")]), (0, b"", b""))
-        # what stood there before, which is longer
+        # The old content of the file is longer.
         with open(got, "wb") as it:
             it.write(body + body)
         checks.same("get into a file", client(programs.client, ["-o", got, server.uri("/a")]), (0, b"", b""))
@@ -182,37 +184,37 @@ def check_bodies(checks, programs):
         checks.same("get into standard output", client(programs.client, ["-o", "-", server.uri("/b")]) == (0, body, b""), True)
         largest = bytes(1 << 20)
         done = client(programs.client, ["-m", "put", "-f", "-", server.uri("/c")], largest)
-        checks.same("the largest payload, which no request has room for", done, (3, b"", b"request fault 3\n"))
+        checks.same("the largest payload, which exceeds any request", done, (3, b"", b"request fault 3\n"))
         done = client(programs.client, ["-m", "put", "-f", "-", server.uri("/c")], largest + b"x")
-        checks.same("a file that is longer than a payload may be", done, (1, b"", b"coap-client: bad value for -f\n"))
+        checks.same("a file that is longer than the largest payload", done, (1, b"", b"coap-client: bad value for -f\n"))
         with open("/dev/full", "wb") as full:
             done = subprocess.run([programs.client, server.uri("/a")], stdout=full, stderr=subprocess.PIPE, timeout=LIMIT)
             checks.same("writing fails", (done.returncode, done.stderr), (3, b"coap-client: cannot write\n"))
 
 
 def cannot_connect(why):
-    """What a client says of a host that it cannot connect to, whose last address came to this."""
+    """Returns the text of a client that cannot connect to a host, with the error of the last address."""
     return b"coap-client: cannot connect\ncoap-client: %s\n" % why.encode()
 
 
 def check_connecting(checks, programs):
-    """What becomes of a client that finds nobody, and that its file is left alone then."""
+    """Checks a client that cannot connect, and that its output file is unchanged then."""
     port = free_port()
     with tempfile.NamedTemporaryFile() as file:
         file.write(b"kept")
         file.flush()
         done = client(programs.client, ["-o", file.name, "coap+tcp://%s:%d/" % (LOCAL, port)])
         with open(file.name, "rb") as it:
-            checks.same("nobody listens", (done, it.read()), ((3, b"", cannot_connect("connection refused")), b"kept"))
+            checks.same("no program listens", (done, it.read()), ((3, b"", cannot_connect("connection refused")), b"kept"))
     with Server(programs.server) as server:
         done = client(programs.client, ["-o", "/nothing/here", server.uri()])
         checks.same("no such file", done, (3, b"", b"coap-client: cannot open /nothing/here\n"))
         done = client(programs.client, ["coap+tcp://localhost:%d/" % server.port])
-        checks.same("by a name of which one address may refuse", done, (0, b"coap+tcp", b""))
+        checks.same("by a name with an address that may refuse", done, (0, b"coap+tcp", b""))
 
 
 def ended(programs, how):
-    """What a client comes to whose peer ends the connection so, once it was sent our Capabilities and Settings."""
+    """Returns the result of a client whose peer ends the connection with `how` after it received the CSM of the client."""
     with socket.create_server((LOCAL, 0)) as listener:
         uri = "coap+tcp://" + authority(*listener.getsockname())
         with subprocess.Popen([programs.client, uri], stderr=subprocess.PIPE) as process:
@@ -224,25 +226,25 @@ def ended(programs, how):
 
 
 def check_ended(checks, programs):
-    """What becomes of a client whose peer ends the connection, or resets it."""
+    """Checks a client whose peer ends or resets the connection."""
     checks.same("a peer that ends", ended(programs, lambda it: it.shutdown(socket.SHUT_WR)), (CSM, b"stopped 11\n", 3))
     checks.same("a peer that resets", ended(programs, reset), (CSM, b"stopped 11\n", 3))
 
 
 def check_silent(checks, programs):
-    """That a client whose peer says nothing ends in time, and uses no processor time while it waits."""
+    """Checks that a client whose peer is silent ends in time, and uses no processor time while it waits."""
     with socket.create_server((LOCAL, 0)) as listener:
         began = time.monotonic()
         with subprocess.Popen([programs.client, "-B", "2", "coap+tcp://" + authority(*listener.getsockname())]) as process:
             _, status, usage = os.wait4(process.pid, 0)
             process.returncode = os.waitstatus_to_exitcode(status)
         checks.same("status of the client", process.returncode, 4)
-        checks.same("it waits so long", 2 <= time.monotonic() - began < 3, True)
+        checks.same("the client waits for its timeout", 2 <= time.monotonic() - began < 3, True)
         checks.same("an idle client", usage.ru_utime + usage.ru_stime < 0.5, True)
 
 
 def check_address(checks, programs):
-    """IPv6, an address that is taken, and one that is not of this machine."""
+    """Checks IPv6, an address that is in use, and one that is not of this machine."""
     if socket.has_ipv6:
         with Server(programs.server, host="::1") as server:
             checks.same("IPv6: line", server.said, listens(server))
@@ -250,15 +252,15 @@ def check_address(checks, programs):
     with Server(programs.server) as server:
         for host, port in [(LOCAL, server.port), ("192.0.2.1", free_port())]:
             done = client(programs.server, ["-A", host, "-p", str(port)])
-            checks.same("an address that cannot be had", done, (3, b"", b"coap-server: cannot listen\n"))
+            checks.same("an address that is not available", done, (3, b"", b"coap-server: cannot listen\n"))
     port = free_port()
     told = b"coap-server: listening on %s:%d\ncoap-server: too many turns\n" % (LOCAL.encode(), port)
     checks.same("turns", client(programs.server, ["-A", LOCAL, "-p", str(port), "--turns", "1"]), (3, b"", told))
 
 
 def check_files(checks, programs):
-    """A server that may open few files takes no connection if none are left, tries again after a second, whatever else comes, and uses no
-    processor; once one closes it goes on."""
+    """Checks a server with a low limit on open files. Without a free descriptor it accepts no connection, tries again after a second, whatever else
+    arrives, and uses no processor time. After a connection closes, it accepts again."""
     with Waits() as waits, Server(programs.server, files=16, **waits.how()) as server, contextlib.ExitStack() as stack:
         peers = []
         while len(peers) < 16:
@@ -268,9 +270,9 @@ def check_files(checks, programs):
             if is_silent(peer):
                 break
             read_bytes(peer, len(GREETED))
-        checks.same("some are served, and not all", 1 < len(peers) < 16, True)
+        checks.same("some peers are served, and not all", 1 < len(peers) < 16, True)
         before = server.processor_time()
-        checks.same("it is served once there is room, and not before", is_silent(peers[-1], 1.2), True)
+        checks.same("the last peer is not served before a connection closes", is_silent(peers[-1], 1.2), True)
         checks.same("no processor time is used", server.processor_time() - before < 0.2, True)
         pongs = []
         for _ in range(10):
@@ -278,26 +280,26 @@ def check_files(checks, programs):
             pongs.append(read_bytes(peers[0], len(PONG)))
         checks.same("others are served", pongs, [PONG] * 10)
         peers[0].close()
-        checks.same("there is room", read_bytes(peers[-1], len(GREETED)), GREETED)
+        checks.same("the last peer is served", read_bytes(peers[-1], len(GREETED)), GREETED)
         accepts = waits.calls("accept")
         pauses = [later - at for (at, result), (later, _) in zip(accepts, accepts[1:]) if result == -errno.EMFILE]
-        checks.same("it tries again after a second", (len(pauses) > 1, [it for it in pauses if not 0.99 < it < 1.9]), (True, []))
+        checks.same("the server tries again after a second", (len(pauses) > 1, [it for it in pauses if not 0.99 < it < 1.9]), (True, []))
 
 
 def check_close(checks, programs):
-    """That a connection which the server stops is told so and then ended, with no reset for the bytes that nobody reads."""
+    """Checks that a connection that the server stops receives the Abort and ends, without a reset because of unread bytes."""
     with Server(programs.server) as server, server.connect() as peer:
-        # so that the server finds all of it at once
+        # The server is stopped, so that it finds all bytes at once.
         server.process.send_signal(signal.SIGSTOP)
         peer.sendall(bytes.fromhex("00e1" "f0ffffffff01") + bytes(50_000))
         server.process.send_signal(signal.SIGCONT)
-        checks.same("too much", read_to_end(peer), (bytes.fromhex(CSM + ABORTS["message too large"]), "the end"))
+        checks.same("a message that is too large", read_to_end(peer), (bytes.fromhex(CSM + ABORTS["message too large"]), "the end"))
         time.sleep(0.1)
         checks.same("no reset", peer.getsockopt(socket.SOL_SOCKET, socket.SO_ERROR), 0)
 
 
 def silent_port(stack, hosts):
-    """A port at which these addresses listen and answer no more connections, since one waits there already."""
+    """Returns a port at which these addresses listen and respond to no further connection, since their backlogs are full."""
     port = 0
     for host in hosts:
         listener = stack.enter_context(socket.socket())
@@ -315,14 +317,14 @@ def silent_port(stack, hosts):
 
 
 def check_addresses(checks, programs):
-    """A name with several addresses: how long each is tried, which of them are, and what is said of the last one."""
+    """Checks a name with several addresses: the time for each, the addresses that are tried, and the error of the last one."""
     silent = ["127.0.0.%d" % number for number in range(2, 5)]
     good, unreachable = "127.0.0.5", "127.0.0.6"
     with Waits("names", at_most=200, UNREACHABLE=unreachable) as waits, contextlib.ExitStack() as stack:
         port = silent_port(stack, silent)
         stack.enter_context(Server(programs.server, host=good, port=port))
         rows = [
-            # (the addresses, -B, what it comes to, and after how many seconds)
+            # The addresses, -B, the result, and the seconds after which it must come.
             ([good], 5, "coap+tcp", 0), ([silent[0], good], 4, "coap+tcp", 2), ([*silent, good], 4, "coap+tcp", 3),
             ([silent[0], good], 1000, "coap+tcp", 500), ([silent[0], silent[1], good], 1000, "coap+tcp", 1000 / 3 + 1000 / 3),
             ([silent[0], good, *["127.0.0.7"] * 8], 3, "coap+tcp", 1), ([silent[0], good], 1, "timed out", 1), (silent, 3, "timed out", 3),
@@ -339,42 +341,42 @@ def check_addresses(checks, programs):
 
 
 def check_timeouts(checks, programs):
-    """That -B is how long a client tries to connect, and then how long it waits for a response: by its own clock, in which hours pass at once."""
+    """Checks that -B is the timeout of connecting, and that of the response. The clock of the client is advanced, so that hours pass at once."""
     silent, mute = "127.0.0.2", LOCAL
     with Waits("names", at_most=5, NAMES="%s %s" % (silent, mute)) as waits, contextlib.ExitStack() as stack:
         port = silent_port(stack, [silent])
-        # a peer that says nothing at the same port, but at an address that connects
+        # A silent peer at the same port, at an address that connects.
         stack.enter_context(socket.create_server((mute, port)))
         unconnected, unanswered = (3, b"", cannot_connect("timed out")), (4, b"", b"")
         rows = [(silent, seconds, unconnected, seconds) for seconds in (1, 2, 3, 100, 100_000)]
         rows += [(mute, seconds, unanswered, seconds) for seconds in (1, 2, 3, 100)]
-        # half of the time for the first address, and all of it for the response once the second one connects
+        # Half of the time is for the first address. After the second one connects, all of it is for the response.
         rows += [("many.test", seconds, unanswered, seconds // 2 + seconds) for seconds in (2, 4, 100)]
         for host, seconds, wanted, after in rows:
             done = client(programs.client, ["-B", str(seconds), "coap+tcp://%s:%d/" % (host, port)], **waits.how())
             checks.same("%s, -B %d" % (host, seconds), done, wanted)
             checks.same("%s, -B %d: %.2f s" % (host, seconds, waits.passed()), after <= waits.passed() + 0.01 < after + 0.5, True)
             if host == mute:
-                checks.same("%s, -B %d: it speaks at once" % (host, seconds), [at < 0.5 for at, _ in waits.calls("send")], [True])
+                checks.same("%s, -B %d: the client sends at once" % (host, seconds), [at < 0.5 for at, _ in waits.calls("send")], [True])
 
 
 def check_connections(checks, programs):
-    """That as many connections are served as --connections says, and one more only once one of them leaves."""
+    """Checks that the server serves as many connections as --connections allows, and one more only after one of them ends."""
     for count in (1, 9, 256):
         with Server(programs.server, ["--connections", str(count)]) as server, contextlib.ExitStack() as stack:
             peers = [stack.enter_context(server.connect()) for _ in range(count + 1)]
             for it in peers:
                 it.sendall(HELLO)
             served = sum(1 for _ in itertools.takewhile(lambda it: read_bytes(it, len(GREETED)) == GREETED, peers[:count]))
-            checks.same("--connections %d: so many are served" % count, served, count)
-            checks.same("--connections %d: one more is not" % count, is_silent(peers[count]), True)
+            checks.same("--connections %d: served connections" % count, served, count)
+            checks.same("--connections %d: one more is not served" % count, is_silent(peers[count]), True)
             peers[0].close()
-            checks.same("--connections %d: it is served as one leaves" % count, read_bytes(peers[count], len(GREETED)), GREETED)
+            checks.same("--connections %d: it is served after one leaves" % count, read_bytes(peers[count], len(GREETED)), GREETED)
 
 
 def etag_of(peer, number):
-    """The ETag of /a, as a number, once it was put."""
-    # PUT with a byte of payload, and GET, each with a token of one byte
+    """Stores /a, and returns its ETag as a number."""
+    # A PUT with a payload of one byte, and a GET, each with a token of one byte.
     peer.sendall(bytes.fromhex("410301b161ff%02x" "210102b161" % number))
     read_bytes(peer, 3)
     size = read_bytes(peer, 1)
@@ -383,7 +385,7 @@ def etag_of(peer, number):
 
 
 def etags_of(programs, count):
-    """The ETags of so many PUTs to a server that is started for them."""
+    """Returns the ETags of this number of PUTs to a new server."""
     with Server(programs.server, ["-d", "1"]) as server, server.connect() as peer:
         peer.sendall(HELLO)
         read_bytes(peer, len(GREETED))
@@ -391,23 +393,23 @@ def etags_of(programs, count):
 
 
 def check_versions(checks, programs):
-    """That a server that is started again a second later gives no ETag that it gave before."""
+    """Checks that a server that is started again a second later repeats no ETag."""
     first = etags_of(programs, 3)
     time.sleep(1.05)
     second = etags_of(programs, 3)
     checks.same("ETags rise within a run", [sorted(set(it)) == it for it in (first, second)], [True, True])
-    checks.same("no ETag comes again in a later run", min(second) > max(first), True)
+    checks.same("no ETag is repeated in a later run", min(second) > max(first), True)
 
 
 def check_room(checks, programs):
-    """That both programs write on as soon as there is room again for what they have to write."""
+    """Checks that both programs continue to write as soon as the socket has space again."""
     with Waits(at_most=200) as waits, Server(programs.server) as server:
         for count in range(4):
             done = client(programs.client, ["-B", "5", server.uri()], **waits.how(SENDS_WITHOUT_ROOM=str(count)))
-            checks.same("a client that finds no room %d times" % count, done, (0, b"coap+tcp", b""))
-            checks.same("a client waits no second for room, %d times: %.2f s" % (count, waits.passed()), waits.passed() < 0.9, True)
+            checks.same("a client whose socket is full %d times" % count, done, (0, b"coap+tcp", b""))
+            checks.same("a client waits less than a second, %d times: %.2f s" % (count, waits.passed()), waits.passed() < 0.9, True)
             checks.same("a client sends without delay", [result for _, result in waits.calls("nodelay")], [1])
-    # more than the system keeps between the two
+    # More bytes than the system buffers between the two.
     body, count = bytes(65_000), 100
     with Waits() as waits, Server(programs.server, ["-d", "1"], **waits.how()) as server:
         client(programs.client, ["-m", "put", "-f", "-", server.uri("/a")], body)
@@ -416,24 +418,24 @@ def check_room(checks, programs):
             peer.sendall(bytes.fromhex(CSM) + bytes.fromhex("210102b161") * count)
             waits.until_idle()
             taken = sum(result for _, result in waits.calls("send") if result > 0)
-            checks.same("a peer that does not read is not sent all", taken < count * len(body), True)
-            checks.same("once it reads it gets the rest", len(read_bytes(peer, count * len(body))), count * len(body))
+            checks.same("a peer that does not read does not receive all bytes", taken < count * len(body), True)
+            checks.same("after it reads, the peer receives the rest", len(read_bytes(peer, count * len(body))), count * len(body))
 
 
 def closing(numbers):
-    """What closes these descriptors in a program before it begins."""
+    """Returns a function that closes these descriptors in a program before it begins."""
     return lambda: [os.close(number) for number in numbers]
 
 
 def check_closed(checks, programs):
-    """Programs whose standard descriptors are closed: no socket takes their place."""
+    """Checks programs whose standard descriptors are closed: no socket may get their numbers."""
     body = b"out of the way"
     for numbers in [it for count in (1, 2, 3) for it in itertools.combinations(range(3), count)]:
         with socket.create_server((LOCAL, 0)) as listener:
             listener.settimeout(LIMIT)
             words = [programs.client, "-m", "put", "-f", "-", "-w", "coap+tcp://%s:%d/x" % listener.getsockname()]
             process = subprocess.Popen(words, stdin=subprocess.PIPE, stdout=subprocess.PIPE, stderr=subprocess.PIPE, preexec_fn=closing(numbers))
-            # a pipe that nobody reads breaks as it is closed
+            # A pipe without a reader fails when it is closed.
             with contextlib.suppress(BrokenPipeError):
                 process.stdin.write(body)
                 process.stdin.close()
@@ -444,37 +446,37 @@ def check_closed(checks, programs):
                 payload = b"" if 0 in numbers else b"\xff" + body
                 asked = bytes.fromhex(CSM + ("210301b178" if 0 in numbers else "d1040301b178")) + payload
                 got = read_bytes(peer, len(asked))
-                # 4.04 with a payload, which is told on standard error
+                # 4.04 with a payload, which the client writes to standard error.
                 peer.sendall(bytes.fromhex("318401ff6869"))
                 more, _ = read_to_end(peer)
-            checks.same("a client without %r: what stands there" % (numbers,), held, ["/dev/null"] * len(numbers))
-            checks.same("a client without %r: what its peer got" % (numbers,), got + more, asked)
+            checks.same("a client without %r: open files" % (numbers,), held, ["/dev/null"] * len(numbers))
+            checks.same("a client without %r: bytes at its peer" % (numbers,), got + more, asked)
             said = b"" if 2 in numbers else b"4.04 hi\n"
             checks.same("a client without %r" % (numbers,), (process.wait(LIMIT), process.stdout.read(), process.stderr.read()), (2, b"", said))
             process.stdout.close()
             process.stderr.close()
         check_closed_server(checks, programs, numbers)
     done = subprocess.run([programs.server, "--stdio"], stderr=subprocess.PIPE, preexec_fn=closing([0, 1]), timeout=LIMIT)
-    checks.same("--stdio with nothing there", (done.returncode, done.stderr), (0, b""))
+    checks.same("--stdio without standard streams", (done.returncode, done.stderr), (0, b""))
 
 
 def check_closed_server(checks, programs, numbers):
-    """A server whose descriptors of these numbers are closed as it begins."""
+    """Checks a server whose descriptors with these numbers are closed when it begins."""
     port = free_port()
     with subprocess.Popen([programs.server, "-A", LOCAL, "-p", str(port)], stdin=subprocess.DEVNULL, stdout=subprocess.DEVNULL,
                           stderr=subprocess.DEVNULL, preexec_fn=closing(numbers)) as process:
         peer = accepted_at(port)
         with peer:
             peer.sendall(HELLO)
-            checks.same("a server without %r: what a peer gets" % (numbers,), read_bytes(peer, len(GREETED)), GREETED)
-            checks.same("a server without %r: and no more" % (numbers,), is_silent(peer), True)
+            checks.same("a server without %r: bytes at a peer" % (numbers,), read_bytes(peer, len(GREETED)), GREETED)
+            checks.same("a server without %r: no more bytes" % (numbers,), is_silent(peer), True)
             held = [os.readlink("/proc/%d/fd/%d" % (process.pid, number)) for number in range(3)]
-            checks.same("a server without %r: what stands there" % (numbers,), held, ["/dev/null"] * 3)
+            checks.same("a server without %r: open files" % (numbers,), held, ["/dev/null"] * 3)
         process.kill()
 
 
 def accepted_at(port):
-    """A connection to a server of this machine, once it takes one."""
+    """Returns a connection to a server of this machine, as soon as it accepts one."""
     ends = time.monotonic() + LIMIT
     while True:
         try:
@@ -486,28 +488,28 @@ def accepted_at(port):
 
 
 def check_urgent(checks, programs):
-    """A byte that is sent out of band, at each place of a request: what stands around it is read."""
+    """Checks a byte of urgent data at each place of a request: the bytes around it must be read."""
     request, answered = HELLO[2:], GREETED[len(CSM) // 2 :]
     with Server(programs.server) as server, server.connect() as peer:
         peer.setsockopt(socket.IPPROTO_TCP, socket.TCP_NODELAY, 1)
         peer.sendall(HELLO)
         checks.same("an answer", read_bytes(peer, len(GREETED)), GREETED)
         for place in range(len(request) + 1):
-            # so that the server finds all of it at once
+            # The server is stopped, so that it finds all bytes at once.
             server.process.send_signal(signal.SIGSTOP)
             for bytes_, flag in ((request[:place], 0), (b"!", socket.MSG_OOB), (request[place:], 0)):
                 peer.send(bytes_, flag)
             server.process.send_signal(signal.SIGCONT)
-            checks.same("urgent data behind %d bytes of a request" % place, read_bytes(peer, len(answered)), answered)
+            checks.same("urgent data after %d bytes of a request" % place, read_bytes(peer, len(answered)), answered)
         before = server.processor_time()
-        checks.same("nothing more comes", is_silent(peer, 1), True)
-        checks.same("and nothing spins", server.processor_time() - before < 0.2, True)
+        checks.same("no more bytes arrive", is_silent(peer, 1), True)
+        checks.same("no busy waiting", server.processor_time() - before < 0.2, True)
 
 
 def check_flooded_client(checks, programs):
-    """A client whose peer sends pings and never reads: it waits for room, and still ends in time."""
+    """Checks a client whose peer sends Pings and never reads: the client waits for space, and still ends in time."""
     with socket.create_server((LOCAL, 0)) as listener:
-        # little room on the peer's side, so that the client's queue is soon full
+        # Small socket buffers of the peer, so that the queue of the client is soon full.
         listener.setsockopt(socket.SOL_SOCKET, socket.SO_RCVBUF, 4096)
         with subprocess.Popen([programs.client, "-B", "7", "coap+tcp://%s:%d/" % listener.getsockname()], stderr=subprocess.PIPE) as process:
             with listener.accept()[0] as peer:
@@ -520,7 +522,7 @@ def check_flooded_client(checks, programs):
 
 
 class Programs:
-    """The two programs that are tried."""
+    """The two programs under test."""
 
     def __init__(self, server, client_program):
         self.server, self.client = os.path.abspath(server), os.path.abspath(client_program)

@@ -5,13 +5,15 @@
     tests/tools/conformance.py --all    and the number of rows of each RFC by status
 
 Each row of its tables has these parts, and several references in one cell have '; ' between them:
+
 - a section, a requirement, and a status: 'met', 'not applicable: REASON' or 'deliberately different: REASON';
 - definitions: `name`, `name` (FILE), where FILE is below crates/ and defines each name;
 - functions: `crate::module::function` or `crate::Type::function` (clause, clause), with public functions and their clauses;
-- tests: `kind/name.rows` below tests/vectors/rows, `tests/..py`, or `crate/proofs/..antt`, each with (`text`, `text`) that it has: any text
-  of a file of rows, a name that a Python file or a file of proofs defines. The gate must run the Python files.
-A row that is met must name a function or a test. Outside of the tables the document has at most 800 words.
-'N passed' counts rows without a fault.
+- tests: `kind/name.rows` below tests/vectors/rows, `tests/..py`, or `crate/proofs/..antt`, each with (`text`, `text`).
+
+A text of a test is any text of a file of rows. For a Python file or a file of proofs, it is a name that the file defines. The
+gate must run the Python files. A row with the status 'met' must name a function or a test. Outside of the tables the document has at most 600
+words. 'N passed' counts rows without an error.
 """
 
 import collections
@@ -35,7 +37,7 @@ Row = collections.namedtuple("Row", "line rfc section requirement status definit
 
 
 def read(path):
-    """The text of a file of the repository, or nothing if there is none."""
+    """Returns the text of a file of the repository, or None if there is no such file."""
     try:
         with open(f"{ROOT}/{path}", encoding="utf-8") as it:
             return it.read()
@@ -44,12 +46,12 @@ def read(path):
 
 
 def cells_of(line):
-    """The cells of a line of a table."""
+    """Returns the cells of a line of a table."""
     return [it.strip().replace("\\|", "|") for it in re.split(r"(?<!\\)\|", line)[1:-1]]
 
 
 def rows_in(text):
-    """The rows of all tables, what is wrong with their form, and the number of words outside of them."""
+    """Returns the rows of all tables, the errors in their form, and the number of words outside of them."""
     rows, wrong, words, rfc = [], [], 0, ""
     for number, line in enumerate(text.splitlines(), 1):
         if not line.startswith("|"):
@@ -67,19 +69,19 @@ def rows_in(text):
 
 
 def references(cell):
-    """The references of a cell: the names of each, and the text in its brackets."""
+    """Yields the references of a cell: the names of each, and the text in its brackets."""
     for part in filter(None, cell.split("; ")):
         found = REFERENCE.fullmatch(part)
         yield (re.findall(r"`([^`]+)`", found[1]), found[2] or "") if found else ([], part)
 
 
 def defines(text, name):
-    """Whether a text of definitions defines a name that others may use."""
+    """Returns true if a text of definitions defines a name that others may use."""
     return re.search(rf"(?m)^(?:\w+ )?pub (?:record |data )?{re.escape(name)}(?![\w'])", text) is not None
 
 
 def wrong_definitions(cell):
-    """What is wrong with references to definitions."""
+    """Yields the errors in references to definitions."""
     for names, file in references(cell):
         text = read(f"crates/{file}") if names and "/specs/" in file else None
         if text is None:
@@ -100,7 +102,7 @@ class Functions:
         return self.found[crate]
 
     def clauses(self, path):
-        """The names of the clauses of a function, or nothing if there is no such function."""
+        """Returns the names of the clauses of a function, or None if there is no such function."""
         crate, *middle, name = path.split("::")
         if crate not in listed() or len(middle) > 1:
             return None
@@ -112,7 +114,7 @@ class Functions:
 
 
 def is_in_module(crate, module, name):
-    """Whether a module, or one below it, has a function with this name."""
+    """Returns true if a module, or one below it, has a function with this name."""
     top = f"{ROOT}/crates/{crate}/src/{module}"
     files = [f"{top}.rt"] + [f"{at}/{it}" for at, _, names in os.walk(top) for it in names]
     texts = (read(os.path.relpath(it, ROOT)) or "" for it in files)
@@ -120,7 +122,7 @@ def is_in_module(crate, module, name):
 
 
 def wrong_functions(cell, functions):
-    """What is wrong with references to functions and clauses."""
+    """Yields the errors in references to functions and clauses."""
     for names, named in references(cell):
         if len(names) != 1:
             yield f"not understood: {named}"
@@ -133,7 +135,7 @@ def wrong_functions(cell, functions):
 
 
 def test_file(name):
-    """The file of a test, and the form that a text of it must have."""
+    """Returns the file of a test, and the pattern that a text of it must match."""
     if name.endswith(".rows"):
         return f"tests/vectors/rows/{name}", "{}"
     if name.endswith(".py"):
@@ -142,7 +144,7 @@ def test_file(name):
 
 
 def wrong_tests(cell, gate):
-    """What is wrong with references to tests."""
+    """Yields the errors in references to tests."""
     for names, named in references(cell):
         text = read(test_file(names[0])[0]) if len(names) == 1 else None
         if text is None:
@@ -155,7 +157,7 @@ def wrong_tests(cell, gate):
 
 
 def wrong_row(row, functions, gate):
-    """What is wrong with a row."""
+    """Yields the errors in a row."""
     if not STATUS.fullmatch(row.status):
         yield f"status: {row.status}"
     if row.status == "met" and not row.functions and not row.tests:
@@ -168,7 +170,7 @@ def wrong_row(row, functions, gate):
 
 
 def tell_counts(rows):
-    """Tells the number of rows of each RFC by status."""
+    """Prints the number of rows of each RFC by status."""
     counts = collections.Counter((row.rfc, row.status.partition(":")[0]) for row in rows)
     for (rfc, status), count in sorted(counts.items()):
         print(f"{rfc}: {count} {status}")

@@ -1,15 +1,19 @@
 #!/usr/bin/env python3
-"""Compares what public functions promise with what they promised at an earlier commit:
+"""Compares the contracts of public functions with those of an earlier commit:
 
-    tests/tools/contract_diff.py REV         of every library: the functions that went, and the clauses that went or came
-    tests/tools/contract_diff.py REV CRATE ..  of these crates
+    tests/tools/contract_diff.py REV         for every library, the removed functions and the removed or added clauses
+    tests/tools/contract_diff.py REV CRATE ..  for these crates
 
-A clause is a `requires` or an `ensures` with its name and its text, white space made one. A function is known by its
-crate, its type and its name. One that is no longer there is followed: to a new function of another crate with its type
-and name, else to one of its crate with its name, else to one of any crate with its name, if there is exactly one, or
-exactly one with the same clauses. What is told is for reading: a clause that went must have another one which says as
-much, and a `requires` that came must be asked for.
-The last line counts the functions: those with equal clauses, with more, with others, and those that went or came.
+A clause is a `requires` or an `ensures` with its name and text, with white space normalized. A function is identified by
+its crate, type and name. If it no longer exists, it is matched with a new function, in this order:
+
+- one of another crate with the same type and name,
+- one of the same crate with the same name,
+- one of any crate with the same name.
+
+There must be exactly one such function, or exactly one with the same clauses. The output is for review: for each
+removed clause, another one must say as much, and each added `requires` needs a reason.
+The last line counts the functions with equal clauses, with more, with others, and those removed or added.
 """
 
 import glob
@@ -27,8 +31,8 @@ CLAUSE = re.compile(r"(?:ensures|requires)\b")
 
 
 def files_at(revision, crate):
-    """The texts of the code of a crate, as it is in the folder or at a commit. The folder is read without git, so that a copy
-    of the repository without its history is read too."""
+    """Yields the source texts of a crate in the working directory, or at a commit. The directory is read without git, so that a
+    copy of the repository without its history works too."""
     folder = f"crates/{crate}/src"
     if revision is None:
         for name in sorted(glob.glob(f"{ROOT}/{folder}/**/*.rt", recursive=True)):
@@ -41,13 +45,13 @@ def files_at(revision, crate):
 
 
 def type_of(head):
-    """The type or the trait whose functions a block has, without its parameters."""
+    """Returns the type or the trait of a block, without its parameters."""
     bare = re.sub(r"^<[^>]*>\s*", "", head).partition(" for ")
     return re.sub(r"[<(].*", "", bare[2] or bare[0]).strip()
 
 
 def clauses_of(lines):
-    """The clauses behind the head of a function, up to its body, or to the end of one that has none."""
+    """Returns the clauses after the head of a function, up to its body, or up to its end if it has no body."""
     found, is_open = [], False
     for line in lines:
         text = line.strip()
@@ -64,7 +68,7 @@ def clauses_of(lines):
 
 
 def promises(revision, crate):
-    """The clauses of each public function and of each one of a trait, by its type and name."""
+    """Returns the clauses of each public function and each function of a trait, by its type and name."""
     found = {}
     for text in files_at(revision, crate):
         block, is_trait, lines = "", False, re.sub(r"^\s*//.*\n", "", text, flags=re.M).splitlines()
@@ -79,7 +83,7 @@ def promises(revision, crate):
 
 
 def libraries(revision):
-    """The libraries that crates.txt lists now, and those that it listed at a commit."""
+    """Returns the libraries that crates.txt lists now, and those that it listed at a commit."""
     now = [it for it in listed() if not is_program(it)]
     lines = subprocess.run(["git", "-C", ROOT, "show", f"{revision}:crates.txt"], capture_output=True, text=True, check=True).stdout.splitlines()
     earlier = [it.partition(":")[0].split()[0] for it in lines if it.strip() and not it.startswith("#")]
@@ -87,8 +91,8 @@ def libraries(revision):
 
 
 def moved(crate, name, before, now):
-    """The crate and the name of a function that is no longer where it was, if exactly one new function can be it: of several,
-    the one with the same clauses."""
+    """Returns the new crate and name of a function that was moved or renamed, if exactly one new function matches. If several
+    do, the one with the same clauses counts."""
     new = [(other, it) for other in now for it in now[other] if it not in before[other]]
     for is_it in (
         lambda other, it: other != crate and it == name,
@@ -104,7 +108,7 @@ def moved(crate, name, before, now):
 
 
 def compare(crate, before, now, seen, counts):
-    """Tells what became of the functions of a crate, and counts it."""
+    """Prints the changes of the functions of a crate, and counts them."""
     for name, clauses in sorted(before[crate].items()):
         place, title = (crate, name) if name in now[crate] else moved(crate, name, before, now), f"{crate} {'::'.join(filter(None, name))}"
         if place is None:

@@ -1,12 +1,12 @@
 #!/usr/bin/env python3
-"""Checks that crates and files stay small, and that no module imports in a circle:
+"""Checks that crates and files stay small, and that modules do not import each other in a circle:
 
     tests/tools/crate_limits.py          a line for each limit that is exceeded; the last line is 'N passed, M failed'
     tests/tools/crate_limits.py --all    and a table of all crates
     tests/tools/crate_limits.py --split  first splits each ghost import that is too long into several of the same module
 
-The limits: 160 functions and 2,600 lines of source for a crate, 450 lines for a source file, 120 columns for a line of a
-ghost import. Modules of a crate that import each other, directly or through others, form a circle.
+A crate may have 160 functions and 2,600 lines of source, a source file 450 lines, and a line of a ghost import 120 columns.
+Modules of a crate that import each other, directly or through others, form a circle.
 """
 
 import os
@@ -24,7 +24,7 @@ IMPORT = re.compile(r"^ *(?:pub(?:\([a-z ]+\))? )?use crate::([\w:]+)", re.M)
 
 
 def sources(crate):
-    """The source files of a crate, by module: 'door::turn' for src/door/turn.rt. The root is ''."""
+    """Returns the source files of a crate, by module: 'door::turn' for src/door/turn.rt. The root is ''."""
     top = f"{ROOT}/crates/{crate}/src"
     found = {}
     for at, _, files in os.walk(top):
@@ -37,7 +37,7 @@ def sources(crate):
 
 
 def imports(modules):
-    """For each module, the modules that it imports from: the deepest one that a path names. What the root holds does not count."""
+    """Returns for each module the modules that it imports: the deepest one that a path names, without the root."""
     def named(path):
         parts = path.split("::")
         return next((it for it in ("::".join(parts[:n]) for n in range(len(parts), 0, -1)) if it in modules), None)
@@ -45,7 +45,7 @@ def imports(modules):
 
 
 def circles(edges):
-    """The groups of modules that import each other, directly or through others."""
+    """Returns the groups of modules that import each other, directly or through others."""
     def reached(start):
         seen, left = set(), [start]
         while left:
@@ -58,7 +58,7 @@ def circles(edges):
 
 
 def exceeded(crate, modules):
-    """A line for each limit that a crate exceeds."""
+    """Yields a line for each limit that a crate exceeds."""
     functions = sum(len(FUNCTION.findall(it)) for it in modules.values())
     lines = sum(it.count("\n") for it in modules.values())
     if functions > FUNCTIONS:
@@ -76,7 +76,7 @@ def exceeded(crate, modules):
 
 
 def split(indent, module, names):
-    """A ghost import as lines of at most as many columns as there may be, each of the same module."""
+    """Returns a ghost import as lines of at most `COLUMNS` columns, each of the same module."""
     lines, some = [], []
     for name in names:
         if some and len(f"{indent}{module}.{{{', '.join([*some, name])}}};") > COLUMNS:
@@ -87,7 +87,7 @@ def split(indent, module, names):
 
 
 def shorter(text):
-    """The text with the ghost imports of one module that follow each other joined, and split where they are too long."""
+    """Returns the text with successive ghost imports of one module joined, and split if they are too long."""
     out, parts = [], []
     for line in [*text.split("\n"), None]:
         found = GHOST.match(line) if line is not None else None

@@ -1,20 +1,19 @@
 #!/usr/bin/env python3
-"""Counts what definitions and proofs could do without, crate by crate:
+"""Counts the definitions and lemmas that could be removed, for each crate:
 
-    tests/tools/unused_lemmas.py               the figures of every crate, and of all
+    tests/tools/unused_lemmas.py               the counts of every crate, and of all together
     tests/tools/unused_lemmas.py --list        also each name and line that is counted
     tests/tools/unused_lemmas.py [--list] CRATE ..  those of these crates
 
-uncited   lemmas and definitions of specs/ and proofs/ that nothing which counts cites: the code (its clauses,
-          `using(..)`, `unfolding(..)`), the answers to the goals of functions, and worked values, or what these
-          cite in turn. So lemmas that cite only each other are counted. A name counts as cited wherever it is in
-          scope and stands, a variable of that name included; a data type is cited by its constructors, a rule set
-          by its name.
-doubled   names of lemmas that stand in more than one file of proofs/ (answers to goals aside): in the line of a
-          crate in its files, in the last line in those of any crates
-long      lines of more than 120 columns; those of ghost imports (`use` and `pub use` of .antt files, `ghost use` of
-          .rt files) are counted apart
-imports   lines of ghost imports, and those of them that stand in the code
+uncited   lemmas and definitions of specs/ and proofs/ that no root cites, directly or through others. Roots are the
+          code (clauses, `using(..)`, `unfolding(..)`), the answers to the goals of functions, and worked values.
+          Lemmas that cite only each other are therefore counted. A name is cited wherever it occurs in its scope,
+          also as a variable. A data type is cited by its constructors, a rule set by its name.
+doubled   names of lemmas that are in more than one file of proofs/, without answers to goals. The line of a crate
+          compares its own files, and the last line those of all crates.
+long      lines of more than 120 columns, with a separate count for ghost imports (`use` and `pub use` in .antt files,
+          `ghost use` in .rt files).
+imports   lines of ghost imports, and the number of these that are in the code.
 """
 
 import glob
@@ -37,7 +36,7 @@ HEAD = re.compile(r"((?:(?:abbrev|unfoldable|pub|record|data|ruleset) )*)([^\s:)
 
 @dataclass
 class Definition:
-    """A lemma or a definition: where it stands, how it is introduced, and the words of its text."""
+    """A lemma or a definition: its place, the keywords before its name, and the words of its text."""
 
     crate: str
     module: str
@@ -47,14 +46,14 @@ class Definition:
     text: list = field(default_factory=list)
 
     def is_root(self):
-        """Whether it counts by itself: an answer to a goal, or a worked value."""
+        """Returns true if the definition is a root: an answer to a goal, or a worked value."""
         if self.module.rpartition(".")[2] in ANSWERS:
             return "pub" in self.words_before
         return "Worked" in self.module and not self.words_before
 
 
 class Scope:
-    """What names stand for in a file: those that it defines or imports, and the modules that it names."""
+    """The meaning of names in a file: those that it defines or imports, and the modules that it names."""
 
     def __init__(self, module=""):
         self.module, self.names, self.modules, self.imports, self.passed = module, defaultdict(set), {}, 0, {}
@@ -71,7 +70,7 @@ class Scope:
                 self.passed[f"{self.module}.{alias or name}"] = f"{path}.{name}"
 
     def cited(self, words):
-        """The full names that words may stand for."""
+        """Yields the full names that words may refer to."""
         for word in words:
             first, *rest = word.strip(".").replace("::", ".").split(".")
             yield from self.names.get(word, ())
@@ -83,7 +82,7 @@ class Scope:
 
 
 def operator(name):
-    """An operator as it stands between its arguments."""
+    """Returns an operator as it is written between its arguments."""
     return name.replace("◌", "")
 
 
@@ -92,7 +91,7 @@ def module_of(path):
 
 
 def read_antt(path, crate):
-    """The definitions of a file, and its scope."""
+    """Returns the definitions of a file, and its scope."""
     module = module_of(path)
     scope, found, blocks = Scope(module), [], []
     with open(path, encoding="utf-8") as lines:
@@ -129,7 +128,7 @@ def constructors(words):
 
 
 def begin_or_go_on(found, new, text):
-    """A line at the margin begins a definition, or goes on with the one before: a clause of it, or what it unfolds."""
+    """Begins a definition at a line at the margin, unless the line continues the one before: a clause, or what it unfolds."""
     head = HEAD.match(text)
     if head and not text.startswith("unfolding ") and not (found and found[-1].name == head[2] and not head[1]):
         new.name, new.words_before = head[2], head[1].split()
@@ -137,7 +136,7 @@ def begin_or_go_on(found, new, text):
 
 
 def read_rust(path, crate):
-    """What a file of code cites, and how many lines of it import."""
+    """Returns the names that a source file cites, and its number of lines of ghost imports."""
     scope, words = Scope(f"Rattle.{crate}"), []
     with open(path, encoding="utf-8") as lines:
         for line in lines:
@@ -157,7 +156,7 @@ def files(crate, ending):
 
 
 def reached(definitions, cites, passed, roots):
-    """The full names that the roots cite, and what these cite in turn, under the names of their own modules."""
+    """Returns the full names that the roots cite, directly or through others, each under the name of its own module."""
     seen, left = set(), list(roots)
     while left:
         name = left.pop()
@@ -170,7 +169,7 @@ def reached(definitions, cites, passed, roots):
 
 
 def long_lines(crate):
-    """The long lines of a crate, those of imports first."""
+    """Returns the long lines of a crate: those of ghost imports, and the others."""
     found = [], []
     for path in files(crate, "rt") + files(crate, "antt"):
         with open(path, encoding="utf-8") as lines:
@@ -181,7 +180,7 @@ def long_lines(crate):
 
 
 def doubled(definitions, among):
-    """The names of lemmas of these crates that stand in more than one file of proofs."""
+    """Returns the names of lemmas of these crates that are in more than one file of proofs."""
     where = defaultdict(set)
     for it in definitions.values():
         if it.crate in among and ".proofs." in it.module and it.module.rpartition(".")[2] not in ANSWERS:
@@ -190,8 +189,8 @@ def doubled(definitions, among):
 
 
 class Sources:
-    """All definitions by their full names, what each cites, what counts by itself, the names that modules pass on, and
-    the imports of each crate."""
+    """All definitions by their full names, the names that each cites, and the roots. Also the names that modules
+    re-export, and the number of ghost imports of each crate."""
 
     def __init__(self):
         self.definitions, self.cites, self.roots, self.passed = {}, {}, set(), {}
@@ -219,7 +218,7 @@ class Sources:
                 self.cites.setdefault(f"{it.module}.{word}", {name})
 
     def uncited(self):
-        """The definitions that nothing which counts cites."""
+        """Returns the definitions that no root cites."""
         seen = reached(self.definitions, self.cites, self.passed, self.roots)
         return {name: it for name, it in self.definitions.items() if it and name not in seen}
 

@@ -1,18 +1,17 @@
 #!/usr/bin/env python3
-"""Plays short streams at `coap-server --script -`, each behind a first Capabilities and Settings on a connection of its own, and compares
-what comes of each with a small model.
+"""Plays short streams on `coap-server --script -`, each after an empty CSM on its own connection, and compares the results with a small model.
 
     tests/vectors/bytes.py bin/coap-server            all 256 streams of one byte, all 65,536 of two, and 4,194,304 of the 16,777,216 of three
     tests/vectors/bytes.py bin/coap-server --all      all of these
 
-The sample of three bytes is the first multiples of a step, modulo 2^24: the step is odd, so that none comes twice, and is 2^24 divided by
-the golden ratio, so that they lie evenly.
+The sample of three bytes has the first multiples of a step, modulo 2^24. The step is odd, so that no stream occurs twice. The step is 2^24
+divided by the golden ratio, so that the streams are evenly distributed.
 
-The model is written from RFC 8323 (sections 3.2, 3.3, 3.4, 5) and RFC 7252 (sections 3.1, 5.4, 5.8, 5.10, 12), and shares nothing with the
-server, nor with what else reads messages here. It knows of resources the root alone, since three bytes name no other one that is there,
-and no answer too large for the peer, since none follows a size that the peer announces in three bytes. What the RFCs leave to a server
-stands in it as the manual has it: the texts of Aborts, the numbers of the reasons, and that the root takes GET alone.
-The last line is 'N passed, M failed' over the streams, and the status 0 where M is 0.
+The model is written from RFC 8323 (sections 3.2, 3.3, 3.4, 5) and RFC 7252 (sections 3.1, 5.4, 5.8, 5.10, 12). It shares no code with the
+server, nor with the other parsers of these tests. The root is its only resource, because three bytes can name no other existing one. No response
+exceeds the peer's limit, because no request can follow a Max-Message-Size in three bytes. The RFCs leave some choices to the server: the texts
+of Aborts, the numbers of the reasons, and the methods of the root. There the model follows the manual.
+The last line is 'N passed, M failed' for the streams, and the status is 0 if M is 0.
 """
 
 import os
@@ -20,7 +19,7 @@ import subprocess
 import sys
 from concurrent.futures import ProcessPoolExecutor
 
-# The greatest message that the server takes here, and its own Capabilities and Settings.
+# Maximum size of a received message in these runs, and the CSM of the server.
 GREATEST = 1_152
 GREATEST_TOKEN = 64
 OWN = "50e12204804140"
@@ -28,7 +27,7 @@ WORDS = ["--script", "-", "--max-message", str(GREATEST)]
 
 SETTINGS = bytes.fromhex("00e1")
 
-# The sample of streams of three bytes, and how many streams one run of the program has at most.
+# The sample of streams of three bytes, and the maximum number of streams of one run of the program.
 STEP = 10_368_889
 SAMPLE = 1 << 22
 ALL = 1 << 24
@@ -36,7 +35,7 @@ BATCH = 1 << 15
 
 GREETING = b"coap+tcp"
 
-# The reasons of a stop with the texts of their Aborts; no Abort answers the peer's own (RFC 8323 section 5.6).
+# The reasons of a stop, with the texts of their Aborts. No Abort is sent after an Abort of the peer (RFC 8323 section 5.6).
 FORMAT, TOO_LARGE, TOKEN_LENGTH, RESERVED, BAD_CSM, BAD_SIGNAL, ABORTED, RELEASED = 1, 2, 3, 4, 6, 7, 8, 9
 TEXTS = {FORMAT: b"bad message", TOO_LARGE: b"message too large", TOKEN_LENGTH: b"bad token length", RESERVED: b"reserved code",
          BAD_CSM: b"bad CSM option", BAD_SIGNAL: b"bad signal option"}
@@ -46,7 +45,7 @@ CSM, PING, PONG, RELEASE, ABORT = 0xE1, 0xE2, 0xE3, 0xE4, 0xE5
 GET, DELETE = 1, 4
 DELETED, CONTENT, BAD_OPTION, NOT_FOUND, NOT_ALLOWED, FAILED = 0x42, 0x45, 0x82, 0x84, 0x85, 0x8C
 
-# Options of requests (RFC 7252 section 5.10, RFC 7641, RFC 7959 aside): the least and the most bytes of a value, and whether it may repeat.
+# Options of requests (RFC 7252 section 5.10, RFC 7641, but not RFC 7959): minimum and maximum length of a value, and whether it may repeat.
 IF_MATCH, IF_NONE_MATCH, URI_PATH, CUSTODY = 1, 5, 11, 2
 OPTIONS = {1: (0, 8, True), 3: (1, 255, False), 4: (1, 8, True), 5: (0, 0, False), 6: (0, 3, False), 7: (0, 2, False), 8: (0, 255, True),
            11: (0, 255, True), 12: (0, 2, False), 14: (0, 4, False), 15: (0, 255, True), 17: (0, 2, False), 20: (0, 255, True),
@@ -54,8 +53,8 @@ OPTIONS = {1: (0, 8, True), 3: (1, 255, False), 4: (1, 8, True), 5: (0, 0, False
 
 
 class Stop(Exception):
-    """The connection stops for a reason, with an Abort whose option Bad-CSM-Option may name an option. Of a message whose first bytes are
-    a fault these are taken."""
+    """The connection stops for a reason. The Abort may name an option in Bad-CSM-Option. `taken` is the number of bytes taken of a message
+    that is rejected by its first bytes."""
 
     def __init__(self, reason, option=None, taken=0):
         super().__init__(reason)
@@ -63,7 +62,7 @@ class Stop(Exception):
 
 
 def spelled(code, token=b"", options=b"", payload=b""):
-    """A message of fewer than 269 bytes of options and payload (RFC 8323 section 3.2, RFC 8974 section 2.1)."""
+    """Returns the encoding of a message with fewer than 269 bytes of options and payload (RFC 8323 section 3.2, RFC 8974 section 2.1)."""
     body = options + (b"\xff" + payload if payload else b"")
     nibble, behind = (len(token), b"") if len(token) < 13 else (13, bytes([len(token) - 13]))
     if len(body) < 13:
@@ -72,8 +71,7 @@ def spelled(code, token=b"", options=b"", payload=b""):
 
 
 def front_size(stream):
-    """The size of the message at the front of a stream, or None where bytes that state it are missing (RFC 8323 section 3.2, RFC 8974
-    section 2.1)."""
+    """Returns the size of the first message of a stream, or None if more bytes are needed (RFC 8323 section 3.2, RFC 8974 section 2.1)."""
     if stream[0] & 15 == 15:
         raise Stop(TOKEN_LENGTH, taken=1)
     count, base = {13: (1, 13), 14: (2, 269), 15: (4, 65_805)}.get(stream[0] >> 4, (0, stream[0] >> 4))
@@ -91,7 +89,7 @@ def front_size(stream):
 
 
 def extended(nibble, rest):
-    """The number that a nibble and its extension mean, and what stands behind it (RFC 7252 section 3.1)."""
+    """Returns the number that a nibble and its extension encode, and the bytes after them (RFC 7252 section 3.1)."""
     if nibble < 13:
         return nibble, rest
     count, base = {13: (1, 13), 14: (2, 269), 15: (len(rest) + 1, 0)}[nibble]
@@ -101,7 +99,7 @@ def extended(nibble, rest):
 
 
 def parts_of(frame):
-    """The code, the token and the options of a message; its payload is not looked at (RFC 8323 section 3.2, RFC 7252 section 3.1)."""
+    """Returns the code, the token and the options of a message. The payload is not read (RFC 8323 section 3.2, RFC 7252 section 3.1)."""
     begin = 1 + {13: 1, 14: 2, 15: 4}.get(frame[0] >> 4, 0)
     length, behind = extended(frame[0] & 15, frame[begin + 1 :])
     code, token, rest = frame[begin], behind[:length], behind[length:]
@@ -121,7 +119,7 @@ def parts_of(frame):
 
 
 def recognised(options):
-    """The options that are recognised, and whether a critical one is not (RFC 7252 sections 5.4.1 to 5.4.5)."""
+    """Returns the recognized options, and whether a critical one is not recognized (RFC 7252 sections 5.4.1 to 5.4.5)."""
     found, is_strange = [], False
     for place, (number, value) in enumerate(options):
         least, most, repeats = OPTIONS.get(number, (1, 0, False))
@@ -134,7 +132,7 @@ def recognised(options):
 
 
 def response_code(code, found):
-    """The code of the response to a request without strange options, where there is the root alone (RFC 7252 sections 5.8 and 5.10.8)."""
+    """Returns the code of the response of a server that has the root alone (RFC 7252 sections 5.8 and 5.10.8)."""
     numbers = [number for number, _ in found]
     if code > DELETE:
         return NOT_ALLOWED
@@ -147,17 +145,17 @@ def response_code(code, found):
 
 
 def response(code, token, options):
-    """The response to a request."""
+    """Returns the response to a request."""
     found, is_strange = recognised(options)
     answer = BAD_OPTION if is_strange else response_code(code, found)
     if answer != CONTENT:
         return spelled(answer, token)
-    # Content-Format 0, text/plain (RFC 7252 section 12.3)
+    # Content-Format 0, text/plain (RFC 7252 section 12.3).
     return spelled(answer, token, b"\xc0", GREETING)
 
 
 def signalled(code, token, options):
-    """What answers a signalling message, or the stop that it makes (RFC 8323 section 5)."""
+    """Returns the response to a signalling message, or raises the stop that it causes (RFC 8323 section 5)."""
     critical = [number for number, value in options if number % 2 or (code == CSM and number == 2 and len(value) > 4)]
     if code == ABORT:
         raise Stop(ABORTED)
@@ -171,26 +169,25 @@ def signalled(code, token, options):
 
 
 def handled(frame):
-    """What answers a message on an open connection, or the stop that it makes (RFC 8323 sections 3.3, 3.4 and 5)."""
+    """Returns the response to a message on an open connection, or raises the stop that it causes (RFC 8323 sections 3.3, 3.4 and 5)."""
     code, token, options = parts_of(frame)
     if code >> 5 in (1, 6):
         raise Stop(RESERVED)
     if code >> 5 == 7:
         return signalled(code, token, options)
-    # Empty messages and, at a server, responses to nothing are ignored
+    # Empty messages are ignored, and so are responses at a server.
     return response(code, token, options) if 0 < code < 32 else b""
 
 
 def abort(stop):
-    """The Abort of a stop, if there is one (RFC 8323 section 5.6)."""
+    """Returns the Abort of a stop, if there is one (RFC 8323 section 5.6)."""
     if stop.reason not in TEXTS:
         return b""
     return spelled(ABORT, b"", b"" if stop.option is None else bytes([0x21, stop.option]), TEXTS[stop.reason])
 
 
 def outcome(stream):
-    """What comes of a stream behind Capabilities and Settings: how many bytes are taken, what is written, the stop and how many bytes
-    are kept."""
+    """Returns the result of a stream after a CSM: the bytes taken, the output, the reason of the stop, and the bytes kept."""
     at, written = 0, b""
     while at < len(stream):
         try:
@@ -205,7 +202,7 @@ def outcome(stream):
 
 
 def lines_of(number, stream):
-    """The events of a connection with this number, and the lines that they write."""
+    """Returns the events of a connection with this number, and the lines that they write."""
     taken, written, reason, kept = outcome(stream)
     phase = "open" if not reason else f"releasing {reason}" if reason == RELEASED else f"stopped {reason}"
     events = f"open\ndrain {number}\nin {number} {(SETTINGS + stream).hex()}\ndrain {number}\nstatus {number}\ndrop {number}\n"
@@ -216,12 +213,12 @@ def lines_of(number, stream):
 
 
 def stream_of(size, place):
-    """A stream of so many bytes: those of three are in the order of the sample."""
+    """Returns a stream of this size. Streams of three bytes are in the order of the sample."""
     return (place * STEP % ALL if size == 3 else place).to_bytes(size, "big")
 
 
 def play(program, size, places):
-    """Plays streams in one run of the program; gives how many and, of the first that came out otherwise, a text."""
+    """Plays streams in one run of the program. Returns their number, and a text for the first difference."""
     pairs = [lines_of(number, stream_of(size, place)) for number, place in enumerate(places, 1)]
     events, wanted = ("".join(parts) for parts in zip(*pairs))
     ran = subprocess.run([program, *WORDS], input=events, capture_output=True, text=True, timeout=600)
@@ -234,7 +231,7 @@ def play(program, size, places):
 
 
 def batches(counts):
-    """The sizes of streams, each with the places that one run plays."""
+    """Yields the sizes of streams, each with the numbers of the streams of one run."""
     for size, count in counts.items():
         for first in range(0, count, BATCH):
             yield size, range(first, min(first + BATCH, count))

@@ -1,5 +1,5 @@
-"""Shows the main jobs: recorded streams through `coap-server --stdio`, with what each message means, and a script of events on
-one server through `coap-server --script -`, with what each line means.
+"""Demonstrates the server: recorded streams through `coap-server --stdio`, with the meaning of each message. Then follows a script on one server
+through `coap-server --script -`, with the meaning of each line.
 
     tests/vectors/demo.py bin/coap-server
     tests/vectors/demo.py --try                 the first stream alone, by `rt try`, which runs the same source before any proof
@@ -16,49 +16,48 @@ from workspace import ROOT  # noqa: E402
 
 CRATE = os.path.join(ROOT, "crates", "coap_server")
 
-# Capabilities and Settings with nothing in it, Empty, a Ping with the token 07 and Custody, and GET of the root, of the
-# moment, of the listing and of an absent path.
+# An empty CSM, Empty, a Ping with the token 07 and Custody. Then GETs of the root, of /time, of the listing and of an absent path.
 RECORDED = bytes.fromhex(
     "00e1" "0000" "11e20720" "010109" "51010ab474696d65"
     "d104010bbb2e77656c6c2d6b6e6f776e04636f7265" "21010cb178"
 )
 
-# Capabilities and Settings, and then the first bytes of a message of 4,295,033,106 bytes; a Ping behind them.
+# An empty CSM, the first bytes of a message of 4,295,033,106 bytes, and a Ping.
 HOSTILE = bytes.fromhex("00e1" "f0ffffffff01" "01e201")
 
 STREAMS = [
-    ("A peer that keeps to the rules: Capabilities and Settings, Empty, a Ping with Custody, requests.", RECORDED),
-    ("A hostile one: a size of 4,295,033,106 bytes, and more behind it.", HOSTILE),
+    ("A well-behaved peer: Capabilities and Settings Message, Empty, a Ping with Custody, requests.", RECORDED),
+    ("A hostile peer: a message size of 4,295,033,106 bytes, followed by a Ping.", HOSTILE),
 ]
 
-SCRIPT_TITLE = "A script on one server: two connections observe /time, and the second one is not drained. Each event, its line, what that means."
+SCRIPT_TITLE = "A script on one server: two connections observe /time, and the second one is not drained. Each event, its line, and the meaning."
 
-# Some more Pings than there is room for Pongs.
+# More Pings than the queue has space for Pongs.
 PINGS = 22_000
 
-# Each event, and what its line means; of bytes that are written their messages are told.
+# Each event, and the meaning of its line. For an empty text, the messages in the line are described.
 SCRIPT = [
-    ("open", "a connection, which gets the number 1"),
+    ("open", "opens a connection, which gets the number 1"),
     ("drain 1", ""),
-    ("in 1 00e1" "6101076054" "74696d65", "its Capabilities and Settings, and GET of /time with Observe: all 11 bytes are taken"),
+    ("in 1 00e1" "6101076054" "74696d65", "its Capabilities and Settings Message, and a GET of /time with Observe: all 11 bytes are taken"),
     ("drain 1", ""),
-    ("open", "a second connection"),
-    ("in 2 00e1" "6101086054" "74696d65", "it observes /time too"),
+    ("open", "opens a second connection"),
+    ("in 2 00e1" "6101086054" "74696d65", "this connection observes /time too"),
     ("drain 2", ""),
-    ("put /a 0 31", "a put from inside is refused: this program has places for no resources but the built-in ones"),
-    ("tick 5", "the moment is 5 now, and each observer is to be told"),
+    ("put /a 0 31", "a put by the program itself is rejected: its resource limit is 0"),
+    ("tick 5", "the time is 5 now, and each observer is notified"),
     ("drain 1", ""),
     ("drain 2", ""),
-    ("in 2 " + "01e201" * PINGS, f"of {PINGS:,} Pings those are taken whose Pongs have room, as connection 2 is not drained"),
-    ("status 2", "so many bytes of Pongs wait, and there is no room for one more greatest message"),
-    ("tick 6", "the observer on connection 1 is told; the one on connection 2 has to wait"),
+    ("in 2 " + "01e201" * PINGS, f"of {PINGS:,} Pings, those are taken whose Pongs fit into the queue of connection 2, which is not drained"),
+    ("status 2", "these bytes of Pongs are queued, and the queue has no space for another message of maximum size"),
+    ("tick 6", "the observer on connection 1 is notified; the one on connection 2 must wait"),
     ("drain 1", ""),
     ("tick 7", "and again"),
     ("drain 1", ""),
-    (f"drain 2 {3 * PINGS}", "all Pongs that wait, and now there is room for what the observer is to be told"),
+    (f"drain 2 {3 * PINGS}", "all queued Pongs are sent, and the queue has space for the notification"),
     ("drain 2", ""),
-    ("drop 1", "connection 1 is forgotten"),
-    ("status 1", "so nothing is known of it"),
+    ("drop 1", "connection 1 is dropped"),
+    ("status 1", "so connection 1 does not exist"),
 ]
 
 
@@ -86,12 +85,12 @@ def run(command, title, stream, folder=None):
 
 
 def shortened(line):
-    """A line without the middle of its bytes, where they are many."""
+    """Returns a line with the middle of its bytes left out if there are many."""
     return line if len(line) <= 60 else line[:22] + ".." + line[-6:]
 
 
 def meaning(line, sentence):
-    """The sentence on a line or, where there is none, what the bytes of the line mean."""
+    """Returns the sentence for a line or, if it is empty, the meaning of the bytes of the line."""
     if sentence:
         return sentence
     frames, rest = messages.split(bytes.fromhex(line.split()[2]))
@@ -112,7 +111,7 @@ def run_script(command):
 
 def main(words):
     if words == ["--try"]:
-        print("First the main job UNPROVED: `rt try` runs the same source before any proof, which takes up to a minute.", flush=True)
+        print("First, the server UNPROVED: `rt try` runs the same source before any proof, in up to a minute.", flush=True)
         return run(["rt", "try", "--", "--stdio"], *STREAMS[0], folder=CRATE)
     print(f"Now {words[0]}, built from the proved crates:")
     statuses = []

@@ -1,13 +1,13 @@
 #!/usr/bin/env python3
-"""Checks the list of worked rows, tests/vectors/rows/README.md: each row is where the list says, and a step of the gate plays it.
+"""Checks the list of worked rows, tests/vectors/rows/README.md: each row is at the listed place, and a step of the gate plays it.
 
     tests/vectors/row_list.py
 
-A row of the list names a file and lines of it. In a file of rows these are whole lines in this order below one opening, which
-tests/harness/rows.py plays; a line that ends in ` ..` gives the beginning of one. A test of coap_tests must have the lines in a `#[test]` function
-or in a constant that one names. A stored run must be that of a program in crates.txt, and a Python test a step of the gate. `refused` and
-`cut` in the last column ask that tests/harness/rows.py --refuse and tests/vectors/segmentation.py play the file too.
-The last line is 'N passed, M failed' over the places of the list, and the status 0 if M is 0.
+A row of the list names a file and lines of it. In a file of rows, which tests/harness/rows.py plays, these are whole lines in this order below one
+opening. A line that ends in ` ..` is the beginning of a line. A test of coap_tests must have the lines in a `#[test]` function, or in a constant
+that one names. A stored run must be that of a program in crates.txt, and a Python test must be a step of the gate. With `refused` and `cut` in the
+last column, tests/harness/rows.py --refuse and tests/vectors/segmentation.py must play the file too.
+The last line is 'N passed, M failed' for the places of the list, and the status is 0 if M is 0.
 """
 
 import importlib.machinery
@@ -27,7 +27,7 @@ HEADER = ["Row", "Shows", "File", "Lines", "Also"]
 
 @dataclass
 class Place:
-    """A place where a row is played."""
+    """A place at which a row is played."""
 
     name: str
     file: str
@@ -35,18 +35,18 @@ class Place:
     also: list
 
     def is_in(self, found):
-        """Whether the lines are among these, in their order."""
+        """Returns true if the lines are among these, in their order."""
         left = iter(found)
         return all(any(is_line(line, text) for text in left) for line in self.lines)
 
 
 def is_line(wanted, text):
-    """Whether a text is the line that the list gives, or begins as it."""
+    """Returns true if a text is the line of the list, or begins with it if the line ends in ` ..`."""
     return text.startswith(wanted.removesuffix("..").rstrip()) if wanted.endswith(" ..") else text == wanted
 
 
 def steps_of_the_gate():
-    """The steps of the gate, each with its words."""
+    """Returns the steps of the gate, each with its words."""
     loader = importlib.machinery.SourceFileLoader("gate", f"{ROOT}/tests/gate")
     gate = importlib.util.module_from_spec(importlib.util.spec_from_loader("gate", loader))
     loader.exec_module(gate)
@@ -54,7 +54,7 @@ def steps_of_the_gate():
 
 
 def places():
-    """The places of the list, and what is wrong with the list itself."""
+    """Returns the places of the list, and the errors of the list itself."""
     found, wrong, name = [], [], ""
     for line in LIST.read_text(encoding="utf-8").splitlines():
         if not line.startswith("|") or line.startswith("|---"):
@@ -74,20 +74,20 @@ def places():
 
 
 def wrong_in_rows(place, steps):
-    """What is wrong with a place in a file of rows."""
+    """Returns the error of a place in a file of rows, or an empty text."""
     path = rows.ROOT / place.file
     if ["python3", "tests/harness/rows.py"] not in steps or path not in rows.ROWS.glob("*/*.rows"):
         return "no step of the gate plays this file"
     file = rows.read(path)
     if not any(place.is_in([f"= {opening}", *below]) for opening, below in file.values):
-        return "these lines are not there below one opening"
+        return "these lines are not below one opening"
     if not file.steps():
-        return "nothing of this file is played"
+        return "the file has no rows"
     return wrong_besides(place, file, steps)
 
 
 def wrong_besides(place, file, steps):
-    """What is wrong with what is said to be played besides."""
+    """Returns the error of the last column of a place, or an empty text."""
     for word in place.also:
         if word == "refused":
             is_played = ["python3", "tests/harness/rows.py", "--refuse"] in steps and file.allocations.isdigit()
@@ -99,14 +99,14 @@ def wrong_besides(place, file, steps):
 
 
 def texts_of_tests(text):
-    """The text of each `#[test]` function, and of each constant that one names."""
+    """Returns the text of each `#[test]` function, and of each constant that one names."""
     tests = re.findall(r"^#\[test\]\nfn .*?^\}$", text, re.MULTILINE | re.DOTALL)
     constants = re.findall(r'^const (\w+): &str = "(.*?)";$', text, re.MULTILINE | re.DOTALL)
     return tests + [value for name, value in constants if any(re.search(rf"\b{name}\b", it) for it in tests)]
 
 
 def wrong_in_tests(place, text, steps):
-    """What is wrong with a place in the tests of coap_tests."""
+    """Returns the error of a place in the tests of coap_tests, or an empty text."""
     module = place.file.removeprefix("crates/coap_tests/src/").removesuffix(".rt")
     with open(f"{ROOT}/crates/coap_tests/src/lib.rt", encoding="utf-8") as it:
         is_module = f"mod {module};" in it.read().splitlines()
@@ -116,24 +116,24 @@ def wrong_in_tests(place, text, steps):
 
 
 def wrong_in_run(place, text, steps):
-    """What is wrong with a place in a stored run."""
+    """Returns the error of a place in a stored run, or an empty text."""
     crate = place.file.split("/")[1]
     if ["rt", "ci"] not in steps or crate not in listed() or not is_program(crate):
         return "no step of the gate plays this run"
-    return "" if place.is_in(text.splitlines()) else "these lines are not there"
+    return "" if place.is_in(text.splitlines()) else "these lines are missing"
 
 
 def wrong_in_script(place, text, steps):
-    """What is wrong with a place in a Python test."""
+    """Returns the error of a place in a Python test, or an empty text."""
     if not any(step[:2] == ["python3", place.file] for step in steps):
-        return "this is no step of the gate"
+        return "not a step of the gate"
     left = iter(text.splitlines())
     is_there = all(any(line.removesuffix(" ..").removesuffix("..") in it for it in left) for line in place.lines)
-    return "" if is_there else "these lines are not there"
+    return "" if is_there else "these lines are missing"
 
 
 def wrong_of(place, steps):
-    """What is wrong with a place, or nothing."""
+    """Returns the error of a place, or an empty text."""
     try:
         with open(f"{ROOT}/{place.file}", encoding="utf-8") as it:
             text = it.read()
@@ -142,7 +142,7 @@ def wrong_of(place, steps):
     if place.file.endswith(".rows"):
         return wrong_in_rows(place, steps)
     if place.also:
-        return "this is no file of rows"
+        return "not a file of rows"
     if place.file.startswith("crates/coap_tests/src/"):
         return wrong_in_tests(place, text, steps)
     if re.fullmatch(r"crates/\w+/(args|stdin|stdout|status)", place.file):

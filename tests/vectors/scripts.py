@@ -3,9 +3,8 @@
 
     tests/vectors/scripts.py PROGRAM [FILE..]
 
-A file is tests/vectors/rows/serve/NAME.rows. Each section is a script for `PROGRAM --script -` with the options that its settings ask for; one
-that sets what the program has no option for is left out. The last line is 'N passed, M failed' over the lines, and the status 0 where
-M is 0.
+A file is tests/vectors/rows/serve/NAME.rows. Each section is a script for `PROGRAM --script -`, with the options for its settings. A section with a
+setting for which the program has no option is left out. The last line is 'N passed, M failed' for the lines, and the status is 0 if M is 0.
 """
 
 import os
@@ -22,13 +21,13 @@ OPTIONS = {"max": "--max-message", "sent": "--max-sent", "queue": "--queue", "pe
 
 
 def lines_of(section):
-    """The events of a section and the lines that they write, each alone."""
+    """Yields each event of a section with the line that it writes."""
     for event, line in serve.lines_of(section):
         yield from zip(event.split("|"), line.split("|"))
 
 
 def play(program, said, section):
-    """Plays a section, and returns how many lines it has and what is wrong."""
+    """Plays a section, and returns the number of its lines and the differences."""
     pairs = list(lines_of(section))
     options = [word for name, value in said.items() for word in (OPTIONS[name], value)]
     script = "".join(event + "\n" for event, _ in pairs).encode()

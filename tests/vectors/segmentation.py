@@ -1,12 +1,12 @@
 #!/usr/bin/env python3
-"""Replays the rows of servers with each `in` cut in two at every place.
+"""Replays the rows of servers with each `in` split in two at every place.
 
     tests/vectors/segmentation.py [FILE..]
 
-A file is tests/vectors/rows/serve/NAME.rows or tests/vectors/rows/calls/NAME.rows. Every line must be as the file says, but for those of
-the two parts: their counts add up, and the last one tells the same stop. All cuts of an `in` are made in one run of the probe. A file
-with a line `cuts:`, which says why, is left out, and so are events that stand in one row with others. The last line is 'N passed, M
-failed' over the replays, and the status 0 if M is 0.
+A file is tests/vectors/rows/serve/NAME.rows or tests/vectors/rows/calls/NAME.rows. Every line must be as in the file, except those of the two
+parts. For these, the sum of their counts and the stop of the last one must be as in the file. All splits of an `in` are made in one run of the probe. A file
+with a line `cuts:` is left out for the reason in that line. Events that share a row with others are left out too. The last line is 'N passed, M
+failed' for the replays, and the status is 0 if M is 0.
 """
 
 import os
@@ -20,7 +20,7 @@ from layers import serve  # noqa: E402
 
 
 def cuts_of(event):
-    """The events that stand for an `in`, two for each place where it is cut."""
+    """Yields the events that replace an `in`, two for each place at which it is split."""
     word, _, rest = event.partition(" ")
     connection, _, digits = rest.partition(" ")
     if word == "in" and "|" not in event:
@@ -29,7 +29,7 @@ def cuts_of(event):
 
 
 def wrong_of(steps, at, found):
-    """What is wrong with the lines of a replay whose event at this place was cut."""
+    """Returns the differences in the lines of a replay whose event at this index was split."""
     first, second = found[at : at + 2]
     wrong = rows.differences(found[:at] + found[at + 2 :], steps[:at] + steps[at + 1 :])
     (count, _), (more, stop) = serve.count_of(first), serve.count_of(second)
@@ -39,7 +39,7 @@ def wrong_of(steps, at, found):
 
 
 def replay(file, steps, at):
-    """Replays a section with the event at this place cut at every place, and returns how many replays these are and what is wrong."""
+    """Replays a section with the event at this index split at every place. Returns the number of replays and the differences."""
     events = [step.event for step in steps]
     cuts = list(cuts_of(events[at]))
     sent = [event for cut in cuts for event in events[:at] + cut + events[at + 1 :]]

@@ -3,10 +3,10 @@
 
     tests/vectors/stdio.py PROGRAM [FILE..]
 
-A file is tests/vectors/rows/stdio/NAME.rows. Each run is `PROGRAM --stdio` with the options that its settings ask for, over devices that a
-preloaded library sets (tests/harness/devices.c), which tells their calls. A run that sets what the program has no option for is left out. Why
-a connection ended, and how many bytes and messages there were, the program does not tell: the probe does (tests/harness/rows.py). The last
-line is 'N passed, M failed' over the runs, and the status 0 where M is 0.
+A file is tests/vectors/rows/stdio/NAME.rows. Each run is `PROGRAM --stdio` with the options for its settings. A preloaded library
+(tests/harness/devices.c) sets up the devices and records their calls. A run with a setting for which the program has no option is left out. The
+program does not report the reason for the end of a connection, nor its numbers of bytes and messages. These are checked with the probe
+(tests/harness/rows.py). The last line is 'N passed, M failed' for the runs, and the status is 0 if M is 0.
 """
 
 import os
@@ -26,12 +26,12 @@ DEVICES = {"by": "READ_BY", "read-fails": "READ_FAILS", "taking": "WRITE_TAKING"
 
 FAULTS = {"Err(Read)": "cannot read", "Err(Write)": "cannot write", "Err(Turns)": "too many turns"}
 
-# Where a setting means all that there is.
+# Value that stands for no limit.
 MUCH = 1 << 40
 
 
 def environment_of(said, shim):
-    """The variables that set the devices."""
+    """Returns the environment with the variables that set up the devices."""
     set_ = {DEVICES[name]: str(min(value, MUCH)) for name, value in said.items() if name in DEVICES}
     if "cut" in said:
         set_["READ_CUTS"] = f"{said['cut']} {said['cut-again']}"
@@ -39,9 +39,9 @@ def environment_of(said, shim):
 
 
 def played(program, shim, run):
-    """Runs the program, and returns what its devices told, its status and what it said."""
+    """Runs the program. Returns the recorded calls of its devices, its status, its output and its error output."""
     words = [word for name, value in run.said.items() if name in OPTIONS for word in (OPTIONS[name], str(value))]
-    # (from a file, since a read of a pipe may give less than there will be)
+    # The input is a file, since a read of a pipe may return a part of it.
     with tempfile.TemporaryFile() as told, tempfile.TemporaryFile() as sent:
         sent.write(run.sent)
         sent.seek(0)
@@ -52,7 +52,7 @@ def played(program, shim, run):
 
 
 def wrong_of(program, shim, run):
-    """What is wrong with a run, or nothing."""
+    """Returns the differences of a run, or an empty text."""
     told, status, written, said = played(program, shim, run)
     found = run.told(f"{told} {run.answer}")
     is_right = (status, said) == (0, "") if run.answer not in FAULTS else status == 3 and FAULTS[run.answer] in said

@@ -1,27 +1,29 @@
-//! What is asked for beside a method and a target, as fields, of which `-` is none: `OBSERVE PLAIN FORMAT ACCEPT OPTION
-//! BYTES BYTES HEX`. The first two are `yes` or `-`; then come numbers: of the formats and of one more option, and how
-//! many of the hex digits' bytes are a token, and how many behind these the value of the option. The bytes behind both
-//! are the payload.
+//! The fields of a request beside its method and target: `OBSERVE PLAIN FORMAT ACCEPT OPTION BYTES BYTES HEX`. An
+//! absent field is `-`.
+//!
+//! OBSERVE and PLAIN are `yes` or `-`. FORMAT and ACCEPT are numbers of Content-Formats, OPTION is the number of a
+//! further option. The bytes of HEX are a token, the value of that option and the payload. The two fields BYTES are the
+//! lengths of the first two.
 
 use coap_client::{Extras, Method};
 use probe_support::{cut, next_number, read_hex};
 
-/// What a row asks for.
+/// Fields of a request, read from a row.
 #[derive(Drop)]
 pub(crate) struct RequestFields<'a> {
-    /// The token of what is cancelled.
+    /// Token of the observation to cancel.
     pub token: &'a [u8],
-    /// The rest.
+    /// The other fields.
     pub extras: Extras<'a>,
 }
 
-/// The number at the beginning of a text, and what is behind it.
+/// Returns the number before the first space, if there is one, and the text after that space.
 fn field<'a>(text: &'a str) -> (Option<u16>, &'a str) {
     let (word, rest) = cut(text);
     (word.parse::<u16>().ok(), rest)
 }
 
-/// What a text asks for, its bytes in place of those that are there.
+/// Reads the fields of a request. Their bytes replace those in `bytes`.
 pub(crate) fn read_asked<'a>(text: &str, bytes: &'a mut Vec<u8>) -> RequestFields<'a> {
     let (observe, text) = cut(text);
     let (plain, text) = cut(text);
@@ -53,7 +55,7 @@ pub(crate) fn read_asked<'a>(text: &str, bytes: &'a mut Vec<u8>) -> RequestField
     }
 }
 
-/// The method that a word names.
+/// Returns the method that a word names. Any other word names GET.
 pub(crate) fn method(word: &str) -> Method {
     match word {
         "put" => Method::Put,

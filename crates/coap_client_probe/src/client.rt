@@ -1,6 +1,9 @@
-//! Clients: `= client` and the six limits and the number before that of the first token, and then `take HEX`, `send
-//! METHOD TARGET` and `cancel TARGET` with what is asked for (`asked`), `ping custody` or `ping plain`, `written
-//! COUNT`, `end`, `part` and `look`. Behind each, what waits is written, but not where `keep` stands before it.
+//! Rows for clients. `= client` with the six limits and a number creates one. The first token is made from the number
+//! after this one.
+//!
+//! The events are `take HEX`, `send METHOD TARGET` and `cancel TARGET` with the fields of a request (`asked`), `ping
+//! custody` (or `plain`), `written COUNT`, `end`, `part` and `look`. After each event all queued bytes are removed, as
+//! written, unless the row begins with `keep`.
 
 use crate::asked::{method, read_asked};
 use crate::target::tell_fault;
@@ -12,7 +15,7 @@ use coap_wire::{MessageRef, Token};
 use std::alloc::{AllocError, Global};
 use std::fmt::Write;
 
-/// A new client; none where a limit is out of its range.
+/// Creates a client. Returns `None` if a number is out of range.
 pub(crate) fn opened(alloc: Global, text: &str) -> Option<Result<Client, AllocError>> {
     let (max_message, text) = next_number(text);
     let (max_sent, text) = next_number(text);
@@ -33,7 +36,7 @@ pub(crate) fn opened(alloc: Global, text: &str) -> Option<Result<Client, AllocEr
     Some(Client::open(alloc, limits, tokens))
 }
 
-/// Tells the code, the token and the payload of a message.
+/// Writes the code, the token and the payload of a message.
 fn tell_message(message: &MessageRef, told: &mut RowLine) {
     let code = message.code();
     let _ = write!(told, "{}.{:02} ", code.class(), code.detail());
@@ -41,7 +44,7 @@ fn tell_message(message: &MessageRef, told: &mut RowLine) {
     told.hex(message.payload());
 }
 
-/// Tells what a client told.
+/// Writes an event of a client.
 pub(crate) fn tell_event(event: &Event, told: &mut RowLine) {
     match event {
         Event::Ready => told.word("ready"),
@@ -71,7 +74,7 @@ pub(crate) fn tell_event(event: &Event, told: &mut RowLine) {
     }
 }
 
-/// Hands bytes to a client, and tells how many it took and what it told.
+/// Passes bytes to a client, and writes the number of bytes taken and the event.
 fn take(client: &mut Client, bytes: &[u8], told: &mut RowLine) {
     let taken = client.take(bytes);
     told.number(taken.bytes as u64);
@@ -81,12 +84,12 @@ fn take(client: &mut Client, bytes: &[u8], told: &mut RowLine) {
     }
 }
 
-/// Tells the fault of a request.
+/// Writes the error of a request.
 fn tell_refusal(fault: RequestFault, told: &mut RowLine) {
     let _ = write!(told, "{fault:?} {} ({fault}) ", fault as u64);
 }
 
-/// Tells the token that was given, or the fault.
+/// Writes the token of a request, or the error.
 fn tell_token(given: Result<Token, RequestFault>, told: &mut RowLine) {
     match given {
         Ok(token) => told.hex(token.as_slice()),
@@ -94,7 +97,7 @@ fn tell_token(given: Result<Token, RequestFault>, told: &mut RowLine) {
     }
 }
 
-/// Sends a request, and tells its token.
+/// Sends a request, and writes its token or the error.
 fn send(alloc: Global, client: &mut Client, text: &str, bytes: &mut Vec<u8>, told: &mut RowLine) {
     let (name, text) = cut(text);
     let (to, text) = cut(text);
@@ -105,7 +108,7 @@ fn send(alloc: Global, client: &mut Client, text: &str, bytes: &mut Vec<u8>, tol
     }
 }
 
-/// Cancels an observation, and tells how that went.
+/// Cancels an observation, and writes the result.
 fn cancel(alloc: Global, client: &mut Client, text: &str, bytes: &mut Vec<u8>, told: &mut RowLine) {
     let (to, text) = cut(text);
     let asked = read_asked(text, bytes);
@@ -121,7 +124,7 @@ fn cancel(alloc: Global, client: &mut Client, text: &str, bytes: &mut Vec<u8>, t
     }
 }
 
-/// So many bytes were written.
+/// Removes bytes from the front of the queue, as written.
 fn written(client: &mut Client, count: usize, told: &mut RowLine) {
     if count > client.waiting() {
         return told.word("refused");
@@ -130,7 +133,7 @@ fn written(client: &mut Client, count: usize, told: &mut RowLine) {
     told.word("-");
 }
 
-/// Makes an event happen, and tells its answer.
+/// Executes an event, and writes its result.
 pub(crate) fn act(
     alloc: Global,
     client: &mut Client,
@@ -158,7 +161,8 @@ pub(crate) fn act(
     }
 }
 
-/// Plays an event, tells how the client stands then, and writes what waits, but behind `keep`.
+/// Executes an event, and writes its result and the state of the client. Then removes all queued bytes, unless the row
+/// begins with `keep`.
 pub(crate) fn play(
     alloc: Global,
     client: &mut Client,

@@ -1,4 +1,4 @@
-//! A wire, a clock and outlets in memory, in room of their own.
+//! A connection, a clock and writers in memory, with buffers of fixed size.
 
 ghost use Rattle.std.specs.Prelude.{◌≡◌, ◌≤◌, false, None, Some, length};
 ghost use Rattle.coap_serve.specs.Prelude.{IsWithin};
@@ -7,11 +7,14 @@ use arrayvec::ArrayVec;
 use coap_serve::{Clock, Got, Outlet, Wire};
 use probe_support::number;
 
-/// The most bytes that are written to a device.
+/// Maximum number of bytes written to a device.
 const ROOM: usize = 1_024;
 
-/// A wire whose reads a text names: `later`, `end`, `failed`, or how many bytes they give; and `later` behind them. Its
-/// writes take all, or one byte (`slow`), none (`deaf`), or come to `end` (`shut`) or `failed` (`torn`).
+/// Connection that follows a text.
+///
+/// Each word of `reads` names the result of one read: `later`, `end`, `failed`, or a number of bytes. Reads after the
+/// last word return `Later`. A write accepts all bytes, one byte (`slow`) or none (`deaf`), or returns `End` (`shut`)
+/// or `Failed` (`torn`).
 #[derive(Drop)]
 pub(crate) struct Line<'a> {
     pub reads: &'a str,
@@ -21,7 +24,7 @@ pub(crate) struct Line<'a> {
 }
 
 impl Line<'_> {
-    /// Gives so many bytes.
+    /// Copies the next `count` bytes to the buffer, up to its size.
     fn give(&mut self, count: usize, buffer: &mut [u8]) -> Got
         ensures { IsWithin (length buffer.new) result }
     {
@@ -34,7 +37,7 @@ impl Line<'_> {
         Got::Bytes(count)
     }
 
-    /// Takes so many bytes.
+    /// Records the first `count` bytes, as accepted.
     fn take(&mut self, bytes: &[u8], count: usize) -> Got
         ensures { IsWithin (length bytes.now) result }
     {
@@ -77,7 +80,7 @@ impl Wire for Line<'_> {
     }
 }
 
-/// A clock that tells the moments that a text names, and the last one behind them.
+/// Clock that returns the times that a text names, and then the last one again.
 #[derive(Drop)]
 pub(crate) struct Moments<'a> {
     pub text: &'a str,
@@ -91,7 +94,7 @@ impl Clock for Moments<'_> {
     }
 }
 
-/// A page that keeps what is written to it, as far as it has room.
+/// Writer that keeps the bytes written to it, up to its capacity.
 #[derive(Drop)]
 pub(crate) struct ScriptedOutlet {
     pub bytes: ArrayVec<u8, ROOM>,
@@ -100,7 +103,7 @@ pub(crate) struct ScriptedOutlet {
 }
 
 impl ScriptedOutlet {
-    /// An empty page, which may take nothing.
+    /// Creates an empty writer. If `is_full`, each write fails.
     pub(crate) fn new(is_full: bool) -> ScriptedOutlet
         ensures { result.failed ≡ false }
     {

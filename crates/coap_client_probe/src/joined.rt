@@ -1,7 +1,11 @@
-//! A client and a server joined over memory: `= joined MOST CUT`, and then the client's events `send`, `cancel` and
-//! `ping` (`client`), `put HEX` at the path `a` and `tick MOMENT` of the server, and `look`. Behind each, bytes go to
-//! and fro until none is left, in pieces of so many at most that do not pass the cut of either stream. What is told is
-//! the event's answer, and then what the client told, each behind `,`, and how much is outstanding, behind `;`.
+//! Rows for a client and a server that are connected in memory: `= joined MOST CUT`.
+//!
+//! The events of the client are `send`, `cancel` and `ping` (see `client`). Those of the server are `put HEX`, at the
+//! path `a`, and `tick TIME`. The event `look` does nothing. After each event, bytes are passed in both directions
+//! until none is left. A slice has at most MOST bytes, and none passes the offset CUT of its stream.
+//!
+//! The result line has the result of the event, the events of the client, each after `,`, and the number of outstanding
+//! requests, after `;`.
 
 use crate::client;
 use coap_client::Client;
@@ -10,28 +14,28 @@ use coap_store::PathKey;
 use probe_support::{RowLine, cut, next_number, number, read_hex};
 use std::alloc::Global;
 
-/// The most requests that the client may have outstanding.
+/// Maximum number of outstanding requests of the client.
 const REQUESTS: usize = 3;
 
-/// How often bytes go to and fro at most.
+/// Maximum number of times that bytes are passed in both directions.
 const ROUNDS: usize = 10_000;
 
-/// A client, a server with one connection, and how its bytes are cut.
+/// Client and server with one connection, and the segmentation of their streams.
 #[derive(Drop)]
 pub(crate) struct ClientServerPair {
     client: Client,
     server: Server,
     id: ConnId,
-    /// The bytes of a piece at most.
+    /// Maximum number of bytes of a slice.
     most: usize,
-    /// The place of a cut in each stream, which no piece passes.
+    /// Offset in each stream that no slice passes.
     cut: usize,
-    /// How many bytes went each way.
+    /// Numbers of bytes passed to the server and to the client.
     up: usize,
     down: usize,
 }
 
-/// The bytes that go at once, behind so many of the stream.
+/// Returns the prefix of the queued bytes to pass next, after `behind` bytes of the stream.
 fn piece<'a>(front: &'a [u8], behind: usize, cut: usize, most: usize) -> &'a [u8] {
     let left = if behind < cut {
         cut - behind
@@ -41,7 +45,7 @@ fn piece<'a>(front: &'a [u8], behind: usize, cut: usize, most: usize) -> &'a [u8
     front.get(..left.min(most)).unwrap_or(front)
 }
 
-/// Both, with nothing said; none where memory was refused.
+/// Creates a client and a server, or returns `None` if allocation fails.
 pub(crate) fn opened(alloc: Global, text: &str) -> Option<ClientServerPair> {
     let (most, cut) = next_number(text);
     let limits = Limits::new(1_152, 1_152, 2_304, 2, 2, REQUESTS).ok()?;
@@ -64,7 +68,7 @@ pub(crate) fn opened(alloc: Global, text: &str) -> Option<ClientServerPair> {
     })
 }
 
-/// Gives bytes of the client to the server, and answers how many it took.
+/// Passes queued bytes of the client to the server, and returns the number of bytes taken.
 fn to_server(joined: &mut ClientServerPair, told: &mut RowLine) -> usize {
     let front = joined.client.front();
     let piece = piece(front, joined.up, joined.cut, joined.most);
@@ -81,7 +85,7 @@ fn to_server(joined: &mut ClientServerPair, told: &mut RowLine) -> usize {
     taken.bytes
 }
 
-/// Gives bytes of the server to the client, tells what that told, and answers how many it took.
+/// Passes queued bytes of the server to the client, writes the event, and returns the number of bytes taken.
 fn to_client(joined: &mut ClientServerPair, told: &mut RowLine) -> usize {
     let Some(front) = joined.server.front(joined.id) else {
         return 0;
@@ -101,7 +105,7 @@ fn to_client(joined: &mut ClientServerPair, told: &mut RowLine) -> usize {
     bytes
 }
 
-/// Gives bytes to and fro until none is left.
+/// Passes bytes in both directions until none is left.
 fn settle(joined: &mut ClientServerPair, told: &mut RowLine) {
     for _ in 0..ROUNDS {
         let up = to_server(joined, told);
@@ -124,7 +128,7 @@ fn put(joined: &mut ClientServerPair, bytes: &[u8], told: &mut RowLine) {
     });
 }
 
-/// Plays an event.
+/// Executes an event, and writes its result, the events of the client and the number of outstanding requests.
 pub(crate) fn play(
     alloc: Global,
     joined: &mut ClientServerPair,

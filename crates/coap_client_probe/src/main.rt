@@ -1,5 +1,5 @@
-//! Plays rows of text from standard input on clients, targets and the command lines of both programs, and writes a line
-//! for each (`probe_support`).
+//! Executes rows of text from standard input on clients, targets and the command lines of both programs, and prints a
+//! result line for each (`probe_support`).
 #![tactic(auto)]
 
 mod asked;
@@ -16,24 +16,24 @@ use joined::ClientServerPair;
 use std::alloc::{AllocError, Global};
 use std::process::ExitCode;
 
-/// What the rows are about.
+/// Current value, which the rows use.
 #[derive(Drop)]
 enum Value {
-    /// Nothing yet.
+    /// No value yet.
     Nothing,
     /// A client.
     Client(Client),
-    /// A client and a server, joined.
+    /// A client and a server, connected in memory.
     ClientServerPair(ClientServerPair),
-    /// Targets, each for itself.
+    /// Targets, for which the rows need no value.
     Target,
-    /// Command lines, each for itself.
+    /// Command lines, for which the rows need no value.
     Words,
-    /// Runs, each for itself.
+    /// Runs of a client, for which the rows need no value.
     Run,
 }
 
-/// The value that an opening names, and nothing where memory was refused.
+/// Creates the value that an opening row names. Returns `Nothing` if the row is out of range or allocation fails.
 fn opened(alloc: Global, opening: &str, told: &mut RowLine) -> Value {
     let (layer, rest) = cut(opening);
     match layer {

@@ -1,6 +1,8 @@
-//! Runs of a client over a wire in memory: `= run`, and then `KIND MOMENTS READS HEX WORDS`, with `-` for none and
-//! commas between moments and between reads; the bytes are those of all reads. Beside the kinds of wires (`devices`)
-//! `full` is an outlet that takes no byte, and `mute` a place for errors that takes none.
+//! Rows for runs of a client over a connection in memory: `= run`.
+//!
+//! A row is `KIND TIMES READS HEX ARGUMENTS`, with commas between times and between reads, and `-` for no reads. HEX
+//! has the bytes of all reads. KIND is a kind of connection (see `devices`), `full` for an output that accepts no byte,
+//! or `mute` for such an error output.
 
 use crate::devices::{Line, Moments, ScriptedOutlet};
 use crate::words::{Words, tell_fault};
@@ -10,7 +12,8 @@ use probe_support::{RowLine, cut, read_hex};
 use std::alloc::Global;
 use std::fmt::Write;
 
-/// Tells the status of a run, or its fault, which may be want of memory where nothing was written.
+/// Writes the status of a run, or its error. If an allocation failed, writes `memory` first if nothing was written, and
+/// `refused` otherwise.
 fn tell_status(answer: Result<u8, ClientFault>, is_clean: bool, told: &mut RowLine) {
     match answer {
         Ok(status) => told.number(u64::from(status)),
@@ -23,7 +26,7 @@ fn tell_status(answer: Result<u8, ClientFault>, is_clean: bool, told: &mut RowLi
     }
 }
 
-/// Runs a client, and tells its status, what it wrote to both outlets, and what the wire was written.
+/// Runs a client. Writes its status, its output, its error output, and the bytes written to the connection.
 fn run(
     alloc: Global,
     kind: &str,
@@ -43,7 +46,7 @@ fn run(
     told.hex(&wire.written);
 }
 
-/// Plays an event.
+/// Executes a row, and writes its result.
 pub(crate) fn play(alloc: Global, event: &str, bytes: &mut Vec<u8>, told: &mut RowLine) {
     let (kind, event) = cut(event);
     let (moments, event) = cut(event);

@@ -1,11 +1,11 @@
-//! Targets: `= target`, and then texts, one a row.
+//! Rows for targets: `= target`. Each row is a URI.
 
 use coap_client::{Target, TargetFault};
 use probe_support::RowLine;
 use std::alloc::Global;
 use std::fmt::Write;
 
-/// Tells a fault.
+/// Writes the error of a target.
 pub(crate) fn tell_fault(fault: TargetFault, told: &mut RowLine) {
     if fault == TargetFault::Memory {
         told.word("memory");
@@ -13,7 +13,7 @@ pub(crate) fn tell_fault(fault: TargetFault, told: &mut RowLine) {
     let _ = write!(told, "{fault:?} {} ({fault}) ", fault as u64);
 }
 
-/// Tells how many parts there are, and each of them.
+/// Writes the number of parts, and each part.
 fn tell_parts(parts: &[Vec<u8>], told: &mut RowLine) {
     told.number(parts.len() as u64);
     for part in parts {
@@ -21,7 +21,7 @@ fn tell_parts(parts: &[Vec<u8>], told: &mut RowLine) {
     }
 }
 
-/// Tells what a target is.
+/// Writes the parts of a target.
 pub(crate) fn tell_target(target: &Target, told: &mut RowLine) {
     told.word(if target.is_address() {
         "address"
@@ -34,7 +34,7 @@ pub(crate) fn tell_target(target: &Target, told: &mut RowLine) {
     tell_parts(target.arguments(), told);
 }
 
-/// Reads a target, and tells what it is.
+/// Parses a URI, and writes the target or the error.
 pub(crate) fn play(alloc: Global, text: &str, told: &mut RowLine) {
     match Target::read(alloc, text) {
         Ok(target) => tell_target(&target, told),

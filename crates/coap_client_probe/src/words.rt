@@ -1,5 +1,7 @@
-//! Command lines: `= words`, and then `server WORDS` and `client WORDS`, and `server-text WORDS` and `client-text
-//! WORDS` for the text of the fault.
+//! Rows for command lines: `= words`.
+//!
+//! The events are `server ARGUMENTS` and `client ARGUMENTS`. With `server-text ARGUMENTS` and `client-text ARGUMENTS`
+//! the result is the text of the error.
 
 use crate::target::tell_target;
 use coap_client::{ClientPlan, Mode, ServerPlan, WordsFault, client_words, server_words};
@@ -8,10 +10,10 @@ use std::alloc::Global;
 use std::fmt;
 use std::fmt::Write;
 
-/// How many words there are at most.
+/// Maximum number of arguments.
 const MOST: usize = 32;
 
-/// The words of a text, as many as there is room for.
+/// Arguments of a command line. Arguments after the first `MOST` are dropped.
 #[derive(Drop)]
 pub(crate) struct Words<'a> {
     words: [&'a str; MOST],
@@ -19,7 +21,7 @@ pub(crate) struct Words<'a> {
 }
 
 impl<'a> Words<'a> {
-    /// The words of a text.
+    /// Splits a text at white space.
     pub(crate) fn of(text: &'a str) -> Words<'a> {
         let mut words = [""; MOST];
         let mut count = 0usize;
@@ -32,13 +34,13 @@ impl<'a> Words<'a> {
         Words { words, count }
     }
 
-    /// The same as a slice.
+    /// Returns the arguments as a slice.
     pub(crate) fn as_slice(&self) -> &[&'a str] {
         self.words.get(..self.count).unwrap_or_default()
     }
 }
 
-/// A line in which `\n` stands for a newline.
+/// Writer of a result line that replaces each line feed with `\n`.
 #[derive(Drop)]
 struct Line<'a> {
     told: &'a mut RowLine,
@@ -56,7 +58,7 @@ impl fmt::Write for Line<'_> {
     }
 }
 
-/// Tells a fault: of words that `clap` refuses the kind, of all others the text.
+/// Writes an error: the kind if `clap` rejects the arguments, otherwise the text.
 pub(crate) fn tell_fault(fault: &WordsFault, told: &mut RowLine) {
     let number = fault.number();
     match fault {
@@ -74,7 +76,7 @@ pub(crate) fn tell_fault(fault: &WordsFault, told: &mut RowLine) {
     }
 }
 
-/// Tells a plan of `coap-server`.
+/// Writes a plan of `coap-server`.
 fn tell_server(plan: &ServerPlan, told: &mut RowLine) {
     let _ = match &plan.mode {
         Mode::Listen(address, port) => write!(told, "listen {address} {port} "),
@@ -93,7 +95,7 @@ fn tell_server(plan: &ServerPlan, told: &mut RowLine) {
     told.number(plan.turns);
 }
 
-/// Tells a plan of `coap-client`.
+/// Writes a plan of `coap-client`.
 fn tell_client(plan: &ClientPlan, told: &mut RowLine) {
     let _ = write!(told, "{:?} ", plan.method);
     tell_target(&plan.target, told);
@@ -111,7 +113,7 @@ fn tell_client(plan: &ClientPlan, told: &mut RowLine) {
     let _ = write!(told, "{:?} {:?} ", plan.input, plan.output);
 }
 
-/// Tells the text of a fault.
+/// Writes the text of the error, or `none` if the arguments are valid.
 fn tell_text<P: Drop>(read: Result<P, WordsFault>, told: &mut RowLine) {
     match read {
         Ok(_) => told.word("none"),
@@ -122,7 +124,7 @@ fn tell_text<P: Drop>(read: Result<P, WordsFault>, told: &mut RowLine) {
     }
 }
 
-/// Reads the words of a command line, and tells what they ask for.
+/// Parses the arguments of a command line, and writes the plan or the error.
 pub(crate) fn play(alloc: Global, event: &str, told: &mut RowLine) {
     let (word, rest) = cut(event);
     let words = Words::of(rest);

@@ -1,12 +1,16 @@
-//! A reader and a writer that are set by a row, and tell each of their calls.
+//! A reader and a writer that follow the setting of a row and record each of their calls.
 
 use probe_support::{RowLine, next_number};
 use std::cell::RefCell;
 use std::io;
 use std::io::{Read, Write};
 
-/// How devices are set: the bytes that a read gives and a write takes at most, what no read gives bytes past, the room
-/// for all writes, and how many reads and writes there are before one that fails.
+/// Setting of both devices:
+///
+/// - the maximum number of bytes of a read and of a write (`by`, `taking`),
+/// - offsets in the input that no read passes (`cuts`), where 0 is none,
+/// - the number of bytes that all writes accept (`room`),
+/// - the number of reads and of writes that succeed before one fails.
 #[derive(Clone, Copy)]
 pub(crate) struct Setting {
     by: usize,
@@ -17,7 +21,7 @@ pub(crate) struct Setting {
     write_fails: usize,
 }
 
-/// The setting that seven numbers name, and the text behind them.
+/// Returns the setting that seven numbers name, and the text after these numbers.
 pub(crate) fn devices_set<'a>(text: &'a str) -> (Setting, &'a str) {
     let (by, text) = next_number(text);
     let (first, text) = next_number(text);
@@ -37,7 +41,7 @@ pub(crate) fn devices_set<'a>(text: &'a str) -> (Setting, &'a str) {
     (setting, text)
 }
 
-/// A reader over bytes, and where it tells its calls: the room of each, and the bytes that it gave.
+/// Reader over bytes that records its calls: the size of each buffer, and the number of bytes returned.
 #[derive(Drop)]
 pub(crate) struct Reader<'a> {
     pub(crate) setting: Setting,
@@ -46,7 +50,7 @@ pub(crate) struct Reader<'a> {
 }
 
 impl Reader<'_> {
-    /// How many bytes the next read gives at most.
+    /// Returns the maximum number of bytes of the next read.
     fn most(&self) -> usize {
         let [first, second] = self.setting.cuts;
         let cut = if 0 < first {
@@ -59,7 +63,7 @@ impl Reader<'_> {
         cut.min(self.setting.by)
     }
 
-    /// Gives bytes, unless this read fails.
+    /// Reads bytes, or returns `None` if this read fails.
     fn give(&mut self, buf: &mut [u8]) -> Option<usize> {
         self.setting.read_fails = self.setting.read_fails.checked_sub(1)?;
         let room = buf.len().min(self.most());
@@ -91,7 +95,7 @@ impl Read for Reader<'_> {
     }
 }
 
-/// A writer, and where it tells its calls: the bytes of each, and how many it took.
+/// Writer that records its calls: the bytes of each write, and the number of bytes accepted.
 #[derive(Drop)]
 pub(crate) struct Writer<'a> {
     pub(crate) setting: Setting,
@@ -99,7 +103,7 @@ pub(crate) struct Writer<'a> {
 }
 
 impl Writer<'_> {
-    /// Takes bytes, unless this write fails.
+    /// Returns the number of bytes that a write accepts, or `None` if this write fails.
     fn take(&mut self, count: usize) -> Option<usize> {
         self.setting.write_fails = self.setting.write_fails.checked_sub(1)?;
         let taken = count.min(self.setting.taking).min(self.setting.room);

@@ -1,4 +1,6 @@
-//! Framers: `= frame MAX`, and then `next BYTES`, `each BYTES` one by one, `all BYTES` frame by frame, `hold BYTES`,
+//! Rows for framers. `= frame MAX` creates one.
+//!
+//! The events are `next BYTES`, `each BYTES` (byte by byte), `all BYTES` (frame by frame), `hold BYTES`,
 //! `unread BYTES`, `clear`, `raise MAX`, `look` and `copied`.
 
 use crate::faults::tell_fault;
@@ -6,7 +8,7 @@ use coap_frame::{FrameEvent, Framed, Framer};
 use probe_support::{RowLine, cut, number, read_hex};
 use std::alloc::{AllocError, Global};
 
-/// A framer for frames of at most so many bytes; none for a number that is out of its range.
+/// Creates a framer for frames of at most the given number of bytes. Returns `None` if the number is out of range.
 pub(crate) fn opened(alloc: Global, text: &str) -> Option<Result<Framer, AllocError>> {
     let max = number(text)?;
     if max < 1_152 || max > 1_048_576 {
@@ -15,7 +17,7 @@ pub(crate) fn opened(alloc: Global, text: &str) -> Option<Result<Framer, AllocEr
     Some(Framer::new(alloc, max))
 }
 
-/// Tells what was found in a piece, and how many of its bytes were taken.
+/// Writes the result of `Framer::next`, and the number of bytes taken.
 fn found(framed: &Framed, told: &mut RowLine) {
     match framed.what {
         FrameEvent::More => told.word("More"),
@@ -33,7 +35,7 @@ fn found(framed: &Framed, told: &mut RowLine) {
     told.number(framed.taken as u64);
 }
 
-/// Hands over bytes one by one, and tells what was found with the last one.
+/// Passes bytes to the framer one by one. Each must be taken without completing a frame.
 fn each(framer: &mut Framer, bytes: &[u8], told: &mut RowLine) {
     told.word("More");
     for byte in bytes {
@@ -45,7 +47,7 @@ fn each(framer: &mut Framer, bytes: &[u8], told: &mut RowLine) {
     }
 }
 
-/// Hands over all bytes of a piece, and tells what was found each time, and how many bytes were left.
+/// Passes an input slice to the framer, frame by frame. Writes each result, and the number of bytes that are left.
 fn all(framer: &mut Framer, piece: &[u8], told: &mut RowLine) {
     let mut rest = piece;
     for _ in 0..piece.len() {
@@ -61,8 +63,8 @@ fn all(framer: &mut Framer, piece: &[u8], told: &mut RowLine) {
     told.number(rest.len() as u64);
 }
 
-/// Hands over a piece, and what stands behind the frame that lies whole in it while that is held; tells what was found
-/// there, and then the frame.
+/// Passes an input slice that contains a whole frame, and then the bytes after that frame while the frame is borrowed.
+/// Writes the second result, and then the frame.
 fn hold(framer: &mut Framer, piece: &[u8], told: &mut RowLine) {
     let framed = framer.next(piece);
     let taken = framed.taken;
@@ -75,8 +77,8 @@ fn hold(framer: &mut Framer, piece: &[u8], told: &mut RowLine) {
     told.hex(frame);
 }
 
-/// Takes back the frame that was just given, with its last piece: a split one, or an empty Capabilities and Settings
-/// message that lay whole in its piece.
+/// Undoes `Framer::next` for the last frame, with its last input slice. The frame is a split one, or an empty CSM that
+/// was whole in its input slice.
 #[tactic(auto, unfolding(coap_wire::specs::StreamPrefix::prefix_kind, coap_wire::specs::Reading::declared_of, coap_wire::specs::Reading::length_at, coap_wire::specs::Reading::option_number_at))]
 fn unread(framer: &mut Framer, piece: &[u8], told: &mut RowLine) {
     if framer.spent() > 0 {
@@ -88,7 +90,7 @@ fn unread(framer: &mut Framer, piece: &[u8], told: &mut RowLine) {
     }
 }
 
-/// Takes frames of at most so many bytes from now on, or tells why not.
+/// Raises the maximum frame size, or writes the error.
 fn raise(framer: &mut Framer, text: &str, told: &mut RowLine) {
     let max = number(text).unwrap_or(0);
     if let Err(fault) = framer.raise(max.min(4_294_967_295) as usize) {
@@ -96,7 +98,7 @@ fn raise(framer: &mut Framer, text: &str, told: &mut RowLine) {
     }
 }
 
-/// Makes an event happen that finds nothing.
+/// Executes an event that returns no frame.
 fn act(framer: &mut Framer, word: &str, bytes: &[u8], told: &mut RowLine) {
     match word {
         "unread" => unread(framer, bytes, told),
@@ -106,7 +108,7 @@ fn act(framer: &mut Framer, word: &str, bytes: &[u8], told: &mut RowLine) {
     }
 }
 
-/// Plays an event, and tells how many bytes are kept and how many are spent.
+/// Executes an event, and writes its result, the number of bytes kept and the number of bytes spent.
 pub(crate) fn play(framer: &mut Framer, event: &str, bytes: &mut Vec<u8>, told: &mut RowLine) {
     let (word, rest) = cut(event);
     read_hex(rest, bytes);

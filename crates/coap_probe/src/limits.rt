@@ -1,5 +1,6 @@
-//! Limits and configurations: `limits` and six numbers, `config` and twelve, `starts`, and `faults`. They need no
-//! value: `= limits`.
+//! Rows for limits and configurations, which need no value: `= limits`.
+//!
+//! The events are `limits` with six numbers, `config` with thirteen, `starts`, and `faults` with a kind of errors.
 
 use crate::faults::tell_fault;
 use coap_conn::{LimitFault, Limits, Reason, SendFault};
@@ -7,7 +8,7 @@ use coap_serve::{Config, ConfigFault, IoFault, Starts};
 use probe_support::{RowLine, cut, next_number};
 use std::fmt::Write;
 
-/// The limits that six numbers name, or their fault, and the text behind them.
+/// Returns the limits that six numbers name, or the error, and the text after these numbers.
 pub(crate) fn limits_of<'a>(text: &'a str) -> (Result<Limits, LimitFault>, &'a str) {
     let (max_message, text) = next_number(text);
     let (max_sent, text) = next_number(text);
@@ -26,7 +27,7 @@ pub(crate) fn limits_of<'a>(text: &'a str) -> (Result<Limits, LimitFault>, &'a s
     (limits, text)
 }
 
-/// Tells each limit as it is read back.
+/// Writes each limit as its accessor returns it.
 fn tell_limits(limits: &Limits, told: &mut RowLine) {
     told.number(limits.max_message() as u64);
     told.number(limits.max_sent() as u64);
@@ -36,14 +37,14 @@ fn tell_limits(limits: &Limits, told: &mut RowLine) {
     told.number(limits.outstanding() as u64);
 }
 
-/// Tells where counts begin.
+/// Writes the initial values of the counters.
 fn tell_starts(starts: Starts, told: &mut RowLine) {
     told.number(starts.moment);
     told.number(starts.versions);
     told.number(starts.ids);
 }
 
-/// The configuration of limits and seven further numbers, or its fault.
+/// Returns the configuration with these limits and seven further numbers, or the error.
 pub(crate) fn config_of(limits: Limits, text: &str) -> Result<Config, ConfigFault> {
     let (connections, text) = next_number(text);
     let (dynamic, text) = next_number(text);
@@ -60,7 +61,7 @@ pub(crate) fn config_of(limits: Limits, text: &str) -> Result<Config, ConfigFaul
     Config::new(limits, connections, dynamic, rep, turns as u64, starts)
 }
 
-/// Makes a configuration, and tells each of its values as it is read back, or the fault.
+/// Creates a configuration, and writes each of its values as its accessor returns it, or the error.
 fn config(limits: Limits, text: &str, told: &mut RowLine) {
     match config_of(limits, text) {
         Ok(config) => {
@@ -75,7 +76,7 @@ fn config(limits: Limits, text: &str, told: &mut RowLine) {
     }
 }
 
-/// Tells the faults of a kind that no row here meets, or the reasons for which connections stop.
+/// Writes all errors of a kind, or the reasons for which connections stop.
 fn tell_faults(kind: &str, told: &mut RowLine) {
     match kind {
         "send" => {
@@ -119,7 +120,7 @@ fn tell_faults(kind: &str, told: &mut RowLine) {
     }
 }
 
-/// Plays an event.
+/// Executes an event, and writes its result.
 pub(crate) fn play(event: &str, told: &mut RowLine) {
     let (word, rest) = cut(event);
     match word {

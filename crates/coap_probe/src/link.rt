@@ -1,7 +1,9 @@
-//! Links: `= link ROLE` and the six limits, and then `hear MESSAGE`, `reply MESSAGE`, `request MESSAGE plain` (or
-//! `observe`), `cancel MESSAGE`, `ping - plain` (or `custody`), `hold TOKEN MOMENT`, `due - MOMENT`, `release`, `reject
-//! - FAULT`, `end - cut` or `end - whole`, `announce - SIZE`, `write - COUNT`, `count`, `token`, `part` and `look`.
-//! Answers are told as Debug has them.
+//! Rows for links. `= link ROLE` with the six limits creates one.
+//!
+//! The events that send are `reply MESSAGE`, `request MESSAGE plain` (or `observe`), `cancel MESSAGE`, `ping - plain`
+//! (or `custody`), `announce - SIZE` and `release`. The other events are `hear MESSAGE`, `hold TOKEN TIME`,
+//! `due - TIME`, `reject - FAULT`, `end - cut` (or `whole`), `write - COUNT`, `count`, `token`, `part` and `look`.
+//! Results are written as `Debug` prints them.
 
 use crate::limits::limits_of;
 use coap_conn::{Link, Phase, Reject, Role, first_part};
@@ -10,7 +12,7 @@ use coap_wire::{BuildFault, Builder, MessageRef, Token, parse};
 use std::alloc::{AllocError, Global};
 use std::fmt::Write;
 
-/// A link of a role and six limits; none where a limit is out of its range.
+/// Creates a link with a role and six limits. Returns `None` if a limit is out of range.
 pub(crate) fn opened(alloc: Global, text: &str) -> Option<Result<Link, AllocError>> {
     let (role, rest) = cut(text);
     let (Ok(limits), _) = limits_of(rest) else {
@@ -23,7 +25,7 @@ pub(crate) fn opened(alloc: Global, text: &str) -> Option<Result<Link, AllocErro
     Some(Link::open(alloc, role, limits, 0))
 }
 
-/// Hands a message to the link, and tells what it was.
+/// Passes a message to the link, and writes the verdict.
 fn hear(link: &mut Link, bytes: &[u8], told: &mut RowLine) {
     let Ok(message) = parse(bytes) else {
         return told.word("strange");
@@ -37,7 +39,7 @@ fn hear(link: &mut Link, bytes: &[u8], told: &mut RowLine) {
     }
 }
 
-/// The message that another one spells.
+/// Returns a builder for a copy of a message.
 fn built<'a>(message: &MessageRef<'a>) -> Result<Builder<'a>, BuildFault> {
     let mut built = Builder::with_token_ref(message.code(), message.token().copy());
     for option in message.options() {
@@ -47,7 +49,7 @@ fn built<'a>(message: &MessageRef<'a>) -> Result<Builder<'a>, BuildFault> {
     Ok(built)
 }
 
-/// Sends a response, a request, or a cancellation under the token that the message has, and tells what became of it.
+/// Sends a message as a response, as a request, or as a cancellation under its token, and writes the result.
 fn send(link: &mut Link, word: &str, bytes: &[u8], how: &str, told: &mut RowLine) {
     let Ok(message) = parse(bytes) else {
         return told.word("strange");
@@ -69,7 +71,7 @@ fn send(link: &mut Link, word: &str, bytes: &[u8], how: &str, told: &mut RowLine
     };
 }
 
-/// Holds the answer to the request with a token until a moment, and tells whether it is.
+/// Delays the response to the request with a token until the given time, in seconds, and writes the result.
 fn hold(link: &mut Link, token: &[u8], moment: u64, told: &mut RowLine) {
     let Ok(token) = Token::try_from(token) else {
         return told.word("strange");
@@ -83,7 +85,7 @@ fn hold(link: &mut Link, token: &[u8], moment: u64, told: &mut RowLine) {
     }
 }
 
-/// Tells what is due at a moment.
+/// Writes the pending entry that is due at the given time, in seconds.
 fn due(link: &mut Link, moment: u64, told: &mut RowLine) {
     if !link.ready() {
         return told.word("refused");
@@ -92,7 +94,7 @@ fn due(link: &mut Link, moment: u64, told: &mut RowLine) {
     let _ = write!(told, "{due:?} ");
 }
 
-/// Rejects what is behind the messages so far.
+/// Rejects the bytes after the messages that were processed.
 fn reject(link: &mut Link, fault: &str, told: &mut RowLine) {
     let fault = match fault {
         "format" => Reject::Format,
@@ -109,7 +111,7 @@ fn reject(link: &mut Link, fault: &str, told: &mut RowLine) {
     }
 }
 
-/// Announces another greatest message that is taken, and tells the one in force.
+/// Announces another Max-Message-Size, and writes the current one.
 fn announce(link: &mut Link, size: usize, told: &mut RowLine) {
     let size = size.min(4_294_967_295) as u32;
     match link.phase() {
@@ -126,7 +128,7 @@ fn announce(link: &mut Link, size: usize, told: &mut RowLine) {
     told.number(link.own_max() as u64);
 }
 
-/// Writes so many bytes of those that wait.
+/// Removes bytes from the front of the queue, as written.
 fn written(link: &mut Link, count: usize, told: &mut RowLine) {
     if count <= link.waiting() {
         link.written(count);
@@ -136,7 +138,7 @@ fn written(link: &mut Link, count: usize, told: &mut RowLine) {
     }
 }
 
-/// Makes an event happen, and tells its answer.
+/// Executes an event, and writes its result.
 fn act(link: &mut Link, word: &str, bytes: &[u8], last: &str, told: &mut RowLine) {
     let moment = number(last).unwrap_or(0);
     match word {
@@ -173,8 +175,8 @@ fn act(link: &mut Link, word: &str, bytes: &[u8], last: &str, told: &mut RowLine
     }
 }
 
-/// Plays an event: its answer, and then the phase, the greatest message that the peer takes, the bytes that are free,
-/// whether the link is ready, whether it is finished, and the bytes that wait.
+/// Executes an event, and writes its result. Then writes the phase, the Max-Message-Size of the peer, the free queue
+/// space, whether the link is ready and whether finished, and the queued bytes.
 pub(crate) fn play(link: &mut Link, event: &str, bytes: &mut Vec<u8>, told: &mut RowLine) {
     let (word, rest) = cut(event);
     let (digits, last) = cut(rest);

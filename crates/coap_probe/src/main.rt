@@ -1,5 +1,5 @@
-//! Plays rows of text from standard input on the values of the crates up to the server, and writes a line for each
-//! (`probe_support`).
+//! Executes rows of text from standard input on values of the crates up to the server, and prints a result line for
+//! each (`probe_support`).
 #![tactic(auto)]
 
 mod devices;
@@ -22,18 +22,18 @@ use probe_support::{Layers, RowLine, cut};
 use std::alloc::{AllocError, Global};
 use std::process::ExitCode;
 
-/// What the rows are about.
+/// Current value, which the rows use.
 #[derive(Drop)]
 enum Value {
-    /// Nothing yet.
+    /// No value yet.
     Nothing,
     /// A framer.
     Frame(Framer),
-    /// Messages, which need no value.
+    /// Messages, for which the rows need no value.
     Wire,
-    /// Limits and configurations, which need none either.
+    /// Limits and configurations, for which the rows need no value.
     Limits,
-    /// A queue of bytes.
+    /// A queue of output bytes.
     Queue(OutQueue),
     /// A link.
     Link(Link),
@@ -41,13 +41,13 @@ enum Value {
     Store(Store),
     /// A server.
     Serve(Server),
-    /// Texts of scripts, which need no value.
+    /// Texts of scripts, for which the rows need no value.
     Script,
-    /// The configuration of runs over one input and one output.
+    /// Configuration of runs over one reader and one writer.
     Stdio(Config),
 }
 
-/// The value that an opening names, and nothing where memory was refused.
+/// Creates the value that an opening row names. Returns `Nothing` if the row is out of range or allocation fails.
 fn opened(alloc: Global, opening: &str, told: &mut RowLine) -> Value {
     let (layer, rest) = cut(opening);
     match layer {

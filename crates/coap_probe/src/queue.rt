@@ -1,12 +1,13 @@
-//! Queues of bytes that wait to be written: `= queue COUNT`, and then `append BYTES`, `push BYTE`, `write COUNT`,
-//! `part` and `look`.
+//! Rows for output queues. `= queue COUNT` creates one.
+//!
+//! The events are `append BYTES`, `push BYTE`, `write COUNT`, `part` and `look`.
 
 use coap_conn::{OutQueue, first_part};
 use probe_support::{RowLine, cut, number, read_hex};
 use coap_wire::Sink;
 use std::alloc::{AllocError, Global};
 
-/// A queue of so many bytes; none for a number that is out of its range.
+/// Creates a queue with a capacity of the given number of bytes. Returns `None` if the number is out of range.
 pub(crate) fn opened(alloc: Global, text: &str) -> Option<Result<OutQueue, AllocError>> {
     let bytes = number(text)?;
     if bytes < 1_152 || bytes > 4_194_304 {
@@ -15,7 +16,7 @@ pub(crate) fn opened(alloc: Global, text: &str) -> Option<Result<OutQueue, Alloc
     Some(OutQueue::new(alloc, bytes))
 }
 
-/// Plays an event on a queue.
+/// Executes an event on a queue.
 fn act(queue: &mut OutQueue, word: &str, rest: &str, bytes: &mut Vec<u8>, told: &mut RowLine) {
     let count = number(rest).unwrap_or(0);
     match (word, bytes.as_slice()) {
@@ -28,7 +29,7 @@ fn act(queue: &mut OutQueue, word: &str, rest: &str, bytes: &mut Vec<u8>, told: 
     }
 }
 
-/// Plays an event, and tells the bytes that are free, the room for more, how many bytes wait, and these.
+/// Executes an event. Writes its result, the free space, the room, the number of queued bytes, and these bytes.
 pub(crate) fn play(queue: &mut OutQueue, event: &str, bytes: &mut Vec<u8>, told: &mut RowLine) {
     let (word, rest) = cut(event);
     read_hex(rest, bytes);

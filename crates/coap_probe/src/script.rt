@@ -1,5 +1,7 @@
-//! Texts of scripts: `= script`, and then `read BYTES`, which tells the events that are read, each before a semicolon,
-//! or the number and the text of the fault; and `faults`, which tells each fault so.
+//! Rows for scripts, which need no value: `= script`.
+//!
+//! The event `read BYTES` writes the events of a script, with a semicolon after each, or the number and the text of the
+//! error. The event `faults` writes the number and the text of each error.
 
 use coap_serve::{Event, ScriptFault, script};
 use coap_store::PathKey;
@@ -7,7 +9,7 @@ use probe_support::{RowLine, cut, read_hex};
 use std::alloc::Global;
 use std::fmt::Write;
 
-/// Tells a path: the hex digits of each segment behind a slash.
+/// Writes a path: the hex digits of each segment, with a slash before each.
 fn path(path: &PathKey, told: &mut RowLine) {
     for segment in path.segments() {
         let _ = told.write_str("/");
@@ -15,13 +17,13 @@ fn path(path: &PathKey, told: &mut RowLine) {
     }
 }
 
-/// Tells what an event does with a connection, and its number.
+/// Writes the name of an event, and its number: that of a connection or a time.
 fn on(word: &str, connection: u64, told: &mut RowLine) {
     told.word(word);
     told.number(connection);
 }
 
-/// Tells what is put where.
+/// Writes the path, the Content-Format and the payload of a `put`.
 fn put(at: &PathKey, format: Option<u16>, payload: &[u8], told: &mut RowLine) {
     told.word("Put");
     path(at, told);
@@ -29,7 +31,7 @@ fn put(at: &PathKey, format: Option<u16>, payload: &[u8], told: &mut RowLine) {
     told.hex(payload);
 }
 
-/// Tells an event.
+/// Writes an event.
 fn event(event: &Event, told: &mut RowLine) {
     match event {
         Event::Open => told.word("Open"),
@@ -60,13 +62,13 @@ fn event(event: &Event, told: &mut RowLine) {
     told.word(";");
 }
 
-/// Tells the number and the text of a fault.
+/// Writes the number and the text of an error.
 fn fault(fault: ScriptFault, told: &mut RowLine) {
     told.number(u64::from(fault.number()));
     let _ = write!(told, "{fault} ");
 }
 
-/// Plays an event.
+/// Executes a row, and writes its result.
 pub(crate) fn play(alloc: Global, row: &str, bytes: &mut Vec<u8>, told: &mut RowLine) {
     let (word, rest) = cut(row);
     read_hex(rest, bytes);

@@ -1,9 +1,17 @@
-//! Servers: `= serve` and the six limits of a connection, connections, resources, bytes of a representation, turns, and
-//! where the moment, the versions and the connections' numbers begin; and then the lines of a script, one a row, or
-//! some with `|` between them, whose lines are told so too. Where memory was refused, the lines before that are told,
-//! and the number of the event. Beside these lines `take CONNECTION BYTES` is one call, which tells the bytes that it
-//! took and what it handled, `written CONNECTION COUNT` and `announce CONNECTION SIZE` are others, and `part CONNECTION`
-//! tells a front of what waits.
+//! Rows for servers. `= serve` with thirteen numbers creates one. The numbers are:
+//!
+//! - the six limits of a connection,
+//! - the limits on connections, created resources, bytes of a representation, and turns,
+//! - the initial time, version and connection number.
+//!
+//! An event is a line of a script, or several lines with `|` between them. The result has the lines of the server, also
+//! with `|` between them. If allocation fails, the result has the lines before that, and the number of the event.
+//!
+//! Four further events are single calls:
+//!
+//! - `take CONNECTION BYTES` writes the number of bytes taken, and what was processed.
+//! - `written CONNECTION COUNT` and `announce CONNECTION SIZE` write `ok` or the error.
+//! - `part CONNECTION` writes a prefix of the queued bytes.
 
 use crate::limits::{config_of, limits_of};
 use coap_conn::first_part;
@@ -14,7 +22,7 @@ use coap_serve::{
 use probe_support::{RowLine, next_number, read_hex};
 use std::alloc::{AllocError, Global};
 
-/// The configuration that thirteen numbers name; none where one is out of its range.
+/// Returns the configuration that thirteen numbers name, or `None` if one is out of range.
 pub(crate) fn configured(text: &str) -> Option<Config> {
     let (Ok(limits), rest) = limits_of(text) else {
         return None;
@@ -22,7 +30,7 @@ pub(crate) fn configured(text: &str) -> Option<Config> {
     config_of(limits, rest).ok()
 }
 
-/// A server; none where a number is out of its range.
+/// Creates a server. Returns `None` if a number is out of range.
 pub(crate) fn opened(alloc: Global, text: &str) -> Option<Result<Server, AllocError>> {
     match configured(text) {
         Some(config) => Some(Server::new(alloc, config)),
@@ -30,7 +38,7 @@ pub(crate) fn opened(alloc: Global, text: &str) -> Option<Result<Server, AllocEr
     }
 }
 
-/// Puts one byte in the place of another.
+/// Replaces each byte `old` with `new`.
 fn put_for(bytes: &mut Vec<u8>, old: u8, new: u8) {
     for byte in bytes.iter_mut() {
         if *byte == old {
@@ -39,7 +47,7 @@ fn put_for(bytes: &mut Vec<u8>, old: u8, new: u8) {
     }
 }
 
-/// Has a connection take bytes in one call, and tells how many it took and what it handled, or why it did not.
+/// Passes bytes to a connection in one call. Writes the number of bytes taken and what was processed, or the error.
 fn take(server: &mut Server, text: &str, bytes: &mut Vec<u8>, told: &mut RowLine) {
     let (id, digits) = next_number(text);
     read_hex(digits, bytes);
@@ -60,7 +68,7 @@ fn take(server: &mut Server, text: &str, bytes: &mut Vec<u8>, told: &mut RowLine
     }
 }
 
-/// Says that bytes of a connection were written, and tells whether so many were waiting.
+/// Removes bytes from the queue of a connection, as written, and writes `ok` or the error.
 fn written(server: &mut Server, text: &str, told: &mut RowLine) {
     let (id, rest) = next_number(text);
     let (count, _) = next_number(rest);
@@ -71,7 +79,7 @@ fn written(server: &mut Server, text: &str, told: &mut RowLine) {
     });
 }
 
-/// Announces a size on a connection, and tells whether it did, or why it did not.
+/// Announces a Max-Message-Size on a connection, and writes `ok` or the error.
 fn announce(server: &mut Server, text: &str, told: &mut RowLine) {
     let (id, rest) = next_number(text);
     let (size, _) = next_number(rest);
@@ -89,7 +97,7 @@ fn announce(server: &mut Server, text: &str, told: &mut RowLine) {
     );
 }
 
-/// Tells a front of what waits on a connection.
+/// Writes a prefix of the queued bytes of a connection.
 fn part(server: &Server, text: &str, told: &mut RowLine) {
     let (id, _) = next_number(text);
     match server.parts(id as u64) {
@@ -98,7 +106,7 @@ fn part(server: &Server, text: &str, told: &mut RowLine) {
     }
 }
 
-/// Replays the lines of a row, and tells the server's lines.
+/// Executes a row: a single call, or the lines of a script that the server replays. Writes the result.
 pub(crate) fn play(
     alloc: Global,
     server: &mut Server,

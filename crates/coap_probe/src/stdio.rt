@@ -1,7 +1,9 @@
-//! Runs over one input and one output: `= stdio` and the numbers of a configuration (`serve::config_of`), and then
-//! `serve` with the numbers that set its devices (`devices::devices_set`) and the bytes that come in. All calls of the
-//! devices are told in their order, and then what the run answers; and `faults`, which tells the number and the text of
-//! each fault.
+//! Rows for runs of `serve_one` over one reader and one writer. `= stdio` with the thirteen numbers of a configuration
+//! (`serve::configured`) sets the configuration.
+//!
+//! The event `serve` has the numbers that set up the devices (`devices::devices_set`) and the input bytes. The result
+//! has all calls of the devices in order, and then the result of the run. The event `faults` writes the number and the
+//! text of each error.
 
 use crate::devices::{Reader, Setting, Writer, devices_set};
 use coap_serve::{Config, IoFault, Outlet, ReadSource, Report, Source, WriteOutlet, serve_one};
@@ -11,7 +13,7 @@ use std::cell::RefCell;
 use std::fmt::Write;
 use std::mem;
 
-/// Tells what a run answered: why it ended, the bytes that were read and the messages that were handled; or its fault.
+/// Writes the result of a run: the reason for its end, the number of bytes read and messages processed, or the error.
 fn answered(outcome: &Result<Report, IoFault>, told: &mut RowLine) {
     match outcome {
         Ok(report) => {
@@ -29,8 +31,8 @@ fn answered(outcome: &Result<Report, IoFault>, told: &mut RowLine) {
     }
 }
 
-/// Serves bytes over devices that are set so, and tells their calls and the answer. A device has failed where the
-/// answer says so.
+/// Serves bytes over devices with the given setting, and writes their calls and the result. Writes `untold` if a device
+/// failed and the result does not say so, or if the result says so and no device failed.
 fn served(alloc: Global, config: &Config, setting: Setting, rest: &[u8], page: &RefCell<RowLine>) {
     if config.starts().ids == u64::MAX {
         return;
@@ -52,8 +54,8 @@ fn served(alloc: Global, config: &Config, setting: Setting, rest: &[u8], page: &
     }
 }
 
-/// Serves the bytes of a row. The line is lent to the devices for so long; the one in its place has no room, and so no
-/// memory.
+/// Serves the bytes of a row. The devices own the result line during the run. The line in its place has no capacity, so
+/// that `RowLine::new` allocates nothing.
 fn serve(alloc: Global, config: &Config, text: &str, bytes: &mut Vec<u8>, told: &mut RowLine) {
     let (setting, rest) = devices_set(text);
     read_hex(rest, bytes);
@@ -65,7 +67,7 @@ fn serve(alloc: Global, config: &Config, text: &str, bytes: &mut Vec<u8>, told: 
     *told = page.into_inner();
 }
 
-/// Plays an event.
+/// Executes an event, and writes its result.
 pub(crate) fn play(
     alloc: Global,
     config: &Config,

@@ -1,7 +1,15 @@
-//! Stores: `= store RESOURCES BYTES VERSION`, and then `ask REQUEST MOMENT`, `make REQUEST` whose change is made too,
-//! and what the program itself does: `put REQUEST FORMAT` with the path and the payload of a request, `remove REQUEST`,
-//! `state REQUEST MOMENT` and `notify REQUEST MOMENT FORMAT`. Where no FORMAT stands, there is none. `path REQUEST`
-//! tells the key that its segments are.
+//! Rows for stores. `= store RESOURCES BYTES VERSION` creates one.
+//!
+//! The event `ask REQUEST TIME` writes the result of `Store::answer`. The event `make REQUEST` also applies its change.
+//! The other events are calls of the embedding program:
+//!
+//! - `put REQUEST FORMAT`, with the path and the payload of a request,
+//! - `remove REQUEST`,
+//! - `state REQUEST TIME`,
+//! - `notify REQUEST TIME FORMAT`,
+//! - `path REQUEST`, which writes the `PathKey` of its segments.
+//!
+//! An absent FORMAT is none.
 
 use arrayvec::ArrayVec;
 use coap_store::{Change, PathKey, Plan, State, Store, StoreFault, UriPath, Watch, request_path};
@@ -11,7 +19,8 @@ use coap_wire::{MessageRef, parse};
 use std::alloc::{AllocError, Global};
 use std::fmt::Write;
 
-/// A store for so many resources of so many bytes, after a version; none where a number is out of its range.
+/// Creates a store for the given number of resources, bytes of a representation, and last version. Returns `None` if a
+/// number is out of range.
 pub(crate) fn opened(alloc: Global, text: &str) -> Option<Result<Store, AllocError>> {
     let (dynamic_max, rest) = next_number(text);
     let (rep_max, rest) = next_number(rest);
@@ -22,12 +31,12 @@ pub(crate) fn opened(alloc: Global, text: &str) -> Option<Result<Store, AllocErr
     Some(Store::new(alloc, dynamic_max, rep_max, versions as u64))
 }
 
-/// The format that a word names, where it names one.
+/// Returns the Content-Format that a word names, if any.
 fn format_of(word: &str) -> Option<u16> {
     u16::try_from(number(word)?).ok()
 }
 
-/// Tells the path of a new resource.
+/// Writes the path of a new resource.
 fn tell_location(location: Option<UriPath>, told: &mut RowLine) {
     let Some(path) = location else {
         return;
@@ -38,7 +47,7 @@ fn tell_location(location: Option<UriPath>, told: &mut RowLine) {
     }
 }
 
-/// Tells a number that may be there, behind its name.
+/// Writes an optional number after its name, if present.
 fn tell_number(name: &str, number: Option<u32>, told: &mut RowLine) {
     if let Some(number) = number {
         told.word(name);
@@ -46,7 +55,7 @@ fn tell_number(name: &str, number: Option<u32>, told: &mut RowLine) {
     }
 }
 
-/// The word of a change.
+/// Returns the word for a change.
 fn word_of_change(change: &Change) -> &'static str {
     match change {
         Change::Nothing => "-",
@@ -55,7 +64,7 @@ fn word_of_change(change: &Change) -> &'static str {
     }
 }
 
-/// The word of what becomes of the observer.
+/// Returns the word for the effect on the observer.
 fn word_of_watch(watch: Watch) -> &'static str {
     match watch {
         Watch::Nothing => "-",
@@ -64,8 +73,8 @@ fn word_of_watch(watch: Watch) -> &'static str {
     }
 }
 
-/// Tells an answer: its code, what it changes, what becomes of the observer, each part that the response has, the
-/// payload, and once more what becomes of the observer, as the answer without its payload tells it.
+/// Writes a plan: the code, the change, the effect on the observer, each part of the response, and the payload. Writes
+/// the effect on the observer again, for the plan without its payload.
 fn tell_plan(plan: Plan, told: &mut RowLine) {
     told.number(u64::from(plan.code().byte()));
     told.word(word_of_change(&plan.change()));
@@ -83,7 +92,7 @@ fn tell_plan(plan: Plan, told: &mut RowLine) {
     told.word(word_of_watch(plan.without_payload().watch()));
 }
 
-/// Makes the change that a request asks for, and tells where memory was refused.
+/// Applies the change that a request makes, or writes `memory` if allocation fails.
 fn make(store: &mut Store, request: &MessageRef, told: &mut RowLine) {
     // The plan without its payload borrows the request alone.
     let plan = store.answer(request, 0).without_payload();
@@ -92,7 +101,8 @@ fn make(store: &mut Store, request: &MessageRef, told: &mut RowLine) {
     }
 }
 
-/// The key that the segments of a request are, of which 17 count.
+/// Returns the key of the path segments of a request, or `None` if there is no such key. Segments after the 17th are
+/// dropped, so that a path of more than 16 is still too long.
 fn path_of(request: &MessageRef) -> Option<PathKey> {
     let mut segments: ArrayVec<&[u8], 17> = ArrayVec::new();
     for option in request.options() {
@@ -103,7 +113,7 @@ fn path_of(request: &MessageRef) -> Option<PathKey> {
     PathKey::from_segments(segments.as_slice())
 }
 
-/// Tells the segments of a key, whether its copy is the same, and whether the request asks for it.
+/// Writes the segments of a key, whether its copy is equal, and whether the key is the path of the request.
 fn tell_path(path: &PathKey, request: &MessageRef, told: &mut RowLine) {
     told.word("key");
     for segment in path.segments() {
@@ -120,7 +130,7 @@ fn tell_path(path: &PathKey, request: &MessageRef, told: &mut RowLine) {
     });
 }
 
-/// Tells a state.
+/// Writes a state.
 fn tell_state(state: &State, told: &mut RowLine) {
     let State::Present(present) = state else {
         return told.word("absent");
@@ -131,7 +141,7 @@ fn tell_state(state: &State, told: &mut RowLine) {
     told.hex(present.bytes());
 }
 
-/// Does to a store what the program itself may do at the path of a request, and tells what comes of it.
+/// Executes a call of the embedding program with the path of a request, and writes the result.
 fn change(store: &mut Store, word: &str, request: &MessageRef, rest: &str, told: &mut RowLine) {
     let Some(path) = path_of(request) else {
         return told.word("none");
@@ -157,8 +167,8 @@ fn change(store: &mut Store, word: &str, request: &MessageRef, rest: &str, told:
     }
 }
 
-/// Returns the answer to the request that the bytes encode, at a moment. The answer borrows the store and these bytes:
-/// the message that was read is dropped here.
+/// Returns the plan for the request that the bytes encode, at the given time. The plan borrows the store and these
+/// bytes. The parsed message is dropped here.
 fn planned<'s, 'r>(store: &'s Store, bytes: &'r [u8], moment: u64) -> Option<Plan<'s, 'r>> {
     let Ok(request) = parse(bytes) else {
         return None;
@@ -166,7 +176,7 @@ fn planned<'s, 'r>(store: &'s Store, bytes: &'r [u8], moment: u64) -> Option<Pla
     Some(store.answer(&request, moment))
 }
 
-/// Plays an event.
+/// Executes an event, and writes its result.
 pub(crate) fn play(store: &mut Store, event: &str, bytes: &mut Vec<u8>, told: &mut RowLine) {
     let (word, rest) = cut(event);
     let (digits, rest) = cut(rest);

@@ -1,5 +1,7 @@
-//! Messages: `write BYTES LENGTH PART..`, `read BYTES`, `known BYTES`, `declared BYTES`, `code BYTES`, `codes`, `kind
-//! NUMBER`, `uint NUMBER` and `value BYTES`. They need no value: `= wire`.
+//! Rows for messages, which need no value: `= wire`.
+//!
+//! The events are `write BYTES LENGTH PART..`, `read BYTES`, `known BYTES`, `declared BYTES`, `code BYTES`, `codes`,
+//! `kind NUMBER`, `uint NUMBER` and `value BYTES`.
 
 use crate::faults::tell_fault;
 use probe_support::{RowLine, cut, next_number, number, read_hex};
@@ -8,10 +10,10 @@ use coap_wire::{
 };
 use std::fmt::Write;
 
-/// How many bytes a message has at most beside those of its parts.
+/// Maximum number of bytes of a message in addition to those of its parts.
 const FORMS: usize = 1_024;
 
-/// The codes that have names, in the order of their bytes.
+/// Codes that have a name, in the order of their bytes.
 const CODES: [Code; 26] = [
     Code::EMPTY,
     Code::GET,
@@ -41,7 +43,7 @@ const CODES: [Code; 26] = [
     Code::ABORT,
 ];
 
-/// Tells the byte of each code, and its class and its detail.
+/// Writes the byte, the class and the detail of each code.
 fn tell_codes(codes: &[Code], told: &mut RowLine) {
     for code in codes {
         told.hex(&[code.byte()]);
@@ -49,13 +51,13 @@ fn tell_codes(codes: &[Code], told: &mut RowLine) {
     }
 }
 
-/// Tells an option.
+/// Writes an option.
 fn tell_option(option: &OptionRef, told: &mut RowLine) {
     let _ = write!(told, "{}=", option.number);
     told.hex(option.value);
 }
 
-/// Tells a message in words, or the fault of the bytes. Behind its last option there must be none.
+/// Parses a message and writes its parts, or the error. After the last option, the iterator must be empty.
 fn read(bytes: &[u8], told: &mut RowLine) {
     match parse(bytes) {
         Ok(message) => {
@@ -74,8 +76,8 @@ fn read(bytes: &[u8], told: &mut RowLine) {
     }
 }
 
-/// Tells the options of a message that are recognised, behind which there must be none, and the first critical one that
-/// is not.
+/// Writes the recognized options of a message, and the number of the first critical one that is not recognized. After
+/// the last option, the iterator must be empty.
 fn known(bytes: &[u8], told: &mut RowLine) {
     let Ok(message) = parse(bytes) else {
         return told.word("strange");
@@ -94,7 +96,7 @@ fn known(bytes: &[u8], told: &mut RowLine) {
     }
 }
 
-/// Tells a message with another token.
+/// Writes a message with the token of these bytes.
 fn tell_with(message: &Builder, bytes: &[u8], room: &mut [u8], told: &mut RowLine) {
     match Token::try_from(bytes) {
         Ok(token) => tell_other(message, &token, room, told),
@@ -102,13 +104,13 @@ fn tell_with(message: &Builder, bytes: &[u8], room: &mut [u8], told: &mut RowLin
     }
 }
 
-/// Tells a message with this token.
+/// Writes a message with this token.
 fn tell_other(message: &Builder, token: &Token, room: &mut [u8], told: &mut RowLine) {
     let other = message.with_token(token);
     tell_built(&other, room, told);
 }
 
-/// Tells the code, the token, the size and the bytes of a message.
+/// Writes the code, the token, the size and the encoding of a message.
 fn tell_built(message: &Builder, room: &mut [u8], told: &mut RowLine) {
     told.hex(&[message.code().byte()]);
     told.hex(message.token().bytes());
@@ -121,7 +123,7 @@ fn tell_built(message: &Builder, room: &mut [u8], told: &mut RowLine) {
     told.hex(sink.written());
 }
 
-/// Adds the option of a number, or else the payload, and tells the fault where it is refused.
+/// Adds an option if the name is a number, otherwise the payload, and writes the error if that fails.
 fn add<'a>(message: &mut Builder<'a>, name: &str, value: &'a [u8], told: &mut RowLine) {
     let answer = match name.parse::<u16>() {
         Ok(number) => message.option(number, value),
@@ -132,9 +134,9 @@ fn add<'a>(message: &mut Builder<'a>, name: &str, value: &'a [u8], told: &mut Ro
     }
 }
 
-/// Builds a message. The bytes are its code, its token of so many, and the values of the parts, each of which is a
-/// name, `=` and a length: of an option its number, of the payload `payload`. `look` tells the message, and `token` the
-/// one with another token.
+/// Builds a message from its code, a token of `LENGTH` bytes, and the values of the parts, in the order of the bytes.
+/// Each part has a name, `=` and a length. An option has its number as its name, and the payload has `payload`. The
+/// name `look` writes the message, and `token` writes it with another token.
 fn write(text: &str, bytes: &mut Vec<u8>, told: &mut RowLine) {
     let count = bytes.len();
     let room = count.saturating_mul(2).saturating_add(FORMS);
@@ -161,7 +163,7 @@ fn write(text: &str, bytes: &mut Vec<u8>, told: &mut RowLine) {
     );
 }
 
-/// Adds to a message what words name, whose values stand one behind the other, and tells what they ask for.
+/// Adds the parts that words name to a message, and writes the results. The values are one after another in `rest`.
 fn build<'a>(
     mut message: Builder<'a>,
     mut rest: &'a [u8],
@@ -183,8 +185,7 @@ fn build<'a>(
     }
 }
 
-/// Tells the least and the greatest length of the options with a number, and whether a message may have several of
-/// them.
+/// Writes the minimum and maximum length of an option with the given number, and whether the option is repeatable.
 fn tell_kind(number: usize, told: &mut RowLine) {
     let Ok(number) = u16::try_from(number) else {
         return told.word("strange");
@@ -202,14 +203,14 @@ fn tell_kind(number: usize, told: &mut RowLine) {
     told.number(u64::from(kind.max));
 }
 
-/// Tells the fewest bytes of a number, and what these mean.
+/// Writes the shortest encoding of a number, and the value of that encoding.
 fn tell_uint(number: usize, told: &mut RowLine) {
     let bytes = uint_bytes(number as u64);
     told.hex(&bytes);
     let _ = write!(told, "{:?}", uint_value(&bytes));
 }
 
-/// Plays an event.
+/// Executes an event, and writes its result.
 pub(crate) fn play(event: &str, bytes: &mut Vec<u8>, told: &mut RowLine) {
     let (word, rest) = cut(event);
     let (first, text) = cut(rest);

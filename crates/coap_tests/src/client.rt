@@ -1,4 +1,4 @@
-//! A run of `run_client` over devices that tell all, where its clause is one of what they tell.
+//! A run of `run_client` over recording devices, for which its contract is about the records.
 
 ghost use Rattle.std.specs.Prelude.{◌≡◌, ◌++◌, ◌∷◌, false, [], Some, IfOk};
 ghost use Rattle.coap_client.specs.ClientRun.{IsClientRun, seen};
@@ -9,8 +9,8 @@ use coap_serve::{Clock, Got, Wire};
 use std::alloc::Global;
 use std::process::Abort;
 
-/// A wire that tells what it gave, what it took, and what its calls came to. A read gives so many bytes at most, and
-/// `Later` where none is left; a write takes all.
+/// Connection that records the bytes read, the bytes written and the results of its calls. A read returns at most
+/// `most` bytes, and `Later` if none is left. A write accepts all bytes.
 #[derive(Drop)]
 struct ScriptedClientWire<'a, A: Abort> {
     rt: &'a A,
@@ -22,7 +22,7 @@ struct ScriptedClientWire<'a, A: Abort> {
 }
 
 impl<A: Abort> ScriptedClientWire<'_, A> {
-    /// Notes what a call comes to.
+    /// Records the result of a call, and returns it.
     fn answer(&mut self, got: Got) -> Got
         ensures got { result ≡ got }
         ensures answers { self.new.answers.items ≡ self.old.answers.items ++ got ∷ [] }
@@ -65,7 +65,7 @@ impl<A: Abort> Wire for ScriptedClientWire<'_, A> {
     }
 }
 
-/// A clock that tells its moments: each is a second behind the one before.
+/// Clock that records the times that it returned. Each is one second after the one before.
 #[derive(Drop)]
 struct Seconds<'a, A: Abort> {
     rt: &'a A,
@@ -86,7 +86,7 @@ impl<A: Abort> Clock for Seconds<'_, A> {
     }
 }
 
-/// Runs a client over devices that tell all.
+/// Runs a client over recording devices.
 fn run_told<A: Abort>(
     alloc: Global,
     wire: &mut ScriptedClientWire<A>,

@@ -1,4 +1,4 @@
-//! A source and an outlet that tell all, and a writer of std.
+//! A reader and a writer that record everything, and a writer of std.
 
 ghost use Rattle.std.specs.Prelude.{◌≡◌, ◌≤◌, false, [], Some, None, length, map, vec_items};
 
@@ -7,8 +7,8 @@ use std::alloc::Global;
 use std::io;
 use std::io::Write;
 
-/// A source over bytes that tells what each read gave. A read gives so many bytes at most and none past a cut, and one
-/// read may fail.
+/// Reader over bytes that records the result of each read. A read returns at most `most` bytes and none past a cut.
+/// One read may fail.
 #[derive(Drop)]
 pub struct Pieces<'a> {
     pub rest: &'a [u8],
@@ -20,7 +20,7 @@ pub struct Pieces<'a> {
 }
 
 impl<'a> Pieces<'a> {
-    /// A source over these bytes, of which so many reads succeed, where one fails.
+    /// Creates a reader over these bytes. If `fails_in` is a number, the read after that number of reads fails.
     pub fn new(
         alloc: Global,
         bytes: &'a [u8],
@@ -41,7 +41,7 @@ impl<'a> Pieces<'a> {
         }
     }
 
-    /// How many bytes the next read gives into so much room.
+    /// Returns the number of bytes that the next read returns into a buffer of `room` bytes.
     fn next_count(&self, room: usize) -> usize
         ensures room { result ≤ room }
         ensures left { result ≤ length self.now.rest.now }
@@ -95,8 +95,8 @@ impl Source for Pieces<'_> {
     }
 }
 
-/// An outlet that tells what was written. A write takes so many bytes at most, none where no room is left, and one
-/// write may fail.
+/// Writer that records the bytes written. A write accepts at most `most` bytes, and none after `room` bytes in total.
+/// One write may fail.
 #[derive(Drop)]
 pub struct RecordingOutlet {
     pub bytes: Vec<u8>,
@@ -107,7 +107,7 @@ pub struct RecordingOutlet {
 }
 
 impl RecordingOutlet {
-    /// An outlet for so many bytes, of which so many writes succeed, where one fails.
+    /// Creates a writer for `room` bytes. If `fails_in` is a number, the write after that number of writes fails.
     pub fn new(alloc: Global, most: usize, room: usize, fails_in: Option<usize>) -> RecordingOutlet
         ensures works { result.failed ≡ false }
         ensures fresh { result.bytes.items ≡ [] }
@@ -151,8 +151,8 @@ impl Outlet for RecordingOutlet {
     }
 }
 
-/// A writer of std that allocates nothing. It counts its writes, also one of nothing, each of which takes one byte
-/// while there is room, and of which one may fail. It keeps the first bytes.
+/// Writer of std that does not allocate, and keeps the first 64 bytes. It counts its writes, including empty ones. A
+/// write accepts one byte, and none after `room` writes. One write may fail.
 #[derive(Drop)]
 pub struct Fixed {
     pub bytes: [u8; 64],
@@ -162,7 +162,7 @@ pub struct Fixed {
 }
 
 impl Fixed {
-    /// A writer for so many bytes, of which so many writes succeed, where one fails.
+    /// Creates a writer for `room` bytes. If `fails_in` is a number, the write after that number of writes fails.
     pub fn new(room: usize, fails_in: Option<usize>) -> Fixed {
         Fixed {
             bytes: [0; 64],
@@ -172,7 +172,7 @@ impl Fixed {
         }
     }
 
-    /// The bytes that were written, as far as they were kept.
+    /// Returns the bytes that were written, as far as they were kept.
     pub fn written(&self) -> &[u8] {
         match self.bytes.get(..self.writes) {
             Some(bytes) => bytes,

@@ -1,17 +1,19 @@
-//! Runs of `serve_door` over a door, wires and a clock in memory. A run is told by the calls of its devices in their
-//! order, by the bytes that each wire took, and by its fault.
+//! Runs of `serve_door` over a listener, connections and a clock in memory. A test compares the calls of the devices in
+//! order, and the bytes that each connection accepted. Each run must end with `IoFault::Turns`.
 //!
-//! Of the calls `+1` is a door that hands out the first wire and `+-` one that has none; `1<5` a read of the first wire
-//! that gave 5 bytes, and `1<later` one that gave none yet; `1>19` a write of 19 bytes that took all, and `1>19:1` one
-//! that took 1.
+//! The calls are written so:
 //!
-//! Where the first word of the setting is `waits`, the waits of the door are told too: `~no` is none, `~6` one until
-//! the moment 6 at the most, `~ever` one until something is ready, and with `|` in place of `~` no connection may be
-//! opened. A wire may then be read while words are left that its reads give. All other runs have wires that are always
-//! ready.
+//! - `+1`: the listener returned the first connection. `+-`: the listener had none.
+//! - `1<5`: a read of the first connection returned 5 bytes. `1<later`: a read returned `Later`.
+//! - `1>19`: a write of 19 bytes accepted all. `1>19:1`: a write of 19 bytes accepted one.
 //!
-//! If the first of the moments is `passes`, the clock begins at the second one and stands still but while the door
-//! waits: a wait until a moment ends at that moment.
+//! If the first word of the setting is `waits`, the calls of `Door::wait` are recorded too. `~no` is no wait, `~6` is a
+//! wait until time 6 at most, and `~ever` is a wait until something is ready. `|` in place of `~` says that no
+//! connection may be opened. A connection is then readable as long as words for its reads are left. In all other runs
+//! the connections are always ready.
+//!
+//! If the first of the times is `passes`, the clock begins at the second word and advances in waits alone. A wait until
+//! a given time ends at that time.
 
 mod devices;
 mod greatest;
@@ -25,7 +27,8 @@ use devices::{CallLog, ScriptedDoor, Moments, Passing};
 use std::process::Abort;
 use std::test::Fail;
 
-/// Serves what a door hands out, as a text sets it: what is set; the moments; the wires. Tells how that went.
+/// Runs a server as a text sets it up, and returns the record of the run. The text has the setting, the times and the
+/// connections, separated by `; `.
 fn served(rt: &(impl Abort + AllocGlobal), opening: &str) -> Result<String, Fail> {
     let (setting, rest) = opening.split_once("; ").unwrap_or((opening, ""));
     let (moments, wires) = rest.split_once("; ").unwrap_or((rest, ""));
@@ -57,7 +60,8 @@ fn served(rt: &(impl Abort + AllocGlobal), opening: &str) -> Result<String, Fail
     book.told()
 }
 
-/// Plays a text of runs: each begins with `= ` and how it is set. Behind that stand its calls, and what each wire took.
+/// Executes a text of runs. Each begins with `= ` and its setup. The next lines are the expected calls, and the bytes
+/// that each connection accepted.
 fn play_all(rt: &(impl Abort + AllocGlobal), text: &str) -> Result<(), Fail> {
     let text = spelled(rt.alloc(), text)?;
     for run in text.split("= ").skip(1) {
@@ -72,8 +76,8 @@ fn play_all(rt: &(impl Abort + AllocGlobal), text: &str) -> Result<(), Fail> {
     Ok(())
 }
 
-/// A request behind the Capabilities and Settings. Then the first of two wires fails at its first read; then writes
-/// take one byte each, or come late, or fail.
+/// A request after the CSM. In the later runs the first of two connections fails at its first read, and writes accept
+/// one byte each, are late, or fail.
 const SERVES_EACH_WIRE: &str = "= turns 10; 0; all 00e1010101 later
 +1 1<5 1>21 +- 1<later +- 1<later +- 1<later +- 1<later +- 1<later +- 1<later +- 1<later +- 1<later +- 1<later
 1 60e1230100004140a14501c0ff'coap+tcp'
@@ -104,8 +108,8 @@ fn serves_each_wire(rt: HostRuntime) -> Result<(), Fail> {
     play_all(&rt, SERVES_EACH_WIRE)
 }
 
-/// A wire that gives a byte at a time fails, or comes to its end, at each of its reads in turn, and one that takes a
-/// byte at a time at each of its writes; the other one is served.
+/// The first connection fails or ends at each of its reads in turn, with one byte a read. Then it fails or ends at its
+/// writes, with one byte a write. The second connection is served.
 const FAILS_AT_EACH_CALL: &str = "= turns 4; 0; all failed | all 00e1010101
 +1 1<failed +2 2<5 2>21 +- 2<later +- 2<later
 1 -
@@ -140,8 +144,9 @@ fn fails_at_each_call(rt: HostRuntime) -> Result<(), Fail> {
     play_all(&rt, FAILS_AT_EACH_CALL)
 }
 
-/// The end comes within a message, behind a request, and at once; the peer releases, with nothing pending and with an
-/// answer held for 1 s; a message stops the connection, and the one behind it is not looked at. Nothing is read then.
+/// The input ends within a message, after a request, and at once. The peer sends Release, with nothing pending and with
+/// a response delayed by 1 s. A message stops the connection, and the message after it is not processed. No read
+/// follows.
 const DROPS_WHAT_IS_FINISHED: &str = "= turns 4; 0; all 00e13101 end 00
 +1 1<4 1>8 +- 1<end +- +-
 1 60e1230100004140
@@ -169,8 +174,8 @@ fn drops_what_is_finished(rt: HostRuntime) -> Result<(), Fail> {
     play_all(&rt, DROPS_WHAT_IS_FINISHED)
 }
 
-/// With one connection at most the door is not asked for a second wire before the first one is dropped, and with no
-/// number left it is not asked at all.
+/// With a limit of one connection, the listener is not called again before the first connection is dropped. After the
+/// last connection number, the listener is not called at all.
 const ASKS_THE_DOOR_WHERE_THERE_IS_ROOM: &str =
     "= turns 5 connections 1; 0; all 00e1010101 later end | all 00e1010102
 +1 1<5 1>21 1<later 1<end +2 2<5 2>21 2<later
@@ -191,7 +196,7 @@ fn asks_the_door_where_there_is_room(rt: HostRuntime) -> Result<(), Fail> {
     play_all(&rt, ASKS_THE_DOOR_WHERE_THERE_IS_ROOM)
 }
 
-/// An answer is held for 1 s, until the clock moves on. A moment that goes back changes nothing.
+/// A response is delayed by 1 s, until the clock advances. A time that goes back changes nothing.
 const TELLS_THE_TIME: &str = "= turns 4; 0 0 0 1; all 00e1810105b5'async'4131
 +1 1<13 1>8 +- 1<later +- 1<later +- 1<later 1>9
 1 60e1230100004140614505c0ff'done'
@@ -207,8 +212,8 @@ fn tells_the_time(rt: HostRuntime) -> Result<(), Fail> {
     play_all(&rt, TELLS_THE_TIME)
 }
 
-/// A queue with room for one greatest message takes one request a turn, and what was read before is used up before the
-/// next read.
+/// With queue space for one message of maximum size, the server processes one request a turn. Bytes of an earlier read
+/// are processed before the next read.
 const TAKES_THE_REST_FIRST: &str = "= turns 5 sent 1152 queue 1152; 0; all 00e1010101010102 010103
 +1 1>8 +- 1<8 1>13 +- 1>13 +- 1<3 1>13 +- 1<later
 1 60e1230100004140a14501c0ff'coap+tcp'a14502c0ff'coap+tcp'a14503c0ff'coap+tcp'
@@ -224,8 +229,8 @@ fn takes_the_rest_first(rt: HostRuntime) -> Result<(), Fail> {
     play_all(&rt, TAKES_THE_REST_FIRST)
 }
 
-/// No connection, and two on which nothing comes: the door waits until something is ready. With one connection at most
-/// it is told that none may be opened, until the first one is dropped.
+/// With no connection, or with two idle ones, the server waits until something is ready. With a limit of one
+/// connection, the wait allows no new connection until the first one is dropped.
 const WAITS_WHERE_NOTHING_IS_TO_BE_DONE: &str = "= waits turns 3; 0
 +- ~ever +- ~ever +-
 = waits turns 6; 0; all 00e1 | all 00e1
@@ -250,9 +255,9 @@ fn waits_where_nothing_is_to_be_done(rt: HostRuntime) -> Result<(), Fail> {
     play_all(&rt, WAITS_WHERE_NOTHING_IS_TO_BE_DONE)
 }
 
-/// An answer is held until the moment 1; it is then written, or waits for the wire. Two are held on two connections:
-/// the door waits for the lesser moment. An observer of the moment is told each one, and the last moment of all has
-/// none behind it.
+/// A response is delayed until time 1, and is then written, or waits until the connection is writable. With delayed
+/// responses on two connections the server waits for the earlier time. An observer of `/time` is notified of each
+/// second. The largest time has no next second.
 const WAITS_FOR_A_MOMENT: &str = "= waits turns 5; 0 0 0 1; all 00e1810105b5'async'4131
 +1 1<13 1>8 ~no +- ~1 +- ~1 +- 1>9 ~ever +-
 1 60e1230100004140614505c0ff'done'
@@ -275,8 +280,8 @@ fn waits_for_a_moment(rt: HostRuntime) -> Result<(), Fail> {
     play_all(&rt, WAITS_FOR_A_MOMENT)
 }
 
-/// The clock is read after the door waited: an observer of the moment is told each one in the turn after the wait for
-/// it, and an answer that is held for 2 s is sent in the turn after the wait for its moment.
+/// The clock is read after the wait. An observer of `/time` is notified of each second in the turn after the wait for
+/// it. A response delayed by 2 s is sent in the turn after the wait for its time.
 const READS_THE_CLOCK_AFTER_THE_WAIT: &str = "= waits turns 4; passes 5; all 00e16101076054'time'
 +1 1<11 1>17 ~no +- ~6 +- 1>9 ~7 +- 1>9
 1 60e123010000414061450760602101ff'5'61450760602101ff'6'61450760602101ff'7'
@@ -289,9 +294,9 @@ fn reads_the_clock_after_the_wait(rt: HostRuntime) -> Result<(), Fail> {
     play_all(&rt, READS_THE_CLOCK_AFTER_THE_WAIT)
 }
 
-/// What is left of a read is taken before the door waits. A peer whose queue is full and whose wire may not be written
-/// keeps nobody awake, although its wire may be read: neither before the first byte is taken nor with a rest that waits
-/// for room.
+/// The rest of a read is processed before the server waits. A connection with a full queue that is not writable causes
+/// no busy waiting, even if it is readable. That holds before its first byte is read, and with a rest that needs queue
+/// space.
 const WAITS_FOR_WIRES: &str = "= waits turns 5 sent 1152 queue 1152; 0; all 00e1010101010102
 +1 1>8 ~no +- 1<8 1>13 ~no +- 1>13 ~ever +- ~ever +-
 1 60e1230100004140a14501c0ff'coap+tcp'a14502c0ff'coap+tcp'
@@ -316,8 +321,9 @@ fn waits_for_wires(rt: HostRuntime) -> Result<(), Fail> {
     play_all(&rt, WAITS_FOR_WIRES)
 }
 
-/// A PUT on one connection notifies an observer on another one that is passed over otherwise: on one before it in the
-/// next turn, with no wait in between, and on one behind it in the same turn. So does a DELETE.
+/// A PUT on one connection notifies an observer on another one that the server otherwise skips. An observer on an
+/// earlier connection is notified in the next turn, without a wait between. An observer on a later connection is
+/// notified in the same turn. A DELETE has the same effect.
 const PASSES_OVER_NO_NEWS: &str =
     "= waits turns 7 dynamic 1; 0; all 00e1410302b1'a'ff'x'3101076051'a' | all @3 00e1410302b1'a'ff'y'
 +1 1<15 1>19 ~no +2 2>8 ~no +- ~ever +- 2<9 2>3 ~no +- 1>8 ~ever +- ~ever +-

@@ -1,4 +1,4 @@
-//! The laws are functions that do nothing: a call of each, from another crate.
+//! Theorems are functions with an empty body. This test calls each of these from another crate.
 
 use coap_conn::laws;
 use coap_serve::laws as server_laws;

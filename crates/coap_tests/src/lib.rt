@@ -1,8 +1,12 @@
-//! What only a proved test can show: laws called from another crate, sinks at concrete types, the law of `serve_one`
-//! and the clause of `run_client` at devices that tell all, and runs of `serve_door` over a door, wires and a clock in
-//! memory. All else is rows of text (docs/TESTING.md). Only the tests have code.
+//! Tests that must themselves be proved, for properties that rows cannot test:
 //!
-//! This crate is for no program and no library. Continue with `door.rt`, which has most of the tests.
+//! - theorems called from another crate,
+//! - sinks at concrete types,
+//! - the contracts of `serve_one` and `run_client` with devices that record everything,
+//! - runs of `serve_door` over a listener, connections and a clock in memory.
+//!
+//! All other tests are rows of text (docs/TESTING.md). The crate has no code outside its tests, and no other crate uses
+//! it. Continue with `door.rt`, which has most of the tests.
 #![tactic(auto)]
 
 #[cfg(test)]

@@ -1,33 +1,33 @@
-//! Texts of rows: their words, and how they fail.
+//! Parsing and checking of rows.
 
 use std::alloc::Global;
 use std::process::Abort;
 use std::test::Fail;
 
-/// From so many equal bytes on, a text counts them.
+/// Number of successive equal bytes from which on a text gives the byte once, with its count.
 const COUNTED: usize = 8;
 
-/// Asserts that what a row told is what is wanted of it.
+/// Asserts that the result of a row is the expected one.
 pub fn same(rt: &impl Abort, row: &str, found: &str, wanted: &str) {
     assert!(rt; found == wanted, "{row}: found {found}");
 }
 
-/// A row that nobody understands.
+/// Fails the test, since a row is malformed.
 pub fn strange(rt: &impl Abort, row: &str) {
     assert!(rt; false, "no event: {row}");
 }
 
-/// The words of a text.
+/// Returns the words of a text.
 pub fn words<'a>(alloc: Global, text: &'a str) -> Result<Vec<&'a str>, Fail> {
     Ok(text.split_whitespace().collect(alloc)?)
 }
 
-/// The number that a word names.
+/// Returns the number that a word represents in decimal.
 pub fn number(word: &str) -> Result<usize, Fail> {
     Ok(word.parse::<usize>()?)
 }
 
-/// Appends the hex digits of equal bytes, which are counted where they are many.
+/// Appends the hex digits of `count` equal bytes. From `COUNTED` bytes on, appends the byte once, with its count.
 fn append(alloc: Global, text: &mut String, byte: u8, count: usize) -> Result<(), Fail> {
     if count >= COUNTED {
         let counted = format!(in alloc; "+{count}*{byte:02x}+")?;
@@ -41,7 +41,7 @@ fn append(alloc: Global, text: &mut String, byte: u8, count: usize) -> Result<()
     Ok(())
 }
 
-/// The word that `bytes` reads as these bytes. Eight equal bytes and more are counted.
+/// Returns bytes as a word: hex digits, with eight or more equal bytes as a count and one byte, or `-` for no bytes.
 pub fn digits(alloc: Global, bytes: &[u8]) -> Result<String, Fail> {
     let mut text = String::new(alloc);
     let (mut last, mut count) = (0, 0usize);
@@ -57,8 +57,7 @@ pub fn digits(alloc: Global, bytes: &[u8]) -> Result<String, Fail> {
     Ok(format!(in alloc; "{}", if bytes.is_empty() { "-" } else { trimmed })?)
 }
 
-/// A text in which a part between two `'` is text too, and stands for the hex digits of its bytes: `ff'abc'00` is
-/// `ff61626300`.
+/// Replaces each part of a text between two `'` with the hex digits of its bytes: `ff'abc'00` becomes `ff61626300`.
 pub fn spelled(alloc: Global, text: &str) -> Result<String, Fail> {
     let mut spelled = String::new(alloc);
     let mut is_quoted = false;

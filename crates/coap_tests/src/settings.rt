@@ -1,14 +1,14 @@
-//! Configurations as words.
+//! Server configurations written as words.
 
 use crate::rows::{number, strange, words};
 use coap_serve::{Config, Limits, Starts};
 use std::process::Abort;
 use std::test::Fail;
 
-/// What a configuration is made of.
+/// Values from which a test makes a `Config`.
 #[derive(Clone, Copy)]
 pub struct Setting {
-    /// The bytes of the greatest message taken and of the greatest one sent, and of the queue.
+    /// Maximum size of a received message, maximum size of a sent message, and queue size, each in bytes.
     limits: [usize; 3],
     connections: usize,
     dynamic: usize,
@@ -16,7 +16,7 @@ pub struct Setting {
     ids: u64,
 }
 
-/// The setting of most runs: nothing may be stored.
+/// Returns the default setting of the tests, in which clients may create no resource.
 pub fn usual() -> Setting {
     Setting {
         limits: [65_536, 65_536, 131_072],
@@ -27,7 +27,7 @@ pub fn usual() -> Setting {
     }
 }
 
-/// Sets what a word names.
+/// Sets the field that a word names.
 fn set(rt: &impl Abort, setting: &mut Setting, word: &str, value: usize) {
     match word {
         "max" => setting.limits[0] = value,
@@ -41,7 +41,7 @@ fn set(rt: &impl Abort, setting: &mut Setting, word: &str, value: usize) {
     }
 }
 
-/// The usual setting with what a text sets: words, each with its value behind it.
+/// Returns the default setting, changed by a text of words with a value after each.
 pub fn set_all(rt: &(impl Abort + AllocGlobal), text: &str) -> Result<Setting, Fail> {
     let mut setting = usual();
     let words = words(rt.alloc(), text)?;
@@ -54,7 +54,7 @@ pub fn set_all(rt: &(impl Abort + AllocGlobal), text: &str) -> Result<Setting, F
     Ok(setting)
 }
 
-/// The configuration of a setting.
+/// Returns the configuration of a setting.
 pub fn configured(rt: &impl Abort, setting: &Setting) -> Config {
     let [max_message, max_sent, queue] = setting.limits;
     let limits = Limits::new(max_message, max_sent, queue, 16, 16, 16).expect(rt, "limits");

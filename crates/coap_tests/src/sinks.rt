@@ -1,13 +1,13 @@
-//! Sinks at concrete types: a slice, and a vector with room that was reserved.
+//! Sinks at concrete types: a slice, and a vector with reserved capacity.
 
 use coap_wire::{Builder, Code, Sink, SliceSink, TokenRef};
 use std::process::Abort;
 use std::test::Fail;
 
-/// What `fill` leaves behind: a byte, Capabilities and Settings with a Max-Message-Size of 65,536, and two bytes.
+/// Bytes that `fill` writes: one byte, a CSM with a Max-Message-Size of 65,536, and two bytes.
 const FILLED: [u8; 9] = [0xaa, 0x40, 0xe1, 0x23, 0x01, 0x00, 0x00, 0xbb, 0xcc];
 
-/// Pushes a byte, writes a message and appends two bytes, and asserts that the room falls by each.
+/// Pushes a byte, writes a message and appends two bytes, and asserts that each write reduces the room.
 fn fill<S: Sink>(rt: &impl Abort, sink: &mut S) -> Result<(), Fail> {
     let mut message = Builder::with_token_ref(Code::CSM, TokenRef::empty());
     message.option(2, &[1, 0, 0])?;

@@ -1,4 +1,4 @@
-//! Runs of `serve_one` over devices that tell all, where its law is one of what they tell, and over a slice and a
+//! Runs of `serve_one` over recording devices, for which its contract is about the records, and over a slice and a
 //! vector.
 
 ghost use Rattle.std.specs.Prelude.{◌≡◌, ◌+◌, ◌<◌, ◌^◌, false, [], map, vec_items};
@@ -10,7 +10,7 @@ use coap_serve::{Config, IoFault, Outlet, ReadSource, Report, Source, WriteOutle
 use std::alloc::Global;
 use std::process::Abort;
 
-/// Serves one connection over devices that tell all.
+/// Serves one connection over recording devices.
 fn serve_told(
     alloc: Global,
     source: &mut Pieces,
@@ -27,8 +27,8 @@ fn serve_told(
     serve_one(alloc, source, outlet, config)
 }
 
-/// Serves Capabilities and Settings and a Ping, by reads of two bytes, a write of which behind so many fails, and tells
-/// whether these bytes were written.
+/// Serves a CSM and a Ping, with reads of at most two bytes and writes of at most four, and asserts which bytes were
+/// written. If `write_fails` is a number, the write after that number of writes fails.
 fn writes(
     rt: &(impl Abort + AllocGlobal),
     write_fails: Option<usize>,

@@ -1,13 +1,12 @@
-//! What the programs that play rows share: the words of a row, the line that tells what came of one, and the run over
-//! all rows.
+//! Shared parts of the programs that play rows: reading a row, writing its result line, and the loop over all rows.
 //!
-//! A row that begins with `= ` opens the value that the later rows are about: `= frame 1152`. Every other row is an
-//! event. Its bytes are hex digits, or nothing. The line of a row is what came of it, and then how the value stands.
-//! What a row asks for against a `requires` is not done, and told by `refused`; a row that nobody understands by
-//! `strange`, a refusal of memory by `memory`.
+//! A row that begins with `= ` creates the value that the following rows use: `= frame 1152`. Every other row is an
+//! event. Its bytes are hex digits, or absent. The result line of a row has the result, followed by the state of the
+//! value. A row that would violate a `requires` is not executed, and its result is `refused`. The result is `strange`
+//! if the row is malformed, and `memory` if allocation fails.
 //!
-//! This crate knows no layer of CoAP: `coap_probe` and `coap_client_probe` do, and are the programs that play the rows
-//! of `tests/vectors/rows`. Continue with `told.rt`.
+//! This crate uses no layer of CoAP. The programs `coap_probe` and `coap_client_probe` do, and play the rows of
+//! `tests/vectors/rows`. Continue with `told.rt`.
 #![tactic(auto)]
 
 mod told;
@@ -20,28 +19,29 @@ use std::process::ExitCode;
 pub use told::RowLine;
 pub use words::{cut, next_number, number, read_hex};
 
-/// The most bytes that a row names.
+/// Maximum number of bytes that a row names.
 const ROOM: usize = 4_194_304;
 
-/// The greatest line: as many bytes in hex digits, and some words.
+/// Capacity of a result line, in bytes: `ROOM` bytes as hex digits, and some words.
 const LINE_ROOM: usize = 8_454_144;
 
-/// Room for the rows: had at once, so that as many allocations come before the rows whatever these are.
+/// Capacity for the input, in bytes. One allocation reserves it, so that the number of allocations before the first row
+/// does not depend on the rows.
 const ROWS_ROOM: usize = 67_108_864;
 
-/// The status where the rows cannot be read, or memory for them was refused.
+/// Exit status if the rows cannot be read or allocation for them fails.
 const FAULT: u8 = 3;
 
-/// What rows are about.
+/// Layers of the library that rows test, each with its current value.
 pub trait Layers {
-    /// Opens the value that an opening names, in place of the one that was there.
+    /// Replaces the current value with the one that an opening row names.
     fn open(&mut self, alloc: Global, opening: &str, told: &mut RowLine);
 
-    /// Makes an event happen, and tells what came of it and how the value stands.
+    /// Executes an event, and writes its result and the state of the value into the line.
     fn act(&mut self, alloc: Global, event: &str, bytes: &mut Vec<u8>, told: &mut RowLine);
 }
 
-/// Plays each row of a text, and writes its line.
+/// Executes each row of a text, and prints its result line.
 fn play_all<L: Layers>(
     rt: &(impl Print + AllocGlobal),
     layers: &mut L,
@@ -58,8 +58,8 @@ fn play_all<L: Layers>(
     }
 }
 
-/// Reads the rows and plays them. Room for what they tell is had before, so that a refusal of memory is the first, or a
-/// row's own.
+/// Reads the rows and executes them, or returns `None` if input cannot be read or allocation fails. The result line has
+/// its capacity from the start, so that a later allocation failure is that of a row.
 fn read_and_play<L: Layers>(rt: &(impl Input + Print + AllocGlobal), layers: &mut L) -> Option<()> {
     let mut text = Vec::with_capacity(rt.alloc(), ROWS_ROOM).ok()?;
     rt.reader().read_to_end(&mut text).ok()?;
@@ -70,7 +70,7 @@ fn read_and_play<L: Layers>(rt: &(impl Input + Print + AllocGlobal), layers: &mu
     Some(())
 }
 
-/// Plays the rows that standard input has, and answers the status of the program.
+/// Executes the rows of standard input, and returns the exit status of the program.
 pub fn run<L: Layers>(rt: &(impl Input + Print + AllocGlobal), layers: &mut L) -> ExitCode {
     match read_and_play(rt, layers) {
         Some(()) => ExitCode::SUCCESS,

@@ -1,17 +1,17 @@
-//! The line that tells what came of a row.
+//! The result line of a row.
 
 use itoa::Buffer;
 use std::alloc::{AllocError, Global};
 use std::fmt;
 use std::io::Write;
 
-/// The line of a row. What does not fit is left out.
+/// Result line of a row. Bytes above its capacity are dropped.
 #[derive(Drop)]
 pub struct RowLine {
     bytes: Vec<u8>,
 }
 
-/// The hex digit of the low half of a byte.
+/// Returns the hex digit of the lower four bits of a byte.
 fn digit_of(byte: u8) -> u8 {
     match byte & 15 {
         0..=9 => b'0' + (byte & 15),
@@ -20,25 +20,28 @@ fn digit_of(byte: u8) -> u8 {
 }
 
 impl RowLine {
-    /// A line with nothing in it, and room for so many bytes.
+    /// Creates an empty line with a capacity of `room` bytes.
+    ///
+    /// # Errors
+    /// - `AllocError`: allocation fails.
     pub fn new(alloc: Global, room: usize) -> Result<RowLine, AllocError> {
         Ok(RowLine {
             bytes: Vec::with_capacity(alloc, room)?,
         })
     }
 
-    /// Tells a word.
+    /// Appends a word and a space.
     pub fn word(&mut self, word: &str) {
         let _ = self.bytes.extend_from_slice(word.as_bytes());
         let _ = self.bytes.push(b' ');
     }
 
-    /// Tells a number.
+    /// Appends a number and a space.
     pub fn number(&mut self, number: u64) {
         self.word(Buffer::new().format(number));
     }
 
-    /// Tells bytes as hex digits, and none as `-`.
+    /// Appends bytes as hex digits, or `-` if there are none, and a space.
     pub fn hex(&mut self, bytes: &[u8]) {
         if bytes.is_empty() {
             return self.word("-");
@@ -50,17 +53,17 @@ impl RowLine {
         let _ = self.bytes.push(b' ');
     }
 
-    /// Where a whole line can be written, which ends by itself (`end_line`).
+    /// Returns the buffer of the line. A caller that writes a line with its own line feed calls `end_line` afterwards.
     pub fn writer(&mut self) -> &mut Vec<u8> {
         &mut self.bytes
     }
 
-    /// Takes the end of a whole line back.
+    /// Removes the last byte, which is the line feed that a caller of `writer` wrote.
     pub fn end_line(&mut self) {
         let _ = self.bytes.pop();
     }
 
-    /// Writes the line, and begins another.
+    /// Prints the line with a line feed, and clears it.
     pub(crate) fn write_line(&mut self, out: &mut impl Write) {
         let _ = self.bytes.push(b'\n');
         let _ = out.write_all(&self.bytes);
@@ -68,7 +71,7 @@ impl RowLine {
     }
 }
 
-/// Texts of Debug and Display are told as they come.
+/// Texts of `Debug` and `Display` are appended without a space.
 impl fmt::Write for RowLine {
     fn write_str(&mut self, text: &str) -> fmt::Result {
         let _ = self.bytes.extend_from_slice(text.as_bytes());

@@ -1,6 +1,6 @@
-//! The words of rows.
+//! Parsing of the words of a row.
 
-/// A text up to its first space, and what is behind that.
+/// Splits a text at its first space. The second part is empty if there is no space.
 pub fn cut<'a>(text: &'a str) -> (&'a str, &'a str) {
     match text.split_once(' ') {
         Some(parts) => parts,
@@ -8,7 +8,7 @@ pub fn cut<'a>(text: &'a str) -> (&'a str, &'a str) {
     }
 }
 
-/// The number that a text is.
+/// Returns the number that a text represents in decimal, or `None` if it represents none.
 pub fn number(text: &str) -> Option<usize> {
     match text.parse::<usize>() {
         Ok(number) => Some(number),
@@ -16,13 +16,13 @@ pub fn number(text: &str) -> Option<usize> {
     }
 }
 
-/// The number at the beginning of a text, or 0, and what is behind it.
+/// Returns the number before the first space, or 0 if there is none, and the text after that space.
 pub fn next_number<'a>(text: &'a str) -> (usize, &'a str) {
     let (word, rest) = cut(text);
     (number(word).unwrap_or(0), rest)
 }
 
-/// What a hex digit stands for.
+/// Returns the value of a hex digit, or 0 for any other byte.
 fn nibble(digit: u8) -> u8 {
     match digit {
         b'0'..=b'9' => digit - b'0',
@@ -31,7 +31,7 @@ fn nibble(digit: u8) -> u8 {
     }
 }
 
-/// Puts the bytes that hex digits name in place of those that are there. More than there is room for are left out.
+/// Replaces `bytes` with the bytes that the hex digits encode. Bytes above the capacity of `bytes` are dropped.
 pub fn read_hex(word: &str, bytes: &mut Vec<u8>) {
     bytes.clear();
     let mut high = None;

@@ -1,7 +1,7 @@
-"""How the rows of each layer are spelled for the probe that plays them: a module for each folder of tests/vectors/rows.
+"""Converts the rows of each layer for the probe that plays them, with a module for each folder of tests/vectors/rows.
 
-A module has `PROBE`, the crate of the program that plays its rows, and `steps(opening, rows)`, which gives a `Step` for each line
-that the probe is to read.
+A module has `PROBE`, the crate of the program that plays the rows. Its function `steps(opening, rows)` returns a `Step` for each line that
+the probe reads.
 """
 
 from dataclasses import dataclass
@@ -10,8 +10,10 @@ from typing import Callable
 
 @dataclass
 class Step:
-    """A line for the probe, what is wanted of it, and what turns the line that the probe writes into that. What happens meanwhile, where
-    memory is refused for it and it is made again, are steps too."""
+    """A line for the probe, the expected result, and a function that converts the line of the probe to the form of that result.
+
+    `meanwhile` has further steps, for the time between a failed allocation in this step and its repetition.
+    """
 
     event: str
     wanted: str

@@ -1,8 +1,10 @@
-"""Servers, as in `serve`, and beside the lines of a script one call by itself: `take CONNECTION BYTES` tells how many bytes it took and what
-of them it handled, `nothing`, a `message` or `stopped`; where memory was refused, `memory` and the bytes that it took before; or `nosuch`.
-`written CONNECTION COUNT` says that so many waiting bytes were written, and tells `ok`, `toomany` or `nosuch`.
-`part CONNECTION` tells a front of what waits, or `nosuch`.
-`announce CONNECTION SIZE` announces the greatest message that is taken from then on, and tells `ok` or why not, in one word.
+"""Rows for servers as in `serve`, with single calls beside the lines of a script:
+
+- `take CONNECTION BYTES` has the result `COUNT nothing`, `COUNT message` or `COUNT stopped`, with the number of bytes taken, or `nosuch`. If
+  allocation fails, the result is `memory` and the number of bytes taken before.
+- `written CONNECTION COUNT` removes written bytes from the queue, with the result `ok`, `toomany` or `nosuch`.
+- `part CONNECTION` has a prefix of the queued bytes as its result, or `nosuch`.
+- `announce CONNECTION SIZE` announces a larger Max-Message-Size, with the result `ok` or one word for the error.
 """
 
 from layers import serve
@@ -15,7 +17,7 @@ steps = serve.steps
 
 
 def again(play, events, index, found):
-    """What is made again where memory was refused: of a `take` the bytes that it did not take."""
+    """Returns the event to repeat after an allocation failure: for a `take`, with the bytes that were not taken."""
     if not events[index].startswith("take "):
         return serve.again(play, events, index, found)
     _, connection, digits = events[index].split(" ")
@@ -23,7 +25,7 @@ def again(play, events, index, found):
 
 
 def struck(step, line, again, line_again):
-    """What is wrong where memory was refused for a row: the bytes that both calls of a `take` took are those of the whole."""
+    """Returns the differences after an allocation failure: both calls of a `take` must together take the bytes of the whole event."""
     if not step.event.startswith("take "):
         return serve.struck(step, line, again, line_again)
     (_, before), (count, handled) = line.split(), line_again.split()
@@ -31,7 +33,7 @@ def struck(step, line, again, line_again):
 
 
 def refused(event, line, again):
-    """The call that was refused memory, and what is left, of which this is made again."""
+    """Returns the call whose allocation failed, and the state that is left."""
     if event.startswith("announce "):
         return "`Server::announce`", serve.AS_BEFORE
     return ("`Server::take`", serve.BUT_THE_LAST) if event.startswith("take ") else serve.refused(event, line, again)

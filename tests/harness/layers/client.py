@@ -1,12 +1,19 @@
-"""Clients: `= OUTSTANDING TOKENS`, or all six limits and the tokens, opens a client; its own Capabilities and Settings are looked at by the
-first row, and written.
+"""Rows for clients. `= OUTSTANDING TOKENS`, or all six limits and the tokens, creates a client. The first row checks and removes its CSM.
 
-The events: `take BYTES`, `send METHOD TARGET` and `cancel TOKEN TARGET` with words of what is asked for (`observe`, `plain`, `format:N`,
-`accept:N`, `option:N:BYTES`, `payload:BYTES`), `ping custody` or `ping plain`, `written COUNT`, `end`, `part`, which tells a front of
-what waits, and `look`. `times N EVENT` makes an
-event so often, and each must give a token; `{9*a}` in a target stands for 9 times `a`. What is told is the event's answer, or `-`, and
-then the phase, how much is outstanding, and the bytes that wait; these are then written, but not where `keep` stands before the event.
-Numbers and texts of faults are compared where a row has them.
+The events are:
+
+- `take BYTES`,
+- `send METHOD TARGET` and `cancel TOKEN TARGET`, followed by fields of the request: `observe`, `plain`, `format:N`, `accept:N`,
+  `option:N:BYTES`, `payload:BYTES`,
+- `ping custody` and `ping plain`,
+- `written COUNT` and `end`,
+- `part`, whose result is a prefix of the queued bytes,
+- `look`, which does nothing,
+- `times N EVENT`, which repeats an event N times; each must return a token.
+
+`{9*a}` in a target is 9 times `a`. The line of an event has its result or `-`, the phase, the number of outstanding requests, and the queued
+bytes. These bytes are then removed, as written, unless `keep` is before the event. Numbers and texts of errors are compared if the row has
+them.
 """
 
 import re
@@ -18,17 +25,17 @@ from message_syntax import digits, spelled
 PROBE = "coap_client_probe"
 LOOKS = ("look", "part")
 
-# The limits that both programs have where nothing else is said, but for the requests outstanding.
+# Default limits of both programs, without that of outstanding requests.
 USUAL = "65536 65536 131072 16 16"
 
 
 def opened(opening):
-    """An opening with all limits."""
+    """Returns an opening with all limits."""
     return f"= client {opening if len(opening.split()) > 2 else f'{USUAL} {opening}'}"
 
 
 def asked(words, token="-"):
-    """What words ask for, as the probe reads it."""
+    """Returns the fields of a request in the form of the probe."""
     fields = {"observe": "-", "plain": "-", "format": "-", "accept": "-", "option": "-", "value": "-", "payload": "-"}
     for word in words:
         name, _, value = word.partition(":")
@@ -44,7 +51,7 @@ def asked(words, token="-"):
 
 
 def event_of(text):
-    """An event as the probe reads it."""
+    """Returns an event in the form of the probe."""
     keep, text = ("keep ", text[5:]) if text.startswith("keep ") else ("", text)
     word, *rest = text.split(" ")
     if word == "send":
@@ -54,32 +61,32 @@ def event_of(text):
     return keep + spelled(text)
 
 
-# What stands between brackets and is no message: why a connection stopped, and the text of a fault.
+# Matches text in brackets that is not a message: the reason of a stop, or the text of an error.
 BRACKETS = re.compile(r"(?:Releasing|Stopped)\(\w+(?:\(\d+\))?\)|\((?!iPATCH)[a-z][^()]*\)")
 
 
 def wanted_of(text):
-    """What is wanted, as the probe tells it."""
+    """Returns the expected result in the form of the probe."""
     kept = BRACKETS.findall(text)
     parts = iter(kept)
     return re.sub("\0", lambda _: next(parts), spelled(BRACKETS.sub("\0", text)))
 
 
 def told_as(wanted):
-    """What turns a line into the form of what is wanted."""
+    """Returns a function that converts a line to the form of the expected result."""
     if re.search(r" \([a-z]", wanted):
         return str.strip
     return lambda line: re.sub(r" \d+ \([^()]*\)", "", line).strip()
 
 
 def step(row):
-    """The step of a row."""
+    """Returns the step of a row."""
     event, _, wanted = row.partition(" => ")
     return Step(event_of(event), wanted_of(wanted), told_as(wanted))
 
 
 def given(line):
-    """Whether a line begins with a token."""
+    """Returns `given` if a line begins with a token, otherwise the line."""
     return "given" if re.match(r"([0-9a-f]{2})+ ", line) else line
 
 
@@ -94,5 +101,5 @@ def steps(opening, rows):
 
 
 def refused(event, line, again):
-    """The call that was refused memory, and what is left, of which this is made again."""
+    """Returns the call whose allocation failed, and the state that is left."""
     return ("`Client::open`", "nothing") if event.startswith("= ") else ("`Target::read`", "nothing, and the client as before")

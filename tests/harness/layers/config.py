@@ -1,8 +1,9 @@
-"""Configurations: `= SETTINGS` says what is set for all rows behind it, and a row what is set besides, each a name and a number.
+"""Rows for configurations. `= SETTINGS` has the settings of all rows after it, and a row has further settings, each a name and a number.
 
-Wanted are all values as they are read back: the six limits, connections, dynamic resources, the bytes of a representation, turns, and
-the beginnings of moments, versions and ids; or the fault: its name, its number and its text. `starts` tells the beginnings that are
-there where none is set, and `faults io` the faults of a run.
+The expected result has all values as the accessors return them. First come the six limits of a connection. The limits on connections, created
+resources, bytes of a representation and turns follow, and then the initial time, version and connection number. If the configuration is invalid,
+the result is the name, the number and the text of the error. The result of `starts` has the default initial values, and that of `faults io` the
+errors of a run.
 """
 
 from layers import Step

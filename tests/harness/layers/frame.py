@@ -1,10 +1,11 @@
-"""Framers: `= MAX`, and then `next BYTES`, `each BYTES` one by one, `hold BYTES`, `unread BYTES`, `clear`,
-`raise MAX`, `look` and `copied`.
+"""Rows for framers: `= MAX`. The events are `next BYTES`, `each BYTES` (byte by byte), `hold BYTES`, `unread BYTES`, `clear`, `raise MAX`,
+`look` and `copied`.
 
-What is told is what was found in a piece and how many of its bytes were taken, or the framer's greatest frame, or how many bytes it has
-copied, and then how many bytes are kept and how many are spent. A frame that lies whole in its piece is told as `Whole`, one from the
-framer's buffer as `Frame`. `hold` hands over the bytes behind a whole frame while that is held, and tells it after them. `cuts STREAM =>
-FRAME..` cuts a stream at each two places: its frames must be the same, and whole where no cut is in them.
+The result has the outcome of `Framer::next` and the number of bytes taken, or the maximum frame size, or the number of bytes copied. Then
+follow the numbers of bytes kept and spent. A frame that is whole in its input slice is `Whole`, and one from the buffer of the framer is
+`Frame`. The event `hold` passes the bytes after a whole frame while that frame is borrowed, and has the frame after them in its result.
+
+`cuts STREAM => FRAME..` splits a stream at each pair of offsets. The frames must be the same, and whole if they are not split.
 """
 
 import re
@@ -18,14 +19,14 @@ LOOKS = ("look", "copied")
 
 
 def found_in(line):
-    """What a framer found in a piece, how many bytes it took of it, and how many are kept."""
+    """Returns the outcomes of a line, the number of bytes taken, and the number of bytes kept."""
     what, _, kept = line.partition("left 0 kept ")
     found = re.findall(r"((?:Frame|Whole) [0-9a-f]+|More|\w+ \d+ \".*?\") taken (\d+)", what)
     return [it for it, _ in found], sum(int(taken) for _, taken in found), kept.split(" ")[0]
 
 
 def piece(stream, ends, first, second):
-    """A step that hands over a piece of a stream of frames, of which each must be found in the piece that has its last byte."""
+    """Returns a step that passes a part of a stream of frames. Each frame must be found in the part that has its last byte."""
     given = [(begin, end) for begin, end in zip([0, *ends], ends) if first < end <= second]
     frames = [f"{'Whole' if first <= begin else 'Frame'} {stream[begin * 2 : end * 2]}" for begin, end in given]
     begun = max(end for end in (0, *ends) if end <= second)
@@ -35,7 +36,7 @@ def piece(stream, ends, first, second):
 
 
 def cuts(stream, frames):
-    """Steps that cut a stream at each two places."""
+    """Returns steps that split a stream at each pair of offsets."""
     assert "".join(frames) == stream, "other frames than the stream has"
     ends = [sum(len(frame) // 2 for frame in frames[: count + 1]) for count in range(len(frames))]
     size = ends[-1]
@@ -55,7 +56,7 @@ def steps(opening, rows):
 
 
 def refused(event, line, again):
-    """The call that was refused memory, and what is left, of which this is made again."""
+    """Returns the call whose allocation failed, and the state that is left."""
     if event.startswith("raise "):
         return "`Framer::raise`", "the framer as before"
     return "`Framer::new`", "nothing"

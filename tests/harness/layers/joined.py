@@ -1,9 +1,9 @@
-"""A client and a server joined over memory: `= pieces FROM TO` plays the rows with pieces of each of these sizes at most, `= cuts FROM TO` with
-both streams cut at each of these places.
+"""Rows for a client and a server that are connected in memory. `= pieces FROM TO` plays the rows once for each maximum size of a slice in this
+range. `= cuts FROM TO` plays the rows once for each offset in this range, at which both streams are split.
 
-The events: the client's `send`, `cancel` and `ping` (layers/client.py); `put BYTES` at the path `a` and `tick MOMENT` at the server; `look`.
-Behind each, bytes go to and fro until none is left. What is told is the event's answer, or `-`, then what the client told, one after the
-other, and how much is outstanding.
+The events are `send`, `cancel` and `ping` of the client (layers/client.py), `put BYTES` at the path `a` and `tick TIME` of the server, and
+`look`. After each event, bytes are passed in both directions until none is left. The result has the result of the event or `-`, the events of
+the client in order, and the number of outstanding requests.
 """
 
 from layers import Step
@@ -12,19 +12,19 @@ from layers.client import event_of, told_as, wanted_of
 PROBE = "coap_client_probe"
 LOOKS = ("look",)
 
-# More than any stream has.
+# More bytes than any stream has.
 ALL = 1_000_000
 
 
 def opened(opening):
-    """The openings for the probe, each with the most bytes of a piece and the place of the cut."""
+    """Returns the openings for the probe, each with the maximum size of a slice and the offset of the split."""
     how, first, last = opening.split()
     for number in range(int(first), int(last) + 1):
         yield f"= joined {number} 0" if how == "pieces" else f"= joined {ALL} {number}"
 
 
 def step(row):
-    """The step of a row."""
+    """Returns the step of a row."""
     event, _, wanted = row.partition(" => ")
     short = told_as(wanted)
     return Step(event_of(event), wanted_of(wanted), lambda line: short(line).replace(" ,", ",").replace(" ;", ";"))

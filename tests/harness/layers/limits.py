@@ -1,7 +1,8 @@
-"""Limits of connections, which need no value: `= limits`.
+"""Rows for limits of connections, which need no value: `= limits`.
 
-A row is the six limits in the order of `Limits::new`, and each as it is read back, or the fault: its name, its number and its text.
-`faults send` tells the faults of sending Release, and `faults reasons` each reason for which connections stop, and its number.
+A row has the six limits in the order of `Limits::new`. The expected result has each as its accessor returns it, or the name, the number and
+the text of the error. The result of `faults send` has the errors of sending Release. The result of `faults reasons` has the reasons for which
+connections stop, with their numbers.
 """
 
 from layers import Step

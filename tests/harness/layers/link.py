@@ -1,15 +1,21 @@
-"""Links: `= ROLE` and the six limits, or a link whose own Capabilities and Settings are looked at and written at once.
+"""Rows for links. `= ROLE` with the six limits creates a link. With a name in place of these, the CSM of the link is checked and removed too.
 
-`small` is a server's link of the least limits, `usual` one of the limits of most connections, `usual-client` a client's of these. A
-number behind such a name has the peer announce then that it takes so many bytes (at most 255), `open` has it announce nothing. Behind
-` | ` the first row can follow at once.
+The name `small` is a link of a server with the smallest limits. The names `usual` and `usual-client` have the default limits. After a name, a
+number (at most 255) makes the peer announce that Max-Message-Size, and `open` makes it send a CSM without options. The first row can follow at
+once, after ` | `.
 
-The events: `hear` a message, `reply` with one, `hold` the answer to a token until a moment, `due` at a moment, `release`, `request`
-with a message (`plain`, `observe`), `cancel` with one that has the token, `ping` (`plain`, `custody`), `reject` bytes (`format`,
-`large`, `token`), `end` (`cut`, `whole`), `announce` another greatest message that is taken, `write` so many bytes, `count` what is
-pending and outstanding, `token` the longest token that the peer takes, `part` a front of what waits, and `look`. What is told is the
-event's answer (of `announce` the size in force), or `-`, and then the phase, the greatest message that the peer takes, the bytes that
-are free, whether the link is ready, whether it is finished, and the bytes that wait.
+The events are:
+
+- `hear` with a message from the peer, and `reply` with a response,
+- `hold` with a token and the time of the delayed response, `due` with a time,
+- `request` with `plain` or `observe` and a message, `cancel` with a message that has the token,
+- `ping` (`plain`, `custody`), `release`, `announce` with a Max-Message-Size,
+- `reject` (`format`, `large`, `token`), `end` (`cut`, `whole`),
+- `write` with a number of bytes, `part`, whose result is a prefix of the queued bytes,
+- `count` of pending and outstanding entries, `token`, whose result is the maximum token length of the peer, `look`, which does nothing.
+
+The line has the result of the event (for `announce`, the current size), or `-`. Then follow the phase, the Max-Message-Size of the peer, the free
+queue space, whether the link is ready and whether finished, and the queued bytes.
 """
 
 import re
@@ -19,7 +25,7 @@ from message_syntax import digits
 
 PROBE = "coap_probe"
 
-# What only asks.
+# Queries.
 LOOKS = ("look", "count", "token", "part")
 
 LIMITS = {
@@ -28,7 +34,7 @@ LIMITS = {
     "usual-client": "client 65536 65536 131072 16 16 16",
 }
 
-# What a link queues first, and that it is written.
+# Rows that check the first queued bytes of a link, and remove them.
 FIRST = {
     "small": ("look => - Waiting 1152 1145 unready unfinished 50e12204804140", "write 7 => - Waiting 1152 1152 ready unfinished -"),
     "usual": ("look => - Waiting 1152 131064 ready unfinished 60e1230100004140", "write 8 => - Waiting 1152 131072 ready unfinished -"),
@@ -38,7 +44,7 @@ FREE = {"small": 1_152, "usual": 131_072}
 
 
 def announcement(peer, free):
-    """The row in which the peer announces so many bytes, or nothing, and the link opens."""
+    """Returns the row in which the peer announces this Max-Message-Size, or none, and the link opens."""
     if peer == "open":
         return f"hear 00e1 => Opened Open 1152 {free} ready unfinished -"
     csm = "10e120" if peer == "0" else f"20e121{int(peer):02x}"
@@ -46,7 +52,7 @@ def announcement(peer, free):
 
 
 def first_of(opening):
-    """The role and the limits that an opening names, and the rows that come first."""
+    """Returns the role and the limits of an opening, and the first rows."""
     name, _, peer = opening.partition(" ")
     if name not in LIMITS:
         return opening, []
@@ -55,7 +61,7 @@ def first_of(opening):
 
 
 def event_of(text):
-    """The line for the probe: the event, its bytes, and its last word."""
+    """Returns the line for the probe: the event, its bytes, and its last word."""
     word, _, rest = text.partition(" ")
     if word in ("hear", "reply", "cancel"):
         return f"{word} {digits(rest)}"
@@ -68,7 +74,7 @@ def event_of(text):
 
 
 def wanted_of(text):
-    """What is wanted, whose bytes that wait are hex digits."""
+    """Returns the expected result, with hex digits for the queued bytes."""
     found = re.fullmatch(r"(.* (?:un)?finished) (.+)", text)
     return f"{found[1]} {digits(found[2])}" if found else text
 
@@ -83,5 +89,5 @@ def steps(opening, rows):
 
 
 def refused(event, line, again):
-    """The call that was refused memory, and what is left, of which this is made again."""
+    """Returns the call whose allocation failed, and the state that is left."""
     return "`Link::open`", "nothing"

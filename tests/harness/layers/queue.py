@@ -1,6 +1,7 @@
-"""Queues of bytes that wait to be written: `= COUNT`, and then `append BYTES`, `push BYTE`, `write COUNT`, `part` and `look`.
+"""Rows for output queues: `= COUNT`. The events are `append BYTES`, `push BYTE`, `write COUNT`, `part` and `look`.
 
-What is told is, behind a `part` the front of what waits that it gives, the bytes that are free, the room for more, how many bytes wait, and these.
+The line of a `part` begins with a prefix of the queued bytes. Then follow, for all events, the free space, the room, the number of queued
+bytes, and these bytes.
 """
 
 from layers import Step
@@ -19,5 +20,5 @@ def steps(opening, rows):
 
 
 def refused(event, line, again):
-    """The call that was refused memory, and what is left, of which this is made again."""
+    """Returns the call whose allocation failed, and the state that is left."""
     return "`OutQueue::new`", "nothing"

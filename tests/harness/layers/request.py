@@ -1,6 +1,6 @@
-"""The messages of requests: each row, `METHOD TARGET` and what is asked for, is sent by a client of its own, whose first token is 01.
+"""Rows for the messages of requests. Each row, `METHOD TARGET` and fields of the request, is sent by a new client, whose first token is 01.
 
-What is told is the message. The words of what is asked for are those of clients.
+The result is the message. The fields are those of the layer `client`.
 """
 
 from layers import Step
@@ -12,7 +12,7 @@ LOOKS = ("look",)
 
 
 def message(line):
-    """The message behind the token, the phase and how much is outstanding."""
+    """Returns the message of a line, if the token, the phase and the number of outstanding requests are as expected."""
     token, phase, outstanding, front = line.split()
     return front if (token, phase, outstanding) == ("01", "Open", "1") else line
 

@@ -1,10 +1,17 @@
-"""Runs of a client over a wire in memory: `WORDS | MOMENTS | READS => STATUS; OUT; ERR; WRITTEN`.
+"""Rows for runs of a client over a connection in memory: `ARGUMENTS | TIMES | READS => STATUS; OUT; ERR; WRITTEN`.
 
-The words are those of the command line. The clock tells the moments one after the other, and the last one behind them. A read gives
-bytes, `later`, `end` or `failed`, and `later` behind them. Before the words may stand `deaf` for a wire that takes nothing, `slow` for one
-that takes a byte at once, `torn` for one whose writes fail, `shut` for one whose writes come to an end, `full` for an outlet that takes no
-byte, and `mute` for a place for errors that takes none. `{9*a}` in the words stands for 9 times `a`. What was written to both outlets is told as text, with `\\n` for a newline.
-Numbers and texts of faults are compared where a row has them.
+The arguments are those of the command line. The clock returns the times in order, and then the last one again. A read returns bytes, or
+`later`, `end` or `failed`. Reads after the last one return `later`. One of these words can be before the arguments:
+
+- `deaf`: the connection accepts no bytes,
+- `slow`: the connection accepts one byte a write,
+- `torn`: writes to the connection fail,
+- `shut`: writes to the connection report its end,
+- `full`: the output accepts no bytes,
+- `mute`: the error output accepts no bytes.
+
+`{9*a}` in the arguments is 9 times `a`. OUT and ERR, the bytes written to both outputs, are text, with `\\n` for a newline. Numbers and texts of
+errors are compared if the row has them.
 """
 
 import re
@@ -20,7 +27,7 @@ KINDS = ("deaf", "slow", "torn", "shut", "full", "mute")
 
 
 def event_of(text):
-    """An event as the probe reads it."""
+    """Returns an event in the form of the probe."""
     line, moments, reads = spelled(text).split(" | ")
     line = repeated(line)
     kind, _, rest = line.partition(" ")
@@ -32,7 +39,7 @@ def event_of(text):
 
 
 def page(digits_):
-    """What was written to an outlet."""
+    """Returns the text written to an output."""
     try:
         text = bytes.fromhex("" if digits_ == "-" else digits_).decode()
     except UnicodeDecodeError:
@@ -41,7 +48,7 @@ def page(digits_):
 
 
 def told_as(wanted):
-    """What turns a line into the form of what is wanted."""
+    """Returns a function that converts a line to the form of the expected result."""
 
     def told(line):
         *status, out, err, written = line.split()
@@ -61,5 +68,5 @@ def steps(opening, rows):
 
 
 def refused(event, line, again):
-    """The call that was refused memory, and what is left, of which this is made again."""
+    """Returns the call whose allocation failed, and the state that is left."""
     return ("`run_client`", "nothing written") if "Memory" in line else ("`client_words`", "nothing")

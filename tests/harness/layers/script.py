@@ -1,6 +1,8 @@
-"""Texts of scripts: `read TEXT`, in which `|` stands for a newline, `bytes BYTES`, and `faults`; what is wanted is each event that is read
-before a semicolon, `nothing` where there is none, or the number and the text of the fault. Text between two `'` is hex digits. `{9*a}`
-stands for 9 times `a`."""
+"""Rows for texts of scripts. The events are `read TEXT`, in which `|` is a newline, `bytes BYTES`, and `faults`.
+
+The expected result has each event of the script before a semicolon, or `nothing` if there is none. If the script is invalid, the result is the
+number and the text of the error. Text between two `'` is converted to hex digits. `{9*a}` is 9 times `a`.
+"""
 
 import re
 
@@ -19,7 +21,7 @@ def event_of(event):
 
 
 def told(line):
-    """The probe's line with each semicolon behind its event, and the segments of a path in one word."""
+    """Returns the line of the probe with each semicolon next to its event, and the segments of a path in one word."""
     return re.sub(r"(/[0-9a-f-]+) (?=/)", r"\1", line.replace(" ;", ";")).strip() or "nothing"
 
 
@@ -31,5 +33,5 @@ def steps(opening, rows):
 
 
 def refused(event, line, again):
-    """The call that was refused memory, and what is left, of which this is made again."""
+    """Returns the call whose allocation failed, and the state that is left."""
     return "`script`", "nothing"

@@ -1,6 +1,9 @@
-"""Servers: `= TITLE NAME=VALUE ..`, and then lines of a script with the line that each writes. Some events may stand in one row with `|`
-between them: they are replayed at once. `each 1..256 ROW` is a row for each of these numbers, with `{n}` for the number, and `{token}` for
-it as a token of two bytes. `meanwhile ROW` is played only where memory was refused for the row above it, before that is made again."""
+"""Rows for servers. `= TITLE NAME=VALUE ..` creates one. A row has a line of a script, and the line that the server writes for it.
+
+Several events can be in one row with `|` between them, and are then replayed in one call. `each 1..256 ROW` is a row for each of these numbers,
+with `{n}` for the number, and `{token}` for the number as a token of two bytes. `meanwhile ROW` is played only if an allocation failed in the
+row before it, before that row is repeated.
+"""
 
 import itertools
 import re
@@ -14,13 +17,13 @@ LOOKS = ("status",)
 
 MEANWHILE = "meanwhile "
 
-# What a section may set, in the order in which the probe has them, and what holds where nothing is said.
+# Settings in the order of the probe, with their defaults.
 SETTINGS = {"max": 65536, "sent": 65536, "queue": 131072, "pending": 16, "observers": 16, "outstanding": 16, "connections": 16, "dynamic": 0,
             "rep": 65000, "turns": 1, "moment": 0, "versions": 0, "ids": 0}
 
 
 def said_of(opening):
-    """What an opening sets."""
+    """Returns the settings of an opening."""
     said = dict(word.split("=") for word in opening.split() if "=" in word)
     strange = said.keys() - SETTINGS.keys()
     if strange:
@@ -29,12 +32,12 @@ def said_of(opening):
 
 
 def spelled_lines(text):
-    """Lines with `|` between them, spelled. The ` | ` within a message in words is another one."""
+    """Returns lines with `|` between them, converted to hex digits. The ` | ` within a message in words does not separate lines."""
     return "|".join(spelled(line) for line in re.split(r"(?<! )\|(?! )", text))
 
 
 def each_of(row):
-    """The rows that a row stands for."""
+    """Returns the rows for a row that may begin with `each`."""
     if not row.startswith("each "):
         return [row]
     _, ends, row = row.split(" ", 2)
@@ -43,13 +46,13 @@ def each_of(row):
 
 
 def lines_of(rows):
-    """The events of rows and their lines, spelled."""
+    """Returns the events of rows and their lines, converted to hex digits."""
     rows = (row.partition(" => ") for several in rows if not several.startswith(MEANWHILE) for row in each_of(several))
     return [(spelled_lines(event), spelled_lines(line)) for event, _, line in rows]
 
 
 def meanwhile_of(rows):
-    """What happens behind the first of these rows where memory is refused for it."""
+    """Returns the steps to play if an allocation fails in the first of these rows."""
     behind = itertools.takewhile(lambda row: row.startswith(MEANWHILE), rows[1:])
     return tuple(Step(*pair) for pair in lines_of([row.removeprefix(MEANWHILE) for row in behind]))
 
@@ -63,7 +66,7 @@ def steps(opening, rows):
 
 
 def ends_of(data):
-    """Where the frames end that lie whole in these bytes, with their lengths."""
+    """Yields the end and the length of each frame that is whole in these bytes."""
     at = 0
     while at < len(data):
         form, token = data[at] >> 4, data[at] & 15
@@ -76,8 +79,11 @@ def ends_of(data):
 
 
 def again(play, events, index, found):
-    """What is made again where memory was refused. Of the events of a row it is the one that was refused, and those behind it. Of an
-    `in` it is what was not taken: the refused message is kept but for its last byte, and `status` tells how many bytes are kept."""
+    """Returns the event to repeat after an allocation failure.
+
+    If the row has several events, these are the failed one and those after it. Of an `in`, the bytes that were not taken are repeated. All
+    bytes of the failed message but its last one are kept, and `status` reports their number.
+    """
     before = found[index].rpartition(" memory ")[2].strip()
     parts = events[index].split("|")
     if before.isdigit() and int(before) > 1:
@@ -94,14 +100,16 @@ def again(play, events, index, found):
 
 
 def count_of(line):
-    """A line `in CONNECTION COUNT` with what it says of a stop."""
+    """Returns the number of bytes in a line `in CONNECTION COUNT`, and its words on a stop."""
     words = line.split(" ")
     return int(words[2]), words[3:]
 
 
 def struck(step, line, again, line_again):
-    """What is wrong where memory was refused for a row: its lines are those before the refusal and those of what was made again, and the
-    bytes of an `in` are counted once."""
+    """Returns the differences after an allocation failure.
+
+    The lines must be those before the failure and those of the repeated events, and the bytes of an `in` must be counted once.
+    """
     if "|" in step.event:
         told = line.rpartition(" memory ")[0] + line_again if "memory" != line.strip() else line_again
         return [] if told == step.wanted else [f"{step.event}: {told}"]
@@ -117,7 +125,7 @@ BUT_THE_LAST = "the bytes before the message's last, and nothing of it handled"
 
 
 def refused(event, line, again):
-    """The call that was refused memory, and what is left, of which this is made again."""
+    """Returns the call whose allocation failed, and the state that is left."""
     if event.startswith("= "):
         return "`Server::new`", "nothing"
     if not line.rpartition("memory ")[2].strip().isdigit():

@@ -1,22 +1,22 @@
-"""Runs over one input and one output, in four forms. What is set stands in words, each with its value behind it: `by`, `taking`, `room`,
-`read-fails`, `write-fails` of the devices, and the limits of the configuration.
+"""Rows for runs over one input and one output, in several forms. Settings are words, each followed by its value: `by`, `cut`, `cut-again`,
+`read-fails`, `taking`, `room` and `write-fails` of the devices, and the limits of the configuration.
 
-    = BYTES SETTINGS      what comes in, and what is set for all rows behind it
-    SETTINGS => WRITTEN ANSWER [reads N] [writes N]
-                          further settings or `as-it-is`; what was written, why the run ended, or `Err(Fault)`; `writes` took a byte each.
-                          `each-write` has writes of one byte, each of which fails in turn, and then none
-    = messages            BYTES => WRITTEN ANSWER: what comes in, and what is written behind our Capabilities and Settings, by
-                          reads and writes of one byte, of two and of all, and with every cut and pair of cuts. `read` is how many
-                          bytes there are up to the stop or the end
-    = talk SETTINGS       BYTES => BYTES: messages that come in one behind the other in one run, and what each is answered, by reads and
+    = BYTES SETTINGS      the input, and the settings of all rows after it
+    SETTINGS => WRITTEN RESULT [reads N] [writes N]
+                          further settings or `as-it-is`; the bytes written; the reason for the end of the run, or `Err(Fault)`; the
+                          numbers of reads, and of writes that accepted bytes. With `each-write`, writes accept one byte, and each of
+                          them fails in turn, or accepts none
+    = messages            BYTES => WRITTEN RESULT: the input, and the output after the CSM, with reads and writes of one byte, of two
+                          and of all, and with every split and pair of splits. `read` is the number of bytes up to the stop or the end
+    = talk SETTINGS       BYTES => BYTES: messages that arrive one after another in one run, and the output for each, with reads and
                           writes of one byte, of three and of all
     = calls BYTES SETTINGS
-                          the calls of the devices as lines, and the answer: `read ROOM gave COUNT` or `read ROOM failed`, and
-                          `write BYTES`, behind that `took COUNT` where that is not all, or `failed`. Where `refused?` stands, memory
-                          may be refused: the run then ends with the calls above it
-    = many COUNT SETTINGS  SETTINGS => ANSWER: so many Pings and GETs of the root in turn, with tokens of one byte, behind Capabilities and
-                          Settings; each is answered
-    = faults              the number and the text of each fault
+                          the calls of the devices as lines, and then the result: `read ROOM gave COUNT` or `read ROOM failed`, and
+                          `write BYTES`, followed by `took COUNT` if that is not all, or by `failed`. At `refused?` an allocation may
+                          fail: the run then ends with the calls before it
+    = many COUNT SETTINGS  SETTINGS => RESULT: COUNT Pings and GETs of the root in turn, with tokens of one byte, after a CSM. Each is
+                          answered
+    = faults              the number and the text of each error
 """
 
 from dataclasses import dataclass, field
@@ -28,7 +28,7 @@ PROBE = "coap_probe"
 
 ALL = 2**64 - 1
 
-# What sets the devices, and the configuration, in the order in which the probe has them, and what holds where nothing is said.
+# Settings of the devices and of the configuration, in the order of the probe, with their defaults.
 DEVICES = {"by": ALL, "cut": 0, "cut-again": 0, "read-fails": ALL, "taking": ALL, "room": ALL, "write-fails": ALL}
 LIMITS = {"max": 65536, "sent": 65536, "queue": 131072, "pending": 16, "observers": 16, "outstanding": 16, "connections": 16, "dynamic": 0,
           "rep": 65000, "turns": 10**12, "moment": 0, "versions": 0, "ids": 0}
@@ -38,15 +38,18 @@ OWN = bytes.fromhex("60e1230100004140")
 
 @dataclass
 class RunStep(Step):
-    """A step that is a run."""
+    """A step with its run."""
 
     run: object = None
 
 
 @dataclass
 class Run:
-    """A run: what is set, what comes in, and what is wanted: the bytes written, or the calls as lines, and the answer; the reads and the
-    writes where they are counted."""
+    """A run: its settings, its input, and the expected result.
+
+    `calls` has the expected calls of the devices, if the row has them; otherwise `written` has the expected output. `refusals` has the
+    numbers of calls after which an allocation may fail. `counts` has the expected numbers of reads and writes, if they are checked.
+    """
 
     said: dict
     sent: bytes
@@ -69,7 +72,7 @@ class Run:
         return "= stdio " + " ".join(str(self.said.get(name, usual)) for name, usual in LIMITS.items())
 
     def told(self, line):
-        """The probe's line as the row has it."""
+        """Returns the line of the probe in the form of the row."""
         calls, answer = calls_of(line)
         if self.calls is not None:
             return "; ".join([call_line(*call) for call in calls] + [answer])
@@ -77,7 +80,7 @@ class Run:
 
 
 def calls_of(line):
-    """The calls that the probe tells, each a word, the bytes or the room that were handed over, and what came of it; and the answer."""
+    """Returns the calls of a line and the result. A call is a word, the bytes or the size of the buffer, and the outcome."""
     words, calls = line.split(), []
     while words and words[0] in ("read", "write"):
         calls.append((words[0], words[1], words[2]))
@@ -94,7 +97,7 @@ def call_line(word, handed, came):
 
 
 def told_counts(calls, answer, counts):
-    """What was written, the answer, and the calls that are counted."""
+    """Returns the bytes written, the result, and the counts that are checked."""
     taken = [(bytes_of(handed), int(came)) for word, handed, came in calls if word == "write" and came != "failed"]
     written = b"".join(handed[:count] for handed, count in taken)
     found = {"reads": sum(call[0] == "read" for call in calls), "writes": sum(count > 0 for _, count in taken)}
@@ -102,7 +105,7 @@ def told_counts(calls, answer, counts):
 
 
 def settings(text):
-    """What words set, each with its value behind it."""
+    """Returns the settings in a text of words, with a value after each."""
     words = [] if text == "as-it-is" else text.split()
     said = dict(zip(words[::2], words[1::2]))
     strange = said.keys() - DEVICES.keys() - LIMITS.keys()
@@ -112,7 +115,7 @@ def settings(text):
 
 
 def understood(wanted):
-    """The bytes written, the answer and the counts that a row wants."""
+    """Returns the expected output, result and counts of a row."""
     written, _, rest = spelled_row(wanted).partition(" ")
     words, counts = rest.split(), {}
     while len(words) > 2 and words[-2] in ("reads", "writes"):
@@ -122,7 +125,7 @@ def understood(wanted):
 
 
 def spelled_row(text):
-    """A text with its bytes spelled. `Err(Read)` and `BadCsm(1)` are no messages."""
+    """Returns a text with hex digits for its bytes. `Err(Read)` and `BadCsm(1)` are not messages."""
     words = spelled(text.replace("(", "\0").replace(")", "\1")).replace("\0", "(").replace("\1", ")")
     return words
 
@@ -143,13 +146,13 @@ def usual_runs(opening, rows):
 
 
 def read_end(begin, length, said):
-    """Where the read ends that begins at this byte of so many."""
+    """Returns the offset at which the read ends that begins at `begin` in `length` bytes."""
     cuts = [cut for cut in (said.get("cut", 0), said.get("cut-again", 0)) if begin < cut]
     return min(length, cuts[0] if cuts else length, begin + said.get("by", ALL), begin + 4096)
 
 
 def reads_of(length, judged, answer, said):
-    """Where the read ends that gives the last byte that is judged, and how many reads there are."""
+    """Returns the offset at which the read of the last processed byte ends, and the number of reads of the run."""
     end = reads = 0
     while end < judged:
         end, reads = read_end(end, length, said), reads + 1
@@ -157,7 +160,7 @@ def reads_of(length, judged, answer, said):
 
 
 def set_devices(length):
-    """How the devices of `= messages` are set, one behind the other."""
+    """Yields each setting of the devices for `= messages`."""
     for by, taking in ((1, 1), (2, 1), (ALL, 1), (1, ALL), (2, ALL), (ALL, ALL)):
         yield {"by": by, "taking": taking}
     for first in range(length):
@@ -209,7 +212,7 @@ def many_runs(rest, rows):
 
 
 def runs(opening, rows):
-    """The runs of a value's rows."""
+    """Yields the runs of an opening."""
     form, _, rest = opening.partition(" ")
     if form == "messages":
         return message_runs(rows)
@@ -234,16 +237,18 @@ def steps(opening, rows):
 
 
 def struck(step, line, again, line_again):
-    """What is wrong where memory was refused for a run: what its devices told until then is how the run begins that is not refused, and
-    ends where the row says."""
+    """Returns the differences after an allocation failure.
+
+    The calls before the failure must be the first calls of the run without a failure. The failure must be at a place that the row allows.
+    """
     begun, run = line.rpartition("memory")[0], getattr(step, "run", None)
     if not line_again.startswith(begun):
-        return [f"{again[:120]}: {begun} is not how {line_again} begins"]
+        return [f"{again[:120]}: {begun} is not the beginning of {line_again}"]
     if run and run.refusals is not None and len(calls_of(begun)[0]) not in run.refusals:
-        return [f"{again[:120]}: refused behind {begun or 'nothing'}"]
+        return [f"{again[:120]}: allocation failed after {begun or 'nothing'}"]
     return []
 
 
 def refused(event, line, again):
-    """The call that was refused memory, and what is left, of which this is made again."""
+    """Returns the call whose allocation failed, and the state that is left."""
     return "`serve_one`", "a front of what it reads and writes with memory"

@@ -1,18 +1,20 @@
-"""Stores: `= RESOURCES BYTES VERSION` is one for so many resources of so many bytes each, behind a version.
+"""Rows for stores. `= RESOURCES BYTES VERSION` creates one for this number of resources of this number of bytes, after a version.
 
-- `GET /a => 2.05 etag=01 | 'x'` has a request without a token: a method, options (`/a` for a segment of the path, `accept=32` for another
-  option, `16#/a` for 16 of the same) and, behind ` | `, its payload. What is told of the answer is its code, `Put` or `Delete` where it
-  changes something, `Add` or `Drop` where something becomes of the observer, each option and the payload. Behind `do` the change is made.
-- `ask MESSAGE => MESSAGE`, `make MESSAGE => MESSAGE`, whose change is made, and `at MOMENT MESSAGE => MESSAGE` have whole messages.
-- `put /a format=0 | 'x' => 1` puts bytes at a path from inside, with a format or none; what is told is the version or the fault.
-  `remove /a => Ok(())` removes what is there. `state 10 /a => version=1 format=0 | 'x'` tells the state at a moment, or `absent`.
-  `notify 10 /a format=0 => ..` tells what an observer of this format is told at a moment.
-- `path /a / => key 61 - same asked` tells the key that segments are (its segments, whether its copy is the same, and whether it is what
-  a request with these options asks for), or `none`.
-- `listed => ..` has what the listing says behind the built-in resources: `0..500` for the resources `0` to `499`, `bytes` for `x` and
-  each byte, other words for themselves.
-- `each 1000 ..` stands before a row that is played for each number below 1,000: `{n}` is the number, `{hex}` its byte, and `{etag}` the
-  ETag of the version above it.
+- `GET /a => 2.05 etag=01 | 'x'` is a request without a token: a method, options and, after ` | `, its payload. An option is `/a` for a segment
+  of the path, or `accept=32` for another option. `16#/a` is 16 of the same. The result has the code of the response, and `Put` or `Delete` if
+  the request is a change. Then follow `Add` or `Drop` if it affects the observer, each option, and the payload. With `do` before the request,
+  the change is applied.
+- `ask MESSAGE => MESSAGE`, `make MESSAGE => MESSAGE` and `at TIME MESSAGE => MESSAGE` have whole messages. `make` applies the change.
+- `put /a format=0 | 'x' => 1` is `Store::put` at a path, with a format or none. The result is the version or the error.
+- `remove /a => Ok(())` is `Store::remove`.
+- `state 10 /a => version=1 format=0 | 'x'` is the state at time 10, or `absent`.
+- `notify 10 /a format=0 => ..` is the notification at time 10 to an observer with this format.
+- `path /a / => key 61 - same asked` is the `PathKey` of the segments, or `none`. The result has the segments and whether the copy of the key
+  is equal. Last comes whether the key is the path of a request with these options.
+- `listed => ..` has the part of the listing after the built-in resources. `0..500` are the resources `0` to `499`, `bytes` is `x` followed by
+  each byte, and other words are parts of the listing themselves.
+- `each 1000 ..` before a row plays it for each number below 1,000. `{n}` is the number, `{hex}` its byte, and `{etag}` the ETag of the next
+  version.
 """
 
 from layers import Step
@@ -20,21 +22,21 @@ from message_syntax import OPTIONS, bytes_of, code_of, encoded, spelled, uint
 
 PROBE = "coap_probe"
 
-# What only asks.
+# Queries.
 LOOKS = ("ask", "state", "notify", "path")
 
 NUMBERS = {"path": 11, "query": 15, "format": 12, **{name: number for name, (number, _) in OPTIONS.items()}}
 
 BUILT_IN = "</>;ct=0,</time>;ct=0;obs,</async>;ct=0"
 
-# The bytes that stand for themselves in a listing (RFC 3986 section 2.3).
+# The bytes that a listing has without percent-encoding (RFC 3986 section 2.3).
 UNRESERVED = b"ABCDEFGHIJKLMNOPQRSTUVWXYZabcdefghijklmnopqrstuvwxyz0123456789-._~"
 
 LISTING = encoded(1, b"", [(11, b".well-known"), (11, b"core")], b"").hex()
 
 
 def options_of(words):
-    """The options that words name, in the order in which they stand."""
+    """Returns the options that words name, in the order of the words."""
     options = []
     for word in words:
         count, mark, one = word.rpartition("#")
@@ -52,7 +54,7 @@ def payload_of(text):
 
 
 def request_of(text):
-    """The hex digits of a request without a token."""
+    """Returns the hex digits of a request without a token."""
     head, _, payload = text.partition(" | ")
     words = head.split()
     code = int(words[0]) if words[0].isdigit() else code_of(words[0])
@@ -60,7 +62,7 @@ def request_of(text):
 
 
 def parts_of(line):
-    """What a plan's line tells, by its names."""
+    """Returns the parts of the line of a plan, by name."""
     words = line.split()
     if len(words) % 2 == 0 or words[-1] != words[2]:
         raise ValueError(line)
@@ -74,7 +76,7 @@ def parts_of(line):
 
 
 def response_of(line, token):
-    """The hex digits of the response with this token that a plan makes."""
+    """Returns the hex digits of the response with this token that a plan describes."""
     plan = parts_of(line)
     options = [(4, bytes_of(plan["etag"]))] if "etag" in plan else []
     options += [(8, segment) for segment in plan["location"]]
@@ -85,7 +87,7 @@ def response_of(line, token):
 
 
 def told_plan(line):
-    """A plan's line as rows tell an answer, whose bytes are hex digits."""
+    """Returns the line of a plan in the form of the rows, with hex digits for bytes."""
     plan = parts_of(line)
     text = f"{plan['code'] >> 5}.{plan['code'] & 31:02}"
     text += "".join(f" {plan[name]}" for name in ("change", "watch") if plan[name] != "-")
@@ -96,7 +98,7 @@ def told_plan(line):
 
 
 def told_state(line):
-    """A state's line as rows tell it."""
+    """Returns the line of a state in the form of the rows."""
     words = line.split()
     if words[0] == "absent":
         return "absent"
@@ -105,13 +107,13 @@ def told_state(line):
 
 
 def told_listing(line):
-    """The text of a listing, which has a format and nothing else beside it."""
+    """Returns the text of a listing, whose plan must have a format and no other option."""
     head, _, payload = told_plan(line).partition(" | ")
     return bytes.fromhex(payload).decode() if head == "2.05 format=40" else line
 
 
 def wanted_of(text):
-    """What is wanted of an answer or a state, whose bytes are hex digits."""
+    """Returns the expected plan or state of a row, with hex digits for bytes."""
     head, bar, payload = text.partition(" | ")
     words = []
     for word in head.split():
@@ -125,7 +127,7 @@ def wanted_of(text):
 
 
 def entries(words):
-    """The text that words of a listing stand for."""
+    """Returns the text of a listing for the words of a row."""
     text = ""
     for word in words.split():
         low, dots, high = word.partition("..")
@@ -139,14 +141,14 @@ def entries(words):
 
 
 def token_of(message):
-    """The token of a message."""
+    """Returns the token of a message."""
     form = message[0] >> 4
     begin = 2 + (max(0, form - 12) if form < 15 else 4)
     return message[begin : begin + (message[0] & 15)]
 
 
 def exchange(word, rest, wanted):
-    """A row of whole messages."""
+    """Returns the step of a row with whole messages."""
     moment, rest = rest.split(" ", 1) if word == "at" else ("0", rest)
     sent = bytes_of(rest)
     event = f"make {sent.hex()}" if word == "make" else f"ask {sent.hex()} {moment}"
@@ -154,7 +156,7 @@ def exchange(word, rest, wanted):
 
 
 def inside(word, rest, wanted):
-    """A row of what the program itself does, or asks, at a path."""
+    """Returns the step of a row that is a call of the embedding program with a path."""
     head, _, payload = f" {rest}".partition(" | ")
     words = head.split()
     moment = words.pop(0) if word in ("state", "notify") else ""
@@ -181,7 +183,7 @@ def step_of(row):
 
 
 def each(count, row):
-    """The rows of the numbers below a count."""
+    """Yields the row for each number below a count."""
     for number in range(count):
         yield row.replace("{n}", str(number)).replace("{hex}", f"{number:02x}").replace("{etag}", uint(number + 1).hex())
 
@@ -196,12 +198,12 @@ def steps(opening, rows):
             yield step_of(row)
 
 
-# The calls of events that may be refused memory.
+# Calls in which an allocation may fail, by event.
 CALLS = {"make": "`Store::apply`", "put": "`Store::put`"}
 
 
 def refused(event, line, again):
-    """The call that was refused memory, and what is left, of which this is made again."""
+    """Returns the call whose allocation failed, and the state that is left."""
     if event.startswith("= "):
         return "`Store::new`", "nothing"
     return CALLS[event.split(" ")[0]], "the store as before"

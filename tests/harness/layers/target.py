@@ -1,5 +1,6 @@
-"""Targets: each row is a text, and what it names: `address` or `name`, the host, the port, the segments and the arguments, each in brackets;
-or the fault, with its number and its text where the row has them. `{255*h}` stands for 255 times `h`.
+"""Rows for targets. Each row is a URI and its expected parts: `address` or `name`, the host, the port, the segments, and the arguments. Segments
+and arguments are in brackets. If the URI is invalid, the result is the error, with its number and text if the row has them. `{255*h}` is 255 times
+`h`.
 """
 
 import re
@@ -10,14 +11,14 @@ PROBE = "coap_client_probe"
 
 
 def repeated(text):
-    """A text in which parts are repeated as braces say."""
+    """Returns a text with its parts in braces repeated."""
     while "{" in text:
         text = re.sub(r"\{(\d+)\*([^{}]*)\}", lambda part: part[2] * int(part[1]), text)
     return text
 
 
 def text_of(digits):
-    """The text of bytes, where they are UTF-8 without spaces, and else their digits."""
+    """Returns the text of bytes if they are UTF-8 without spaces, otherwise their digits."""
     try:
         text = bytes.fromhex("" if digits == "-" else digits).decode()
     except UnicodeDecodeError:
@@ -26,7 +27,7 @@ def text_of(digits):
 
 
 def target_of(words):
-    """The text of a target at the beginning of these words, and the words behind it."""
+    """Returns the text of the target at the beginning of these words, and the words after it."""
     kind, host, port, *words = words
     parts = []
     for _ in range(2):
@@ -37,7 +38,7 @@ def target_of(words):
 
 
 def told_as(wanted):
-    """What turns a line into the form of what is wanted."""
+    """Returns a function that converts a line to the form of the expected result."""
 
     def told(line):
         if line.startswith(("address ", "name ")):
@@ -55,5 +56,5 @@ def steps(opening, rows):
 
 
 def refused(event, line, again):
-    """The call that was refused memory, and what is left, of which this is made again."""
+    """Returns the call whose allocation failed, and the state that is left."""
     return "`Target::read`", "nothing"

@@ -1,12 +1,13 @@
-"""Messages as bytes and as words, which need no value: `= messages`.
+"""Rows for messages as bytes and in numbers, which need no value: `= messages`.
 
-A message in words of numbers is its code, its token, its options, each a number, `=` and a value, and its payload, all in hex digits:
-`01 07 11=74696d65 -` is a GET of `time` with the token 07 and no payload. The rows are
-    write MESSAGE [but PARTS] => SIZE BYTES, FAULT..   the message is built, and read again; then each part is refused, and it stays
-    token=TOKEN MESSAGE => CODE TOKEN SIZE BYTES of CODE TOKEN SIZE BYTES   it has another token, and then its own
-    read BYTES => MESSAGE, or the fault
-    get OPTIONS, frame BYTES => known OPTIONS [critical NUMBER]   what is recognised in a GET, or in any message
-    declared BYTES, code BYTE, codes, kind NUMBER, uint NUMBER, value BYTES   what is told of these
+A message in numbers is its code, its token, its options and its payload, with hex digits for bytes. An option is a number, `=` and a value.
+`01 07 11=74696d65 -` is a GET of `time` with the token 07 and no payload. The rows are:
+
+    write MESSAGE [but PARTS] => SIZE BYTES, FAULT..   builds the message and parses it; each of PARTS is then rejected and changes nothing
+    token=TOKEN MESSAGE => CODE TOKEN SIZE BYTES of CODE TOKEN SIZE BYTES   the message with another token, and then unchanged
+    read BYTES => MESSAGE, or the error
+    get OPTIONS, frame BYTES => known OPTIONS [critical NUMBER]   recognized options of a GET, or of any message
+    declared BYTES, code BYTE, codes, kind NUMBER, uint NUMBER, value BYTES   the result of these functions
 """
 
 from layers import Step
@@ -16,27 +17,27 @@ PROBE = "coap_probe"
 
 
 def told_word(word):
-    """A word of a message, all of its bytes in hex digits."""
+    """Returns a word of a message with hex digits for its bytes."""
     name, equals, value = word.rpartition("=")
     return name + equals + (value if "(" in value else digits(value))
 
 
 def part(word):
-    """The value of a part, and how the probe reads it: `11=74696d65` as an option, and `-` as a payload."""
+    """Returns the value of a part, and its word for the probe. `11=74696d65` is an option, and `-` a payload."""
     name, _, value = word.rpartition("=")
     value = bytes_of(value)
     return value, f"{name or 'payload'}={len(value)}"
 
 
 def write(message, further):
-    """The event that builds a message, with further words of values and parts."""
+    """Returns the event that builds a message, with further values and parts."""
     code, token, *parts = message.split()
     parts = [(bytes_of(code) + bytes_of(token), str(len(bytes_of(token)))), *map(part, parts), *further]
     return f"write {b''.join(value for value, _ in parts).hex()} {' '.join(word for _, word in parts)}"
 
 
 def written(message, wanted):
-    """Steps that build a message and read it again. What is refused must leave it as it was."""
+    """Yields steps that build a message and parse it. A rejected part must leave the message unchanged."""
     message, _, refused = message.partition(" but ")
     built, *faults = wanted.split(", ")
     code, token, *_ = words = [told_word(word) for word in message.split()]
@@ -52,14 +53,14 @@ def written(message, wanted):
 
 
 def with_token(token, message, wanted):
-    """A step that tells a message with another token, and then as it still is."""
+    """Returns a step that shows a message with another token, and then the message itself."""
     token = bytes_of(token)
     wanted = " ".join(told_word(word) for word in wanted.split() if word != "of")
     yield Step(write(message, [(token, f"token={len(token)}"), (b"", "look")]), wanted)
 
 
 def get(words):
-    """The bytes of a GET with the options that words name."""
+    """Returns the hex digits of a GET with the options that words name."""
     parts = [word.partition("=") for word in words.split()]
     return encoded(1, b"", [(int(number), bytes_of(value)) for number, _, value in parts], b"").hex()
 

@@ -1,10 +1,11 @@
-"""Command lines: each row is `server` or `client` and the words behind the program's name, and what is told of the plan, or of the fault:
-`usage` and `clap`'s kind, `asks` and the kind where the words ask for help or for the version, or the line for the user. Numbers of faults
-are compared where a row has them. `server-text` and `client-text` tell the text of the fault, with `\\n` for a newline. `{9*a}` stands for
-9 times `a`.
+"""Rows for command lines. Each row is `server` or `client` and the arguments of the program, and the plan or the error.
 
-Of a server are told its mode, its six limits, connections, resources and turns; of a client its method, what its target names
-(layers/target.py), and then, each behind its name, the other fields.
+If `clap` rejects the arguments, the error is `usage` and the kind of `clap`, or `asks` and the kind for help and version. Any other error is the
+line for the user. Numbers of errors are compared if a row has them. The result of `server-text` and `client-text` is the text of the error, with
+`\\n` for a newline. `{9*a}` is 9 times `a`.
+
+The plan of a server has its mode, its six limits, and the limits on connections, resources and turns. The plan of a client has its method, its
+target (layers/target.py), and then the other fields, each after its name.
 """
 
 import re
@@ -19,7 +20,7 @@ NAMES = ("observe", "wait", "plain", "newline", "format", "accept", "option", "p
 
 
 def client_told(words):
-    """The fields of a client's plan, each behind its name."""
+    """Returns the fields of the plan of a client, each after its name."""
     target, words = target_of(words[1:])
     if words[6] != "None":
         words[6:8] = [" ".join(words[6:8])]
@@ -27,7 +28,7 @@ def client_told(words):
 
 
 def told_as(wanted):
-    """What turns a line into the form of what is wanted."""
+    """Returns a function that converts a line to the form of the expected result."""
 
     def told(line):
         words = line.split()
@@ -53,5 +54,5 @@ def steps(opening, rows):
 
 
 def refused(event, line, again):
-    """The call that was refused memory, and what is left, of which this is made again."""
+    """Returns the call whose allocation failed, and the state that is left."""
     return f"`{event.partition(' ')[0].removesuffix('-text')}_words`", "nothing"

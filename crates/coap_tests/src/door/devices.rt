@@ -1,5 +1,5 @@
-//! The devices of the runs of `door.rt`: a door, wires and clocks in memory, which do what a text says and record their
-//! calls.
+//! Devices of the runs of `door.rt`: a listener, connections and clocks in memory. They do what a text says and record
+//! their calls.
 
 ghost use Rattle.std.specs.Prelude.{None, length};
 ghost use Rattle.coap_serve.specs.Prelude.{IsWithin};
@@ -10,22 +10,22 @@ use std::alloc::Global;
 use std::cell::RefCell;
 use std::test::Fail;
 
-/// What happens at the devices of a run.
+/// Record of the calls of the devices of a run.
 #[derive(Drop)]
 pub(super) struct CallLog {
     alloc: Global,
     calls: RefCell<String>,
     written: RefCell<Vec<Vec<u8>>>,
-    /// Whether waits are told.
+    /// `true` if the calls of `Door::wait` are recorded.
     tells_waits: bool,
-    /// How often the door was told to wait.
+    /// Number of calls of `Door::wait`.
     waits: RefCell<usize>,
-    /// The last moment that the door was told to wait until, or the one at which a clock that passes begins.
+    /// Last time that a call of `Door::wait` had, or the start time of a `Passing` clock, in seconds.
     moment: RefCell<u64>,
 }
 
 impl CallLog {
-    /// Nothing has happened yet.
+    /// Creates an empty record.
     pub(super) fn new(alloc: Global, tells_waits: bool) -> CallLog {
         CallLog {
             alloc,
@@ -37,7 +37,7 @@ impl CallLog {
         }
     }
 
-    /// Moves the clock to a moment, and returns `true` if that could be noted.
+    /// Sets the time of the clock, and returns `true` if that was possible.
     pub(super) fn pass_to(&self, moment: u64) -> bool {
         match self.moment.try_borrow_mut() {
             Ok(mut now) => {
@@ -48,7 +48,7 @@ impl CallLog {
         }
     }
 
-    /// Whether the door was told to wait as often as a word `@3` says; any other word says nothing.
+    /// Returns `true` if the number of waits has reached that of a word such as `@3`, or if the word is another one.
     fn has_come(&self, word: &str) -> bool {
         let Some(number) = word.strip_prefix('@') else {
             return true;
@@ -60,7 +60,7 @@ impl CallLog {
         }
     }
 
-    /// The door was told to wait.
+    /// Counts a call of `Door::wait`, sets the time, and records the call if `tells_waits`.
     fn wait(&self, wait: Wait, opens: bool) {
         if let Ok(mut waits) = self.waits.try_borrow_mut() {
             *waits = waits.saturating_add(1);
@@ -82,7 +82,7 @@ impl CallLog {
         }
     }
 
-    /// Notes a call, and tells whether there was memory for it.
+    /// Records a call, and returns `false` if allocation fails.
     fn note(&self, call: &str) -> bool {
         match self.calls.try_borrow_mut() {
             Ok(mut calls) => calls.push_str(call).is_ok(),
@@ -90,7 +90,7 @@ impl CallLog {
         }
     }
 
-    /// Notes what a read or a write came to, and tells whether there was memory for it.
+    /// Records the result of a read or write, and returns `false` if allocation fails.
     fn note_got(&self, front: &str, handed: usize, got: Got) -> bool {
         if !self.note(front) {
             return false;
@@ -108,7 +108,7 @@ impl CallLog {
         }
     }
 
-    /// A wire took these bytes.
+    /// Records bytes that a connection accepted, and returns `false` if allocation fails.
     fn take(&self, wire: usize, bytes: &[u8]) -> bool {
         let Ok(mut written) = self.written.try_borrow_mut() else {
             return false;
@@ -124,7 +124,7 @@ impl CallLog {
         }
     }
 
-    /// The calls, and a line for each wire that took bytes.
+    /// Returns the calls, and a line for each connection that accepted bytes.
     pub(super) fn told(&self) -> Result<String, Fail> {
         let calls = self.calls.try_borrow()?;
         let mut text = String::new(self.alloc);
@@ -139,10 +139,12 @@ impl CallLog {
     }
 }
 
-/// A wire whose reads give what the words of a text name: bytes, `zeros` as many as there is room for, `later`, `end`
-/// or `failed`; and `later` behind them. Its writes take all, or `one` byte, or are `late` once, or all come to `end`
-/// or `failed`; words with commas between them name one write each, the last one all others. A word `@3` before another
-/// one of either kind says that the wire is not ready for it until the door was told to wait 3 times.
+/// Connection that follows a text.
+///
+/// Each word names the result of one read: bytes in hex digits, `zeros` (as many as the buffer has space for), `later`,
+/// `end` or `failed`. Reads after the last word return `Later`. A write accepts all bytes, or `one` byte, or is `late`
+/// once, or every write returns `end` or `failed`. Words separated by commas name one write each, and the last one also
+/// names all later writes. A word `@3` before a word of either kind makes the connection ready for it after 3 waits.
 #[derive(Drop)]
 pub(super) struct ScriptedWire<'a> {
     place: usize,
@@ -151,7 +153,7 @@ pub(super) struct ScriptedWire<'a> {
     book: &'a CallLog,
 }
 
-/// The word at the front of a text behind a word `@3`, if any, and the text behind it.
+/// Returns the first word of a text, without a word such as `@3` before it, and the text after that word.
 fn next_word<'t>(text: &'t str, between: char) -> (&'t str, &'t str) {
     let (word, rest) = text.split_once(between).unwrap_or((text, ""));
     if word.starts_with('@') {
@@ -160,7 +162,7 @@ fn next_word<'t>(text: &'t str, between: char) -> (&'t str, &'t str) {
     (word, rest)
 }
 
-/// What a read gives that a word names.
+/// Performs the read that a word names, and returns its result.
 fn given(alloc: Global, word: &str, buffer: &mut [u8]) -> Got
     ensures { IsWithin (length buffer.new) result }
 {
@@ -174,7 +176,7 @@ fn given(alloc: Global, word: &str, buffer: &mut [u8]) -> Got
     }
 }
 
-/// As many zeros as there is room for.
+/// Fills the buffer with zeros.
 fn zeros(buffer: &mut [u8]) -> Got
     ensures { IsWithin (length buffer.new) result }
 {
@@ -186,7 +188,7 @@ fn zeros(buffer: &mut [u8]) -> Got
     Got::Bytes(count)
 }
 
-/// The bytes that a word names, as many as there is room for.
+/// Copies the bytes that a word names, up to the size of the buffer.
 fn given_bytes(alloc: Global, word: &str, buffer: &mut [u8]) -> Got
     ensures { IsWithin (length buffer.new) result }
 {
@@ -201,7 +203,7 @@ fn given_bytes(alloc: Global, word: &str, buffer: &mut [u8]) -> Got
     Got::Bytes(count)
 }
 
-/// What a write of so many bytes comes to that a word names.
+/// Returns the result that a word names for a write of `count` bytes.
 fn taken(word: &str, count: usize) -> Got
     ensures { IsWithin count result }
 {
@@ -253,7 +255,7 @@ impl Wire for ScriptedWire<'_> {
 }
 
 impl Ready for ScriptedWire<'_> {
-    // What has come stands in the book, and not in the wire.
+    // The readiness is in the record, not in the connection.
     ghost readable = { λ line. None };
 
     ghost writable = { λ line. None };
@@ -269,7 +271,7 @@ impl Ready for ScriptedWire<'_> {
     }
 }
 
-/// A door that hands out the wires that a text names, at most two.
+/// Listener that returns the connections that a text names, at most two.
 #[derive(Drop)]
 pub(super) struct ScriptedDoor<'a> {
     pub(super) wires: &'a str,
@@ -304,7 +306,7 @@ impl<'a> Door for ScriptedDoor<'a> {
     }
 }
 
-/// A clock that tells the moments that the words of a text name, and the last one behind them.
+/// Clock that returns the times that the words of a text name, and then the last one again.
 #[derive(Drop)]
 pub(super) struct Moments<'a> {
     pub(super) text: &'a str,
@@ -318,7 +320,7 @@ impl Clock for Moments<'_> {
     }
 }
 
-/// A clock that moves forward while the door waits, and at no other time.
+/// Clock that advances while the server waits, and at no other time.
 #[derive(Drop)]
 pub(super) struct Passing<'a> {
     pub(super) book: &'a CallLog,

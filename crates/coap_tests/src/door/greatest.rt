@@ -1,5 +1,4 @@
-//! A door that hands out as many wires as a server can have connections, under the maximum limits. No memory is refused,
-//! and none is reported.
+//! A listener that returns as many connections as a server can have, under the largest limits. No allocation may fail.
 
 ghost use Rattle.std.specs.Prelude.{None};
 
@@ -9,10 +8,10 @@ use std::cell::RefCell;
 use std::process::Abort;
 use std::test::Fail;
 
-/// The number of connections.
+/// Maximum number of connections of a server.
 const CONNECTIONS: usize = 256;
 
-/// A wire that gives nothing and takes everything. It counts the bytes.
+/// Connection that returns no bytes, accepts all bytes, and counts them.
 #[derive(Drop)]
 struct Taker<'a> {
     taken: &'a RefCell<usize>,
@@ -53,7 +52,7 @@ impl Ready for Taker<'_> {
     }
 }
 
-/// A door that hands out wires, as many as there can be connections.
+/// Listener that returns `left` connections.
 #[derive(Drop)]
 struct Wide<'a> {
     left: usize,
@@ -93,7 +92,7 @@ fn serves_as_many_connections_as_there_can_be(rt: HostRuntime) -> Result<(), Fai
     let mut clock = Moments { text: "0" };
     let result = serve_door(rt.alloc(), &mut door, &mut clock, config);
     assert!(&rt; result == Err(IoFault::Turns));
-    // Each connection is written its CSM, of 8 bytes.
+    // The server writes its CSM of 8 bytes to each connection.
     let taken = taken.try_borrow()?;
     assert!(&rt; *taken == 8 * CONNECTIONS);
     Ok(())

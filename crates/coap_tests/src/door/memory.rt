@@ -1,6 +1,6 @@
-//! A door that is served while memory is refused. What the test allocates is what it serves, so `rt try --test
-//! --fail-alloc N` refuses each of these in turn: what was written until then is what is written without a refusal, and
-//! a run behind it goes as without one.
+//! `serve_door` when allocations fail. The test allocates for the server alone, so `rt try --test --fail-alloc N` fails
+//! each allocation in turn. The bytes written before the failure are a prefix of those of a run without a failure. A
+//! later run is not affected.
 
 ghost use Rattle.std.specs.Prelude.{None, Some, true};
 
@@ -12,14 +12,14 @@ use std::io::Write;
 use std::process::Abort;
 use std::test::Fail;
 
-/// What is read: Capabilities and Settings, a GET of the root, and a PUT that stores one byte.
+/// Input: a CSM, a GET of the root, and a PUT that stores one byte.
 pub(super) const READ: &[u8] = b"\x00\xe1\x01\x01\x01\x41\x03\x02\xb1a\xffx";
 
-/// What is written for it.
+/// Output for `READ`.
 pub(super) const WRITTEN: &[u8] =
     b"\x50\xe1\x22\x04\x80\x41\x40\xa1\x45\x01\xc0\xffcoap+tcp\x01\x41\x02";
 
-/// A wire that gives bytes, and whose writes take one byte each.
+/// Connection over given bytes, whose writes accept one byte each.
 #[derive(Drop)]
 pub(super) struct ScriptedWire<'a> {
     pub(super) rest: &'a [u8],
@@ -66,7 +66,7 @@ impl Ready for ScriptedWire<'_> {
     }
 }
 
-/// A door that hands out one wire.
+/// Listener that returns one connection.
 #[derive(Drop)]
 struct SingleWireDoor<'a> {
     is_open: bool,
@@ -90,8 +90,8 @@ impl<'a> Door for SingleWireDoor<'a> {
     fn wait(&mut self, _wait: Wait, _opens: bool) {}
 }
 
-/// Serves one connection in forty turns, and tells how that ended. What is written is all of it, and a front of it
-/// where memory is refused.
+/// Serves one connection in forty turns, and returns the error that ended the run. Asserts that the server wrote all of
+/// `WRITTEN`, or a prefix of it if an allocation failed.
 fn served(rt: &(impl Abort + AllocGlobal), config: Config) -> Result<(), IoFault> {
     let page = RefCell::new(Fixed::new(64, None));
     let mut door = SingleWireDoor {

@@ -1,4 +1,4 @@
-//! A source that only hands out wires, served as a door by `Polled`.
+//! A type that only implements `Wires`, served as a listener by `Polled`.
 
 use super::Moments;
 use super::memory::{ScriptedWire, READ, WRITTEN};
@@ -7,7 +7,7 @@ use coap_serve::{Config, IoFault, Limits, Polled, Starts, Wires, serve_door};
 use std::cell::RefCell;
 use std::test::Fail;
 
-/// Hands out one wire.
+/// Source of one connection.
 #[derive(Drop)]
 struct Source<'a> {
     is_open: bool,
