@@ -12,7 +12,7 @@ Each row of its tables has these parts, and several references in one cell have 
 - tests: `kind/name.rows` below tests/vectors/rows, `tests/..py`, or `crate/proofs/..antt`, each with (`text`, `text`).
 
 A text of a test is any text of a file of rows. For a Python file or a file of proofs, it is a name that the file defines. The
-gate must run the Python files. A row with the status 'met' must name a function or a test. Outside of the tables the document has at most 600
+gate must run the Python files. A row with the status 'met' must name a function or a test. Outside of the tables the document has at most 800
 words. 'N passed' counts rows without an error.
 """
 
