@@ -30,12 +30,6 @@ one_of_all P i [] s all at = absurd cc
 one_of_all P zero (e ∷ es) s all at = subst P (let is : e.1 ≡ s = cc in is) all.0
 one_of_all P (suc i) (e ∷ es) s all at = one_of_all P i es s all.1 at
 
--- The lookup of the map finds the connection with this id.
-pub session_looked_up : (id : ℕ) (es : Entries) → session_of id es ≡ lookup (nat_eq id) es
-unfolding session_of
-session_looked_up id [] = refl
-session_looked_up id (e ∷ es) = rw (nat_eq_equiv.symm e.0 id, session_looked_up id es) refl
-
 -- ---- without the marks
 
 pub unmarked_looked_up : (id : ℕ) (es : MarkedEntries) → session_of id (unmarked es) ≡ option_map (λ (s : MarkedSession). s.session) (lookup (nat_eq id) es)

@@ -26,14 +26,6 @@ last_moved why n os ps last same is = record {
   others = λ k o low high at. is.others k o low high (sym (same k high) ∙ at);
 }
 
-none_before : (why : Cause) (os : List Linked) (last : Option ℕ) → last ≡ None → IsLastBefore why 0 os last
-none_before why os last none =
-    subst (IsLastBefore why 0 os) (sym none) (record { within = omega arith; concerned = λ k o here at. absurd cc; others = λ k o low high at. absurd (omega (arith, high)) })
-
--- No observer is linked yet.
-pub none_chained : (chains : Chains) (os : List Linked) → ((why : Cause) → last_in why chains ≡ None) → AreChainedTo 0 chains os
-none_chained chains os none = record { last = λ why. none_before why os (last_in why chains) (none why); each = λ why k o low at is. absurd (omega (arith, low)) }
-
 -- One more observer is linked.
 pub one_chained : (n : ℕ) (before after : Chains) (os ps : List Linked) (o : Linked) → AreChainedTo n before os → slice_get ps n ≡ Some o → ((k : ℕ) → k < n → slice_get ps k ≡ slice_get os k) → ((why : Cause) → concerns_path why o.path ≡ true → previous_in why o ≡ last_in why before) → ((why : Cause) → last_in why after ≡ (if concerns_path why o.path then Some n else last_in why before)) → AreChainedTo (suc n) after ps
 one_chained n before after os ps o all at same previous last = record { last = λ why. is_last why; each = λ why k p low there is. is_each why k p low there is }

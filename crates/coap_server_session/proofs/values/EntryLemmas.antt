@@ -47,23 +47,6 @@ none_in due (o ∷ os) none = rw none.0 (none_in due os none.1)
 
 -- ---- a loop that searches by the views of elements
 
--- If a property holds for the view of each element up to the end, it holds for the whole list of views.
-pub all_seen : {X O : Type 0} (P : O → Type 0) (seen : X → O) (xs : List X) (end : ℕ) → AllWithin (λ x. P (seen x)) xs 0 end → length xs ≤ end → AllByRecursion P (map seen xs)
-all_seen P seen xs end before all =
-    all_map (λ x. P (seen x)) P seen (λ x is. is) xs (recursion_from_All (λ x. P (seen x)) xs (λ k d below. before k d (omega arith) (omega arith)))
-
-pub none_at_all : {O : Type 0} (due : O → Bool) (os : List O) → AllByRecursion (λ o. due o ≡ false) os → first_index due os ≡ None
-unfolding first_index
-none_at_all due [] none = refl
-none_at_all due (o ∷ os) none = cc (none.0, none_at_all due os none.1)
-
-pub first_at : {X O : Type 0} (due : O → Bool) (seen : X → O) (xs : List X) (i : ℕ) (x : X) → i < length xs → x ≡ get_or xs i x → due (seen x) ≡ true → AllWithin (λ y. due (seen y) ≡ false) xs 0 i → first_index due (map seen xs) ≡ Some i
-unfolding first_index
-first_at due seen [] i x within read is none = absurd (omega arith)
-first_at due seen (y ∷ xs) zero x within read is none = cc
-first_at due seen (y ∷ xs) (suc i) x within read is none =
-    cc (none 0 y (omega arith) (omega arith), first_at due seen xs i x (omega arith) read is (λ k d low below. none (suc k) d (omega arith) (omega arith)))
-
 -- The view of an entry that is read is at the same index in the list of views.
 pub read_at : (xs : List Observer) (i : ℕ) (x : Observer) → i < length xs → x ≡ get_or xs i x → slice_get (map observer_value xs) i ≡ Some (observer_value x)
 read_at xs i x within read = slice_get-map observer_value xs i ∙ ap (option_map observer_value) (slice_get_read xs (length xs) i x refl within read)

@@ -34,10 +34,6 @@ not_pushed (y ∷ xs) (suc k) x within = not_pushed xs k x (omega arith)
 
 -- ---- flags
 
--- Flags of which none is set are the flags of an empty list.
-pub none_flagged : (flags : List Bool) → ((i : ℕ) → get_or flags i false ≡ false) → AreFlagged flags []
-none_flagged flags none = λ i. none i
-
 -- A flag is written together with the mark at its index.
 pub put_flagged : (flags : List Bool) (marks : List (Option ℕ)) (i : ℕ) (mark : Option ℕ) → i < length flags → i < length marks → AreFlagged flags marks → (k : ℕ) → get_or (set flags i (is_some mark)) k false ≡ flag_of (slice_get (set marks i mark) k)
 put_flagged [] marks i mark here there flagged k = absurd (omega arith)
@@ -46,14 +42,6 @@ put_flagged (f ∷ fs) (m ∷ ms) zero mark here there flagged zero = refl
 put_flagged (f ∷ fs) (m ∷ ms) zero mark here there flagged (suc k) = flagged (suc k)
 put_flagged (f ∷ fs) (m ∷ ms) (suc i) mark here there flagged zero = flagged 0
 put_flagged (f ∷ fs) (m ∷ ms) (suc i) mark here there flagged (suc k) = put_flagged fs ms i mark (omega arith) (omega arith) (λ j. flagged (suc j)) k
-
--- An entry is appended.
-pub pushed_flagged : (flags : List Bool) (marks : List (Option ℕ)) (mark : Option ℕ) → length marks < length flags → AreFlagged flags marks → (k : ℕ) → get_or (set flags (length marks) (is_some mark)) k false ≡ flag_of (slice_get (marks ++ mark ∷ []) k)
-pushed_flagged [] marks mark within flagged k = absurd (omega arith)
-pushed_flagged (f ∷ fs) [] mark within flagged zero = refl
-pushed_flagged (f ∷ fs) [] mark within flagged (suc k) = flagged (suc k)
-pushed_flagged (f ∷ fs) (m ∷ ms) mark within flagged zero = flagged 0
-pushed_flagged (f ∷ fs) (m ∷ ms) mark within flagged (suc k) = pushed_flagged fs ms mark (omega arith) (λ j. flagged (suc j)) k
 
 -- An entry without a changed mark is appended.
 pub entered_flagged : (flags : List Bool) (marks : List (Option ℕ)) → AreFlagged flags marks → (k : ℕ) → get_or flags k false ≡ flag_of (slice_get (marks ++ None ∷ []) k)

@@ -7,9 +7,6 @@ use Rattle.coap_server_session.proofs.values.FlagLemmas.{put_flagged}
 use Rattle.coap_server_session.proofs.observers.set_mark.Goals.{After-put}
 use Rattle.coap_server_session.proofs.observers.set_mark.Goals as goal
 
-marked : After-put → Observer
-marked c = record c.index_mut.result.now { changed = c.args.changed }
-
 pub returns-clause-entries : goal.returns-clause-entries
 returns-clause-entries c = map-set_same observer_value c.args.observers.now.items c.args.index _ c.index_mut.result.now (ap observer_value c.index_mut.ensures.value)
 
