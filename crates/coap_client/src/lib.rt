@@ -5,6 +5,9 @@
 //! - `coap_command_line`: parsers of command lines (`client_words`, `server_words`, `WordsFault`).
 //! - `coap_client_engine`: the connection and its run (`Client`, `Event`, `run_client`), and the theorems in `laws`.
 //!
+//! It also re-exports what calls of these take and return: limits, phases and errors of `coap_conn`, tokens and messages
+//! of `coap_wire`, and the traits of `coap_io` for transports and clocks.
+//!
 //! This crate contains no function. A program that embeds a client imports these names from here, as `coap_client_main`
 //! does. `coap_server` imports from the first two crates, so that its build does not wait for the proof of the client.
 //! Continue with `coap_client_engine/src/client.rt`.
@@ -12,7 +15,10 @@
 
 pub use coap_client_engine::{Client, ClientFault, Event, Taken, run_client};
 pub use coap_command_line::{WordsFault, client_words, server_words};
+pub use coap_conn::{LimitFault, Limits, LimitsBuilder, Phase, Reason, RequestFault};
+pub use coap_io::{Clock, Got, Outlet, Wire, WriteFailed, WriteOutlet};
 pub use coap_request::{ClientPlan, Extras, Method, Mode, ServerPlan, Target, TargetFault};
+pub use coap_wire::{Code, MessageRef, OptionRef, Token, TokenRef};
 
 /// Theorems over all clients.
 pub mod laws {
