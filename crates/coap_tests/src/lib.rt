@@ -2,6 +2,7 @@
 //!
 //! - theorems called from another crate,
 //! - sinks at concrete types,
+//! - lines that describe messages,
 //! - the contracts of `serve_one` and `run_client` with devices that record everything,
 //! - runs of `serve_door` over a listener, connections and a clock in memory.
 //!
@@ -17,6 +18,8 @@ mod devices;
 mod door;
 #[cfg(test)]
 mod laws;
+#[cfg(test)]
+mod print;
 #[cfg(test)]
 mod rows;
 #[cfg(test)]

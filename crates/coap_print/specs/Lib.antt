@@ -1,0 +1,4 @@
+pub mod Texts
+pub mod Lines
+pub mod Names
+pub mod Descriptions

@@ -1,0 +1,20 @@
+//! Theorems on lines. Each is the contract of a function that does nothing.
+
+ghost use Rattle.std.specs.Prelude.{◌≡◌, ℕ, List, ◌++◌, length, take};
+ghost use Rattle.coap_wire.specs.Prelude.{IsByte, AllByRecursion};
+ghost use Rattle.coap_print.specs.Texts.{escaped_text};
+ghost use Rattle.coap_print.specs.Lines.{appended};
+
+/// States that escaped text has one meaning: no two lists of bytes have the same escaped text.
+pub fn escaped_text_has_one_meaning()
+    ensures { (xs ys : List ℕ) → AllByRecursion IsByte xs → AllByRecursion IsByte ys → escaped_text xs ≡ escaped_text ys
+        → xs ≡ ys }
+{}
+
+/// States that the split of a text into pieces is irrelevant: two pieces, appended one after the other, leave the line
+/// that both together leave. What was on the line stays its beginning.
+pub fn pieces_of_a_line_are_one_piece()
+    ensures joined { (limit : ℕ) (line first second : List ℕ) → appended limit (appended limit line first) second
+        ≡ appended limit line (first ++ second) }
+    ensures kept { (limit : ℕ) (line piece : List ℕ) → take (length line) (appended limit line piece) ≡ line }
+{}

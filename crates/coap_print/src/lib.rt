@@ -1,0 +1,23 @@
+//! Messages as lines of printable text, for a log.
+//!
+//! - `Line` is one line of at most 1,024 bytes, all of them printable ASCII. A piece of text that does not fit is cut,
+//!   and the line then ends with `...` and accepts nothing more.
+//! - `describe` appends a message to a line: its code, its token, its options and its payload. An example is
+//!   `2.05 Content token 2a Content-Format=0 (text/plain) payload "21.5"`.
+//! - `laws` has the theorems on lines.
+//!
+//! The contracts name the definitions of `specs/Texts.antt` (bytes as text), `specs/Lines.antt` (text appended to a
+//! line), `specs/Names.antt` (names in tables) and `specs/Descriptions.antt` (a message as text).
+//!
+//! This crate allocates nothing and does no I/O: the caller writes the bytes of a line where its log is. Continue with
+//! `line.rt`.
+#![tactic(auto)]
+
+mod description;
+pub mod laws;
+mod line;
+mod names;
+mod tables;
+
+pub use description::describe;
+pub use line::{LINE_LENGTH, Line};
