@@ -40,7 +40,7 @@ cut_length limit line piece space long =
 
 -- ---- a line stays a line
 
--- What is appended to a line leaves a line.
+-- A line stays a line when text is appended to it.
 pub appended_line : (limit : ℕ) (line piece : List ℕ) → IsLine limit line → is_text piece ≡ true → IsLine limit (appended limit line piece)
 appended_line limit line piece is text = elim (cases_lt limit (length line + 3)) [
   | inl full ↦ subst (IsLine limit) (sym (closed limit line piece full)) is

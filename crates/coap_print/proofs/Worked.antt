@@ -1,10 +1,11 @@
 -- Examples: values of the definitions, and each row of the tables.
-use Rattle.std.proofs.Common.{◌≡◌, ℕ, true, false, List, [], ◌∷◌, ◌++◌, map, codes, Some, None, refl}
+use Rattle.std.proofs.Common.{◌≡◌, ℕ, true, false, List, [], ◌∷◌, ◌++◌, length, map, codes, Some, None, refl}
 use Rattle.std.specs.Fmt.{digits}
 use Rattle.coap_wire.specs.Message.{CoapOption}
 use Rattle.coap_print.specs.Texts.{is_text, hex_text, escaped_text}
 use Rattle.coap_print.specs.Lines.{appended}
 use Rattle.coap_print.specs.Names.{name_in, option_in, code_name, content_format_name, signalling_option, known_option}
+use Rattle.coap_print.specs.Names.{code_names, content_formats, options, csm_options, ping_options, release_options, abort_options}
 use Rattle.coap_print.specs.Descriptions.{code_text, token_text, uint_in, block_size, opaque_text, option_text, payload_text, message_text}
 use Rattle.coap_print.specs.declared.line.TheConstants.{LINE_LENGTH}
 
@@ -120,16 +121,16 @@ format_options : map (with_one_byte 1) (12 ∷ 17 ∷ []) ≡ codes " Content-Fo
 unfolding option_text known_option option_in uint_in content_format_name name_in digits
 format_options = refl
 
-csm_options : map (with_one_byte 0xe1) (2 ∷ 4 ∷ 6 ∷ 8 ∷ [])
+of_a_csm : map (with_one_byte 0xe1) (2 ∷ 4 ∷ 6 ∷ 8 ∷ [])
     ≡ codes " Max-Message-Size=49" ∷ codes " Block-Wise-Transfer=31" ∷ codes " Extended-Token-Length=49" ∷ codes " option 8=31" ∷ []
 unfolding option_text known_option signalling_option option_in uint_in opaque_text digits
-csm_options = refl
+of_a_csm = refl
 
-other_signalling_options : with_one_byte 0xe2 2 ∷ with_one_byte 0xe3 2 ∷ map (with_one_byte 0xe4) (2 ∷ 4 ∷ []) ++ with_one_byte 0xe5 2 ∷ with_one_byte 0xe6 2 ∷ []
+of_other_signalling_messages : with_one_byte 0xe2 2 ∷ with_one_byte 0xe3 2 ∷ map (with_one_byte 0xe4) (2 ∷ 4 ∷ []) ++ with_one_byte 0xe5 2 ∷ with_one_byte 0xe6 2 ∷ []
     ≡ codes " Custody=31" ∷ codes " Custody=31" ∷ codes " Alternative-Address=\"1\"" ∷ codes " Hold-Off=49"
     ∷ codes " Bad-CSM-Option=49" ∷ codes " option 2=31" ∷ []
 unfolding option_text known_option signalling_option option_in uint_in opaque_text digits
-other_signalling_options = refl
+of_other_signalling_messages = refl
 
 -- An empty number is 0, and one of 5 bytes is none. An empty opaque value is not written.
 odd_values : map (λ (o : CoapOption). option_text 1 o)
@@ -160,6 +161,10 @@ more_formats : map content_format_name (60 ∷ 61 ∷ 62 ∷ 63 ∷ 110 ∷ 112 
     ∷ Some (codes "application/missing-blocks+cbor-seq") ∷ None ∷ []
 unfolding content_format_name name_in
 more_formats = refl
+
+-- The tables have no other rows.
+row_counts : length code_names ∷ length content_formats ∷ length options ∷ length csm_options ∷ length ping_options ∷ length release_options ∷ length abort_options ∷ [] ≡ 40 ∷ 15 ∷ 26 ∷ 3 ∷ 1 ∷ 2 ∷ 1 ∷ []
+row_counts = refl
 
 -- ---- payloads and messages
 

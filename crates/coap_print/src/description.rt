@@ -31,7 +31,7 @@ const MOST_SHOWN: usize = 64;
 /// - The payload is text in quotation marks if all its bytes are printable, otherwise hexadecimal. Of a payload of more
 ///   than 64 bytes, the length and the first 64 bytes are written.
 ///
-/// What does not fit into the line is cut, and the line ends with `...`.
+/// Text that does not fit into the line is cut, and the line ends with `...`.
 #[tactic(auto, using(crate::proofs::LineLaws::pieces), unfolding(crate::specs::Descriptions::message_text))]
 pub fn describe(line: &mut Line, message: &MessageRef)
     ensures text { line.new ≡ appended LINE_LENGTH line.old (spec.message_text message.now) }

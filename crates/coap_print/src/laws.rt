@@ -12,7 +12,7 @@ pub fn escaped_text_has_one_meaning()
 {}
 
 /// States that the split of a text into pieces is irrelevant: two pieces, appended one after the other, leave the line
-/// that both together leave. What was on the line stays its beginning.
+/// that both together leave. The earlier bytes of the line stay at its start.
 pub fn pieces_of_a_line_are_one_piece()
     ensures joined { (limit : ℕ) (line first second : List ℕ) → appended limit (appended limit line first) second
         ≡ appended limit line (first ++ second) }

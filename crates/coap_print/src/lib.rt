@@ -6,8 +6,8 @@
 //!   `2.05 Content token 2a Content-Format=0 (text/plain) payload "21.5"`.
 //! - `laws` has the theorems on lines.
 //!
-//! The contracts name the definitions of `specs/Texts.antt` (bytes as text), `specs/Lines.antt` (text appended to a
-//! line), `specs/Names.antt` (names in tables) and `specs/Descriptions.antt` (a message as text).
+//! The contracts name definitions of four files. `specs/Texts.antt` defines bytes as text, `specs/Lines.antt` text that
+//! is appended to a line. `specs/Names.antt` defines the names in the tables, `specs/Descriptions.antt` a message as text.
 //!
 //! This crate allocates nothing and does no I/O: the caller writes the bytes of a line where its log is. Continue with
 //! `line.rt`.

@@ -23,8 +23,7 @@ pub type NameRow = (u16, &'static str);
 /// Row of a table of options: a number, its name, and the format of its value.
 pub type OptionRow = (u16, &'static str, Format);
 
-/// Names of codes (RFC 7252 section 12.1, RFC 7959 section 2.9, RFC 8132 section 6, RFC 8323 section 5, RFC 8516
-/// section 3, RFC 8768 section 4). The number of a code is class * 32 + detail.
+/// Names of codes (RFC 7252, 7959, 8132, 8323, 8516, 8768). The number of a code is class * 32 + detail.
 pub const CODE_NAMES: [NameRow; 40] = [
     (0, "Empty"),
     (1, "GET"),
@@ -68,8 +67,7 @@ pub const CODE_NAMES: [NameRow; 40] = [
     (7 * 32 + 5, "Abort"),
 ];
 
-/// Options of requests and responses (RFC 7252 section 5.10, RFC 7641 section 2, RFC 7959 sections 2.1 and 4, RFC 7967
-/// section 2, RFC 8613 section 2, RFC 8768 section 3, RFC 9175 sections 2.2 and 3.2, RFC 9177 section 4.1).
+/// Options of requests and responses (RFC 7252, 7641, 7959, 7967, 8613, 8768, 9175, 9177).
 pub const OPTIONS: [OptionRow; 26] = [
     (option_numbers::IF_MATCH, "If-Match", Format::Opaque),
     (option_numbers::URI_HOST, "Uri-Host", Format::Text),
@@ -111,7 +109,7 @@ pub const OPTIONS: [OptionRow; 26] = [
     (292, "Request-Tag", Format::Opaque),
 ];
 
-/// Options of a CSM (RFC 8323 section 5.3, RFC 8974 section 2.2.2).
+/// Options of a CSM (RFC 8323 section 5.3, RFC 8974).
 pub const CSM_OPTIONS: [OptionRow; 3] = [
     (2, "Max-Message-Size", Format::Uint),
     (4, "Block-Wise-Transfer", Format::Opaque),
@@ -130,8 +128,7 @@ pub const RELEASE_OPTIONS: [OptionRow; 2] = [
 /// Options of an Abort (RFC 8323 section 5.6).
 pub const ABORT_OPTIONS: [OptionRow; 1] = [(2, "Bad-CSM-Option", Format::Uint)];
 
-/// Names of Content-Formats, without parameters (RFC 7252 section 12.3, RFC 8132 section 6, RFC 8949 section 9.6, RFC
-/// 8392 section 9.4, RFC 8710 section 5, RFC 8742 section 7.1, RFC 8428 section 12.4, RFC 9177 section 12.3).
+/// Names of Content-Formats, without parameters (RFC 7252 section 12.3, RFC 8132, 8392, 8428, 8710, 8742, 8949, 9177).
 pub const CONTENT_FORMATS: [NameRow; 15] = [
     (0, "text/plain"),
     (40, "application/link-format"),

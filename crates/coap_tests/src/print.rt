@@ -27,16 +27,25 @@ fn describes_a_request(rt: HostRuntime) -> Result<(), Fail> {
 #[test]
 fn describes_a_response(rt: HostRuntime) -> Result<(), Fail> {
     let frame = b"\xb1\x45\x2a\x41\x09\x81\x32\xb1\x3e\xe0\x00\x01\xff\x00";
-    let text = "2.05 Content token 2a ETag=09 Content-Format=50 (application/json) Block2=3/1/1024 option 293 payload 00";
+    let text =
+        "2.05 Content token 2a ETag=09 Content-Format=50 (application/json) Block2=3/1/1024 option 293 payload 00";
     describes(&rt, frame, text);
     Ok(())
 }
 
 #[test]
 fn describes_signalling_messages(rt: HostRuntime) -> Result<(), Fail> {
-    describes(&rt, b"\x50\xe1\x23\x01\x00\x00\x20", "7.01 CSM Max-Message-Size=65536 Block-Wise-Transfer");
+    describes(
+        &rt,
+        b"\x50\xe1\x23\x01\x00\x00\x20",
+        "7.01 CSM Max-Message-Size=65536 Block-Wise-Transfer",
+    );
     describes(&rt, b"\x10\xe2\x20", "7.02 Ping Custody");
-    describes(&rt, b"\x80\xe5\x21\x08\xffwhat?", "7.05 Abort Bad-CSM-Option=8 payload \"what?\"");
+    describes(
+        &rt,
+        b"\x80\xe5\x21\x08\xffwhat?",
+        "7.05 Abort Bad-CSM-Option=8 payload \"what?\"",
+    );
     Ok(())
 }
 
