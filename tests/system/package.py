@@ -9,6 +9,7 @@ the server by the command of the installed unit, because systemd may not run. In
 """
 
 import contextlib
+import glob
 import os
 import re
 import shlex
@@ -41,6 +42,12 @@ UNIT = "/usr/lib/systemd/system/coap-server.service"
 
 # Link by which `systemctl enable` enables the unit.
 ENABLED = "/etc/systemd/system/multi-user.target.wants/coap-server.service"
+
+# Folder of the files by which Debian's maintainer scripts record the links of a unit.
+RECORDS = "/var/lib/systemd/deb-systemd-helper-enabled"
+
+# Files that a purge may leave if the maintainer scripts are wrong.
+LEFTOVERS = [OPTIONS, ENABLED, RECORDS + "/coap-server.service.dsh-also", RECORDS + "/multi-user.target.wants/coap-server.service"]
 
 # Installed files, each with its mode, and with its source if it is a copy.
 FILES = {
@@ -376,11 +383,14 @@ def check_life(checks, package, higher):
 
 def clean_up():
     """Removes all that is left of the package after a failed check."""
-    if dpkg_status():
+    if dpkg_status() and dpkg("-P", NAME)[0]:
+        # A wrong maintainer script prevents the purge.
+        for path in glob.glob("/var/lib/dpkg/info/%s.p*" % NAME):
+            os.remove(path)
         dpkg("--force-all", "-P", NAME)
-        for path in [OPTIONS, ENABLED]:
-            with contextlib.suppress(FileNotFoundError):
-                os.remove(path)
+    for path in LEFTOVERS:
+        with contextlib.suppress(FileNotFoundError):
+            os.remove(path)
 
 
 def hindrance():
@@ -389,7 +399,7 @@ def hindrance():
         return "the script does not run as root"
     if dpkg_status():
         return "the package is already installed"
-    found = [path for path in [*FILES, ENABLED] if os.path.lexists(path)]
+    found = [path for path in [*FILES, *LEFTOVERS] if os.path.lexists(path)]
     return "%s already exists" % found[0] if found else ""
 
 
