@@ -5,8 +5,8 @@
 //! - `coap_command_line`: parsers of command lines (`client_words`, `server_words`, `WordsFault`).
 //! - `coap_client_engine`: the connection and its run (`Client`, `Event`, `run_client`), and the theorems in `laws`.
 //!
-//! It also re-exports what calls of these take and return: limits, phases and errors of `coap_conn`, tokens and messages
-//! of `coap_wire`, and the traits of `coap_io` for transports and clocks.
+//! The types of arguments and results are re-exported too. `coap_conn` defines limits, phases and errors, `coap_wire`
+//! tokens and messages, and `coap_io` the traits for transports and clocks.
 //!
 //! This crate contains no function. A program that embeds a client imports these names from here, as `coap_client_main`
 //! does. `coap_server` imports from the first two crates, so that its build does not wait for the proof of the client.

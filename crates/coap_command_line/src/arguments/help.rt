@@ -62,7 +62,7 @@ pub(super) const WAIT: &str = "Seconds to wait for a response, 1 to 4294967295 [
 pub(super) const OPTION: &str =
     "Another option: NUM is 0 to 65535; TEXT has at most 1034 bytes, hexadecimal after 0x";
 
-pub(super) const PLAIN: &str = "Send no Uri-Host and no Uri-Port";
+pub(super) const PLAIN: &str = "Send no Uri-Host";
 
 pub(super) const NEWLINE: &str = "Write a newline after each payload";
 
