@@ -23,7 +23,7 @@ pub use coap_wire::{Code, MessageRef, OptionRef, Token, TokenRef};
 /// Theorems over all clients.
 pub mod laws {
     pub use coap_client_engine::laws::{
-        segmentation_is_irrelevant, limits_are_kept, messages_are_those_spelled, tokens_are_given_once,
-        queued_messages_fit_limit,
+        limits_are_kept, messages_are_those_spelled, queued_messages_fit_limit,
+        segmentation_is_irrelevant, tokens_are_given_once,
     };
 }

@@ -12,9 +12,9 @@ ghost use Rattle.coap_io.specs.declared.wire.Got.TheVariants.{Later, End};
 use super::peer_interest::{PeerInterest, wants_by};
 use crate::serve::IoFault;
 use coap_conn::first_part;
-use coap_io::{Got, Ready, ReadBuffer, Wire};
+use coap_io::{Got, ReadBuffer, Ready, Wire};
 use coap_model::ConnId;
-use coap_server_engine::{ConnectionWork, Server, ChangeStamp};
+use coap_server_engine::{ChangeStamp, ConnectionWork, Server};
 use indexmap::IndexMap;
 
 /// Transport side of a connection.

@@ -9,10 +9,10 @@ ghost use Rattle.coap_serve.specs.Prelude.{AreSettled, server_dropped};
 ghost use Rattle.coap_serve.specs.declared.door.peer.PeerOutcome.TheVariants.{Open};
 
 use super::next_wakeup::{NextWakeup, TurnProgress, affects_served_peers, skip_idle};
-use super::peer::{PeerOutcome, Peer, Peers, serve_peer};
+use super::peer::{Peer, PeerOutcome, Peers, serve_peer};
 use super::peer_interest::wants_on;
 use crate::serve::IoFault;
-use coap_io::{Door, Ready, ReadBuffer, Wait, Wire};
+use coap_io::{Door, ReadBuffer, Ready, Wait, Wire};
 use coap_server_engine::Server;
 use std::alloc::Global;
 
