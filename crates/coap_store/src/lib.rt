@@ -11,7 +11,6 @@
 
 mod answer;
 mod catalogue;
-mod decimal;
 mod delayed;
 mod fault;
 mod found;
