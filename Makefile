@@ -1,8 +1,8 @@
-# Proves, builds, runs, tests and measures. Requires Rattle's toolchain (`rt`) and Python 3. `make test` installs Debian's gcc,
-# haproxy, libc6-dev, libcoap3-bin, mandoc, openssl, tshark and valgrind if they are missing. `make bench` installs gcc,
-# gnuplot-nox, haproxy, libc6-dev, libcoap3-bin and valgrind.
+# Proves, builds, runs, tests and measures. Requires Rattle's toolchain (`rt`) and Python 3. `make test` installs Debian's dpkg-dev,
+# gcc, haproxy, libc6-dev, libcoap3-bin, lintian, mandoc, openssl, tshark and valgrind if they are missing. `make bench` installs gcc,
+# gnuplot-nox, haproxy, libc6-dev, libcoap3-bin and valgrind. `make deb` needs dpkg-dev.
 
-.PHONY: all run test mutants faults bench try install uninstall clean
+.PHONY: all run test mutants faults bench try install uninstall deb clean
 
 # Prefix under which `make install` puts the programs, their manuals, the systemd unit and the configuration of HAProxy. DESTDIR
 # is put before the prefix, for packaging.
@@ -64,6 +64,10 @@ uninstall:
 	rm -f "$(DESTDIR)$(PREFIX)/share/man/man1/coap-server.1" "$(DESTDIR)$(PREFIX)/share/man/man1/coap-client.1"
 	rm -f "$(DESTDIR)$(PREFIX)/lib/systemd/system/coap-server.service"
 	rm -f "$(DESTDIR)$(PREFIX)/share/doc/coap-server/examples/haproxy.cfg"
+
+# Builds the Debian package of the output of `make all`, bin/dachreup_VERSION_ARCHITECTURE.deb.
+deb: all
+	install/debian/build bin/coap-server bin/coap-client bin
 
 clean:
 	rm -rf bin crates/*/out

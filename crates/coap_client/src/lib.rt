@@ -5,8 +5,8 @@
 //! - `coap_command_line`: parsers of command lines (`client_words`, `server_words`, `WordsFault`).
 //! - `coap_client_engine`: the connection and its run (`Client`, `Event`, `run_client`), and the theorems in `laws`.
 //!
-//! It also re-exports what calls of these take and return: limits, phases and errors of `coap_conn`, tokens and messages
-//! of `coap_wire`, and the traits of `coap_io` for transports and clocks.
+//! The types of arguments and results are re-exported too. `coap_conn` defines limits, phases and errors, `coap_wire`
+//! tokens and messages, and `coap_io` the traits for transports and clocks.
 //!
 //! This crate contains no function. A program that embeds a client imports these names from here, as `coap_client_main`
 //! does. `coap_server` imports from the first two crates, so that its build does not wait for the proof of the client.
@@ -23,7 +23,7 @@ pub use coap_wire::{Code, MessageRef, OptionRef, Token, TokenRef};
 /// Theorems over all clients.
 pub mod laws {
     pub use coap_client_engine::laws::{
-        segmentation_is_irrelevant, limits_are_kept, messages_are_those_spelled, tokens_are_given_once,
-        queued_messages_fit_limit,
+        limits_are_kept, messages_are_those_spelled, queued_messages_fit_limit,
+        segmentation_is_irrelevant, tokens_are_given_once,
     };
 }

@@ -48,7 +48,10 @@ pub(crate) fn report_option<E: Outlet>(err: &mut E, number: u16) -> Result<(), W
 }
 
 /// Writes the line for a response: its code, such as `4.04`, and its payload if it has one.
-pub(crate) fn report_response<E: Outlet>(err: &mut E, response: &MessageRef) -> Result<(), WriteFailed>
+pub(crate) fn report_response<E: Outlet>(
+    err: &mut E,
+    response: &MessageRef,
+) -> Result<(), WriteFailed>
     requires { E.is_failed err.old ≡ false }
     ensures ok { OnOk result (AddsBytes (E.written err.old) (E.written err.new)
         (text.response_line response.now.code response.now.payload)) }

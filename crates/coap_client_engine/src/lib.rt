@@ -16,9 +16,9 @@
 #![tactic(auto)]
 
 mod client;
+mod error_lines;
 pub mod laws;
 mod run;
-mod error_lines;
 
 pub use client::{Client, Event, Taken};
 pub use run::{ClientFault, run_client};

@@ -14,7 +14,7 @@ mod transmit;
 use coap_io::{Clock, Outlet, Wire};
 use coap_request::ClientPlan;
 pub use state::ClientFault;
-use state::{TIMED_OUT, StepResult, Run};
+use state::{Run, StepResult, TIMED_OUT};
 use std::alloc::Global;
 
 /// Maximum number of iterations of a run.
@@ -109,7 +109,12 @@ impl Run {
 
     /// Sends the request if an earlier iteration had no room for it, processes the input, and then checks the
     /// deadlines.
-    fn process_input<O: Outlet, E: Outlet>(&mut self, out: &mut O, err: &mut E, plan: &ClientPlan) -> StepResult
+    fn process_input<O: Outlet, E: Outlet>(
+        &mut self,
+        out: &mut O,
+        err: &mut E,
+        plan: &ClientPlan,
+    ) -> StepResult
         requires out_works { O.is_failed out.old ≡ false }
         requires err_works { E.is_failed err.old ≡ false }
         ensures runs { ExtendsTrace (with_outlets (O.written out.old) (E.written err.old))

@@ -9,8 +9,8 @@ ghost use Rattle.std.specs.Str.{IsUtf8};
 
 use coap_client::{ClientPlan, Target, client_words, run_client};
 use coap_io::WriteOutlet;
-use coap_program::{FAULT, Program, FileError, USAGE, occupy_standard_descriptors, read_whole};
-use coap_sockets::{ConnectFault, ConnectError, ClientWire};
+use coap_program::{FAULT, FileError, Program, USAGE, occupy_standard_descriptors, read_whole};
+use coap_sockets::{ClientWire, ConnectError, ConnectFault};
 use coap_wire::LARGEST_MESSAGE;
 use std::io::Write;
 use std::net::Net;
@@ -143,6 +143,10 @@ fn start(
 }
 
 fn main(rt: HostRuntime) -> ExitCode {
-    let (_first, _second, _third) = (occupy_standard_descriptors(&rt), occupy_standard_descriptors(&rt), occupy_standard_descriptors(&rt));
+    let (_first, _second, _third) = (
+        occupy_standard_descriptors(&rt),
+        occupy_standard_descriptors(&rt),
+        occupy_standard_descriptors(&rt),
+    );
     ExitCode::from(start(&rt, rt.stderr()))
 }

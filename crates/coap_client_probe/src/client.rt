@@ -10,8 +10,8 @@ use crate::target::tell_fault;
 use coap_client::{Client, Event, Target};
 use coap_conn::{RequestFault, first_part};
 use coap_serve::Limits;
-use probe_support::{RowLine, cut, next_number, number, read_hex};
 use coap_wire::{MessageRef, Token};
+use probe_support::{RowLine, cut, next_number, number, read_hex};
 use std::alloc::{AllocError, Global};
 use std::fmt::Write;
 

@@ -11,8 +11,8 @@ mod target;
 mod words;
 
 use coap_client::Client;
-use probe_support::{Layers, RowLine, cut};
 use joined::ClientServerPair;
+use probe_support::{Layers, RowLine, cut};
 use std::alloc::{AllocError, Global};
 use std::process::ExitCode;
 

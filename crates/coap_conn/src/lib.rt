@@ -12,12 +12,12 @@
 //! `coap_server_session` and `coap_client_engine` have a link each. Continue with `link.rt`.
 #![tactic(auto)]
 
-mod outstanding;
 mod csm;
 pub mod laws;
 mod limits;
 mod link;
 mod messages;
+mod outstanding;
 mod pending;
 mod phase;
 mod queue;

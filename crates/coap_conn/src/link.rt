@@ -3,15 +3,15 @@
 //! The clauses `after`, `answer` and `err` of a call state its exact effect on the `Link`. The clause `shows` states
 //! its meaning: which history of messages the link represents after the call.
 
+mod due_entries;
 mod new_requests;
 mod receive;
-mod due_entries;
 mod transmit;
 
-use crate::outstanding::Outstanding;
 use crate::csm::BASE_TOKEN;
 use crate::limits::Limits;
 use crate::messages::announce_first;
+use crate::outstanding::Outstanding;
 use crate::pending::{PendingEntry, next_of};
 use crate::phase::{Phase, Role};
 use crate::queue::OutQueue;

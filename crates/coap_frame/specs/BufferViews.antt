@@ -2,18 +2,18 @@
 use Rattle.std.specs.Prelude.{ℕ, List, []}
 use Rattle.coap_frame.specs.Framing.{FramerValue, FrameEventValue, Nothing, AFrame, AFault}
 use Rattle.coap_frame.specs.declared.framer.BufferContent.{BufferContent}
-use Rattle.coap_frame.specs.declared.framer.BufferContent.TheVariants.{StreamPrefix, Split}
+use Rattle.coap_frame.specs.declared.framer.BufferContent.TheVariants.{Prefix, Split}
 use Rattle.coap_frame.specs.declared.filling.FrameStatus.{FrameStatus}
 use Rattle.coap_frame.specs.declared.filling.FrameStatus.TheVariants as standing
 
 -- The bytes of an unfinished frame in a buffer with these bytes.
 abbrev pub kept_in : BufferContent → List ℕ → List ℕ
-kept_in StreamPrefix bytes = bytes
+kept_in Prefix bytes = bytes
 kept_in Split bytes = []
 
 -- The split frame in a buffer with these bytes, or no byte.
 abbrev pub spent_in : BufferContent → List ℕ → List ℕ
-spent_in StreamPrefix bytes = []
+spent_in Prefix bytes = []
 spent_in Split bytes = bytes
 
 -- The model value of a framer with this maximum, these bytes in its buffer, and this count of copied bytes.
@@ -22,7 +22,7 @@ framer_of max held bytes copied = record { max = max; kept = kept_in held bytes;
 
 -- The frame that was found: the split frame in the buffer, or otherwise the bytes taken of the chunk.
 abbrev pub frame_in : BufferContent → List ℕ → List ℕ → List ℕ
-frame_in StreamPrefix bytes taken = taken
+frame_in Prefix bytes taken = taken
 frame_in Split bytes taken = bytes
 
 -- The finding for a status, if these are the bytes of the frame.

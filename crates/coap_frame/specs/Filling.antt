@@ -25,6 +25,7 @@ HasStatus M old piece new taken standing.Unfinished = (prefix_kind M (old ++ pie
 HasStatus M old piece new taken standing.Whole = (rest : List ℕ) × (prefix_kind M (old ++ piece) ≡ Whole new rest) × (taken + length rest ≡ length piece)
 HasStatus M old piece new taken (standing.Fault fault) =
     (prefix_kind M (old ++ piece) ≡ Faulty fault) × (length old + taken ≡ length (fault_bytes (old ++ piece)))
+
 -- The buffer is filled: these bytes of the chunk are taken, and the status describes the buffer.
 
 pub record IsFilled (M : ℕ) (old piece new : List ℕ) (taken : ℕ) (s : FrameStatus) : Type 0 where

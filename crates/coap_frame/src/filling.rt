@@ -28,7 +28,10 @@ pub(crate) fn classify(piece: &[u8], max: usize) -> (usize, FrameStatus)
 {
     match declared(piece) {
         Declared::Unknown => (piece.len(), FrameStatus::Unfinished),
-        Declared::BadToken => (size_bytes(piece), FrameStatus::Fault(FrameFault::TokenLength)),
+        Declared::BadToken => (
+            size_bytes(piece),
+            FrameStatus::Fault(FrameFault::TokenLength),
+        ),
         Declared::Size(size) => {
             if size > max as u64 {
                 return (size_bytes(piece), FrameStatus::Fault(FrameFault::TooLarge));

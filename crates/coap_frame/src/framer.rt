@@ -9,7 +9,7 @@ ghost use Rattle.coap_frame.specs.declared.framer.BufferContent.TheVariants as h
 ghost use Rattle.coap_frame.specs.contracts.framer.Framer.{the_row};
 
 use crate::fault::RaiseFault;
-use crate::filling::{FrameStatus, append, fill, classify};
+use crate::filling::{FrameStatus, append, classify, fill};
 use coap_wire::{FrameFault, LARGEST_MESSAGE};
 use std::alloc::{AllocError, Global};
 use std::marker::Model;

@@ -7,8 +7,8 @@
 
 use crate::limits::limits_of;
 use coap_conn::{Link, Phase, Reject, Role, first_part};
-use probe_support::{RowLine, cut, number, read_hex};
 use coap_wire::{BuildFault, Builder, MessageRef, Token, parse};
+use probe_support::{RowLine, cut, number, read_hex};
 use std::alloc::{AllocError, Global};
 use std::fmt::Write;
 

@@ -3,8 +3,8 @@
 //! The events are `append BYTES`, `push BYTE`, `write COUNT`, `part` and `look`.
 
 use coap_conn::{OutQueue, first_part};
-use probe_support::{RowLine, cut, number, read_hex};
 use coap_wire::Sink;
+use probe_support::{RowLine, cut, number, read_hex};
 use std::alloc::{AllocError, Global};
 
 /// Creates a queue with a capacity of the given number of bytes. Returns `None` if the number is out of range.

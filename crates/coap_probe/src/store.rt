@@ -13,9 +13,9 @@
 
 use arrayvec::ArrayVec;
 use coap_store::{Change, PathKey, Plan, State, Store, StoreFault, UriPath, Watch, request_path};
-use probe_support::{RowLine, cut, next_number, number, read_hex};
 use coap_wire::option_numbers::URI_PATH;
 use coap_wire::{MessageRef, parse};
+use probe_support::{RowLine, cut, next_number, number, read_hex};
 use std::alloc::{AllocError, Global};
 use std::fmt::Write;
 

@@ -4,10 +4,10 @@
 //! `kind NUMBER`, `uint NUMBER` and `value BYTES`.
 
 use crate::faults::tell_fault;
-use probe_support::{RowLine, cut, next_number, number, read_hex};
 use coap_wire::{
     Builder, Code, OptionRef, Sink, SliceSink, Token, declared, kind, parse, uint_bytes, uint_value,
 };
+use probe_support::{RowLine, cut, next_number, number, read_hex};
 use std::fmt::Write;
 
 /// Maximum number of bytes of a message in addition to those of its parts.

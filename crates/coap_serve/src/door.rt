@@ -4,9 +4,9 @@ ghost use Rattle.coap_serve.specs.Prelude.{IsDoorRun, waited_behind, TellsMore, 
 
 mod next_wakeup;
 mod peer;
+mod peer_interest;
 mod service;
 mod turn;
-mod peer_interest;
 
 use crate::serve::IoFault;
 use coap_io::{Clock, Door, Wait};

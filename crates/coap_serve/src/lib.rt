@@ -21,8 +21,8 @@ mod serve;
 
 pub use coap_conn::{LimitFault, Limits, LimitsBuilder, Phase, Reason};
 pub use coap_io::{
-    Clock, Door, Got, Outlet, Polled, ReadSource, Ready, ReadBuffer, Source, Tried, Wait, Wire, Wires,
-    WriteFailed, WriteOutlet, write_all,
+    Clock, Door, Got, Outlet, Polled, ReadBuffer, ReadSource, Ready, Source, Tried, Wait, Wire,
+    Wires, WriteFailed, WriteOutlet, write_all,
 };
 pub use coap_model::{
     AnnounceFault, Backwards, Config, ConfigBuilder, ConfigFault, ConnId, Handled, NoSuch,

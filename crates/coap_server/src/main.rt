@@ -98,6 +98,10 @@ fn start(rt: &(impl Input + Print + Eprint + Env + Files + Net + time::Clock + A
 }
 
 fn main(rt: HostRuntime) -> ExitCode {
-    let (_first, _second, _third) = (occupy_standard_descriptors(&rt), occupy_standard_descriptors(&rt), occupy_standard_descriptors(&rt));
+    let (_first, _second, _third) = (
+        occupy_standard_descriptors(&rt),
+        occupy_standard_descriptors(&rt),
+        occupy_standard_descriptors(&rt),
+    );
     ExitCode::from(start(&rt))
 }

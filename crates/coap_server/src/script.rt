@@ -69,7 +69,11 @@ pub(crate) fn run(
         ScriptError::File(FileError::Read | FileError::TooLong) => {
             PROGRAM.print_fault(rt, "cannot read", FAULT)
         }
-        ScriptError::Line(number) => PROGRAM.print_fault(rt, format_args!("bad script line {number}"), USAGE),
+        ScriptError::Line(number) => PROGRAM.print_fault(
+            rt,
+            format_args!("bad script line {number}"),
+            USAGE,
+        ),
         ScriptError::Write => PROGRAM.print_fault(rt, "cannot write", FAULT),
         ScriptError::File(FileError::Memory) | ScriptError::Memory => PROGRAM.print_fault(
             rt,

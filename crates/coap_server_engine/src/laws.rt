@@ -18,7 +18,8 @@ ghost use Rattle.coap_model.specs.world.World.{Ended};
 /// States that no change is lost. After every call, a connection is up to date if its queue has room for a message of
 /// `max_sent` bytes:
 ///
-/// - Every observer was sent the current state of its path.
+/// - The entry of every observer records the current state of its path as sent. `last_notification_matches_state`
+///   says what was queued. Intermediate states may be skipped.
 /// - Every delayed response that is due was sent.
 /// - No pending Pong is first in the pending list.
 pub fn no_change_is_lost()

@@ -19,4 +19,4 @@ mod replay;
 mod server;
 
 pub use replay::ReplayFault;
-pub use server::{FlushStep, ConnectionWork, Server, ChangeStamp};
+pub use server::{ChangeStamp, ConnectionWork, FlushStep, Server};

@@ -13,11 +13,11 @@ ghost use Rattle.coap_server_session.specs.Prelude.{entries_notified, observer_v
 ghost use Rattle.coap_conn.specs.Calls as call;
 
 use crate::cause::Cause;
-use crate::server_state::{ServerState, mark_at};
 use crate::observer::Observer;
 use crate::observers::{Observers, StaleObserver};
 use crate::path_hash::hash_of;
 use crate::response::respond;
+use crate::server_state::{ServerState, mark_at};
 use coap_conn::{Due, Link, Reply};
 use coap_store::{Change, Plan, State, Store, Watch, delayed_response, request_path};
 use coap_wire::{Code, MessageRef, TokenRef};
@@ -241,7 +241,12 @@ fn entry_for(host: &ServerState, request: &MessageRef) -> Observer
 ///
 /// The entry stays, with the current state as the last one sent, if a 2.05 is sent whole. Otherwise the entry is
 /// removed.
-pub(crate) fn notify(link: &mut Link, observers: &mut Observers, host: &ServerState, stale: StaleObserver)
+pub(crate) fn notify(
+    link: &mut Link,
+    observers: &mut Observers,
+    host: &ServerState,
+    stale: StaleObserver,
+)
     requires ready { IsReady link.old }
     requires answering { IsAnswering link.old.phase }
     requires first { IsFirstStale host.now observers.old.entries stale }

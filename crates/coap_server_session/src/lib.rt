@@ -15,14 +15,14 @@ mod answering;
 mod cause;
 mod chains;
 mod flags;
-mod server_state;
 mod observer;
 mod observers;
 mod path_hash;
 mod response;
+mod server_state;
 mod session;
 
 pub use cause::Cause;
-pub use server_state::ServerState;
 pub use path_hash::hash_of;
+pub use server_state::ServerState;
 pub use session::{Session, TakeOutcome, sooner};

@@ -10,8 +10,8 @@ ghost use Rattle.coap_server_session.specs.Prelude.{observes_hash, ObserverValue
 use crate::cause::Cause;
 use crate::chains::{Chains, chains_of};
 use crate::flags::Flags;
-use crate::server_state::ServerState;
 use crate::observer::{Observer, untold_by};
+use crate::server_state::ServerState;
 use coap_wire::TokenRef;
 use std::alloc::{AllocError, Global};
 use std::marker::Model;

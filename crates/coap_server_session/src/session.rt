@@ -18,8 +18,8 @@ mod due;
 mod settling;
 
 use crate::answering::answer;
-use crate::server_state::ServerState;
 use crate::observers::Observers;
+use crate::server_state::ServerState;
 use coap_conn::{Limits, Link, Phase, Reject, Role, SendFault, Verdict};
 use coap_frame::Framer;
 use coap_model::AnnounceFault;

@@ -11,9 +11,9 @@ ghost use Rattle.coap_sockets.specs.IoResults.{connect_error_of};
 ghost use Rattle.coap_io.specs.streams.Device.{AddsBytes};
 ghost use Rattle.coap_io.specs.streams.DeviceTraces.{TellsMore};
 
-use crate::io_results::{ConnectError, connect_error_of, read_got, write_got};
 use crate::clock::RunClock;
 use crate::durations::end_of_attempt;
+use crate::io_results::{ConnectError, connect_error_of, read_got, write_got};
 use coap_io::{Got, Wire};
 use mio::net::TcpStream;
 use mio::{Events, Interest, Poll, Token};

@@ -9,9 +9,9 @@ ghost use Rattle.coap_sockets.specs.Durations.{second};
 ghost use Rattle.coap_sockets.specs.declared.io_results.AcceptError.TheVariants as refusal;
 ghost use Rattle.coap_sockets.specs.declared.door.ListenFault.TheVariants as fault;
 
-use crate::io_results::{AcceptError, accept_fault};
 use crate::clock::monotonic;
 use crate::durations::{at_most, left_of, left_until, second};
+use crate::io_results::{AcceptError, accept_fault};
 use crate::readiness::Readiness;
 use coap_io::{Door, Got, READ_SIZE, Ready, Wait, Wire};
 use mio::net::{TcpListener, TcpStream};
@@ -275,7 +275,11 @@ impl<'a, R: Net + time::Clock> SocketDoor<'a, R> {
     fn tell(&mut self) {
         for (before, event) in self.events.iter().enumerate() {
             match self.slots.get(event.token().0) {
-                Some(place) => place.set(place.get().after_event(event, before >= WRITES_BEFORE_READS)),
+                Some(place) => place.set(
+                    place
+                        .get()
+                        .after_event(event, before >= WRITES_BEFORE_READS),
+                ),
                 None => self.may_accept = true,
             }
         }

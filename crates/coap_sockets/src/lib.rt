@@ -15,15 +15,15 @@
 //! Continue with `door.rt` for a server and `client_wire.rt` for a client.
 #![tactic(auto)]
 
-mod io_results;
+mod client_wire;
 mod clock;
 mod door;
-mod client_wire;
 mod durations;
+mod io_results;
 mod readiness;
 
-pub use io_results::ConnectError;
+pub use client_wire::{ClientWire, ConnectFault};
 pub use clock::{RunClock, SystemClock};
 pub use door::{ListenFault, SocketDoor, SocketWire};
-pub use client_wire::{ConnectFault, ClientWire};
+pub use io_results::ConnectError;
 pub use readiness::Readiness;

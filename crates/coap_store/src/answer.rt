@@ -13,11 +13,11 @@ ghost use Rattle.coap_store.specs.declared.resource_kind.ResourceKind.TheVariant
 
 use crate::found::{Payload, RepresentationRef};
 use crate::path::PathKey;
-use crate::resource_kind::ResourceKind;
-use crate::plan::{PlannedChange, Plan, Watch};
+use crate::plan::{Plan, PlannedChange, Watch};
 use crate::request::ParsedRequest;
+use crate::resource_kind::ResourceKind;
 use crate::store::Store;
-use crate::target::{LINK_FORMAT, TEXT_PLAIN, RequestTarget};
+use crate::target::{LINK_FORMAT, RequestTarget, TEXT_PLAIN};
 use arrayvec::ArrayVec;
 use coap_wire::{Code, MessageRef, uint_bytes};
 
@@ -111,10 +111,19 @@ impl Store {
         ensures { option_map found_value result ≡ state_at self.now now (option_map (λ k. k.now) key.entry) place }
     {
         match place {
-            ResourceKind::Root => Some(RepresentationRef::built(TEXT_PLAIN, Payload::Stored(b"coap+tcp"))),
+            ResourceKind::Root => Some(RepresentationRef::built(
+                TEXT_PLAIN,
+                Payload::Stored(b"coap+tcp"),
+            )),
             ResourceKind::Time => Some(RepresentationRef::built(TEXT_PLAIN, self.moment_text(now))),
-            ResourceKind::Async => Some(RepresentationRef::built(TEXT_PLAIN, Payload::Stored(b"done"))),
-            ResourceKind::Listing => Some(RepresentationRef::built(LINK_FORMAT, Payload::Stored(self.listing()))),
+            ResourceKind::Async => Some(RepresentationRef::built(
+                TEXT_PLAIN,
+                Payload::Stored(b"done"),
+            )),
+            ResourceKind::Listing => Some(RepresentationRef::built(
+                LINK_FORMAT,
+                Payload::Stored(self.listing()),
+            )),
             ResourceKind::Dynamic => self.stored_at(key?),
         }
     }
@@ -133,7 +142,11 @@ impl Store {
 
     /// Checks the resource and then the method, and returns the plan.
     #[tactic(auto, unfolding(crate::specs::Answer::resource_answer, crate::specs::Answer::method_answer))]
-    fn at_target<'s, 'r>(&'s self, asked: &ParsedRequest<'_, 'r>, target: RequestTarget<'s>) -> Plan<'s, 'r>
+    fn at_target<'s, 'r>(
+        &'s self,
+        asked: &ParsedRequest<'_, 'r>,
+        target: RequestTarget<'s>,
+    ) -> Plan<'s, 'r>
         requires path { target.is_path ≡ is_path (path_of asked.now) }
         requires place { target.place ≡ kind_of_path (path_of asked.now) }
         ensures { result ≡ resource_answer self.now (target_value asked.now target.entry) asked.now }
@@ -166,7 +179,11 @@ impl Store {
 
     /// Returns the plan for PUT or POST (RFC 7252 sections 5.8.2, 5.8.3).
     #[tactic(auto, using(crate::proofs::TargetLemmas::dynamic_is_named), unfolding(crate::specs::Answer::store_answer))]
-    fn put_or_post<'s, 'r>(&'s self, asked: &ParsedRequest<'_, 'r>, target: RequestTarget<'s>) -> Plan<'s, 'r>
+    fn put_or_post<'s, 'r>(
+        &'s self,
+        asked: &ParsedRequest<'_, 'r>,
+        target: RequestTarget<'s>,
+    ) -> Plan<'s, 'r>
         requires path { target.is_path ≡ is_path (path_of asked.now) }
         requires place { kind_of_path (path_of asked.now) ≡ Dynamic }
         ensures { result ≡ store_answer self.now (target_value asked.now target.entry) asked.now }
@@ -221,7 +238,11 @@ fn read<'s, 'r>(asked: &ParsedRequest<'_, 'r>, target: RequestTarget<'s>) -> Pla
 /// Returns the plan for GET of a resource that exists. For `/async`, the first Uri-Query has the delay of the response
 /// in seconds, and the default is 5.
 #[tactic(auto, unfolding(crate::specs::Answer::get_answer))]
-fn get<'s, 'r>(asked: &ParsedRequest<'_, 'r>, place: ResourceKind, found: RepresentationRef<'s>) -> Plan<'s, 'r>
+fn get<'s, 'r>(
+    asked: &ParsedRequest<'_, 'r>,
+    place: ResourceKind,
+    found: RepresentationRef<'s>,
+) -> Plan<'s, 'r>
     ensures { result ≡ get_answer place (found_value found.entry) asked.now }
 {
     if !is_accepted(asked.accept(), found.format) {
@@ -290,7 +311,11 @@ fn removes_watch(asked: &ParsedRequest) -> bool
 pub(crate) fn max_age_of(place: ResourceKind) -> Option<u32>
     ensures { result ≡ max_age_at place }
 {
-    if place == ResourceKind::Time { Some(1) } else { None }
+    if place == ResourceKind::Time {
+        Some(1)
+    } else {
+        None
+    }
 }
 
 /// Returns the plan that stores the payload of a request at its path.

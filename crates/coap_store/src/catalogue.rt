@@ -79,7 +79,8 @@ impl Catalogue {
         ensures err { OnErr result (self.new ≡ self.old) }
     {
         let bytes = Vec::from_slice(self.alloc, bytes)?;
-        let Some(bytes) = replace_same_format(&mut self.resources, &path, version, format, bytes) else {
+        let Some(bytes) = replace_same_format(&mut self.resources, &path, version, format, bytes)
+        else {
             return Ok(());
         };
         let resource = Resource {

@@ -11,31 +11,30 @@
 
 mod answer;
 mod catalogue;
-mod decimal;
+mod delayed;
 mod fault;
 mod found;
-mod delayed;
 pub mod laws;
-mod request_options;
+mod local_changes;
 mod notifications;
 mod path;
-mod resource_kind;
+mod path_match;
 mod plan;
-mod local_changes;
 mod request;
+mod request_options;
 mod resource;
+mod resource_kind;
 mod states;
 mod store;
 mod target;
-mod path_match;
 mod uri_path;
 
+pub use delayed::delayed_response;
 pub use fault::StoreFault;
 pub use found::Payload;
-pub use delayed::delayed_response;
 pub use path::{PathKey, Segments};
-pub use resource_kind::ResourceKind;
 pub use plan::{Change, Plan, Watch};
+pub use resource_kind::ResourceKind;
 pub use states::{Present, State};
 pub use store::Store;
 pub use target::request_path;

@@ -186,7 +186,11 @@ impl<'s, 'r> Plan<'s, 'r> {
 
     /// Creates a plan with a change. If `tells_location` is `true`, the response has the path of a stored
     /// representation.
-    pub(crate) fn changing(code: Code, tells_location: bool, effect: PlannedChange<'r>) -> Plan<'s, 'r>
+    pub(crate) fn changing(
+        code: Code,
+        tells_location: bool,
+        effect: PlannedChange<'r>,
+    ) -> Plan<'s, 'r>
         requires path { IsAtPath effect }
         requires named { IsToldNamed tells_location effect }
         ensures { result

@@ -8,8 +8,8 @@ ghost use Rattle.coap_store.specs.Prelude.{same_bytes, Representation, kind_of_p
 ghost use Rattle.coap_store.specs.Requests as spec;
 ghost use Rattle.coap_wire.specs.OptionNumbers as numbers;
 
-use crate::request_options::RequestOptions;
 use crate::path::PathKey;
+use crate::request_options::RequestOptions;
 use crate::resource_kind::ResourceKind;
 use crate::uri_path::UriPath;
 use coap_wire::option_numbers::{ETAG, IF_MATCH};

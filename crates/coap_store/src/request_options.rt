@@ -55,7 +55,7 @@ impl<'r> RequestOptions<'r> {
     }
 
     /// Adds the next recognised option.
-    #[tactic(auto, unfolding(crate::specs::Noting::options_after))]
+    #[tactic(auto, unfolding(crate::specs::OptionScan::options_after))]
     pub(crate) fn note(&mut self, option: &OptionRef<'r>)
         ensures { notes_value self.new ≡ options_after (notes_value self.old) (coap_option option.now) }
     {

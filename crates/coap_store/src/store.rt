@@ -7,11 +7,11 @@ ghost use Rattle.coap_store.specs.Prelude.{listing as listing_of, representation
 ghost use Rattle.coap_store.specs.Prelude.{IsStore, change_value, bytes_in};
 
 use crate::catalogue::Catalogue;
-use crate::decimal::{Decimal, decimal_digits};
 use crate::found::Payload;
 use crate::path::PathKey;
 use crate::plan::Change;
 use crate::resource::Resource;
+use coap_text::{Decimal, decimal_digits};
 use std::alloc::{AllocError, Global};
 use std::marker::Model;
 

@@ -23,7 +23,7 @@ mod polled;
 use crate::rows::{same, spelled};
 use crate::settings::{configured, set_all};
 use coap_serve::{IoFault, serve_door};
-use devices::{CallLog, ScriptedDoor, Moments, Passing};
+use devices::{CallLog, Moments, Passing, ScriptedDoor};
 use std::process::Abort;
 use std::test::Fail;
 

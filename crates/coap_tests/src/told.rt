@@ -4,7 +4,7 @@
 ghost use Rattle.std.specs.Prelude.{◌≡◌, ◌+◌, ◌<◌, ◌^◌, false, [], map, vec_items};
 ghost use Rattle.coap_serve.specs.streams.StdioRun.{IsStdioRun};
 
-use crate::devices::{RecordingOutlet, Pieces};
+use crate::devices::{Pieces, RecordingOutlet};
 use crate::settings::{configured, usual};
 use coap_serve::{Config, IoFault, Outlet, ReadSource, Report, Source, WriteOutlet, serve_one};
 use std::alloc::Global;

@@ -3,8 +3,8 @@
 ghost use Rattle.std.specs.Prelude.{◌≡◌, IsOk};
 ghost use Rattle.coap_wire.specs.Prelude.{body_at, body_read, known_options, AreOrdered};
 
-use crate::options::Options;
 use crate::decode::payload_of;
+use crate::options::Options;
 use crate::recognition::RecognisedOptions;
 use std::marker::Model;
 

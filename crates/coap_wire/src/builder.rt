@@ -6,14 +6,12 @@ ghost use Rattle.coap_wire.specs.Prelude.{front_spelling, body_spelling, HasSpel
 ghost use Rattle.coap_wire.specs.Prelude.{option_refusal, payload_refusal, with_option};
 
 use crate::code::Code;
+use crate::encode::{head_size, marker_size, option_size, write_head, write_marker, write_options};
 use crate::fault::BuildFault;
 use crate::option::OptionRef;
 use crate::sink::Sink;
 use crate::sizes::{LARGEST_MESSAGE, MAX_EXTENDED_LENGTH};
 use crate::token::{Token, TokenRef};
-use crate::encode::{
-    head_size, marker_size, option_size, write_head, write_marker, write_options,
-};
 use arrayvec::ArrayVec;
 use std::marker::Model;
 

@@ -6,10 +6,10 @@ ghost use Rattle.coap_wire.specs.Prelude.{with_option, encoded_size, bytes_of_ui
 ghost use Rattle.coap_wire.specs.Prelude.{LARGEST_MESSAGE};
 
 use crate::code::Code;
+use crate::encode::{head_size, marker_size, write_head, write_marker, write_option};
 use crate::sink::Sink;
 use crate::token::TokenRef;
 use crate::uint::significant_bytes;
-use crate::encode::{head_size, marker_size, write_head, write_marker, write_option};
 use arrayvec::ArrayVec;
 use std::marker::Model;
 

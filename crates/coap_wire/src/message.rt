@@ -6,9 +6,9 @@ ghost use Rattle.coap_wire.specs.Prelude.{known_options, checked_options, first_
 
 use crate::body::Body;
 use crate::code::Code;
+use crate::decode::{head_of, payload_of};
 use crate::fault::FormatFault;
 use crate::options::Options;
-use crate::decode::{head_of, payload_of};
 use crate::recognition::{CheckedOptions, RecognisedOptions, first_unrecognised_critical};
 use crate::token::TokenRef;
 use std::marker::Model;

@@ -3,8 +3,8 @@
 ghost use Rattle.std.specs.Prelude.{◌≡◌, IsOk};
 ghost use Rattle.coap_wire.specs.Prelude.{body_at, options_in, YieldsFirstBy, item_count, coap_option};
 
-use crate::option::{OptionRef, PAYLOAD_MARKER};
 use crate::decode::read_option;
+use crate::option::{OptionRef, PAYLOAD_MARKER};
 use std::marker::Model;
 
 /// Iterator over the options of a message, in order of number. Contracts see the list of the options that are left.

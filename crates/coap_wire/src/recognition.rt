@@ -5,8 +5,8 @@ ghost use Rattle.std.specs.Prelude.{◌≡◌};
 ghost use Rattle.coap_wire.specs.Prelude.{AreOrdered, is_recognised, option_before, first_critical, coap_option};
 ghost use Rattle.coap_wire.specs.Prelude.{known_options, checked_option, checked_options, YieldsFirstBy, item_count};
 
-use crate::option_table::kind;
 use crate::option::OptionRef;
+use crate::option_table::kind;
 use crate::options::Options;
 use std::marker::Model;
 

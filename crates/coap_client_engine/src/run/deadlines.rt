@@ -4,7 +4,7 @@ ghost use Rattle.std.specs.Prelude.{◌≡◌, false, is_err, [], option_map, If
 ghost use Rattle.coap_client_engine.specs.Prelude.{AddsBytes, IsStatus};
 ghost use Rattle.coap_client_engine.specs.RunSteps as spec;
 
-use crate::run::state::{TIMED_OUT, StepResult, Run};
+use crate::run::state::{Run, StepResult, TIMED_OUT};
 use coap_io::Outlet;
 use coap_request::ClientPlan;
 
@@ -13,7 +13,11 @@ impl Run {
     /// overdue.
     ///
     /// The run waits for its first response from its start, and for its last response from the cancellation.
-    pub(super) fn check_deadlines<E: Outlet>(&mut self, err: &mut E, plan: &ClientPlan) -> StepResult
+    pub(super) fn check_deadlines<E: Outlet>(
+        &mut self,
+        err: &mut E,
+        plan: &ClientPlan,
+    ) -> StepResult
         requires { E.is_failed err.old ≡ false }
         ensures after { self.new.client
             ≡ (if spec.is_to_cancel self.old.cancelled self.old.first self.old.moment plan.now.observe then

@@ -8,7 +8,7 @@ ghost use Rattle.coap_client_engine.specs.ClientValues as value;
 ghost use Rattle.coap_client_engine.specs.RunSteps as spec;
 
 use crate::run::report::{handle_event, stopped};
-use crate::run::state::{EventOutcome, StepResult, Run};
+use crate::run::state::{EventOutcome, Run, StepResult};
 use coap_conn::{Phase, Reason};
 use coap_io::{Got, Outlet, Wire};
 use coap_request::ClientPlan;

@@ -7,8 +7,10 @@ ghost use Rattle.coap_client_engine.specs.RunSteps as spec;
 ghost use Rattle.coap_client_engine.specs.RunTexts as text;
 
 use crate::client::Event;
+use crate::error_lines::{
+    report_option, report_refusal, report_response, report_stop, write_payload,
+};
 use crate::run::state::{ANSWERED, CONNECTION_FAILED, ERROR_RESPONSE, EventOutcome, StepResult};
-use crate::error_lines::{report_refusal, report_option, report_response, report_stop, write_payload};
 use coap_conn::{Reason, RequestFault};
 use coap_io::{Outlet, WriteFailed};
 use coap_wire::MessageRef;

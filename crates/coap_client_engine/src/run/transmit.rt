@@ -7,7 +7,7 @@ ghost use Rattle.coap_client_engine.specs.ClientValues as value;
 ghost use Rattle.coap_client_engine.specs.RunSteps as spec;
 
 use crate::run::report::{refused, stopped};
-use crate::run::state::{StepResult, Run};
+use crate::run::state::{Run, StepResult};
 use coap_conn::{Phase, Reason, RequestFault, first_part};
 use coap_io::{Got, Outlet, Wire};
 use coap_request::{ClientPlan, Extras};

@@ -20,8 +20,7 @@ pub(super) const SCRIPT: &str = "Run the script in FILE (- for standard input); 
 pub(super) const MAX_MESSAGE: &str =
     "Largest accepted message in bytes, 1152 to 1048576 [default: 65536]";
 
-pub(super) const MAX_SENT: &str =
-    "Largest sent message in bytes, 1152 to 65536 [default: 65536]";
+pub(super) const MAX_SENT: &str = "Largest sent message in bytes, 1152 to 65536 [default: 65536]";
 
 pub(super) const QUEUE: &str =
     "Output queue of a connection in bytes, --max-sent to 4194304 [default: 131072]";
@@ -51,8 +50,7 @@ pub(super) const OUTPUT: &str = "Write payloads to FILE (- for standard output) 
 pub(super) const CONTENT_FORMAT: &str =
     "Content-Format of the payload: 0 to 65535, or a name such as text/plain";
 
-pub(super) const ACCEPT: &str =
-    "Accept option: 0 to 65535, or a name such as text/plain";
+pub(super) const ACCEPT: &str = "Accept option: 0 to 65535, or a name such as text/plain";
 
 pub(super) const OBSERVE: &str =
     "Observe for this number of seconds, 0 to 4294967295; only with get";
@@ -62,7 +60,7 @@ pub(super) const WAIT: &str = "Seconds to wait for a response, 1 to 4294967295 [
 pub(super) const OPTION: &str =
     "Another option: NUM is 0 to 65535; TEXT has at most 1034 bytes, hexadecimal after 0x";
 
-pub(super) const PLAIN: &str = "Send no Uri-Host and no Uri-Port";
+pub(super) const PLAIN: &str = "Send no Uri-Host";
 
 pub(super) const NEWLINE: &str = "Write a newline after each payload";
 

@@ -33,7 +33,8 @@ impl Link {
         if self.pending.len() >= self.limits.pending() {
             return Err(Full);
         }
-        self.pending.push_reserved(PendingEntry::Answer { token, moment });
+        self.pending
+            .push_reserved(PendingEntry::Answer { token, moment });
         Ok(())
     }
 

@@ -8,8 +8,8 @@ ghost use Rattle.coap_conn.specs.Prelude.{link_after};
 ghost use Rattle.coap_conn.specs.Calls as call;
 
 use super::Link;
-use crate::outstanding::{Outstanding, cancel_in, may_cancel_in};
 use crate::messages::ping_to;
+use crate::outstanding::{Outstanding, cancel_in, may_cancel_in};
 use crate::phase::{Phase, RequestFault};
 use coap_wire::{Builder, MessageBuilder, Token, TokenRef, copy_of, uint_bytes};
 

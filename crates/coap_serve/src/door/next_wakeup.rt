@@ -70,7 +70,11 @@ impl TurnProgress {
 
 /// Skips idle connections from the next one on, up to the first that is not idle or to the end. Their deadlines are
 /// added to the agenda.
-pub(super) fn skip_idle<W: Ready>(peers: &Peers<W>, seen: TurnProgress, stamp: ChangeStamp) -> TurnProgress
+pub(super) fn skip_idle<W: Ready>(
+    peers: &Peers<W>,
+    seen: TurnProgress,
+    stamp: ChangeStamp,
+) -> TurnProgress
     requires { seen.at ≤ length peers.now.entries }
     ensures from { seen.at ≤ result.at }
     ensures within { result.at ≤ length peers.now.entries }

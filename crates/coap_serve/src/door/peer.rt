@@ -9,12 +9,12 @@ ghost use Rattle.coap_serve.specs.Prelude.{IsRestAnswer, end_of};
 ghost use Rattle.coap_serve.specs.declared.door.peer.PeerOutcome.TheVariants.{Open};
 ghost use Rattle.coap_io.specs.declared.wire.Got.TheVariants.{Later, End};
 
-use super::wants::{PeerInterest, wants_by};
+use super::peer_interest::{PeerInterest, wants_by};
 use crate::serve::IoFault;
 use coap_conn::first_part;
-use coap_io::{Got, Ready, ReadBuffer, Wire};
+use coap_io::{Got, ReadBuffer, Ready, Wire};
 use coap_model::ConnId;
-use coap_server_engine::{ConnectionWork, Server, ChangeStamp};
+use coap_server_engine::{ChangeStamp, ConnectionWork, Server};
 use indexmap::IndexMap;
 
 /// Transport side of a connection.

@@ -5,7 +5,7 @@ ghost use Rattle.coap_serve.specs.Prelude.{wants_in, wants_of};
 
 use coap_io::ReadBuffer;
 use coap_model::ConnId;
-use coap_server_engine::{ConnectionWork, Server, ChangeStamp};
+use coap_server_engine::{ChangeStamp, ConnectionWork, Server};
 
 /// I/O interest of a connection, recorded when the connection was last served.
 #[derive(Clone, Copy, PartialEq, Eq)]
@@ -31,7 +31,11 @@ pub(super) fn wants_on(server: &Server, id: ConnId, rest: &ReadBuffer) -> PeerIn
 
 /// Returns the I/O interest of a connection with this work left. `is_empty` is `true` if all bytes that were read are
 /// accepted. The interest is empty if there is no connection.
-pub(super) fn wants_by(outlook: Option<ConnectionWork>, is_empty: bool, stamp: ChangeStamp) -> PeerInterest
+pub(super) fn wants_by(
+    outlook: Option<ConnectionWork>,
+    is_empty: bool,
+    stamp: ChangeStamp,
+) -> PeerInterest
     ensures { result ≡ wants_in outlook is_empty stamp }
 {
     match outlook {

@@ -8,11 +8,11 @@ ghost use Rattle.coap_serve.specs.Prelude.{concerns_earlier, end_of, wants_of, I
 ghost use Rattle.coap_serve.specs.Prelude.{AreSettled, server_dropped};
 ghost use Rattle.coap_serve.specs.declared.door.peer.PeerOutcome.TheVariants.{Open};
 
-use super::agenda::{NextWakeup, TurnProgress, affects_served_peers, skip_idle};
-use super::peer::{PeerOutcome, Peer, Peers, serve_peer};
-use super::wants::wants_on;
+use super::next_wakeup::{NextWakeup, TurnProgress, affects_served_peers, skip_idle};
+use super::peer::{Peer, PeerOutcome, Peers, serve_peer};
+use super::peer_interest::wants_on;
 use crate::serve::IoFault;
-use coap_io::{Door, Ready, ReadBuffer, Wait, Wire};
+use coap_io::{Door, ReadBuffer, Ready, Wait, Wire};
 use coap_server_engine::Server;
 use std::alloc::Global;
 

@@ -1,7 +1,7 @@
 //! The changes that may affect every connection of a server: of the time, and of the store.
 
 use super::sessions::{next_touched, settle_touched};
-use super::{Server, ChangeStamp};
+use super::{ChangeStamp, Server};
 use coap_model::Backwards;
 use coap_server_session::{Cause, hash_of};
 use coap_store::{PathKey, StoreFault};

@@ -79,7 +79,7 @@ impl Server {
         Ok(())
     }
 
-    /// Sends Release on a connection and stops it (RFC 8323 section 5.5).
+    /// Queues a Release, drops the pending entries, and stops the connection (RFC 8323 section 5.5).
     ///
     /// # Errors
     ///

@@ -64,7 +64,12 @@ pub(super) fn settle_touched(sessions: &mut Sessions, host: &ServerState, cause:
 
 /// Settles every connection if the one at an index changed the resource at a path with this hash. If nothing changed,
 /// settles only that connection, and only if an entry is pending.
-pub(super) fn settle_after(changed: Option<u8>, sessions: &mut Sessions, at: usize, host: &ServerState)
+pub(super) fn settle_after(
+    changed: Option<u8>,
+    sessions: &mut Sessions,
+    at: usize,
+    host: &ServerState,
+)
     requires within { at < length sessions.old.entries }
     requires others { AreOthersSettled changed at host.now (unmarked sessions.old.entries) }
     requires marked { AreMarkedAfter changed host.now sessions.old.entries }

@@ -21,7 +21,8 @@ impl Session {
         match cause {
             Cause::Path(hash) => self.observers.may_observe(hash),
             Cause::Moment(before) => {
-                self.observers.any_observes_time() || (self.may_come_due() && self.comes_due(before, now))
+                self.observers.any_observes_time()
+                    || (self.may_come_due() && self.comes_due(before, now))
             }
         }
     }

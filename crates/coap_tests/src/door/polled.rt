@@ -1,7 +1,7 @@
 //! A type that only implements `Wires`, served as a listener by `Polled`.
 
 use super::Moments;
-use super::memory::{ScriptedWire, READ, WRITTEN};
+use super::memory::{READ, ScriptedWire, WRITTEN};
 use crate::devices::Fixed;
 use coap_serve::{Config, IoFault, Limits, Polled, Starts, Wires, serve_door};
 use std::cell::RefCell;

@@ -3,7 +3,7 @@ use Rattle.coap_frame.specs.Prelude.{FramerValue, IsFramer, framing_of, framer_a
 use Rattle.coap_frame.specs.Prelude.{finding_of, lent_of, AFrame}
 use Rattle.coap_frame.proofs.FramingLemmas.{framing_is_framer}
 use Rattle.coap_frame.proofs.FoundLemmas.{given_more, given_fault, given_whole, given_split}
-use Rattle.coap_frame.proofs.framer.Framer.next.Goals.{in-Unfinished, in-Fault, in-Whole+in-Beginning, in-Whole+in-Split}
+use Rattle.coap_frame.proofs.framer.Framer.next.Goals.{in-Unfinished, in-Fault, in-Whole+in-Prefix, in-Whole+in-Split}
 use Rattle.coap_frame.proofs.framer.Framer.next.Goals as goal
 
 pub invariant_of-self : goal.invariant_of-self
@@ -16,8 +16,8 @@ invariant_of-self-in-Fault-1 c =
     let v = framer_value c.self.inside in
     (subst IsFramer (sym c.advance-taken.ensures.after) (framing_is_framer v c.args.piece.now c.self.invariant.0), c.advance-taken.ensures.capacity)
 
-pub invariant_of-self-in-Beginning : goal.invariant_of-self-in-Beginning
-invariant_of-self-in-Beginning c =
+pub invariant_of-self-in-Prefix : goal.invariant_of-self-in-Prefix
+invariant_of-self-in-Prefix c =
     let v = framer_value c.self.inside in
     (subst IsFramer (sym c.advance-taken.ensures.after) (framing_is_framer v c.args.piece.now c.self.invariant.0), c.advance-taken.ensures.capacity)
 
@@ -40,7 +40,7 @@ returns c =
     elim c.match-standing.branch [
       | in-Unfinished w ↦ given_more v.max v.kept p new a.result.0 a.new.held a.result.1 what a.ensures.taken a.ensures.found spends w.in-Unfinished.is w.what-is
       | in-Fault w ↦ given_fault v.max v.kept p new a.result.0 a.new.held a.result.1 what a.ensures.taken a.ensures.found spends w.in-Fault.fault w.in-Fault.is w.what-is
-      | in-Whole+in-Beginning w ↦ given_whole v.max v.kept p new a.result.0 a.new.held a.result.1 what a.ensures.taken a.ensures.found spends w.in-Whole.is w.in-Beginning.is (ap finding_of w.what-is) (ap lent_of w.what-is)
+      | in-Whole+in-Prefix w ↦ given_whole v.max v.kept p new a.result.0 a.new.held a.result.1 what a.ensures.taken a.ensures.found spends w.in-Whole.is w.in-Prefix.is (ap finding_of w.what-is) (ap lent_of w.what-is)
       | in-Whole+in-Split w ↦ given_split v.max v.kept p new a.result.0 a.new.held a.result.1 what a.ensures.taken a.ensures.found spends w.in-Whole.is w.in-Split.is
           (ap finding_of w.what-is ∙ ap (λ bytes. AFrame bytes) w.deref.ensures.value) (ap lent_of w.what-is ∙ w.deref.ensures.value)
     ] in
@@ -48,7 +48,7 @@ returns c =
     elim c.match-standing.branch [
       | in-Unfinished w ↦ ap (λ s. s.0) w.self-is ∙ a.ensures.after ∙ same
       | in-Fault w ↦ ap (λ s. s.0) w.self-is ∙ a.ensures.after ∙ same
-      | in-Whole+in-Beginning w ↦ ap (λ s. s.0) w.self-is ∙ a.ensures.after ∙ same
+      | in-Whole+in-Prefix w ↦ ap (λ s. s.0) w.self-is ∙ a.ensures.after ∙ same
       | in-Whole+in-Split w ↦ ap (λ s. s.0) w.self-is ∙ a.ensures.after ∙ same
     ] in (
       (refl, (λ _. tt), after),

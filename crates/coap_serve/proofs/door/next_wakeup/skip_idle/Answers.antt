@@ -16,16 +16,16 @@ loop-at-preserved g c =
       omega (arith, c.loop-at.invariant.0),
       omega (arith, c.loop-at-test.true, c.len.ensures.len),
       one_more_passed (end_of g.W.Ready.readable g.W.Ready.writable) c.args.peers.now.entries c.args.seen.at c.loop-at.at c.index-in-loop-at.result.now c.index.result.now c.args.stamp c.args.seen.agenda.due c.loop-at.due c.if-is_some.due
-          c.loop-at.invariant.0 c.index-in-loop-at.ensures c.index.ensures c.loop-at.invariant.2 c.if-is_at_rest.ensures later,
+          c.loop-at.invariant.0 c.index-in-loop-at.ensures c.index.ensures c.loop-at.invariant.2 c.if-is_idle.ensures later,
     )
 
-pub returns-else-is_at_rest : goal.returns-else-is_at_rest
-returns-else-is_at_rest g c = record {
+pub returns-else-is_idle : goal.returns-else-is_idle
+returns-else-is_idle g c = record {
   from = c.loop-at.invariant.0;
   within = search rules;
   rest = c.loop-at.invariant.2.rest;
   agenda = ap (λ due. record c.args.seen.agenda { due = due }) c.loop-at.invariant.2.due;
-  next = one_next (end_of g.W.Ready.readable g.W.Ready.writable) c.args.peers.now.entries c.loop-at.at c.index.result.now c.args.stamp c.index.ensures c.if-is_at_rest.ensures;
+  next = one_next (end_of g.W.Ready.readable g.W.Ready.writable) c.args.peers.now.entries c.loop-at.at c.index.result.now c.args.stamp c.index.ensures c.if-is_idle.ensures;
 }
 
 pub returns-after-loop-at : goal.returns-after-loop-at

@@ -4,8 +4,8 @@ use Rattle.coap_serve.proofs.streams.PeerLemmas.{steps_are_a_part}
 use Rattle.coap_serve.proofs.streams.ServingLemmas.{served_further}
 use Rattle.coap_serve.proofs.door.peer.serve_peer.Goals as goal
 
-pub returns-in_err-take_rest-clause-shows : goal.returns-in_err-take_rest-clause-shows
-returns-in_err-take_rest-clause-shows g c = served_further c.read_wire-heard.ensures.shows c.take_buffered.ensures.shows
+pub returns-in_err-take_buffered-clause-shows : goal.returns-in_err-take_buffered-clause-shows
+returns-in_err-take_buffered-clause-shows g c = served_further c.read_wire-heard.ensures.shows c.take_buffered.ensures.shows
 
 pub returns-clause-shows : goal.returns-clause-shows
 returns-clause-shows g c = served_further (served_further c.read_wire-heard.ensures.shows c.take_buffered.ensures.shows) c.write_once-wrote.ensures.shows
@@ -18,7 +18,7 @@ returns-clause-part g c =
     c.args.peer.now.rest c.read_wire-heard.new.peer.rest c.take_buffered.new.rest
     (trace c.args.peer.now.wire) (trace c.read_wire-heard.new.peer.wire) (trace c.write_once-wrote.new.wire) c.read_wire-heard.result c.write_once-wrote.result c.outcome.result
     c.read_wire-heard.ensures.server c.read_wire-heard.ensures.laid (sym c.failed.ensures ∙ c.if-failed.false)
-    c.in_ok-take_rest.ensures.server c.in_ok-take_rest.ensures.rest
+    c.in_ok-take_buffered.ensures.server c.in_ok-take_buffered.ensures.rest
     (record {
       idle = λ none. let same = wrote.idle none in (same.1, ap trace same.0);
       busy = λ some. record { within = wrote.within; took = wrote.wrote some; gave = wrote.gave some; answered = wrote.answered some; no_read = wrote.no_read some };

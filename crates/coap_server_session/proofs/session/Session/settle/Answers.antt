@@ -4,11 +4,11 @@ use Rattle.coap_server_session.proofs.values.SettleLemmas.{settled_is_settled}
 use Rattle.coap_server_session.proofs.session.Session.settle.Goals as goal
 
 -- No entry is pending, and there is no observer.
-pub returns-else-more-gt0 : goal.returns-else-more-gt0
+pub returns-else-settle_bound-gt0 : goal.returns-else-settle_bound-gt0
 unfolding session_settled session_settled_within
-returns-else-more-gt0 c =
+returns-else-settle_bound-gt0 c =
     let host = c.args.host.now in
     let v = c.args.self.now.session in
-    let none : length v.link.held + length v.observers ≡ 0 = omega (arith, c.settle_bound.ensures, c.if-more-gt0.false) in
+    let none : length v.link.held + length v.observers ≡ 0 = omega (arith, c.settle_bound.ensures, c.if-settle_bound-gt0.false) in
     let after = sym (ap (λ (n : ℕ). session_settled_within n host v) none) in
     record { after = after; settled = subst (IsSettled host) (sym after) (settled_is_settled host v); marked = c.requires }

@@ -8,7 +8,7 @@ use std::marker::Model;
 
 /// Number whose decimal text is formatted once. Contracts see the number.
 #[derive(Drop)]
-pub(crate) struct Decimal {
+pub struct Decimal {
     number: u64,
     text: ArrayVec<u8, 20>,
 }
@@ -25,7 +25,7 @@ impl Model for Decimal {
 
 impl Decimal {
     /// Formats a number.
-    pub(crate) fn of(number: u64) -> Decimal
+    pub fn of(number: u64) -> Decimal
         ensures { result ≡ number }
     {
         Decimal {
@@ -35,7 +35,7 @@ impl Decimal {
     }
 
     /// Returns the text if this is the number, otherwise `None`.
-    pub(crate) fn text_of(&self, number: u64) -> Option<&[u8]>
+    pub fn text_of(&self, number: u64) -> Option<&[u8]>
         ensures some { is_some result ≡ (self.now == number) }
         ensures text { IfSome result (λ text. text.now ≡ decimal number) }
     {
@@ -47,7 +47,7 @@ impl Decimal {
 }
 
 /// Returns the decimal text of a number.
-pub(crate) fn decimal_digits(number: u64) -> ArrayVec<u8, 20>
+pub fn decimal_digits(number: u64) -> ArrayVec<u8, 20>
     ensures { result.items ≡ decimal number }
 {
     let mut buffer = Buffer::new();

@@ -1,0 +1,439 @@
+"""Builds the Debian package, checks it with lintian, and installs, upgrades, removes and purges it.
+
+    tests/system/package.py bin/coap-server bin/coap-client
+
+The script needs Debian's packages dpkg-dev, libcoap3-bin and lintian, and installs the missing ones. `make deb` runs on a copy of its inputs.
+
+The installation needs root. The script does not install the package if any of its files already exists, and prints the first of these. It starts
+the server by the command of the installed unit, because systemd may not run. In the end it purges the package, also after a failure.
+"""
+
+import contextlib
+import glob
+import os
+import re
+import shlex
+import shutil
+import signal
+import subprocess
+import sys
+import tarfile
+import tempfile
+import time
+
+sys.path.insert(0, os.path.join(os.path.dirname(os.path.abspath(__file__)), "..", "harness"))
+from checks import Checks  # noqa: E402
+from packages import install  # noqa: E402
+from peers import LOCAL, Server, free_port  # noqa: E402
+from workspace import ROOT, crates, listed  # noqa: E402
+
+PACKAGES = {"dpkg-shlibdeps": "dpkg-dev", "lintian": "lintian", "coap-client-notls": "libcoap3-bin"}
+
+NAME = "dachreup"
+
+PROGRAMS = ["coap-server", "coap-client"]
+
+# The crates of the programs.
+CRATES = ["coap_server", "coap_client_main"]
+
+OPTIONS = "/etc/default/coap-server"
+
+UNIT = "/usr/lib/systemd/system/coap-server.service"
+
+# Link by which `systemctl enable` enables the unit.
+ENABLED = "/etc/systemd/system/multi-user.target.wants/coap-server.service"
+
+# Folder of the files by which Debian's maintainer scripts record the links of a unit.
+RECORDS = "/var/lib/systemd/deb-systemd-helper-enabled"
+
+# Files that a purge may leave if the maintainer scripts are wrong.
+LEFTOVERS = [OPTIONS, ENABLED, RECORDS + "/coap-server.service.dsh-also", RECORDS + "/multi-user.target.wants/coap-server.service"]
+
+# Installed files, each with its mode, and with its source if it is a copy.
+FILES = {
+    "/usr/bin/coap-server": (0o755, None),
+    "/usr/bin/coap-client": (0o755, None),
+    "/usr/share/man/man1/coap-server.1.gz": (0o644, None),
+    "/usr/share/man/man1/coap-client.1.gz": (0o644, None),
+    "/usr/share/bash-completion/completions/coap-server": (0o644, "install/completions/coap-server"),
+    "/usr/share/bash-completion/completions/coap-client": (0o644, "install/completions/coap-client"),
+    "/usr/share/doc/dachreup/changelog.gz": (0o644, None),
+    "/usr/share/doc/dachreup/copyright": (0o644, "install/debian/copyright"),
+    "/usr/share/doc/dachreup/examples/haproxy.cfg": (0o644, "install/haproxy.cfg"),
+    UNIT: (0o644, None),
+    OPTIONS: (0o644, "install/debian/coap-server.default"),
+}
+
+# Folders in which the installation may create files, folders and links.
+PLACES = ["/etc", "/usr/bin", "/usr/lib/systemd", "/usr/share/bash-completion", "/usr/share/doc", "/usr/share/lintian", "/usr/share/man",
+          "/var/lib/dpkg/info", "/var/lib/systemd"]
+
+# Maintainer scripts with their arguments, and the calls that they make on a machine with systemd. None starts or restarts the server.
+SCRIPT_CALLS = [
+    ("postinst", ["configure", ""], [
+        "deb-systemd-helper debian-installed coap-server.service",
+        "deb-systemd-helper unmask coap-server.service",
+        "deb-systemd-helper --quiet was-enabled coap-server.service",
+        "deb-systemd-helper enable coap-server.service",
+        "deb-systemd-helper update-state coap-server.service",
+        "systemctl --system daemon-reload",
+    ]),
+    ("prerm", ["upgrade", "9"], []),
+    ("prerm", ["remove"], ["deb-systemd-invoke stop coap-server.service"]),
+    ("postrm", ["upgrade", "9"], []),
+    ("postrm", ["remove"], ["systemctl --system daemon-reload"]),
+    ("postrm", ["purge"], ["deb-systemd-helper purge coap-server.service"]),
+]
+
+# Completes the last of the words after the script. Outside of a completion, `compopt` fails and does nothing.
+COMPLETE = """
+. "$1"
+shift
+COMP_WORDS=("$@") COMP_CWORD=$(($# - 1))
+$(complete -p "$1" | sed 's/.* -F \\([^ ]*\\) .*/\\1/') 2> /dev/null
+printf '%s\\n' "${COMPREPLY[@]}"
+"""
+
+# Words before a completed word, the beginning of that word, and the expected completions.
+COMPLETED = [
+    (["coap-server", "-A"], "", ["0.0.0.0", "127.0.0.1"]),
+    (["coap-server", "-p"], "", ["5683"]),
+    (["coap-server", "--script"], "on", ["one file", "one.txt"]),
+    (["coap-server", "--script", "="], "on", ["one file", "one.txt"]),
+    (["coap-server", "--script"], "=", ["one file", "one.txt", "two"]),
+    (["coap-server"], "--max", ["--max-message", "--max-sent"]),
+    (["coap-client", "-m"], "p", ["put", "post"]),
+    (["coap-client", "-m", "get"], "", ["coap+tcp://"]),
+    (["coap-client", "-f"], "on", ["one file", "one.txt"]),
+    (["coap-client", "-o"], "t", ["two"]),
+    (["coap-client", "coap+tcp", ":"], "//", []),
+]
+
+# Timeout of each command in seconds.
+LIMIT = 120
+
+# Arguments of the server after its address and port.
+STORES = ["-d", "100"]
+
+
+def run(words, **how):
+    """Runs a command. Returns its status, and its output with its errors."""
+    done = subprocess.run(words, stdin=subprocess.DEVNULL, stdout=subprocess.PIPE, stderr=subprocess.STDOUT, timeout=LIMIT, **how)
+    return done.returncode, done.stdout.decode(errors="replace")
+
+
+def read(*parts):
+    with open(os.path.join(*parts), encoding="utf-8") as file:
+        return file.read()
+
+
+def write(text, path):
+    with open(path, "w", encoding="utf-8") as file:
+        file.write(text)
+
+
+def version():
+    return read(ROOT, "VERSION").strip()
+
+
+def check_versions(checks, programs):
+    """Checks that the programs and both changelogs have the version of the file VERSION."""
+    for name, program in zip(PROGRAMS, programs):
+        checks.same("%s: version" % name, run([program, "--version"]), (0, "%s %s\n" % (name, version())))
+    checks.same("version in CHANGELOG.md", re.findall(r"report version (\S+)", read(ROOT, "CHANGELOG.md")), [version()])
+    checks.same("version in Debian's changelog", re.match(r"dachreup \((\S+)\) ", read(ROOT, "install/debian/changelog"))[1], version())
+
+
+def completions(script, words, folder):
+    """Returns the completions of the last word of a command line."""
+    status, said = run(["bash", "--norc", "-c", COMPLETE, "bash", script, *words], cwd=folder)
+    return said.splitlines() if status == 0 and said.strip() else []
+
+
+def check_completion(checks, programs):
+    """Compares the completed words with `--help` and with the manual of the client."""
+    with tempfile.TemporaryDirectory() as folder:
+        for name in ("one file", "one.txt", "two"):
+            write("", os.path.join(folder, name))
+        for name, program in zip(PROGRAMS, programs):
+            script = os.path.join(ROOT, "install/completions", name)
+            helped = re.findall(r"(?m)^ +(?:(-\w)(?:, )?)?(--[\w-]+)?(?: <(\S+)>)?  ", run([program, "--help"])[1].partition("Options:\n")[2])
+            options = {option for short, long, _ in helped for option in (short, long) if option}
+            checks.same("%s: the options of --help are found" % name, len(options) > 10, True)
+            checks.same("%s: completed options" % name, sorted(completions(script, [name, "-"], folder)), sorted(options))
+            for option, value in ((short or long, value) for short, long, value in helped if value):
+                got = completions(script, [name, option, ""], folder)
+                checks.same("%s %s: completed options as its value" % (name, option), sorted(options & set(got)), [])
+                checks.same("%s %s: completed files as its value" % (name, option), "one.txt" in got, value == "FILE")
+            for before, word, wanted in COMPLETED:
+                if before[0] == name:
+                    checks.same("completed: %s" % " ".join([*before, word]), sorted(completions(script, [*before, word], folder)), sorted(wanted))
+    methods = re.search(r"Method: ([\w, ]+?) \[", run([programs[1], "--help"])[1])[1]
+    checks.same("completed methods", completions(script, ["coap-client", "-m", ""], ROOT), re.split(", | or ", methods))
+    formats = re.findall(r"(?m)^\.Dq (\w+/\S+)\n\(\d+\)", read(ROOT, "man/coap-client.1"))
+    checks.same("the manual has content formats", len(formats) > 1, True)
+    for option in ("-t", "-A"):
+        checks.same("completed content formats, %s" % option, completions(script, ["coap-client", option, ""], ROOT), formats)
+
+
+def check_copyright(checks):
+    """Checks that the copyright file names each library of Rattle's kit that crates.txt lists for the programs."""
+    text, below, uses = read(ROOT, "install/debian/copyright"), crates(), listed()
+    used = {library for program in CRATES for crate in [program, *below[program]] for library in uses[crate] if library not in uses}
+    missing = [library for library in sorted(used) if not re.search(r"(?m)^(?:Files:)? kit/rattle/%s/\*$" % library, text)]
+    checks.same("libraries of the kit without copyright", (len(used) > 1, missing), (True, []))
+    named = set(re.findall(r"(?m)^License: (.*)$", text))
+    names = {name for line in named for name in re.split(r" (?:and|or) ", line.replace("(", "").replace(")", ""))}
+    checks.same("licences without a text", [name for name in sorted(names) if not re.search(r"(?m)^License: %s\n " % re.escape(name), text)], [])
+
+
+def script_calls(script, words, folder):
+    """Runs a maintainer script as on a machine with systemd. Returns the status, and the calls of systemd's programs."""
+    stubs, log = os.path.join(folder, "stubs"), os.path.join(folder, "log")
+    os.makedirs(stubs, exist_ok=True)
+    for name in ("systemctl", "deb-systemd-helper", "deb-systemd-invoke"):
+        write('#!/bin/sh\necho "%s $*" >> %s\n' % (name, log), os.path.join(stubs, name))
+        os.chmod(os.path.join(stubs, name), 0o755)
+    write("", log)
+    text = read(ROOT, "install/debian", script)
+    assert text.count("/run/systemd/system") <= 1
+    environment = {"PATH": "%s:%s" % (stubs, os.environ["PATH"])}
+    status, said = run(["sh", "-c", text.replace("/run/systemd/system", folder), script, *words], env=environment)
+    return status, said, read(log).splitlines()
+
+
+def check_scripts(checks):
+    with tempfile.TemporaryDirectory() as folder:
+        for script, words, wanted in SCRIPT_CALLS:
+            checks.same(" ".join([script, *words]), script_calls(script, words, folder), (0, "", wanted))
+
+
+def copy_tree(tree, programs):
+    """Copies the inputs of `make deb`. The programs are newer than the sources, so that they are not built again."""
+    os.makedirs(os.path.join(tree, "crates"))
+    for name in ("man", "install"):
+        shutil.copytree(os.path.join(ROOT, name), os.path.join(tree, name))
+    for name in ("Makefile", "VERSION", "crates.txt"):
+        shutil.copy(os.path.join(ROOT, name), tree)
+    os.makedirs(os.path.join(tree, "bin"))
+    for name, program in zip(PROGRAMS, programs):
+        shutil.copyfile(program, os.path.join(tree, "bin", name))
+        os.chmod(os.path.join(tree, "bin", name), 0o755)
+
+
+def make_deb(checks, tree, wanted, mask=0o022):
+    """Builds the package of this version from a copy, and returns its path."""
+    status, said = run(["make", "deb"], cwd=tree, umask=mask)
+    made = [name for name in os.listdir(os.path.join(tree, "bin")) if name.startswith("%s_%s_" % (NAME, wanted))]
+    checks.same("make deb, version %s" % wanted, (status, len(made)), (0, 1))
+    if not made:
+        raise OSError(said)
+    return os.path.join(tree, "bin", made[0])
+
+
+def raise_version(tree):
+    """Raises the version of a copy, and returns it."""
+    changelog = os.path.join(tree, "install/debian/changelog")
+    text, higher = read(changelog), version() + "+test"
+    write(higher + "\n", os.path.join(tree, "VERSION"))
+    write(text.replace("(%s)" % version(), "(%s)" % higher, 1) + "\n" + text, changelog)
+    return higher
+
+
+def check_wrong_version(checks, tree):
+    """Checks that no package is built if the changelog has another version than the file VERSION."""
+    write("9\n", os.path.join(tree, "VERSION"))
+    status, said = run(["make", "deb"], cwd=tree)
+    checks.same("VERSION differs from the changelog", (status != 0, "has another version" in said), (True, True))
+    shutil.copy(os.path.join(ROOT, "VERSION"), tree)
+
+
+def members(package):
+    """Returns the members of a package that are not folders: path, mode, owner, and content."""
+    packed = subprocess.run(["dpkg-deb", "--fsys-tarfile", package], stdout=subprocess.PIPE, check=True, timeout=LIMIT).stdout
+    with tempfile.TemporaryFile() as file:
+        file.write(packed)
+        file.seek(0)
+        with tarfile.open(fileobj=file) as it:
+            return {member.name.removeprefix("."): (member.mode, member.uname, it.extractfile(member).read()) for member in it if not member.isdir()}
+
+
+def check_content(checks, package):
+    """Checks the files of the package, its fields, and that lintian has no remark."""
+    packed = members(package)
+    checks.same("files of the package", {path: (mode, owner) for path, (mode, owner, _) in packed.items()},
+                {path: (mode, "root") for path, (mode, _) in FILES.items()})
+    for path, (_, source) in FILES.items():
+        if source:
+            checks.same("content of %s" % path, packed[path][2] == read(ROOT, source).encode(), True)
+    checks.same("options in the installed file", options_in(packed[OPTIONS][2].decode()), {})
+    checks.same("configuration files", run(["dpkg-deb", "-I", package, "conffiles"]), (0, OPTIONS + "\n"))
+    checks.same("needs the C library", bool(re.match(r"libc6 \(>= [\d.]+\)\n$", run(["dpkg-deb", "-f", package, "Depends"])[1])), True)
+    status, said = run(["lintian", "--fail-on", "error,warning", package])
+    checks.same("lintian", (status, [line for line in said.splitlines() if re.match("[EW]:", line)]), (0, []))
+
+
+def check_package(checks, folder, programs):
+    """Builds the package twice, and a higher version. Returns the paths of both versions."""
+    trees = [os.path.join(folder, name) for name in ("one", "another folder")]
+    for tree in trees:
+        copy_tree(tree, programs)
+    check_wrong_version(checks, trees[0])
+    first, second = make_deb(checks, trees[0], version()), make_deb(checks, trees[1], version(), 0o077)
+    with open(first, "rb") as one, open(second, "rb") as other:
+        checks.same("equal bytes of two packages", one.read() == other.read(), True)
+    check_content(checks, first)
+    return first, make_deb(checks, trees[1], raise_version(trees[1]))
+
+
+def options_in(text):
+    """Returns the variables of a file of options."""
+    lines = (line for line in text.splitlines() if line and not line.startswith("#"))
+    return {name: "".join(shlex.split(value)) for name, value in (line.split("=", 1) for line in lines)}
+
+
+def unit_command():
+    """Returns the command of the installed unit, with the values that systemd would replace."""
+    unit = read(UNIT)
+    values = dict(re.findall(r"(?m)^Environment=(\w+)=(.*)$", unit))
+    for path in re.findall(r"(?m)^EnvironmentFile=-?(.*)$", unit):
+        values.update(options_in(read(path)))
+    [command] = re.findall(r"(?m)^ExecStart=(.*)$", unit)
+    # A variable that is a word of its own becomes several words.
+    return [part for word in command.split() for part in (values[word[1:]].split() if word.startswith("$") else [word])]
+
+
+def dpkg(*words):
+    """Runs dpkg, and waits for others that use it. All files are installed, even if the system leaves out documents."""
+    ends = time.monotonic() + LIMIT
+    while True:
+        status, said = run(["dpkg", "--path-include=*", *words], env=dict(os.environ, DEBIAN_FRONTEND="noninteractive"))
+        if status == 0 or "lock" not in said or time.monotonic() > ends:
+            return status, said
+        time.sleep(1)
+
+
+def dpkg_status():
+    """Returns the version of the installed package and its state, or nothing."""
+    status, said = run(["dpkg-query", "-W", "-f", "${Version} ${db:Status-Status}", NAME])
+    return said if status == 0 else ""
+
+
+def files_in_places():
+    """Returns the paths of all files, folders and links below PLACES."""
+    return {os.path.join(at, name) for place in PLACES for at, folders, names in os.walk(place) for name in [*folders, *names]}
+
+
+def ask(program, *words):
+    """Runs a client. Returns its status and its output with its errors."""
+    return run([program, *words])
+
+
+def check_served(checks, name, port):
+    """Starts the server by the command of the unit, and sends requests to it by the installed client and by libcoap's."""
+    command = unit_command()
+    checks.same("%s: command of the unit" % name, command, ["/usr/bin/coap-server", "-A", LOCAL, "-p", str(port), *STORES])
+    with Server("/usr/bin/coap-server", STORES, port=port) as server:
+        checks.same("%s: the root" % name, ask("/usr/bin/coap-client", "-w", server.uri()), (0, "coap+tcp\n"))
+        checks.same("%s: put" % name, ask("/usr/bin/coap-client", "-m", "put", "-e", "21.5", server.uri("/a")), (0, ""))
+        checks.same("%s: get" % name, ask("/usr/bin/coap-client", "-w", server.uri("/a")), (0, "21.5\n"))
+        checks.same("%s: get by libcoap" % name, ask("/usr/bin/coap-client-notls", "-m", "get", server.uri("/a")), (0, "21.5\n"))
+
+
+def check_manuals(checks):
+    """Checks that `man` finds both installed manuals."""
+    for name in PROGRAMS:
+        environment = dict(os.environ, MANPAGER="cat", MANWIDTH="80", LC_ALL="C.UTF-8")
+        status, said = run(["man", "-M", "/usr/share/man", name], env=environment)
+        checks.same("man %s" % name, (status, re.findall(r"(\S+) . (CoAP \w+) over TCP", said)), (0, [(name, "CoAP " + name[5:])]))
+
+
+def check_life(checks, package, higher):
+    """Installs the package, changes its options, upgrades it, removes it and purges it."""
+    before, libcoap = files_in_places(), run(["dpkg-query", "-L", "libcoap3-bin"])[1].split()
+    port = free_port()
+    status, said = dpkg("-i", package)
+    checks.same("install", (status, dpkg_status()), (0, version() + " installed"))
+    if status:
+        raise OSError(said)
+    checks.same("missing installed files", [path for path in FILES if not os.path.isfile(path)], [])
+    checks.same("missing files of libcoap3-bin", [path for path in libcoap if path.startswith("/usr/bin/") and not os.path.exists(path)], [])
+    checks.same("the unit is disabled", os.path.lexists(ENABLED), False)
+    checks.same("command of the unit without options", unit_command(), ["/usr/bin/coap-server"])
+    if shutil.which("man"):
+        check_manuals(checks)
+
+    changed = read(OPTIONS) + 'COAP_SERVER_OPTIONS="-A %s -p %d %s"\n' % (LOCAL, port, " ".join(STORES))
+    write(changed, OPTIONS)
+    can_enable = shutil.which("systemctl") and run(["systemctl", "--root=/", "enable", "coap-server"])[0] == 0
+    check_served(checks, "installed", port)
+
+    checks.same("upgrade", (dpkg("-i", higher)[0], dpkg_status()), (0, version() + "+test installed"))
+    checks.same("options after the upgrade", read(OPTIONS), changed)
+    checks.same("the upgraded unit is enabled", os.path.lexists(ENABLED), bool(can_enable))
+    check_served(checks, "upgraded", port)
+
+    checks.same("remove", (dpkg("-r", NAME)[0], dpkg_status()), (0, version() + "+test config-files"))
+    checks.same("files after the removal", [path for path in FILES if os.path.lexists(path)], [OPTIONS])
+    checks.same("purge", (dpkg("-P", NAME)[0], dpkg_status()), (0, ""))
+    after = files_in_places()
+    checks.same("files after the purge", sorted(after - before), [])
+    checks.same("missing files after the purge", sorted(before - after), [])
+
+
+def clean_up():
+    """Removes all that is left of the package after a failed check."""
+    if dpkg_status() and dpkg("-P", NAME)[0]:
+        # A wrong maintainer script prevents the purge.
+        for path in glob.glob("/var/lib/dpkg/info/%s.p*" % NAME):
+            os.remove(path)
+        dpkg("--force-all", "-P", NAME)
+    for path in LEFTOVERS:
+        with contextlib.suppress(FileNotFoundError):
+            os.remove(path)
+
+
+def hindrance():
+    """Returns the reason for which the package is not installed, or nothing."""
+    if os.geteuid() != 0:
+        return "the script does not run as root"
+    if dpkg_status():
+        return "the package is already installed"
+    found = [path for path in [*FILES, *LEFTOVERS] if os.path.lexists(path)]
+    return "%s already exists" % found[0] if found else ""
+
+
+def check(programs):
+    checks = Checks()
+    check_versions(checks, programs)
+    check_completion(checks, programs)
+    check_copyright(checks)
+    check_scripts(checks)
+    with tempfile.TemporaryDirectory() as folder:
+        package, higher = check_package(checks, folder, programs)
+        if reason := hindrance():
+            print("%s: the package was not installed" % reason)
+        else:
+            try:
+                check_life(checks, package, higher)
+            finally:
+                clean_up()
+    print("package: %d passed, %d failed" % (checks.passed, checks.failed))
+    return 1 if checks.failed else 0
+
+
+def main(words):
+    # A signal ends the script by an exception, so that it purges the package.
+    signal.signal(signal.SIGTERM, lambda *_: sys.exit(1))
+    try:
+        if not install(PACKAGES):
+            print("FAILED package: the packages %s cannot be installed" % ", ".join(PACKAGES.values()))
+            return 1
+        return check([os.path.abspath(word) for word in words])
+    except (OSError, subprocess.SubprocessError) as trouble:
+        print("FAILED package: %s" % trouble)
+        return 1
+
+
+if __name__ == "__main__":
+    sys.exit(main(sys.argv[1:]))
