@@ -3,9 +3,9 @@ use Rattle.std.proofs.Common.{◌≡◌, ℕ, suc, refl, ◌+◌, ◌≤◌, ◌
 use Rattle.std.proofs.lemmas.Bool.{cases_lt, lt-ltb, le-ltb, le-leb, lt-leb, cond-true, cond-false}
 use Rattle.std.proofs.lemmas.Grind.{flat_map-append}
 use Rattle.std.proofs.lemmas.List.{append-nil, take-append-le, take_at, take_all, take_more}
-use Rattle.std.specs.List.{flat_map}
+use Rattle.std.specs.List.{flat_map, concat, fold}
 use Rattle.coap_print.specs.Texts.{is_text}
-use Rattle.coap_print.specs.Lines.{appended, is_closed, room, ellipsis, IsLine}
+use Rattle.coap_print.specs.Lines.{appended, is_closed, room, ellipsis, cut_text, IsLine}
 use Rattle.coap_print.proofs.TextLaws.{text_of_both, text_of_take}
 
 -- ---- the three cases
@@ -122,6 +122,20 @@ appended_then limit line first second =
 -- The same for lines that calls returned.
 pub joined : (limit : ℕ) (start middle end first second : List ℕ) → middle ≡ appended limit start first → end ≡ appended limit middle second → end ≡ appended limit start (first ++ second)
 joined limit start middle end first second p q = q ∙ ap (λ (l : List ℕ). appended limit l second) p ∙ appended_then limit start first second
+
+-- Pieces appended to a line are one piece.
+all_pieces : (limit : ℕ) (line : List ℕ) (pieces : List (List ℕ)) → fold (appended limit) line pieces ≡ appended limit line (concat pieces)
+all_pieces limit line [] = sym (appended_nothing limit line)
+all_pieces limit line (piece ∷ pieces) = all_pieces limit (appended limit line piece) pieces ∙ appended_then limit line piece (concat pieces)
+
+-- A text appended to an empty line.
+from_empty : (limit : ℕ) (text : List ℕ) → 3 ≤ limit → appended limit [] text ≡ cut_text limit text
+unfolding appended
+from_empty limit text space = cond-false (is_closed limit []) [] (cut_text limit text) (le-ltb limit 3 space)
+
+-- A line is the text of all its pieces, cut once.
+pub line_of_pieces : (limit : ℕ) (pieces : List (List ℕ)) → 3 ≤ limit → fold (appended limit) [] pieces ≡ cut_text limit (concat pieces)
+line_of_pieces limit pieces space = all_pieces limit [] pieces ∙ from_empty limit (concat pieces) space
 
 pub ruleset pieces = (appended_then, appended_nothing, appended_keeps)
 

@@ -26,3 +26,7 @@ appended limit line piece =
     if is_closed limit line then line
     else (if nat_le (length piece) (room limit line) then line ++ piece
     else line ++ take (room limit line) piece ++ ellipsis)
+
+-- A text of at most `limit` bytes: an ellipsis replaces the bytes that do not fit.
+abbrev pub cut_text : ℕ → List ℕ → List ℕ
+cut_text limit text = if nat_le (length text) (limit - 3) then text else take (limit - 3) text ++ ellipsis
