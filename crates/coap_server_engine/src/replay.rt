@@ -132,7 +132,7 @@ impl Server {
         ensures replayed { IsReplayed self.old (map event_value events.now) self.new
             (AddsBytes (W.written out.old) (W.written out.new)) result }
         ensures failure { W.is_failed out.new ≡ fails_write result }
-        ensures shows { (before : List world.Event) → Shows self.old before →
+        ensures shows { (before : List world.AcceptedCall) → Shows self.old before →
             IsShownReplay before self.old (map event_value events.now) self.new result }
     {
         for (index, event) in events.iter().enumerate() {

@@ -266,7 +266,7 @@ module _ (v : ServerValue) (all : List ScriptEventValue) (index : ℕ) (now : Se
   cut_shown after more = shows_as v after _ _ (ap (events_ran v) stands.more) (one_shown after more)
 
   -- Allocation failed for the event.
-  pub refused_shown : (before : List world.Event) → Shows v before → (number : ℕ) (after : ServerValue) → number ≡ index + 1 → ShowsPart now e after → ShowsRefusedAt before v all number after
+  pub refused_shown : (before : List world.AcceptedCall) → Shows v before → (number : ℕ) (after : ServerValue) → number ≡ index + 1 → ShowsPart now e after → ShowsRefusedAt before v all number after
   refused_shown before shows number after counted refused = record {
     ran = take index all;
     event = e;
