@@ -24,11 +24,11 @@ run:
 	@$(MAKE) --silent bin/coap-server
 	@python3 tests/vectors/demo.py bin/coap-server
 
-# Runs the gate: all proofs and programs from scratch, all rows and tests, and a third of the edits.
+# Runs the gate: all proofs and programs from scratch, all rows and tests, and a third of the mutants.
 test:
 	tests/gate
 
-# Tries all edits, of which the gate tries a third, or those of some crates: make mutants CRATES="coap_conn coap_wire".
+# Tries all mutants, of which the gate tries a third, or those of some crates: make mutants CRATES="coap_conn coap_wire".
 mutants:
 	tests/mutants/mutants.py --all $(CRATES)
 
