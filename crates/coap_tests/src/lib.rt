@@ -4,7 +4,8 @@
 //! - sinks at concrete types,
 //! - lines that describe messages,
 //! - the contracts of `serve_one` and `run_client` with devices that record everything,
-//! - runs of `serve_door` over a listener, connections and a clock in memory.
+//! - runs of `serve_door` over a listener, connections and a clock in memory,
+//! - the examples of the documentation.
 //!
 //! All other tests are rows of text (docs/TESTING.md). The crate has no code outside its tests, and no other crate uses
 //! it. Continue with `door.rt`, which has most of the tests.
@@ -16,6 +17,8 @@ mod client;
 mod devices;
 #[cfg(test)]
 mod door;
+#[cfg(test)]
+mod examples;
 #[cfg(test)]
 mod laws;
 #[cfg(test)]
