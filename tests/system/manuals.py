@@ -246,7 +246,7 @@ def check_formats(checks, manual, program, more):
 def check_statuses(checks, manual, source):
     """Checks that the statuses are those for which the program has a constant."""
     listed = {int(words[0]) for words, _ in manual.items("EXIT STATUS")}
-    checks.same("%s: statuses" % manual.name, listed, {int(it) for it in re.findall(r"const [A-Z]+: u8 = (\d);", source)})
+    checks.same("%s: statuses" % manual.name, listed, {int(it) for it in re.findall(r"const [A-Z_]+: u8 = (\d);", source)})
 
 
 def check_lines(checks, manual, source):
