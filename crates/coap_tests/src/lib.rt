@@ -3,7 +3,8 @@
 //! - theorems called from another crate,
 //! - sinks at concrete types,
 //! - the contracts of `serve_one` and `run_client` with devices that record everything,
-//! - runs of `serve_door` over a listener, connections and a clock in memory.
+//! - runs of `serve_door` over a listener, connections and a clock in memory,
+//! - the examples of the documentation.
 //!
 //! All other tests are rows of text (docs/TESTING.md). The crate has no code outside its tests, and no other crate uses
 //! it. Continue with `door.rt`, which has most of the tests.
@@ -15,6 +16,8 @@ mod client;
 mod devices;
 #[cfg(test)]
 mod door;
+#[cfg(test)]
+mod examples;
 #[cfg(test)]
 mod laws;
 #[cfg(test)]
