@@ -13,6 +13,28 @@
 //! This crate opens no socket and reads no command line. Requests and plans are made by `coap_request`, framing is in
 //! `coap_frame`, and signalling and the output queue are in `coap_conn`. Programs import all this from `coap_client`.
 //! Continue with `client.rt`, and then `run.rt`.
+//!
+//! # Examples
+//!
+//! ```
+//! let mut client = Client::open(rt.alloc(), Limits::builder().build()?, 0)?;
+//! // The server's CSM.
+//! let taken = client.take(b"\x00\xe1");
+//! assert!(&rt; matches!(taken.event(), Some(Event::Ready)));
+//! let target = Target::read(rt.alloc(), "coap+tcp://127.0.0.1/time")?;
+//! let extras = Extras {
+//!     observe: false,
+//!     plain: false,
+//!     content_format: None,
+//!     accept: None,
+//!     option: None,
+//!     payload: &[],
+//! };
+//! let token = client.send(Method::Get, &target, &extras)?;
+//! assert!(&rt; token.as_slice() == b"\x01".as_slice());
+//! // The client's CSM, and the request.
+//! assert!(&rt; client.front().ends_with(b"\x51\x01\x01\xb4time"));
+//! ```
 #![tactic(auto)]
 
 mod client;

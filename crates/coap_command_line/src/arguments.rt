@@ -104,6 +104,16 @@ pub fn server_words<'a, S: AsStr>(alloc: Global, words: &'a [S]) -> Result<Serve
 /// - `Value`: the value of an option is malformed or out of range.
 /// - `Clash`: both `-e` and `-f` are given, or `-s` with another method than GET.
 /// - `Memory`: allocation failed.
+///
+/// # Examples
+///
+/// ```
+/// let words = ["-m", "put", "-e", "21.5", "coap+tcp://127.0.0.1/heat"];
+/// let plan = client_words(rt.alloc(), &words)?;
+/// assert!(&rt; plan.method == Method::Put);
+/// assert!(&rt; plan.payload.as_slice() == b"21.5".as_slice());
+/// assert!(&rt; plan.target.host() == b"127.0.0.1".as_slice());
+/// ```
 pub fn client_words<'a, S: AsStr>(alloc: Global, words: &'a [S]) -> Result<ClientPlan, WordsFault>
     ensures { IsClientPlan (map S.text words.entry.now) result }
 {

@@ -48,6 +48,15 @@ const _: () = prove!(LimitFault::Observers as u8 == 5);
 const _: () = prove!(LimitFault::Outstanding as u8 == 6);
 
 /// Limits of one connection, each within its range. In contracts its value is a `LimitValues`, with the fields below.
+///
+/// # Examples
+///
+/// ```
+/// let limits = Limits::builder().max_message(1_152).pending(64).build()?;
+/// assert!(&rt; limits.max_message() == 1_152);
+/// // Each endpoint accepts messages of 1,152 bytes.
+/// assert!(&rt; Limits::builder().max_message(1_000).build().is_err());
+/// ```
 #[derive(Clone, Copy, Debug, PartialEq, Eq)]
 pub struct Limits {
     max_message: usize,

@@ -71,6 +71,18 @@ enum BufferContent {
 /// `new` allocates the buffer, and `raise` grows it. `next` copies only bytes of frames that are not whole in one
 /// chunk. Contracts see a `FramerValue`: the maximum, the bytes kept of an unfinished frame, the split frame returned
 /// last, and the number of bytes copied.
+///
+/// # Examples
+///
+/// ```
+/// let mut framer = Framer::new(rt.alloc(), 1_152)?;
+/// // A message of three bytes arrives in two chunks. The second one begins another message.
+/// let first = framer.next(b"\x01\x01");
+/// assert!(&rt; first.taken == 2 && matches!(first.what, FrameEvent::More));
+/// let second = framer.next(b"\x2a\x00");
+/// let frame = second.what.frame()?;
+/// assert!(&rt; second.taken == 1 && frame == Some(b"\x01\x01\x2a".as_slice()));
+/// ```
 #[derive(Drop)]
 pub struct Framer {
     max: usize,

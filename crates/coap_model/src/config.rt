@@ -56,6 +56,16 @@ impl Starts {
     ///
     /// Versions begin at 65,536 times the time, and at most at 2^64 - 1. The version of a representation is its ETag. A
     /// server that starts again therefore repeats no ETag, unless it stored more than 65,536 representations a second.
+    ///
+    /// # Examples
+    ///
+    /// ```
+    /// // Seconds since the epoch; a program takes them from its clock.
+    /// let starts = Starts::at(1_700_000_000);
+    /// let config = Config::builder().starts(starts).build()?;
+    /// assert!(&rt; config.moment() == 1_700_000_000);
+    /// assert!(&rt; starts.versions == 1_700_000_000 * 65_536);
+    /// ```
     pub fn at(moment: u64) -> Starts
         ensures moment { result.moment ≡ moment }
         ensures versions { result.versions ≡ min (moment * 65_536) (2 ^ 64 - 1) }
@@ -70,6 +80,13 @@ impl Starts {
 }
 
 /// Configuration of a server. Contracts name its values as the fields of `ConfigValues`.
+///
+/// # Examples
+///
+/// ```
+/// let config = Config::builder().dynamic_max(16).connections(64).build()?;
+/// assert!(&rt; config.dynamic_max() == 16 && config.connections() == 64);
+/// ```
 #[derive(Clone, Copy, Debug, PartialEq, Eq)]
 pub struct Config {
     limits: Limits,

@@ -99,6 +99,14 @@ struct TargetParts {
 
 /// Target of a request: the host, the port, and the parts of the path and the query of a `coap+tcp` URI (RFC 8323
 /// section 8.1). Contracts refer to these parts by name.
+///
+/// # Examples
+///
+/// ```
+/// let target = Target::read(rt.alloc(), "coap+tcp://example.org/sensors/1?unit=C")?;
+/// assert!(&rt; target.host() == b"example.org".as_slice() && target.port() == 5_683);
+/// assert!(&rt; target.segments().len() == 2 && target.arguments().len() == 1);
+/// ```
 #[derive(Drop)]
 pub struct Target {
     named: TargetParts,

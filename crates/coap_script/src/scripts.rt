@@ -48,6 +48,16 @@ impl ScriptFault {
 /// - `Line`: a line is neither an event nor empty nor a comment, or bytes follow the last newline. The first such line
 ///   is reported.
 /// - `Memory`: allocation failed.
+///
+/// # Examples
+///
+/// ```
+/// let mut server = Server::new(rt.alloc(), Config::builder().build()?)?;
+/// let events = script(rt.alloc(), b"open\nin 1 00e1\ntick 60\n")?;
+/// let mut lines = Vec::new(rt.alloc());
+/// server.replay(&events, &mut WriteOutlet::new(&mut lines))?;
+/// assert!(&rt; lines.as_slice() == b"open 1\nin 1 2\ntick 60\n".as_slice());
+/// ```
 pub fn script(alloc: Global, text: &[u8]) -> Result<Vec<Event>, ScriptFault>
     ensures { IsScript text.now result }
 {

@@ -88,6 +88,19 @@ struct Turn {
 /// # Preconditions
 ///
 /// The input and the output have not failed, and `starts.ids` of the configuration is below 2^64 - 1.
+///
+/// # Examples
+///
+/// ```
+/// // The client's CSM, and a GET of the root.
+/// let mut input = ReadSource::new(b"\x00\xe1\x01\x01\x2a".as_slice());
+/// let mut bytes = Vec::new(rt.alloc());
+/// let mut output = WriteOutlet::new(&mut bytes);
+/// let config = Config::builder().build()?;
+/// let report = serve_one(rt.alloc(), &mut input, &mut output, &config)?;
+/// assert!(&rt; report.read == 5 && report.messages == 2);
+/// assert!(&rt; bytes.ends_with(b"coap+tcp"));
+/// ```
 pub fn serve_one<R: Source, W: Outlet>(
     alloc: Global,
     reader: &mut R,

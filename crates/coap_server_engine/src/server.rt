@@ -63,6 +63,23 @@ type Sessions = IndexMap<u64, Session>;
 
 /// Server with all its connections. Each call is one event. Contracts see a `ServerValue`, and the history of events
 /// that it shows.
+///
+/// # Examples
+///
+/// ```
+/// let mut server = Server::new(rt.alloc(), Config::builder().build()?)?;
+/// let id = server.open()?;
+/// // The client's CSM, and a GET of the root. A call of `take` processes one message.
+/// let input = b"\x00\xe1\x01\x01\x2a".as_slice();
+/// let csm = server.take(id, input)?;
+/// let get = server.take(id, &input[csm.bytes..])?;
+/// assert!(&rt; csm.bytes == 2 && get.bytes == 3);
+/// // The server's CSM, and the response.
+/// let output = server.front(id).unwrap_or(&[]);
+/// assert!(&rt; output.ends_with(b"coap+tcp"));
+/// let count = output.len();
+/// server.written(id, count)?;
+/// ```
 #[derive(Drop)]
 pub struct Server {
     alloc: Global,

@@ -100,6 +100,14 @@ fn write_path(bytes: &mut ArrayVec<u8, MAX_BYTES>, segments: UriPath) -> bool
 ///
 /// No segment is `.` or `..`, and a single segment is not empty (RFC 7252 sections 5.10.1, 6.4). The root has no
 /// segment. Contracts see the list of the segments, and two paths are equal if and only if their lists are.
+///
+/// # Examples
+///
+/// ```
+/// let path = PathKey::from_segments(&[b"sensors", b"1"]);
+/// assert!(&rt; path.is_some() && path != PathKey::from_segments(&[b"sensors/1"]));
+/// assert!(&rt; PathKey::from_segments(&[b".."]).is_none());
+/// ```
 #[derive(Drop, PartialEq, Eq, Hash)]
 pub struct PathKey {
     /// Segments, each after a byte with its length.

@@ -17,6 +17,21 @@ use std::marker::Model;
 
 /// Store of a server's resources: the built-in ones, and at most `dynamic_max` created ones of at most `rep_max` bytes
 /// each, in order of creation. Contracts see a `StoreValue`.
+///
+/// # Examples
+///
+/// ```
+/// let mut store = Store::new(rt.alloc(), 16, 1_024, 0)?;
+/// let path = PathKey::from_segments(&[b"temperature"]).ok_or("no path")?;
+/// // Content-Format 0 is text.
+/// let version = store.put(&path, Some(0), b"21.5")?;
+/// match store.state(&path, 0) {
+///     State::Present(stored) => {
+///         assert!(&rt; stored.version() == version && stored.bytes() == b"21.5".as_slice());
+///     }
+///     State::Absent => assert!(&rt; false),
+/// }
+/// ```
 #[derive(Drop)]
 pub struct Store {
     dynamic_max: usize,

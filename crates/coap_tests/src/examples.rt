@@ -61,7 +61,7 @@ fn splits_a_stream(rt: HostRuntime) -> Result<(), Fail> {
 
 #[test]
 fn sets_limits(rt: HostRuntime) -> Result<(), Fail> {
-    let limits = Limits::builder().max_message(1_152).queue(65_536).build()?;
+    let limits = Limits::builder().max_message(1_152).pending(64).build()?;
     assert!(&rt; limits.max_message() == 1_152);
     // Each endpoint accepts messages of 1,152 bytes.
     assert!(&rt; Limits::builder().max_message(1_000).build().is_err());
@@ -70,9 +70,8 @@ fn sets_limits(rt: HostRuntime) -> Result<(), Fail> {
 
 #[test]
 fn configures_a_server(rt: HostRuntime) -> Result<(), Fail> {
-    let limits = Limits::builder().pending(64).build()?;
-    let config = Config::builder().limits(limits).dynamic_max(16).build()?;
-    assert!(&rt; config.dynamic_max() == 16 && config.connections() == 16);
+    let config = Config::builder().dynamic_max(16).connections(64).build()?;
+    assert!(&rt; config.dynamic_max() == 16 && config.connections() == 64);
     Ok(())
 }
 

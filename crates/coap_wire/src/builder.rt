@@ -25,6 +25,18 @@ pub type Builder<'a> = MessageBuilder<'a, MAX_OPTIONS>;
 /// options and the payload. Contracts see the `Message`.
 ///
 /// Each new builder clears the space of its `N` options, so a message with few options costs less if `N` is small.
+///
+/// # Examples
+///
+/// ```
+/// let token = Token::try_from(b"\x2a".as_slice())?;
+/// let mut request = Builder::new(Code::GET, &token);
+/// // Uri-Path
+/// request.option(11, b"time")?;
+/// let mut bytes = Vec::with_capacity(rt.alloc(), request.size() as usize)?;
+/// request.write(&mut bytes);
+/// assert!(&rt; bytes.as_slice() == b"\x51\x01\x2a\xb4time".as_slice());
+/// ```
 #[derive(Drop)]
 pub struct MessageBuilder<'a, const N: usize> {
     token: TokenRef<'a>,

@@ -115,6 +115,19 @@ impl<'a> MessageRef<'a> {
 /// - `OptionCut`: the bytes end within an extension of the option.
 /// - `OptionNumber`: the option number is above 65,535.
 /// - `OptionCut`: the bytes end within the value of the option.
+///
+/// # Examples
+///
+/// ```
+/// let message = parse(b"\x51\x01\x2a\xb4time")?;
+/// assert!(&rt; message.code() == Code::GET);
+/// assert!(&rt; message.token().bytes() == b"\x2a".as_slice());
+/// for option in message.options() {
+///     // Uri-Path
+///     assert!(&rt; option.number == 11 && option.value == b"time".as_slice());
+/// }
+/// assert!(&rt; message.payload().is_empty());
+/// ```
 pub fn parse(frame: &[u8]) -> Result<MessageRef<'_>, FormatFault>
     // The result is a message if and only if the bytes encode that message.
     ensures found { IfOk result (λ m. Spells frame.now m) }

@@ -46,6 +46,14 @@ pub fn significant_bytes(bytes: &[u8]) -> &[u8]
 }
 
 /// Returns the shortest encoding of the number in network order: no byte for 0, at most 8 bytes.
+///
+/// # Examples
+///
+/// ```
+/// let bytes = uint_bytes(300);
+/// assert!(&rt; bytes.as_slice() == b"\x01\x2c".as_slice());
+/// assert!(&rt; uint_value(&bytes) == Some(300));
+/// ```
 #[tactic(auto, unfolding(crate::specs::Uint::bytes_of_uint))]
 pub fn uint_bytes(number: u64) -> UintBytes
     ensures bytes { result.items ≡ bytes_of_uint number }

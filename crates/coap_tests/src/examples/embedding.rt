@@ -133,6 +133,10 @@ fn observes_a_resource(rt: HostRuntime) -> Result<(), Fail> {
         &mut payload,
     )?;
     assert!(&rt; stop.is_none() && payload.is_empty());
-    assert!(&rt; transport.sent.ends_with(b"\x61\x01\x01\x60\x54time\x71\x01\x01\x61\x01\x54time"));
+    assert!(&rt;
+        transport
+            .sent
+            .ends_with(b"\x61\x01\x01\x60\x54time\x71\x01\x01\x61\x01\x54time")
+    );
     Ok(())
 }

@@ -14,8 +14,8 @@ struct Joined {
 
 /// Creates both. Each has queued its CSM.
 fn open(alloc: Global) -> Option<Joined> {
-    let limits = Limits::builder().queue(65_536).build().ok()?;
-    let config = Config::builder().limits(limits).dynamic_max(1).build().ok()?;
+    let limits = Limits::builder().build().ok()?;
+    let config = Config::builder().limits(limits).build().ok()?;
     let mut server = Server::new(alloc, config).ok()?;
     let id = server.open().ok()?;
     let client = Client::open(alloc, limits, 0).ok()?;
@@ -35,18 +35,18 @@ fn to_server(joined: &mut Joined) -> usize {
     taken.bytes
 }
 
-/// Sends a GET of the root resource.
-fn send_get(alloc: Global, client: &mut Client) -> bool {
+/// Sends a request to the root resource.
+fn send(alloc: Global, client: &mut Client, method: Method, payload: &[u8]) -> bool {
     let extras = Extras {
         observe: false,
         plain: false,
         content_format: None,
         accept: None,
         option: None,
-        payload: &[],
+        payload,
     };
     match Target::read(alloc, "coap+tcp://127.0.0.1/") {
-        Ok(target) => client.send(Method::Get, &target, &extras).is_ok(),
+        Ok(target) => client.send(method, &target, &extras).is_ok(),
         Err(_) => false,
     }
 }
@@ -77,7 +77,7 @@ fn to_client(alloc: Global, joined: &mut Joined, payload: &mut Vec<u8>) -> usize
     if joined.server.written(joined.id, count).is_err() {
         return 0;
     }
-    if is_ready && !send_get(alloc, &mut joined.client) {
+    if is_ready && !send(alloc, &mut joined.client, Method::Get, &[]) {
         return 0;
     }
     count
