@@ -1,6 +1,9 @@
 //! Reads whole files.
 
-ghost use Rattle.std.specs.Prelude.{◌≤◌, length, IfOk};
+ghost use Rattle.std.specs.Prelude.{◌≡◌, ◌≢◌, ◌≤◌, length, IfOk};
+ghost use Rattle.std.specs.IoError.{error_kind};
+ghost use Rattle.std.specs.declared.io.ErrorKind.TheVariants as kind;
+ghost use Rattle.coap_program.specs.declared.files.FileError.TheVariants as answer;
 
 use std::alloc::Global;
 use std::fs;
@@ -22,7 +25,10 @@ pub enum FileError {
 
 impl FileError {
     /// Returns the error for a file that could not be opened.
-    pub fn of_opening(fault: &Error) -> FileError {
+    pub fn of_opening(fault: &Error) -> FileError
+        ensures memory { error_kind fault.now ≡ kind.OutOfMemory → result ≡ answer.Memory }
+        ensures other { error_kind fault.now ≢ kind.OutOfMemory → result ≡ answer.Open }
+    {
         if fault.kind() == ErrorKind::OutOfMemory {
             FileError::Memory
         } else {

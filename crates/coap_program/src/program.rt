@@ -1,6 +1,6 @@
 //! The arguments of a program, and its messages on standard error.
 
-ghost use Rattle.std.specs.Prelude.{◌≡◌, ◌≤◌, ◌==◌, false, if◌then◌else◌, IfErr};
+ghost use Rattle.std.specs.Prelude.{◌≡◌, ◌≤◌, ◌==◌, ◌⊎◌, false, true, if◌then◌else◌, IfErr};
 ghost use Rattle.coap_command_line.specs.Prelude.{is_help_or_version, words_fault_number};
 
 use coap_command_line::WordsFault;
@@ -46,7 +46,8 @@ impl Program<'_> {
     /// - `USAGE`: an argument is not UTF-8.
     /// - `FAULT`: an allocation failed.
     pub fn words(&self, rt: &(impl Eprint + Env + AllocGlobal)) -> Result<Vec<String>, u8>
-        ensures { IfErr result (λ status. status ≤ 3) }
+        ensures within { IfErr result (λ status. status ≤ 3) }
+        ensures known { IfErr result (λ status. (status ≡ 1) ⊎ (status ≡ 3)) }
     {
         let words = match env::args(rt) {
             Ok(words) => words_of(rt.alloc(), words),
@@ -66,6 +67,7 @@ impl Program<'_> {
     /// If standard output does not accept the text, the status is 3.
     pub fn refuse(&self, rt: &(impl Print + Eprint), fault: &WordsFault) -> u8
         ensures within { result ≤ 3 }
+        ensures helped { is_help_or_version fault.now ≡ true → (result ≡ 0) ⊎ (result ≡ 3) }
         ensures refused { is_help_or_version fault.now ≡ false →
             result ≡ (if words_fault_number fault.now == 5 then 3 else 1) }
     {
