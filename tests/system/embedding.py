@@ -39,7 +39,8 @@ def check_gateway(checks, program, uri, sensor):
     sensor.tell("21.5")
     told, complained = observer.communicate(timeout=LIMIT)
     values = [first.decode().strip(), *told.decode().split()]
-    checks.same("notifications of an observer", (list(dict.fromkeys(values)), observer.returncode, complained), (["21.0", "21.5"], 0, b""))
+    # The last response, which ends the observation, repeats the value. Nothing else is repeated: equal values are not stored again.
+    checks.same("notifications of an observer", (values, observer.returncode, complained), (["21.0", "21.5", "21.5"], 0, b""))
     # The gateway allows one resource alone.
     checks.same("a second resource", client(program, ["-m", "put", "-e", "x", uri + "/else"]), (2, b"", b"4.06\n"))
     checks.same("an absent path", client(program, [uri + "/else"]), (2, b"", b"4.04\n"))

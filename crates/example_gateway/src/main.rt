@@ -46,12 +46,16 @@ fn serve(
         "example_gateway: listening on {}",
         door.address().unwrap_or(address)
     )?;
+    let mut stored = None;
     for _ in 0..config.turns() {
         let now = clock.now();
         let _ = service.tick(now);
-        // This fails if a client deleted the resource and stored another one, since the server stores only one. The
-        // value is stored again after the other resource is deleted.
-        let _ = service.put(&path, Some(0), &measured(rt, file)?);
+        let value = measured(rt, file)?;
+        // Each `put` notifies the observers, so only a new value is stored. `put` fails if a client deleted the
+        // resource and stored another one, since the server stores only one. It is then repeated in the next turn.
+        if stored.as_ref() != Some(&value) && service.put(&path, Some(0), &value).is_ok() {
+            stored = Some(value);
+        }
         let wait = service.turn(&mut door)?;
         door.wait(wait.at_most(now.saturating_add(1)), service.can_open());
     }
