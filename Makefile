@@ -18,10 +18,12 @@ bin/coap-server bin/coap-client &: $(SOURCES)
 	tests/build coap_server coap_client_main
 
 # Runs the server on short recorded streams, and prints the meaning of each message. If the program is not built yet, the same
-# source first runs unproved. Then the proofs run, and then the program that they build.
+# source runs unproved while the proofs begin. At the end, the program that they build runs.
 run:
-	@$(MAKE) --silent --question bin/coap-server || python3 tests/vectors/demo.py --try
-	@$(MAKE) --silent bin/coap-server
+	@$(MAKE) --silent --question bin/coap-server || { \
+	    python3 tests/vectors/demo.py --try & tried=$$!; \
+	    $(MAKE) --silent bin/coap-server; built=$$?; \
+	    wait $$tried && exit $$built; exit 1; }
 	@python3 tests/vectors/demo.py bin/coap-server
 
 # Runs the gate: all proofs and programs from scratch, all rows and tests, and a third of the mutants.

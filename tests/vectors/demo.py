@@ -12,9 +12,7 @@ import tempfile
 
 sys.path.insert(0, os.path.join(os.path.dirname(os.path.abspath(__file__)), "..", "harness"))
 import messages  # noqa: E402
-from workspace import ROOT  # noqa: E402
-
-CRATE = os.path.join(ROOT, "crates", "coap_server")
+from workspace import furnish  # noqa: E402
 
 # An empty CSM, Empty, a Ping with the token 07 and Custody. Then GETs of the root, of /time, of the listing and of an absent path.
 RECORDED = bytes.fromhex(
@@ -112,7 +110,10 @@ def run_script(command):
 def main(words):
     if words == ["--try"]:
         print("First, the server UNPROVED: `rt try` runs the same source before any proof, in up to a minute.", flush=True)
-        return run(["rt", "try", "--", "--stdio"], *STREAMS[0], folder=CRATE)
+        with tempfile.TemporaryDirectory(prefix="try-") as room:
+            # A copy, since proofs may run at the same time.
+            furnish(room, "coap_server", [], kept=False)
+            return run(["rt", "try", "--", "--stdio"], *STREAMS[0], folder=f"{room}/crates/coap_server")
     print(f"Now {words[0]}, built from the proved crates:")
     statuses = []
     for number, (title, stream) in enumerate(STREAMS):
