@@ -5,6 +5,8 @@ through `coap-server --script -`, with the meaning of each line.
     tests/vectors/demo.py --try                 the first stream alone, by `rt try`, which runs the same source before any proof
 """
 
+import contextlib
+import io
 import os
 import subprocess
 import sys
@@ -111,9 +113,12 @@ def main(words):
     if words == ["--try"]:
         print("First, the server UNPROVED: `rt try` runs the same source before any proof, in up to a minute.", flush=True)
         with tempfile.TemporaryDirectory(prefix="try-") as room:
-            # A copy, since proofs may run at the same time.
+            # A copy, since proofs may run at the same time. Their lines must not come between the lines of the demonstration.
             furnish(room, "coap_server", [], kept=False)
-            return run(["rt", "try", "--", "--stdio"], *STREAMS[0], folder=f"{room}/crates/coap_server")
+            with contextlib.redirect_stdout(io.StringIO()) as shown:
+                status = run(["rt", "try", "--", "--stdio"], *STREAMS[0], folder=f"{room}/crates/coap_server")
+        print(shown.getvalue(), end="", flush=True)
+        return status
     print(f"Now {words[0]}, built from the proved crates:")
     statuses = []
     for number, (title, stream) in enumerate(STREAMS):
