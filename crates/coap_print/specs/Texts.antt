@@ -26,11 +26,11 @@ hex_text bytes = flat_map hex_of_byte bytes
 
 -- ---- escaped text
 
--- True if a byte stands for itself: it is printable, and neither a backslash nor a quotation mark.
+-- True if a byte is written as itself: it is printable, and neither a backslash nor a quotation mark.
 abbrev pub is_plain : ℕ → Bool
 is_plain byte = is_printable byte && not (byte == 0x5c) && not (byte == 0x22)
 
--- A byte that stands for itself, or \xNN.
+-- A byte written as itself, or \xNN.
 abbrev pub escape_of : ℕ → List ℕ
 escape_of byte = if is_plain byte then byte ∷ [] else codes "\\x" ++ hex_of_byte byte
 

@@ -12,7 +12,7 @@ pub fn escaped_text_has_one_meaning()
         → xs ≡ ys }
 {}
 
-/// States that a line is the text of all its pieces, cut once: an ellipsis stands at its end, or nowhere.
+/// States that a line is the text of all its pieces, cut once: an ellipsis is at its end, or nowhere.
 pub fn a_line_is_cut_once()
     ensures { (limit : ℕ) (pieces : List (List ℕ)) → 3 ≤ limit → fold (appended limit) [] pieces
         ≡ cut_text limit (concat pieces) }
