@@ -39,6 +39,7 @@ pub use Rattle.coap_conn.specs.declared.phase.SendFault.{SendFault}
 pub use Rattle.coap_conn.specs.declared.reason.Reason.{Reason}
 -- ---- coap_io
 pub use Rattle.coap_io.specs.streams.Device.{AddsBytes, WritesPart}
+pub use Rattle.coap_io.specs.streams.DeviceTraces.{TellsMore}
 -- ---- coap_store
 pub use Rattle.coap_store.specs.Answer.{changed, Change, Delete, Nothing, Put}
 pub use Rattle.coap_store.specs.Changes.{IsPut, changes}
@@ -98,6 +99,7 @@ pub use Rattle.coap_server_engine.specs.script.Replayed.{IsUnrun}
 pub use Rattle.coap_server_engine.specs.script.Shown.{ShowsRun, IsShownReplay, ShowsPart, IsPartlyMade, ShowsRefusedAt}
 unfoldable pub use Rattle.coap_server_engine.specs.script.Shown.{events_made, events_ran}
 -- ---- this crate: values
+pub use Rattle.coap_server_engine.specs.values.Calls.{call_value, TellsPartlyFed}
 pub use Rattle.coap_server_session.specs.values.Causes.{change_hash, path_hash}
 pub use Rattle.coap_server_session.specs.values.Causes.{IsUnaffected}
 pub use Rattle.coap_server_session.specs.values.Causes.{ConcernsNone, IsMarkedBut}

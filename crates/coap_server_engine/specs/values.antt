@@ -6,3 +6,4 @@ pub mod Flushes
 pub mod InResults
 pub mod ServerDeadlines
 pub mod ServerCauses
+pub mod Calls

@@ -3,6 +3,7 @@
 //! - `Server` has one method for each event. A connection opens or ends, bytes are received or were written, time
 //!   passes, or a resource is stored or removed. The server queues the responses and notifications that the event
 //!   causes.
+//! - `Monitor` is the interface through which a program follows the calls that a server accepts.
 //! - `Server::replay` runs the events of a script (`coap_script`) and writes a line for each.
 //! - `ConnectionWork` is the work left on a connection. `ChangeStamp` changes with everything that may affect all connections.
 //! - `laws` has the theorems on servers and on scripts.
@@ -15,8 +16,10 @@
 #![tactic(auto)]
 
 pub mod laws;
+mod monitor;
 mod replay;
 mod server;
 
+pub use monitor::{Call, Monitor, NoMonitor};
 pub use replay::ReplayFault;
 pub use server::{ChangeStamp, ConnectionWork, FlushStep, Server};

@@ -8,14 +8,16 @@ use Rattle.std.proofs.Math.Bool.{and-false}
 use Rattle.coap_server_engine.specs.Prelude.{IsErr, AllocError, Path, StoreValue, remove_refusal, NoSuch, ScriptEventValue}
 use Rattle.coap_server_engine.specs.Prelude.{event_value, EventResult, fed_turns, in_result, event_ran, replayed, IsPartialIn, IsUnrun}
 use Rattle.coap_server_engine.specs.Prelude.{IsRefusedAt, IsCutAt, where_there, took_turns, took, events_ran, ShowsMore}
-use Rattle.coap_server_engine.specs.Prelude.{ShowsPart, ShowsPartlyFed, events_made, ShowsRefusedAt, AddsBytes, WritesPart, SessionValue}
+use Rattle.coap_server_engine.specs.Prelude.{ShowsPart, events_made, ShowsRefusedAt, AddsBytes, WritesPart, SessionValue}
 use Rattle.coap_server_engine.specs.Prelude.{InResult, ServerValue, server_taken, count_taken, is_there, session_of, IsNotTaken, IsRun}
-use Rattle.coap_server_engine.specs.Prelude.{IsDrainable, Took, Drained, OutputLine, Shows}
+use Rattle.coap_server_engine.specs.Prelude.{IsDrainable, Took, Drained, OutputLine, Shows, AcceptedCall, TellsMore, TellsPartlyFed}
 use Rattle.coap_script.specs.declared.event.Event.{Event}
 use Rattle.coap_server_engine.specs.script.Replay.{behind}
 use Rattle.coap_server_engine.specs.values.InResults.{goes_on}
-use Rattle.coap_io.proofs.streams.DeviceLemmas.{bytes_then}
+use Rattle.coap_io.proofs.streams.DeviceLemmas.{bytes_then, told_none, told_then}
 use Rattle.coap_server_engine.proofs.scripting.ShownLemmas.{shows_same, shows_then, shows_as, events_ran_on}
+use Rattle.coap_server_engine.proofs.world.ShowLaws.{refused_on}
+use Rattle.coap_server_session.proofs.values.TakenLemmas.{refused_within}
 use Rattle.coap_model.specs.world.Events as world
 use Rattle.coap_model.specs.declared.answers.TakeFault.TheVariants as taking
 
@@ -50,6 +52,14 @@ none_drainable id most (Some s) is = absurd is
 
 -- ---- takes
 
+-- A take for which allocation failed accepted a prefix of the slice.
+pub not_taken_within : (v : ServerValue) (id : ℕ) (piece : List ℕ) (count : ℕ) (after : ServerValue) → IsNotTaken v id piece (taking.Memory count) after → (count ≤ length piece) × (length (take count piece) ≡ count)
+not_taken_within v id piece count after refused =
+    let found = refused_on v piece count (session_of id v.sessions) refused.0 in
+    let within : count + 1 ≤ length piece = refused_within v.host found.0 piece count found.2 in
+    let fewer : count ≤ length piece = omega (arith, within) in
+    (fewer, length-take-le count piece fewer)
+
 -- Some takes accepted bytes, and the server is `now`.
 pub record Feeds (v : ServerValue) (id : ℕ) (bytes : List ℕ) (now : ServerValue) (taken : ℕ) : Type 0 where
   pub turns : ℕ
@@ -80,6 +90,10 @@ all_turns_made v id bytes n is m few =
 abbrev pub ShowsTake : ServerValue → ℕ → List ℕ → ServerValue → Type 0
 ShowsTake now id left after = ShowsMore now after (where_there (session_of id now.sessions) (λ s. Took id (take (count_taken now id left) left)))
 
+-- A monitor received one more take.
+abbrev pub TellsTake : Option (List AcceptedCall) → Option (List AcceptedCall) → ServerValue → ℕ → List ℕ → Type 0
+TellsTake b c now id left = TellsMore b c (where_there (session_of id now.sessions) (λ s. Took id (take (count_taken now id left) left)))
+
 module _ (v : ServerValue) (id : ℕ) (bytes : List ℕ) (now : ServerValue) (taken : ℕ) (feeds : Feeds v id bytes now taken) (left : taken < length bytes) where
   turn_more_feeds : fed_turns (feeds.turns + 1) v id bytes ≡ record { server = server_taken now id (drop taken bytes); count = taken + count_taken now id (drop taken bytes); done = count_taken now id (drop taken bytes) == 0 }
   unfolding fed_turns
@@ -90,6 +104,12 @@ module _ (v : ServerValue) (id : ℕ) (bytes : List ℕ) (now : ServerValue) (ta
   shows_more after more =
       rw (add-one, feeds.so_far, lt-ltb taken (length bytes) left) (shows_then v now after (took_turns feeds.turns v id bytes) _ feeds.shows more)
 
+  -- A monitor received the takes so far, and then one more.
+  told_more : (a b c : Option (List AcceptedCall)) → TellsMore a b (took_turns feeds.turns v id bytes) → TellsTake b c now id (drop taken bytes) → TellsMore a c (took_turns (feeds.turns + 1) v id bytes)
+  unfolding took_turns
+  told_more a b c so_far more =
+      rw (add-one, feeds.so_far, lt-ltb taken (length bytes) left) (told_then a b c (took_turns feeds.turns v id bytes) _ so_far more)
+
   -- A take accepted some bytes.
   pub feeds_more : (k : ℕ) (after : ServerValue) → k ≤ length (drop taken bytes) → k ≡ count_taken now id (drop taken bytes) → k ≢ 0 → after ≡ server_taken now id (drop taken bytes) → ShowsTake now id (drop taken bytes) after → Feeds v id bytes after (taken + k)
   feeds_more k after within counted some is more = record {
@@ -99,6 +119,11 @@ module _ (v : ServerValue) (id : ℕ) (bytes : List ℕ) (now : ServerValue) (ta
     so_far = cc (turn_more_feeds, ne_eqb k 0 some);
     shows = shows_more after more;
   }
+
+  pub feeds_told : (a b c : Option (List AcceptedCall)) (k : ℕ) (after : ServerValue) (within : k ≤ length (drop taken bytes)) (counted : k ≡ count_taken now id (drop taken bytes)) (some : k ≢ 0) (is : after ≡ server_taken now id (drop taken bytes)) (more : ShowsTake now id (drop taken bytes) after)
+      → TellsMore a b (took_turns feeds.turns v id bytes) → TellsTake b c now id (drop taken bytes) → TellsMore a c (took_turns (feeds_more k after within counted some is more).turns v id bytes)
+  unfolding feeds_more
+  feeds_told a b c k after within counted some is more so_far tells = told_more a b c so_far tells
 
   -- A take accepted none.
   stops_there : (after : ServerValue) → count_taken now id (drop taken bytes) ≡ 0 → after ≡ server_taken now id (drop taken bytes)
@@ -114,6 +139,10 @@ module _ (v : ServerValue) (id : ℕ) (bytes : List ℕ) (now : ServerValue) (ta
   pub stopped_shows : (after : ServerValue) → count_taken now id (drop taken bytes) ≡ 0 → after ≡ server_taken now id (drop taken bytes) → ShowsTake now id (drop taken bytes) after → ShowsMore v after (took v id bytes)
   stopped_shows after none is more = shows_as v after _ _ (sym (stops_there after none is).1) (shows_more after more)
 
+  pub stopped_told : (a b c : Option (List AcceptedCall)) (after : ServerValue) → count_taken now id (drop taken bytes) ≡ 0 → after ≡ server_taken now id (drop taken bytes)
+      → TellsMore a b (took_turns feeds.turns v id bytes) → TellsTake b c now id (drop taken bytes) → TellsMore a c (took v id bytes)
+  stopped_told a b c after none is so_far tells = rw (stops_there after none is).1 (told_more a b c so_far tells)
+
   -- Allocation failed.
   pub short : (count : ℕ) (after : ServerValue) → IsNotTaken now id (drop taken bytes) (taking.Memory count) after → IsPartialIn v id bytes after
   short count after refused = record {
@@ -123,12 +152,14 @@ module _ (v : ServerValue) (id : ℕ) (bytes : List ℕ) (now : ServerValue) (ta
     refused = rw feeds.so_far refused;
   }
 
-  pub short_shows : (count : ℕ) (after : ServerValue) → IsNotTaken now id (drop taken bytes) (taking.Memory count) after → ShowsMore now after (Took id (take count (drop taken bytes)) ∷ []) → ShowsPartlyFed v id bytes after
+  pub short_told : (a b c : Option (List AcceptedCall)) (count : ℕ) (after : ServerValue) → IsNotTaken now id (drop taken bytes) (taking.Memory count) after → ShowsMore now after (Took id (take count (drop taken bytes)) ∷ [])
+      → TellsMore a b (took_turns feeds.turns v id bytes) → TellsMore b c (Took id (take count (drop taken bytes)) ∷ []) → TellsPartlyFed (TellsMore a c) v id bytes after
   unfolding short
-  short_shows count after refused more = record {
+  short_told a b c count after refused more so_far tells = record {
     more = _;
     part = record { in_result = short count after refused; made = rw feeds.so_far };
     shows = shows_then v now after (took_turns feeds.turns v id bytes) _ feeds.shows more;
+    tells = told_then a b c (took_turns feeds.turns v id bytes) _ so_far tells;
   }
 
 -- No byte is left.
@@ -141,6 +172,9 @@ module _ (v : ServerValue) (id : ℕ) (bytes : List ℕ) (now : ServerValue) (ta
 
   pub used_up_shows : ShowsMore v now (took v id bytes)
   used_up_shows = shows_as v now _ _ (sym all_used.1) feeds.shows
+
+  pub used_up_told : (a b : Option (List AcceptedCall)) → TellsMore a b (took_turns feeds.turns v id bytes) → TellsMore a b (took v id bytes)
+  used_up_told a b tells = rw all_used.1 tells
 
 -- No connection has this id.
 module _ (v : ServerValue) (id : ℕ) (none : session_of id v.sessions ≡ None) where
@@ -172,6 +206,16 @@ module _ (v : ServerValue) (id : ℕ) (none : session_of id v.sessions ≡ None)
             ap (λ (f : InResult). f.server) all,
             stopped_shows v id bytes v 0 (feeds_nothing bytes) left v (takes_nothing rest) (stays_as_it_is rest) (rw none (shows_same v v refl)),
           )
+
+  pub told_nothing : (a : Option (List AcceptedCall)) (bytes : List ℕ) → TellsMore a a (took v id bytes)
+  unfolding took_turns feeds_nothing
+  told_nothing a bytes = told_cases (length bytes) refl
+    where
+      told_cases : (n : ℕ) → length bytes ≡ n → TellsMore a a (took v id bytes)
+      told_cases zero is = used_up_told v id bytes v 0 (feeds_nothing bytes) (omega (arith, is)) a a (told_none a)
+      told_cases (suc n) is =
+          let rest = drop 0 bytes in
+          stopped_told v id bytes v 0 (feeds_nothing bytes) (omega (arith, is)) a a a v (takes_nothing rest) (stays_as_it_is rest) (told_none a) (rw none (told_none a))
 
 -- ---- several events
 

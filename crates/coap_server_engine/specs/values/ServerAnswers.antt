@@ -1,8 +1,6 @@
 -- Defined by this project: the results of a server's calls, and the reasons for which they fail.
 use Rattle.std.specs.Prelude.{◌≡◌, ℕ, Bool, true, false, List, length, take, Option, Some, None, Result, Ok, Err, option_map, nat_le, nat_lt, ◌==◌, if◌then◌else◌}
 use Rattle.coap_conn.specs.declared.reason.Reason.{Reason}
-use Rattle.coap_conn.specs.declared.phase.SendFault.{SendFault}
-use Rattle.coap_conn.specs.declared.phase.SendFault.TheVariants as send
 use Rattle.coap_conn.specs.Phases.{stop_of}
 use Rattle.coap_conn.specs.LinkValue.{is_finished}
 use Rattle.coap_conn.specs.Release.{release_refusal}

@@ -3,7 +3,8 @@
 use super::sessions::{find, flush_at, settle_after, what_was_handled, written_at};
 use super::{FlushStep, Server};
 use coap_io::{Outlet, WriteFailed};
-use coap_model::{ConnId, TakeFault, Taken, WrittenFault};
+use crate::monitor::{Call, Monitor, NoMonitor};
+use coap_model::{ConnId, Handled, TakeFault, Taken, WrittenFault};
 use std::alloc::AllocError;
 
 impl Server {
@@ -15,7 +16,7 @@ impl Server {
     ghost use Rattle.coap_server_engine.specs.Prelude.{server_taken, server_written, can_take_on, handled_by};
     ghost use Rattle.coap_server_engine.specs.Prelude.{IsNotTaken, written_refusal, front_of, stop_on, LiesAt};
     ghost use Rattle.coap_server_engine.specs.Prelude.{AcceptedCall, Took, Wrote, takes, handled_in, Shows};
-    ghost use Rattle.coap_server_engine.specs.Prelude.{ShowsRefused, IsRefusedFor};
+    ghost use Rattle.coap_server_engine.specs.Prelude.{ShowsRefused, IsRefusedFor, TellsMore, TellsPartlyFed};
     ghost use Rattle.coap_server_engine.specs.contracts.server.Server.{the_row};
 
     /// Returns `true` if a connection accepts bytes.
@@ -122,20 +123,58 @@ impl Server {
         ensures err { OnErr result (IsPartialIn self.old id bytes.now self.new) }
         ensures shows_refused { OnErr result (ShowsPartlyFed self.old id bytes.now self.new) }
     {
+        self.take_all_with::<(), NoMonitor>(id, bytes, &mut NoMonitor)
+    }
+
+    /// Accepts bytes as `take_all` does. The monitor receives each call of `take`, also one that accepts no byte.
+    ///
+    /// # Errors
+    ///
+    /// Returns `AllocError` if allocation fails. The messages before the failure were processed then.
+    pub fn take_all_with<W, M: Monitor<W>>(
+        &mut self,
+        id: ConnId,
+        bytes: &[u8],
+        monitor: &mut M,
+    ) -> Result<usize, AllocError>
+        ensures count { IfOk result (λ n. n ≡ (in_result self.old id bytes.now).count) }
+        ensures within { IfOk result (λ n. n ≤ length bytes.now) }
+        ensures after { OnOk result (self.new ≡ (in_result self.old id bytes.now).server) }
+        ensures shows { OnOk result (ShowsMore self.old self.new (took self.old id bytes.now)) }
+        ensures told { OnOk result (TellsMore (M.calls monitor.old) (M.calls monitor.new) (took self.old id bytes.now)) }
+        ensures err { OnErr result (IsPartialIn self.old id bytes.now self.new) }
+        ensures told_partly { OnErr result (TellsPartlyFed (TellsMore (M.calls monitor.old) (M.calls monitor.new))
+            self.old id bytes.now self.new) }
+    {
         let Some(at) = find(&self.sessions, id) else {
             return Ok(0);
         };
         let mut taken = 0;
         while taken < bytes.len() {
-            match self.take_at(at, id, &bytes[taken..]) {
+            let rest = &bytes[taken..];
+            match self.take_at(at, id, rest) {
                 Ok(piece) => {
+                    let took = Call::Took {
+                        id,
+                        bytes: &rest[..piece.bytes],
+                        handled: piece.handled,
+                    };
+                    monitor.accepted(took, self);
                     if piece.bytes == 0 {
                         return Ok(taken);
                     }
                     taken += piece.bytes;
                 }
                 Err(TakeFault::NoSuch) => return Ok(taken),
-                Err(TakeFault::Memory { bytes: _ }) => return Err(AllocError),
+                Err(TakeFault::Memory { bytes: count }) => {
+                    let took = Call::Took {
+                        id,
+                        bytes: &rest[..count],
+                        handled: Handled::Nothing,
+                    };
+                    monitor.accepted(took, self);
+                    return Err(AllocError);
+                }
             }
         }
         Ok(taken)

@@ -1,5 +1,5 @@
 -- After input that changes no resource, a connection has nothing to settle but its pending entries.
-use Rattle.std.proofs.Common.{◌≡◌, ℕ, ◌+◌, ◌-◌, Bool, true, false, ◌&&◌, List, [], ◌++◌, length, take, Option, Some, None, refl, sym, ap, subst, ◌∙◌, arith, not, nat_lt, ◌==◌, Result, Ok, Err}
+use Rattle.std.proofs.Common.{◌≤◌, ◌≡◌, ℕ, ◌+◌, ◌-◌, Bool, true, false, ◌&&◌, List, [], ◌++◌, length, take, Option, Some, None, refl, sym, ap, subst, ◌∙◌, arith, not, nat_lt, ◌==◌, Result, Ok, Err}
 use Rattle.coap_server_session.specs.Prelude.{AllByRecursion, Message, StreamPrefix, Unfinished, Faulty, prefix_kind}
 use Rattle.coap_server_session.specs.Prelude.{FormatFault, message_of, Framing, FrameEventValue, AFrame, AFault, framing_at}
 use Rattle.coap_server_session.specs.Prelude.{framing, without_last, is_open, takes_messages, OfFrame, reject_of, fit}
@@ -120,11 +120,19 @@ taking_where_takes host v piece takes = rw takes refl
 
 -- Without its last byte, the message is not processed, and its bytes are kept.
 module _ (host : ServerState) (v : SessionValue) (piece : List ℕ) (count : ℕ) (refuses : RefusesPiece host v piece count) where
+  whole_piece : (frame : List ℕ) × (rest : List ℕ) × (prefix_kind (session_max v) (v.frame ++ piece) ≡ Whole frame rest) × (length piece - length rest ≡ count + 1)
+  whole_piece =
+      let all = taking_where_takes host v piece refuses.takes in
+      put_is_whole host v piece (prefix_kind (session_max v) (v.frame ++ piece)) count (sym (ap (λ (t : TakeOutcome). t.count) all) ∙ refuses.last) (subst (λ (t : TakeOutcome). IsPut t.change) all refuses.stores)
+
+  -- The accepted bytes are fewer than those of the slice.
+  pub refused_within : count + 1 ≤ length piece
+  refused_within = let whole = whole_piece in omega (arith, whole.3)
+
   front_taken : taking host v (take count piece) ≡ taking_begun host v (take count piece) Unfinished
   front_taken =
       let M : ℕ = session_max v in
-      let all = taking_where_takes host v piece refuses.takes in
-      let whole = put_is_whole host v piece (prefix_kind M (v.frame ++ piece)) count (sym (ap (λ (t : TakeOutcome). t.count) all) ∙ refuses.last) (subst (λ (t : TakeOutcome). IsPut t.change) all refuses.stores) in
+      let whole = whole_piece in
       taking_where_takes host v (take count piece) refuses.takes ∙ ap (taking_begun host v (take count piece)) (before_whole M v.frame piece whole.0 whole.1 count whole.2 whole.3)
 
   pub refused_changes_nothing : (taking host v (take count piece)).change ≡ answer.Nothing

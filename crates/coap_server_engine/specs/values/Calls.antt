@@ -1,0 +1,29 @@
+-- Defined by this project: the calls that a monitor receives, as events of a server.
+use Rattle.std.specs.Prelude.{◌+◌, List, length, ℕ}
+use Rattle.coap_model.specs.world.Events.{AcceptedCall}
+use Rattle.coap_model.specs.world.Events as event
+use Rattle.coap_server_engine.specs.declared.monitor.Call.{Call}
+use Rattle.coap_server_engine.specs.declared.monitor.Call.TheVariants as call
+use Rattle.coap_server_engine.specs.values.InResults.{IsPartlyTaken, ShowsMore}
+use Rattle.coap_server_engine.specs.values.Servers.{ServerValue}
+
+-- The event of a call.
+abbrev pub call_value : {W : Type 0} → Call W → AcceptedCall
+call_value (call.Opened id wire) = event.Opened id
+call_value (call.Took id bytes handled) = event.Took id bytes.now
+call_value (call.Wrote id first second) = event.Wrote id (length first.now + length second.now)
+call_value (call.Ticked now) = event.Ticked now
+call_value (call.Stored path format bytes) = event.Stored path.now format bytes.now
+call_value (call.Removed path) = event.Removed path.now
+call_value (call.Ended id) = event.Ended id
+call_value (call.Released id) = event.Released id
+call_value (call.Announced id size) = event.Announced id size
+call_value (call.Dropped id) = event.Dropped id
+
+-- Holds if an allocation failed in a take. The server shows the events of the takes before it, and of the bytes which
+-- the failing take accepted. `told` holds of these events.
+pub record TellsPartlyFed (told : List AcceptedCall → Type 0) (v : ServerValue) (id : ℕ) (bytes : List ℕ) (after : ServerValue) : Type 0 where
+  pub more : List AcceptedCall
+  pub part : IsPartlyTaken v id bytes after more
+  pub shows : ShowsMore v after more
+  pub tells : told more
