@@ -1,6 +1,7 @@
 //! Runs a server over the connections that a listener (`Door`) accepts.
 
 ghost use Rattle.coap_serve.specs.Prelude.{IsDoorRun, waited_behind, TellsMore, trace_by, IsMemoryOrTurns};
+ghost use Rattle.coap_serve.specs.Prelude.{Unrecorded};
 
 mod next_wakeup;
 mod peer;
@@ -11,6 +12,7 @@ mod turn;
 use crate::serve::IoFault;
 use coap_io::{Clock, Door, Wait};
 use coap_model::Config;
+use coap_server_engine::{Monitor, NoMonitor};
 pub use service::Service;
 use std::alloc::Global;
 
@@ -61,7 +63,31 @@ pub fn serve_door<D: Door, C: Clock>(
     ensures run { let tells = TellsMore (C.moments clock.old) (C.moments clock.new) in
         IsDoorRun D.Wire.readable D.Wire.writable
         (trace_by D.Wire.given D.Wire.written D.Wire.answers D.Wire.rooms) config tells
-        (TellsMore (D.calls door.old) (D.calls door.new)) result }
+        (TellsMore (D.calls door.old) (D.calls door.new)) Unrecorded result }
+{
+    serve_door_with(alloc, door, clock, config, &mut NoMonitor)
+}
+
+/// Serves the connections that a listener accepts, as `serve_door` does. The monitor receives each call that the server
+/// accepts, in order, and the end of each turn.
+///
+/// # Errors
+///
+/// Those of `serve_door`.
+pub fn serve_door_with<D: Door, C: Clock, M: Monitor<D::Wire>>(
+    alloc: Global,
+    door: &mut D,
+    clock: &mut C,
+    config: Config,
+    monitor: &mut M,
+) -> Result<(), IoFault>
+    ensures fault { IsMemoryOrTurns result }
+    // The monitor received exactly the calls of the run: those that the server shows at its end.
+    ensures run { let tells = TellsMore (C.moments clock.old) (C.moments clock.new) in
+        IsDoorRun D.Wire.readable D.Wire.writable
+        (trace_by D.Wire.given D.Wire.written D.Wire.answers D.Wire.rooms) config tells
+        (TellsMore (D.calls door.old) (D.calls door.new)) (TellsMore (M.calls monitor.old) (M.calls monitor.new))
+        result }
 {
     let Ok(mut service) = Service::new(alloc, config) else {
         return Err(IoFault::Memory);
@@ -69,8 +95,9 @@ pub fn serve_door<D: Door, C: Clock>(
     let mut wait = Wait::No;
     for turn in 0..config.turns() {
         wait_after_turn(door, turn, wait, service.can_open());
-        let _ = service.tick(clock.now());
-        wait = service.turn(door)?;
+        let _ = service.tick_with(clock.now(), monitor);
+        wait = service.turn_with(door, monitor)?;
+        monitor.turn_ended();
     }
     Err(IoFault::Turns)
 }

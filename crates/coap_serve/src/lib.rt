@@ -29,8 +29,8 @@ pub use coap_model::{
     OpenFault, ReleaseFault, Starts, Status, TakeFault, Taken, WrittenFault,
 };
 pub use coap_script::{Event, ScriptFault, script, scripts_go_on_behind_whole_lines};
-pub use coap_server_engine::{ReplayFault, Server};
+pub use coap_server_engine::{Call, Monitor, NoMonitor, ReplayFault, Server};
 pub use coap_store::{PathKey, StoreFault};
 pub use coap_text::{bytes_in, number_in};
-pub use door::{Service, serve_door};
+pub use door::{Service, serve_door, serve_door_with};
 pub use serve::{IoFault, Report, serve_one};

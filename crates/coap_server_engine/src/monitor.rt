@@ -1,17 +1,15 @@
 //! The interface through which a program follows the calls that a server accepts, for a log or a record.
 
 ghost use Rattle.std.specs.Prelude.{◌≡◌, List, [], ◌∷◌, Option, None};
-ghost use Rattle.coap_server_engine.specs.Prelude.{AcceptedCall, TellsMore, call_value};
+ghost use Rattle.coap_server_engine.specs.Prelude.{AcceptedCall, Opened, TellsMore, call_value};
 
 use crate::server::Server;
 use coap_model::{ConnId, Handled};
 use coap_store::PathKey;
 
-/// Call that a server accepted, with its arguments and its result. `W` is the type of the transport connections.
+/// Call that a server accepted, with its arguments and its result. `Monitor::opened` receives that of `open`.
 #[derive(Drop)]
-pub enum Call<'a, W> {
-    /// Connection that was opened with this number, and its transport connection.
-    Opened(ConnId, &'a W),
+pub enum Call<'a> {
     /// Bytes that a connection accepted, at most up to the end of one message.
     Took {
         /// Number of the connection.
@@ -45,9 +43,14 @@ pub trait Monitor<W> {
     /// Calls received so far, in order, if the monitor records them.
     ghost calls: { Self → Option (List AcceptedCall) } = { λ _. None };
 
-    /// Receives a call that the server accepted. `server` is the server after the call. Only for `Call::Wrote` is it
+    /// Receives a call of `open`: the number of the new connection, and its transport connection. `server` is the server
+    /// after the call.
+    fn opened(&mut self, id: ConnId, wire: &W, server: &Server)
+        ensures { TellsMore (calls self.old) (calls self.new) (Opened id ∷ []) };
+
+    /// Receives any other call that the server accepted. `server` is the server after the call. Only for `Call::Wrote` is it
     /// the server before the call, whose queue still has the bytes.
-    fn accepted(&mut self, call: Call<'_, W>, server: &Server)
+    fn accepted(&mut self, call: Call<'_>, server: &Server)
         ensures { TellsMore (calls self.old) (calls self.new) (call_value call.entry ∷ []) };
 
     /// Receives the end of a turn of the event loop: the listener waits next.
@@ -60,7 +63,12 @@ pub trait Monitor<W> {
 pub struct NoMonitor;
 
 impl<W> Monitor<W> for NoMonitor {
-    fn accepted(&mut self, _call: Call<'_, W>, _server: &Server)
+    fn opened(&mut self, _id: ConnId, _wire: &W, _server: &Server)
+        ensures { TellsMore None None (Opened _id ∷ []) }
+    {
+    }
+
+    fn accepted(&mut self, _call: Call<'_>, _server: &Server)
         ensures { TellsMore None None (call_value _call.entry ∷ []) }
     {
     }

@@ -19,6 +19,10 @@ use Rattle.coap_io.specs.declared.wire.Wait.{Wait}
 
 -- ---- events
 
+-- Holds of all events: no monitor receives them.
+abbrev pub Unrecorded : List AcceptedCall → Type 0
+Unrecorded events = Unit {0}
+
 -- The events of serving connections: bytes are accepted, bytes are written, an input ends, a connection is dropped.
 abbrev pub IsServing : AcceptedCall → Type 0
 IsServing (Opened id) = ⊥
@@ -33,11 +37,12 @@ IsServing (Announced id size) = ⊥
 IsServing (Dropped id) = Unit {0}
 
 -- Connections were served, and nothing else happened. If the server showed some events before, it now shows them
--- followed by events of serving.
-pub record HasServed (v after : ServerValue) : Type 0 where
+-- followed by events of serving. `told` holds of these events.
+pub record HasServed (told : List AcceptedCall → Type 0) (v after : ServerValue) : Type 0 where
   pub events : List AcceptedCall
   pub serving : AllByRecursion IsServing events
   pub shows : ShowsMore v after events
+  pub tells : told events
 
 -- The event that opens a connection with the next number, or no event.
 abbrev pub opening : ServerValue → Bool → List AcceptedCall
@@ -45,12 +50,13 @@ opening v true = Opened (v.ids + 1) ∷ []
 opening v false = []
 
 -- A turn was made in full or in part. At most one connection was opened, then connections were served, and nothing else
--- happened.
-pub record HasTurned (v after : ServerValue) : Type 0 where
+-- happened. `told` holds of the events.
+pub record HasTurned (told : List AcceptedCall → Type 0) (v after : ServerValue) : Type 0 where
   pub opens : Bool
   pub events : List AcceptedCall
   pub serving : AllByRecursion IsServing events
   pub shows : ShowsMore v after (opening v opens ++ events)
+  pub tells : told (opening v opens ++ events)
 
 -- ---- each connection in order
 

@@ -14,7 +14,7 @@ use crate::serve::IoFault;
 use coap_conn::first_part;
 use coap_io::{Got, ReadBuffer, Ready, Wire};
 use coap_model::ConnId;
-use coap_server_engine::{ChangeStamp, ConnectionWork, Server};
+use coap_server_engine::{Call, ChangeStamp, ConnectionWork, Monitor, Server};
 use indexmap::IndexMap;
 
 /// Transport side of a connection.
@@ -81,28 +81,30 @@ pub(super) enum PeerOutcome {
 /// # Errors
 ///
 /// - `Memory`: an allocation failed.
-pub(super) fn serve_peer<W: Wire>(
+pub(super) fn serve_peer<W: Wire, M: Monitor<W>>(
     server: &mut Server,
     id: ConnId,
     peer: &mut Peer<W>,
     may_read: bool,
     may_write: bool,
+    monitor: &mut M,
 ) -> Result<PeerOutcome, IoFault>
     // The wire is read once if a read is due, and written once if bytes are queued and `may_write` is `true`. Otherwise
     // it is not touched.
     ensures part { IfOk result (λ course. IsServedOnce may_read may_write server.old id peer.old.rest
         (trace_by W.given W.written W.answers W.rooms peer.old.wire) server.new peer.new.rest
         (trace_by W.given W.written W.answers W.rooms peer.new.wire) course) }
-    ensures shows { HasServed server.old server.new }
+    ensures shows { HasServed (TellsMore (M.calls monitor.old) (M.calls monitor.new))
+        server.old server.new }
     ensures wants { IfOk result (λ course. course ≡ Open → peer.new.wants ≡ wants_of server.new id peer.new.rest) }
     ensures fault { IfErr result IsMemory }
 {
-    let heard = read_wire(server, id, peer, may_read);
+    let heard = read_wire(server, id, peer, may_read, monitor);
     if failed(heard) {
         return Ok(PeerOutcome::Over);
     }
-    take_buffered(server, id, &mut peer.rest)?;
-    let wrote = write_once(server, id, &mut peer.wire, may_write);
+    take_buffered(server, id, &mut peer.rest, monitor)?;
+    let wrote = write_once(server, id, &mut peer.wire, may_write, monitor);
     let outlook = server.outlook(id);
     peer.wants = wants_by(outlook, peer.rest.is_empty(), server.stamp());
     Ok(outcome(wrote, is_over(outlook)))
@@ -134,9 +136,16 @@ fn outcome(wrote: Got, is_over: bool) -> PeerOutcome
 /// Reads once if `may_read` is `true`, all bytes of earlier reads were accepted, and the connection accepts bytes.
 /// Returns the result of the read, or `Later` if there was none. The end of input is reported to the connection.
 #[tactic(auto, using(crate::proofs::streams::ServingLemmas::none_served))]
-fn read_wire<W: Wire>(server: &mut Server, id: ConnId, peer: &mut Peer<W>, may_read: bool) -> Got
+fn read_wire<W: Wire, M: Monitor<W>>(
+    server: &mut Server,
+    id: ConnId,
+    peer: &mut Peer<W>,
+    may_read: bool,
+    monitor: &mut M,
+) -> Got
     ensures server { server.new ≡ server_heard server.old id result }
-    ensures shows { HasServed server.old server.new }
+    ensures shows { HasServed (TellsMore (M.calls monitor.old) (M.calls monitor.new))
+        server.old server.new }
     // If a read is due, the wire is read once, into a buffer of 16,384 bytes, and `peer.rest` has the bytes of that
     // read.
     ensures laid { IsLaidOut (is_heard may_read server.old id peer.old.rest) peer.old.rest
@@ -153,6 +162,7 @@ fn read_wire<W: Wire>(server: &mut Server, id: ConnId, peer: &mut Peer<W>, may_r
         let Ok(()) = server.ended(id) else {
             unreachable!()
         };
+        monitor.accepted(Call::Ended(id), server);
     }
     got
 }
@@ -164,14 +174,20 @@ fn read_wire<W: Wire>(server: &mut Server, id: ConnId, peer: &mut Peer<W>, may_r
 ///
 /// - `Memory`: an allocation failed for a representation that a message stores.
 #[tactic(auto, using(crate::proofs::streams::ServingLemmas::part_served))]
-fn take_buffered(server: &mut Server, id: ConnId, rest: &mut ReadBuffer) -> Result<(), IoFault>
+fn take_buffered<W, M: Monitor<W>>(
+    server: &mut Server,
+    id: ConnId,
+    rest: &mut ReadBuffer,
+    monitor: &mut M,
+) -> Result<(), IoFault>
     ensures server { OnOk result (server.new ≡ (in_result server.old id rest.old).server) }
-    ensures shows { HasServed server.old server.new }
+    ensures shows { HasServed (TellsMore (M.calls monitor.old) (M.calls monitor.new))
+        server.old server.new }
     ensures rest { OnOk result (rest.new ≡ rest_left server.old id rest.old) }
     ensures fault { IfErr result IsMemory }
     ensures err { OnErr result (IsPartialIn server.old id rest.old server.new) }
 {
-    let Ok(count) = server.take_all(id, rest.bytes()) else {
+    let Ok(count) = server.take_all_with(id, rest.bytes(), monitor) else {
         return Err(IoFault::Memory);
     };
     rest.advance(count);
@@ -184,9 +200,16 @@ fn take_buffered(server: &mut Server, id: ConnId, rest: &mut ReadBuffer) -> Resu
 /// Writes queued bytes of a connection once, from the first, if some are queued and `may_write` is `true`. Returns the
 /// result of the write, or `Later` if there was none. The result `End` of a write is returned as `Failed`.
 #[tactic(auto, using(crate::proofs::streams::ServingLemmas::none_served, coap_conn::proofs::NextPartLemmas::few_written))]
-fn write_once<W: Wire>(server: &mut Server, id: ConnId, wire: &mut W, may_write: bool) -> Got
+fn write_once<W: Wire, M: Monitor<W>>(
+    server: &mut Server,
+    id: ConnId,
+    wire: &mut W,
+    may_write: bool,
+    monitor: &mut M,
+) -> Got
     ensures server { server.new ≡ server_wrote server.old id result }
-    ensures shows { HasServed server.old server.new }
+    ensures shows { HasServed (TellsMore (M.calls monitor.old) (M.calls monitor.new))
+        server.old server.new }
     ensures within { IsWithin (length (waiting_once may_write id server.old)) result }
     ensures idle { waiting_once may_write id server.old ≡ [] → (wire.new ≡ wire.old) × (result ≡ Later) }
     ensures wrote { waiting_once may_write id server.old ≢ [] →
@@ -211,6 +234,7 @@ fn write_once<W: Wire>(server: &mut Server, id: ConnId, wire: &mut W, may_write:
     }
     match wire.write(part) {
         Got::Bytes(count) => {
+            monitor.accepted(Call::Wrote(id, &part[..count], &[]), server);
             let Ok(()) = server.written(id, count) else {
                 unreachable!()
             };

@@ -8,7 +8,7 @@ use super::turn::take_turn;
 use crate::serve::IoFault;
 use coap_io::{Door, Ready, Wait, Wire};
 use coap_model::{Backwards, Config};
-use coap_server_engine::Server;
+use coap_server_engine::{Call, Monitor, NoMonitor, Server};
 use coap_store::{PathKey, StoreFault};
 use indexmap::IndexMap;
 use std::alloc::{AllocError, Global};
@@ -31,7 +31,7 @@ impl<W: Wire + Ready + Drop> Service<W> {
     ghost use Rattle.coap_serve.specs.Prelude.{RefusedBy, RefusedOrMemory, put_refusal, remove_refusal, HasTurned};
     ghost use Rattle.coap_serve.specs.Prelude.{IsAskedOnce, IsTurnOf, moved_to, TellsMore, trace_by, IsMemory};
     ghost use Rattle.coap_serve.specs.Prelude.{open_refusal, new_server, server_put, server_removed, server_ticked};
-    ghost use Rattle.coap_serve.specs.Prelude.{AcceptedCall, Ticked, Stored, Removed, Shows};
+    ghost use Rattle.coap_serve.specs.Prelude.{AcceptedCall, Ticked, Stored, Removed, Shows, Unrecorded};
     ghost use Rattle.coap_serve.specs.declared.serve.IoFault.TheVariants as fault;
 
     /// Returns a server with no connection and an empty store. Its counters begin at the values that the configuration
@@ -77,6 +77,26 @@ impl<W: Wire + Ready + Drop> Service<W> {
         ensures spent { self.new.is_spent ≡ self.old.is_spent }
     {
         self.server.tick(now)
+    }
+
+    /// Sets the time as `tick` does. If it succeeds, the monitor receives the call.
+    ///
+    /// # Errors
+    ///
+    /// - `Backwards`: the time is earlier than that of the server, which is unchanged.
+    pub fn tick_with<M: Monitor<W>>(&mut self, now: u64, monitor: &mut M) -> Result<(), Backwards>
+        ensures answer { is_ok result ≡ nat_le self.old.server.host.now now }
+        ensures moved { self.new.server ≡ moved_to self.old.server now }
+        ensures shows { OnOk result ((events : List AcceptedCall) → Shows self.old.server events →
+            Shows self.new.server (events ++ Ticked now ∷ [])) }
+        ensures told { OnOk result (TellsMore (M.calls monitor.old) (M.calls monitor.new) (Ticked now ∷ [])) }
+        ensures err { OnErr result ((self.new.server ≡ self.old.server) × (monitor.new ≡ monitor.old)) }
+        ensures peers { self.new.peers ≡ self.old.peers }
+        ensures spent { self.new.is_spent ≡ self.old.is_spent }
+    {
+        self.tick(now)?;
+        monitor.accepted(Call::Ticked(now), &self.server);
+        Ok(())
     }
 
     /// Stores a representation as `Server::put` does, and returns its version. Observers of the path are notified.
@@ -135,10 +155,39 @@ impl<W: Wire + Ready + Drop> Service<W> {
     /// # Errors
     ///
     /// - `Memory`: an allocation failed, in this turn or in an earlier one. No later turn does anything.
-    #[tactic(auto, using(crate::proofs::streams::ServingLemmas::turned_as_before))]
     pub fn turn<D: Door<Wire = W>>(&mut self, door: &mut D) -> Result<Wait, IoFault>
         // The events of a turn are at most one opened connection, followed by events of served connections.
-        ensures shows { HasTurned self.old.server self.new.server }
+        ensures shows { HasTurned Unrecorded self.old.server self.new.server }
+        // The listener is asked once if another connection may be opened, and not otherwise.
+        ensures asks { self.old.is_spent ≡ false
+            → IsAskedOnce (TellsMore (D.calls door.old) (D.calls door.new)) self.old.server }
+        // At most one connection is opened. Then each connection in order is served, except those that are idle. Its
+        // wire is read and written at no other time. The clause also determines the result.
+        ensures turn { IfOk result (λ wait. IsTurnOf W.readable W.writable
+            (trace_by W.given W.written W.answers W.rooms) (TellsMore (D.calls door.old) (D.calls door.new))
+            self.old.server self.old.peers.entries self.new.server self.new.peers.entries wait) }
+        ensures fault { IfErr result IsMemory }
+        ensures ready { OnOk result (self.new.is_spent ≡ false) }
+        ensures spent { OnErr result (self.new.is_spent ≡ true) }
+        ensures over { self.old.is_spent ≡ true → (self.new ≡ self.old) × (result ≡ Err fault.Memory) }
+    {
+        self.turn_with(door, &mut NoMonitor)
+    }
+
+    /// Runs one turn of the event loop as `turn` does. The monitor receives each call that the server accepts in it.
+    ///
+    /// # Errors
+    ///
+    /// - `Memory`: an allocation failed, in this turn or in an earlier one. No later turn does anything.
+    #[tactic(auto, using(crate::proofs::streams::ServingLemmas::turned_as_before))]
+    pub fn turn_with<D: Door<Wire = W>, M: Monitor<W>>(
+        &mut self,
+        door: &mut D,
+        monitor: &mut M,
+    ) -> Result<Wait, IoFault>
+        // The events of a turn are at most one opened connection, followed by events of served connections.
+        ensures shows { HasTurned (TellsMore (M.calls monitor.old) (M.calls monitor.new))
+             self.old.server self.new.server }
         // The listener is asked once if another connection may be opened, and not otherwise.
         ensures asks { self.old.is_spent ≡ false
             → IsAskedOnce (TellsMore (D.calls door.old) (D.calls door.new)) self.old.server }
@@ -156,7 +205,13 @@ impl<W: Wire + Ready + Drop> Service<W> {
             return Err(IoFault::Memory);
         }
         self.is_spent = true;
-        let wait = take_turn(self.alloc, &mut self.server, &mut self.peers, door)?;
+        let wait = take_turn(
+            self.alloc,
+            &mut self.server,
+            &mut self.peers,
+            door,
+            monitor,
+        )?;
         self.is_spent = false;
         Ok(wait)
     }

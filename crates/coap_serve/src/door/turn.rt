@@ -13,7 +13,7 @@ use super::peer::{Peer, PeerOutcome, Peers, serve_peer};
 use super::peer_interest::wants_on;
 use crate::serve::IoFault;
 use coap_io::{Door, ReadBuffer, Ready, Wait, Wire};
-use coap_server_engine::Server;
+use coap_server_engine::{Call, Monitor, Server};
 use std::alloc::Global;
 
 /// Runs one turn: opens at most one connection, if the listener returns one, and serves each connection. Returns how
@@ -22,14 +22,16 @@ use std::alloc::Global;
 /// # Errors
 ///
 /// - `Memory`: an allocation failed.
-pub(super) fn take_turn<D: Door>(
+pub(super) fn take_turn<D: Door, M: Monitor<D::Wire>>(
     alloc: Global,
     server: &mut Server,
     peers: &mut Peers<D::Wire>,
     door: &mut D,
+    monitor: &mut M,
 ) -> Result<Wait, IoFault>
     requires { AreNoted server.old peers.old.entries }
-    ensures shows { HasTurned server.old server.new }
+    ensures shows { HasTurned (TellsMore (M.calls monitor.old) (M.calls monitor.new))
+        server.old server.new }
     // The listener is asked once if another connection may be opened, and not otherwise.
     ensures asks { IsAskedOnce (TellsMore (D.calls door.old) (D.calls door.new)) server.old }
     // Each connection is served, and the result is the time that the listener may wait.
@@ -41,8 +43,8 @@ pub(super) fn take_turn<D: Door>(
     ensures settled { OnOk result (AreSettled server.new.host server.new.sessions) }
     ensures fault { IfErr result IsMemory }
 {
-    let opens = accept(alloc, server, peers, door)?;
-    let agenda = serve_each(server, peers)?;
+    let opens = accept(alloc, server, peers, door, monitor)?;
+    let agenda = serve_each(server, peers, monitor)?;
     Ok(agenda.with(opens, None).wait())
 }
 
@@ -52,14 +54,16 @@ pub(super) fn take_turn<D: Door>(
 ///
 /// - `Memory`: an allocation failed.
 #[tactic(auto, using(crate::proofs::streams::ServingLemmas::turned_as_before, crate::proofs::streams::ServingLemmas::turned_open))]
-fn accept<D: Door>(
+fn accept<D: Door, M: Monitor<D::Wire>>(
     alloc: Global,
     server: &mut Server,
     peers: &mut Peers<D::Wire>,
     door: &mut D,
+    monitor: &mut M,
 ) -> Result<bool, IoFault>
     requires { AreNoted server.old peers.old.entries }
-    ensures shows { HasTurned server.old server.new }
+    ensures shows { HasTurned (TellsMore (M.calls monitor.old) (M.calls monitor.new))
+        server.old server.new }
     ensures noted { OnOk result (AreNoted server.new peers.new.entries) }
     ensures fault { IfErr result IsMemory }
     // The listener is asked once if another connection may be opened. Otherwise it is not asked, so it returns no wire
@@ -83,6 +87,7 @@ fn accept<D: Door>(
     let Ok(id) = server.open() else {
         return Err(IoFault::Memory);
     };
+    monitor.opened(id, &wire, server);
     let wants = wants_on(server, id, &rest);
     let Ok(_) = peers.insert(id, Peer { wire, rest, wants }) else {
         return Err(IoFault::Memory);
@@ -96,12 +101,14 @@ fn accept<D: Door>(
 /// # Errors
 ///
 /// - `Memory`: an allocation failed.
-fn serve_each<W: Wire + Ready + Drop>(
+fn serve_each<W: Wire + Ready + Drop, M: Monitor<W>>(
     server: &mut Server,
     peers: &mut Peers<W>,
+    monitor: &mut M,
 ) -> Result<NextWakeup, IoFault>
     requires { AreNoted server.old peers.old.entries }
-    ensures shows { HasServed server.old server.new }
+    ensures shows { HasServed (TellsMore (M.calls monitor.old) (M.calls monitor.new))
+        server.old server.new }
     // Each connection in order is served, except those that are idle, and the result is the work that remains.
     ensures round { IfOk result (λ agenda. IsRound W.readable W.writable
         (trace_by W.given W.written W.answers W.rooms) server.old peers.old.entries agenda server.new
@@ -112,7 +119,7 @@ fn serve_each<W: Wire + Ready + Drop>(
 {
     let mut seen = skip_idle(peers, TurnProgress::none(), server.stamp());
     while seen.at < peers.len() {
-        let served = serve_next(server, peers, seen)?;
+        let served = serve_next(server, peers, seen, monitor)?;
         seen = skip_idle(peers, served, server.stamp());
     }
     Ok(seen.agenda)
@@ -123,15 +130,17 @@ fn serve_each<W: Wire + Ready + Drop>(
 /// # Errors
 ///
 /// - `Memory`: an allocation failed.
-fn serve_next<W: Wire + Ready + Drop>(
+fn serve_next<W: Wire + Ready + Drop, M: Monitor<W>>(
     server: &mut Server,
     peers: &mut Peers<W>,
     seen: TurnProgress,
+    monitor: &mut M,
 ) -> Result<TurnProgress, IoFault>
     requires there { seen.at < length peers.old.entries }
     requires fits { length peers.old.entries < 2 ^ 64 }
     requires noted { AreNoted server.old peers.old.entries }
-    ensures shows { HasServed server.old server.new }
+    ensures shows { HasServed (TellsMore (M.calls monitor.old) (M.calls monitor.new))
+        server.old server.new }
     // The connection was served, and the others are unchanged.
     ensures part { IfOk result (λ later. HasGoneOn W.readable W.writable
         (trace_by W.given W.written W.answers W.rooms) server.old peers.old.entries seen.at server.new
@@ -151,12 +160,12 @@ fn serve_next<W: Wire + Ready + Drop>(
     ensures fault { IfErr result IsMemory }
 {
     let before = server.stamp();
-    let course = serve_at(server, peers, seen.at)?;
+    let course = serve_at(server, peers, seen.at, monitor)?;
     let concerned = affects_served_peers(seen.at, before, server.stamp());
     let agenda = seen.agenda.with(concerned, None);
     match course {
         PeerOutcome::Over => {
-            drop_at(server, peers, seen.at);
+            drop_at(server, peers, seen.at, monitor);
             Ok(TurnProgress { agenda, ..seen })
         }
         PeerOutcome::Open => {
@@ -174,15 +183,17 @@ fn serve_next<W: Wire + Ready + Drop>(
 /// # Errors
 ///
 /// - `Memory`: an allocation failed.
-fn serve_at<W: Wire + Ready>(
+fn serve_at<W: Wire + Ready, M: Monitor<W>>(
     server: &mut Server,
     peers: &mut Peers<W>,
     at: usize,
+    monitor: &mut M,
 ) -> Result<PeerOutcome, IoFault>
     requires there { at < length peers.old.entries }
     requires settled { AreSettled server.old.host server.old.sessions }
     requires noted { AreNoted server.old peers.old.entries }
-    ensures shows { HasServed server.old server.new }
+    ensures shows { HasServed (TellsMore (M.calls monitor.old) (M.calls monitor.new))
+        server.old server.new }
     ensures part { IfSome (slice_get peers.old.entries at)
         (λ was. IfSome (slice_get peers.new.entries at)
         (λ is. IfOk result (λ course. IsServed (W.readable was.1.wire) (W.writable was.1.wire) server.old was.0
@@ -202,16 +213,22 @@ fn serve_at<W: Wire + Ready>(
     let (id, peer) = peers.pair_mut(at);
     let may_read = peer.wire.may_read();
     let may_write = peer.wire.may_write();
-    serve_peer(server, *id, peer, may_read, may_write)
+    serve_peer(server, *id, peer, may_read, may_write, monitor)
 }
 
 /// Drops the connection at an index.
 #[tactic(auto, using(crate::proofs::streams::ServingLemmas::none_served, crate::proofs::streams::ServingLemmas::dropped_served))]
-fn drop_at<W: Wire + Drop>(server: &mut Server, peers: &mut Peers<W>, at: usize)
+fn drop_at<W: Wire + Drop, M: Monitor<W>>(
+    server: &mut Server,
+    peers: &mut Peers<W>,
+    at: usize,
+    monitor: &mut M,
+)
     requires there { at < length peers.old.entries }
     requires settled { AreSettled server.old.host server.old.sessions }
     requires noted { AreNoted server.old (remove peers.old.entries at) }
-    ensures shows { HasServed server.old server.new }
+    ensures shows { HasServed (TellsMore (M.calls monitor.old) (M.calls monitor.new))
+        server.old server.new }
     ensures noted { AreNoted server.new peers.new.entries }
     ensures peers { peers.new.entries ≡ remove peers.old.entries at }
     ensures host { server.new.host ≡ server.old.host }
@@ -219,6 +236,9 @@ fn drop_at<W: Wire + Drop>(server: &mut Server, peers: &mut Peers<W>, at: usize)
         (λ id. server.new ≡ server_dropped server.old id) }
 {
     if let Some((id, _)) = peers.shift_remove_index(at) {
-        let _ = server.drop_conn(id);
+        match server.drop_conn(id) {
+            Ok(()) => monitor.accepted(Call::Dropped(id), server),
+            Err(_) => {}
+        }
     }
 }

@@ -8,8 +8,7 @@ use Rattle.coap_server_engine.specs.values.InResults.{IsPartlyTaken, ShowsMore}
 use Rattle.coap_server_engine.specs.values.Servers.{ServerValue}
 
 -- The event of a call.
-abbrev pub call_value : {W : Type 0} → Call W → AcceptedCall
-call_value (call.Opened id wire) = event.Opened id
+abbrev pub call_value : Call → AcceptedCall
 call_value (call.Took id bytes handled) = event.Took id bytes.now
 call_value (call.Wrote id first second) = event.Wrote id (length first.now + length second.now)
 call_value (call.Ticked now) = event.Ticked now

@@ -1,4 +1,5 @@
-use Rattle.std.proofs.Common.{rules, refl, sym}
+use Rattle.std.proofs.Common.{rules, refl, sym, add-zero}
+use Rattle.std.proofs.lemmas.List.{length-take-le}
 use Rattle.coap_serve.specs.Prelude.{Answered, waiting_at, Bytes, Later, End, Failed}
 use Rattle.coap_serve.proofs.streams.NextPartLemmas.{none_refused}
 use Rattle.coap_io.proofs.streams.DeviceLemmas.{part_written}
@@ -17,7 +18,9 @@ returns-in-Ok-clause-wrote g c = λ _.
     (rw c.in-Some.ensures.parts at c.first_part-part.ensures).front c.in-Bytes.ensures.within c.in-Bytes.ensures.wrote)
 
 pub returns-in-Ok-clause-shows : goal.returns-in-Ok-clause-shows
-returns-in-Ok-clause-shows g c = written_served c.args.server.now _ c.written.new.self c.args.id c.in-Bytes.count (search rules) c.in-Ok.ensures.shows
+returns-in-Ok-clause-shows g c = 
+    written_served (g.M.Monitor.calls c.args.monitor.now) (g.M.Monitor.calls c.accepted.new.self) c.args.server.now _ c.written.new.self c.args.id c.in-Bytes.count (search rules) c.in-Ok.ensures.shows
+    (rw (length-take-le c.in-Bytes.count c.first_part-part.result.now c.in-Bytes.ensures.within.1, add-zero) at c.accepted.ensures)
 
 -- The wire was written once, and the result of that write is the result of the function.
 pub returns-in-Ok-clause-answered : goal.returns-in-Ok-clause-answered

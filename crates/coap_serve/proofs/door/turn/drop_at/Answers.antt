@@ -18,4 +18,4 @@ returns-in-Some-clause-server g c =
     (dropped_so c.drop_conn.result c.args.server.now _ c.in-Some.id c.requires.settled c.drop_conn.ensures.answer c.drop_conn.ensures.ok c.drop_conn.ensures.err)
 
 pub returns-in-Some-clause-shows : goal.returns-in-Some-clause-shows
-returns-in-Some-clause-shows g c = dropped_served c.drop_conn.result c.args.server.now c.drop_conn.new.self c.in-Some.id c.drop_conn.ensures.shows c.drop_conn.ensures.err
+returns-in-Some-clause-shows g c = dropped_served (g.M.Monitor.calls c.args.monitor.now) (g.M.Monitor.calls c.accepted.new.self) c.args.server.now c.drop_conn.new.self c.in-Some.id c.in-Ok.ensures.shows c.accepted.ensures
