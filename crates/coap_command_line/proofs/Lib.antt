@@ -1,3 +1,4 @@
 pub mod WordLemmas
 pub mod PlanLemmas
+pub mod ReasonLemmas
 mod WordsWorked

@@ -19,6 +19,9 @@ pub use Rattle.std.specs.declared.net.ip_addr.IpAddr.{IpAddr}
 -- ---- coap_conn
 pub use Rattle.coap_conn.specs.Limits.{limits_of}
 -- ---- coap_print
+pub use Rattle.coap_print.specs.Texts.{is_text, escaped_text}
+unfoldable pub use Rattle.coap_print.specs.Lines.{appended}
+pub use Rattle.coap_print.specs.declared.line.TheConstants.{LINE_LENGTH}
 unfoldable pub use Rattle.coap_print.specs.Levels.{level_of}
 pub use Rattle.coap_print.specs.declared.level.LogLevel.TheVariants.{Nothing, Warnings, Connections, Messages}
 -- ---- coap_text
