@@ -7,7 +7,7 @@
 ghost use Rattle.std.specs.Prelude.{◌≡◌, ◌≤◌, IfSome, IfNone};
 ghost use Rattle.std.specs.Str.{IsUtf8};
 
-use coap_client::{ClientPlan, Target, client_words, run_client};
+use coap_client::{ClientPlan, Target, client_reason, client_words, run_client};
 use coap_io::WriteOutlet;
 use coap_program::{FAULT, FileError, Program, USAGE, occupy_standard_descriptors, read_whole};
 use coap_sockets::{ClientWire, ConnectError, ConnectFault};
@@ -138,7 +138,10 @@ fn start(
     };
     match client_words(rt.alloc(), &words) {
         Ok(plan) => run(rt, err, plan),
-        Err(fault) => PROGRAM.refuse(rt, &fault),
+        Err(fault) => {
+            let reason = client_reason(rt.alloc(), &words, &fault).unwrap_or(None);
+            PROGRAM.refuse(rt, &fault, reason.as_ref())
+        }
     }
 }
 

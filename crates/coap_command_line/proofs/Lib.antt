@@ -2,3 +2,4 @@ pub mod WordLemmas
 pub mod PlanLemmas
 pub mod ReasonLemmas
 mod WordsWorked
+mod ReasonsWorked
