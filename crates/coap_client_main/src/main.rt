@@ -30,7 +30,10 @@ fn print_file_error(rt: &impl Eprint, trouble: FileError, name: &str) -> u8
     match trouble {
         FileError::Open => PROGRAM.print_fault(rt, format_args!("cannot open {name}"), FAULT),
         FileError::Read => PROGRAM.print_fault(rt, "cannot read", FAULT),
-        FileError::TooLong => PROGRAM.print_fault(rt, "bad value for -f", USAGE),
+        FileError::TooLong => {
+            let status = PROGRAM.print_fault(rt, "bad value for -f", USAGE);
+            PROGRAM.print_fault(rt, "-f takes a file of at most 1048576 bytes", status)
+        }
         FileError::Memory => PROGRAM.print_fault(rt, "no memory", FAULT),
     }
 }

@@ -64,8 +64,10 @@ impl Program<'_> {
     }
 
     /// Writes help or the version to standard output if the arguments ask for it, and otherwise the error to standard
-    /// error, with its reason as a second line if there is one. Returns the exit status: 0 for help and the version, 1
-    /// for invalid arguments, 3 if an allocation failed. If standard output does not accept the text, the status is 3.
+    /// error. The reason for the error follows as a second line, if there is one.
+    ///
+    /// Returns the exit status: 0 for help and the version, 1 for invalid arguments, 3 if an allocation failed. If
+    /// standard output does not accept the text, the status is 3.
     pub fn refuse(
         &self,
         rt: &(impl Print + Eprint),
