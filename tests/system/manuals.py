@@ -194,8 +194,9 @@ def check_order(checks, manual, program, more):
     left = [name for name, value in manual.called_with() if value and name not in ("-e", "-f", "-o", "--script")]
     while left:
         words = [program] + [word for name in reversed(left) for word in (name, "x")] + more
-        told = "%s: bad value for %s\n" % (manual.name, left[0])
-        checks.same("%s: bad values of %r" % (manual.name, left), run(words), (USAGE, "", told))
+        told = "%s: bad value for %s" % (manual.name, left[0])
+        status, output, error = run(words)
+        checks.same("%s: bad values of %r" % (manual.name, left), (status, output, error.partition("\n")[0]), (USAGE, "", told))
         left = left[1:]
 
 
@@ -209,7 +210,7 @@ def check_ranges(checks, manual, program, more):
                 continue
             value = "%d,a" % number if name == "-O" else str(number)
             status, _, error = run([program, name, value] + more)
-            refused = error == "%s: bad value for %s\n" % (manual.name, name) and status == USAGE
+            refused = error.startswith("%s: bad value for %s\n" % (manual.name, name)) and status == USAGE
             checks.same("%s: %s %d is rejected" % (manual.name, name, number), refused, not low <= number <= high)
     return len(ranges)
 

@@ -98,25 +98,51 @@ BAD_SCRIPTS = [
 SERVER_WORDS = [
     (["--stdio", "--stdio"], 1, None), (["--script"], 1, None), (["--stdio=1"], 1, None), (["-"], 1, None), (["stdio"], 1, None), ([""], 1, None),
     (["--script", "-", "-"], 1, None), (["-", "--script"], 1, None), (["-x"], 1, None), (["--stdio", "--Queue", "70000"], 1, None), (["-d"], 1, None),
-    (["x", "--help"], 1, None), (["--help=x"], 1, None), (["-x", "-V"], 1, None),
-    (["--script", "-", "--stdio"], 1, "options exclude each other"), (["--stdio", "--script", "-"], 1, "options exclude each other"),
-    (["-A", "localhost", "--stdio"], 1, "bad value for -A"), (["-A", "1.2.3", "--stdio"], 1, "bad value for -A"), (["-A", "::1::"], 1, "bad value for -A"),
-    (["-p", "0"], 1, "bad value for -p"), (["-p", "65536"], 1, "bad value for -p"), (["-p", "+1"], 1, "bad value for -p"), (["-p", ""], 1, "bad value for -p"),
-    (["-d", "1001", "--stdio"], 1, "bad value for -d"), (["-d", "a"], 1, "bad value for -d"),
-    (["--max-message", "1151"], 1, "bad value for --max-message"), (["--max-message", "1048577"], 1, "bad value for --max-message"),
-    (["--max-sent", "1151"], 1, "bad value for --max-sent"), (["--max-sent", "65537"], 1, "bad value for --max-sent"),
-    (["--queue", "65535"], 1, "bad value for --queue"), (["--queue", "4194305"], 1, "bad value for --queue"),
-    (["--max-sent", "1152", "--queue", "1151"], 1, "bad value for --queue"),
-    (["--pending", "257"], 1, "bad value for --pending"), (["--observers", "257"], 1, "bad value for --observers"),
-    (["--connections", "0"], 1, "bad value for --connections"), (["--connections", "257"], 1, "bad value for --connections"),
-    (["--turns", "0"], 1, "bad value for --turns"), (["--turns", "1000000000001"], 1, "bad value for --turns"),
-    (["--turns", "0", "-p", "0", "--script", "-", "--stdio"], 1, "bad value for -p"),
-    (["--queue", "1000", "--stdio"], 1, "bad value for --queue"),
+    (["x", "--help"], 1, None), (["--help=x"], 1, None), (["-x", "-V"], 1, None), (["--log", "1", "--log", "1"], 1, None), (["--idle"], 1, None),
     # Addresses for documentation, which no machine has.
     (["-A", "192.0.2.1"], 3, "cannot listen"), (["-A", "2001:db8::1", "-p", "0005683"], 3, "cannot listen"),
     (["-A", "192.0.2.1", "-p", "1", "--turns", "1"], 3, "cannot listen"),
 ]
 
+# The arguments of coap-server, the name of the bad option, the values that it takes, and the one that was given.
+ADDRESS, PORT = "a numeric IPv4 or IPv6 address", "a port from 1 to 65535"
+QUEUE = "65536 (--max-sent) to 4194304 bytes"
+LEVEL = "a level from 0 to 3"
+SERVER_VALUES = [
+    (["-A", "localhost", "--stdio"], "-A", ADDRESS, "localhost"), (["-A", "1.2.3", "--stdio"], "-A", ADDRESS, "1.2.3"),
+    (["-A", "::1::"], "-A", ADDRESS, "::1::"), (["-A", "[::1]"], "-A", ADDRESS, "[::1]"), (["-A", "fe80::1%eth0"], "-A", ADDRESS, "fe80::1%eth0"),
+    (["-p", "0"], "-p", PORT, "0"), (["-p", "65536"], "-p", PORT, "65536"), (["-p", "+1"], "-p", PORT, "+1"), (["-p", ""], "-p", PORT, "an empty text"),
+    (["-d", "1001", "--stdio"], "-d", "0 to 1000 resources", "1001"), (["-d", "a"], "-d", "0 to 1000 resources", "a"),
+    (["--max-message", "1151"], "--max-message", "1152 to 1048576 bytes", "1151"),
+    (["--max-message", "1048577"], "--max-message", "1152 to 1048576 bytes", "1048577"),
+    (["--max-sent", "1151"], "--max-sent", "1152 to 65536 bytes", "1151"), (["--max-sent", "65537"], "--max-sent", "1152 to 65536 bytes", "65537"),
+    (["--queue", "65535"], "--queue", QUEUE, "65535"), (["--queue", "4194305"], "--queue", QUEUE, "4194305"),
+    (["--queue", "1000", "--stdio"], "--queue", QUEUE, "1000"),
+    (["--max-sent", "1152", "--queue", "1151"], "--queue", "1152 (--max-sent) to 4194304 bytes", "1151"),
+    (["--queue", "4194305", "--max-sent", "0001200"], "--queue", "1200 (--max-sent) to 4194304 bytes", "4194305"),
+    (["--pending", "257"], "--pending", "0 to 256 responses", "257"), (["--observers", "257"], "--observers", "0 to 256 observers", "257"),
+    (["--connections", "0"], "--connections", "1 to 256 connections", "0"), (["--connections", "257"], "--connections", "1 to 256 connections", "257"),
+    (["--turns", "0"], "--turns", "1 to 1000000000000 turns", "0"), (["--turns", "1000000000001"], "--turns", "1 to 1000000000000 turns", "1000000000001"),
+    (["--log", "4", "--stdio"], "--log", LEVEL, "4"), (["--log", "-1"], "--log", LEVEL, "-1"),
+    (["--idle", "4294967296"], "--idle", "0 to 4294967295 seconds", "4294967296"),
+    # The first bad value in the order of the usage line, also if options exclude each other.
+    (["--turns", "0", "-p", "0", "--script", "-", "--stdio"], "-p", PORT, "0"), (["--idle", "x", "--log", "x"], "--log", LEVEL, "x"),
+    (["--log", "x", "--turns", "x"], "--turns", "1 to 1000000000000 turns", "x"), (["--script", "-", "--log", "4"], "--log", LEVEL, "4"),
+    # The terminal gets printable ASCII alone, and at most 1,024 bytes.
+    (["-A", "\x1b[31m"], "-A", ADDRESS, "\\x1b[31m"), (["-p", "\n\r\t"], "-p", PORT, "\\x0a\\x0d\\x09"),
+    (["-p", "é\"\\"], "-p", PORT, "\\xc3\\xa9\\x22\\x5c"),
+    (["-p", "9" * 5000], "-p", PORT, "9" * (1021 - len("-p takes , not " + PORT)) + "..."),
+]
+
+# The arguments of coap-server, and the options that exclude each other.
+SERVER_CLASHES = [
+    (["--script", "-", "--stdio"], "--stdio and --script cannot be used together"), (["--stdio", "--script", "-"], "--stdio and --script cannot be used together"),
+    (["--script", "-", "--log", "0"], "--script and --log cannot be used together"),
+    (["--script", "-", "--idle", "0"], "--script and --idle cannot be used together"),
+    (["--stdio", "--idle", "5"], "--stdio and --idle cannot be used together"),
+    (["--idle", "5", "--log", "1", "--script", "-"], "--script and --log cannot be used together"),
+    (["--idle", "5", "--script", "-", "--stdio"], "--stdio and --script cannot be used together"),
+]
 
 
 def hindrance_v6():
@@ -136,35 +162,85 @@ REFUSED, REFUSED_V6, UNKNOWN = (
 )
 
 CLIENT_WORDS = [
-    (["x"], 1, "bad target 1"), (["coap://h/"], 1, "bad target 2"), (["coap+tcp:///"], 1, "bad target 3"), (["coap+tcp://u@h/"], 1, "bad target 4"),
-    (["coap+tcp://h/#f"], 1, "bad target 5"), (["coap+tcp://h/" + "a" * 256], 1, "bad target 6"), (["coap+tcp://h" + "/a" * 17], 1, "bad target 7"),
     ([], 1, None), (["coap+tcp://h/", "coap+tcp://h/"], 1, None), (["-x", "coap+tcp://h/"], 1, None), (["-O", "1,a", "-O", "2,b", "coap+tcp://h/"], 1, None),
-    (["-x", "--help"], 1, None), (["coap+tcp://h/", "coap+tcp://h/", "-V"], 1, None), (["--version=x"], 1, None),
-    (["-m", "GET", "coap+tcp://h/"], 1, "bad value for -m"), (["-B", "0", "coap+tcp://h/"], 1, "bad value for -B"),
-    (["-B", "4294967296", "coap+tcp://h/"], 1, "bad value for -B"), (["-s", "4294967296", "coap+tcp://h/"], 1, "bad value for -s"),
-    (["-t", "65536", "coap+tcp://h/"], 1, "bad value for -t"), (["-A", "json", "coap+tcp://h/"], 1, "bad value for -A"),
-    (["-O", "1", "coap+tcp://h/"], 1, "bad value for -O"), (["-O", "65536,a", "coap+tcp://h/"], 1, "bad value for -O"),
-    (["-O", "1,0x0", "coap+tcp://h/"], 1, "bad value for -O"), (["-O", "1," + "a" * 1035, "coap+tcp://h/"], 1, "bad value for -O"),
-    (["-s", "1", "-m", "put", "coap+tcp://h/"], 1, "options exclude each other"), (["-e", "x", "-f", "y", "coap+tcp://h/"], 1, "options exclude each other"),
-    (["-e", "x", "-f", "y", "-B", "0", "coap+tcp://h/"], 1, "bad value for -B"), (["-B", "0", "coap://h/"], 1, "bad target 2"),
+    (["-x", "--help"], 1, None), (["coap+tcp://h/", "coap+tcp://h/", "-V"], 1, None), (["--version=x"], 1, None), (["--idle", "1", "coap+tcp://h/"], 1, None),
     (["-f", "/nothing/here", "-m", "put", "coap+tcp://h/"], 3, "cannot open /nothing/here"), (["-f", "/", "coap+tcp://h/"], 3, "cannot read"),
-    (["-f", "/dev/zero", "coap+tcp://h/"], 1, "bad value for -f"), (["-o", "/nothing/here", "coap+tcp://127.0.0.1:1/"], 3, REFUSED),
+    (["-f", "/dev/zero", "coap+tcp://h/"], 1, "bad value for -f\ncoap-client: -f takes a file of at most 1048576 bytes"),
+    (["-o", "/nothing/here", "coap+tcp://127.0.0.1:1/"], 3, REFUSED),
     (["coap+tcp://127.0.0.1:1/"], 3, REFUSED), (["-f", "-", "-m", "put", "-t", "application/cbor", "coap+tcp://[::1]:1/a"], 3, REFUSED_V6),
     # Names that no host has.
     (["coap+tcp://%ff/"], 3, UNKNOWN), (["coap+tcp://a%00b/"], 3, UNKNOWN),
 ]
 
+# The arguments of coap-client, the number of the fault of the target, and its reason.
+ABSOLUTE = "the target is a URI such as coap+tcp://127.0.0.1/time, not "
+LONG, MANY = "the host and each segment and argument have at most 255 bytes after decoding", "a target has at most 16 segments and 16 arguments"
+TARGETS = [
+    (["x"], 1, ABSOLUTE + "x"), ([""], 1, ABSOLUTE + "an empty text"), (["/time"], 1, ABSOLUTE + "/time"), (["\x1b]0;x\x07"], 1, ABSOLUTE + "\\x1b]0;x\\x07"),
+    (["coap+tcp://h:65536/"], 1, "the host or the port is invalid in coap+tcp://h:65536/"),
+    (["coap+tcp://[::1/"], 1, "the host or the port is invalid in coap+tcp://[::1/"),
+    (["coap+tcp://[fe80::1%eth0]/"], 1, "a zone such as %eth0 in an IPv6 address is not supported"),
+    (["coap+tcp://[fe80::1%25eth0]:5683/a"], 1, "a zone such as %eth0 in an IPv6 address is not supported"),
+    (["coaps+tcp://h/"], 2, "the scheme is coaps+tcp; only coap+tcp is supported (see TLS in the manual)"),
+    (["coap://h/"], 2, "the scheme is coap; only coap+tcp is supported"), (["http://h/"], 2, "the scheme is http; only coap+tcp is supported"),
+    (["-B", "0", "coap://h/"], 2, "the scheme is coap; only coap+tcp is supported"),
+    (["coap+tcp:///"], 3, "the host is missing in coap+tcp:///"), (["coap+tcp:a"], 3, "the host is missing in coap+tcp:a"),
+    (["coap+tcp://u@h/"], 4, "a user name or a password in a target is not supported"),
+    (["coap+tcp://u:secret@h/"], 4, "a user name or a password in a target is not supported"),
+    (["coap+tcp://h/#f"], 5, "the fragment #f is not supported; write %23 for # in a path or a query"),
+    (["coap+tcp://h/a?b#"], 5, "the fragment # is not supported; write %23 for # in a path or a query"),
+    (["coap+tcp://h/" + "a" * 256], 6, LONG), (["coap+tcp://" + "h" * 256 + "/"], 6, LONG), (["coap+tcp://h/?" + "a" * 256], 6, LONG),
+    (["coap+tcp://h" + "/a" * 17], 7, MANY), (["coap+tcp://h?" + "&" * 16], 7, MANY),
+]
+
+# The arguments of coap-client, the name of the bad option, the values that it takes, and the one that was given.
+FORMAT, EXTRA = "a number from 0 to 65535 or a name such as application/json", "a number from 0 to 65535, a comma and at most 1034 bytes (hexadecimal after 0x)"
+METHOD = "get, put, post or delete"
+CLIENT_VALUES = [
+    (["-m", "GET", "coap+tcp://h/"], "-m", METHOD, "GET"), (["-m", "", "coap+tcp://h/"], "-m", METHOD, "an empty text"),
+    (["-B", "0", "coap+tcp://h/"], "-B", "1 to 4294967295 seconds", "0"),
+    (["-B", "4294967296", "coap+tcp://h/"], "-B", "1 to 4294967295 seconds", "4294967296"),
+    (["-s", "4294967296", "coap+tcp://h/"], "-s", "0 to 4294967295 seconds", "4294967296"),
+    (["-t", "65536", "coap+tcp://h/"], "-t", FORMAT, "65536"), (["-t", "json", "coap+tcp://h/"], "-t", FORMAT, "json"),
+    (["-A", "json", "coap+tcp://h/"], "-A", FORMAT, "json"),
+    (["-O", "1", "coap+tcp://h/"], "-O", EXTRA, "1"), (["-O", "65536,a", "coap+tcp://h/"], "-O", EXTRA, "65536,a"),
+    (["-O", "1,0x0", "coap+tcp://h/"], "-O", EXTRA, "1,0x0"),
+    (["-O", "1," + "a" * 1035, "coap+tcp://h/"], "-O", EXTRA, "1," + "a" * (1019 - len("-O takes , not " + EXTRA)) + "..."),
+    (["--log", "4", "coap+tcp://h/"], "--log", LEVEL, "4"), (["--log=\x7f", "coap+tcp://h/"], "--log", LEVEL, "\\x7f"),
+    # The first bad value in the order of the usage line, also if options exclude each other.
+    (["-e", "x", "-f", "y", "-B", "0", "coap+tcp://h/"], "-B", "1 to 4294967295 seconds", "0"),
+    (["--log", "x", "-O", "1", "coap+tcp://h/"], "-O", EXTRA, "1"), (["--log", "x", "-e", "x", "-f", "y", "coap+tcp://h/"], "--log", LEVEL, "x"),
+]
+
+# The arguments of coap-client, and the options that exclude each other.
+CLIENT_CLASHES = [
+    (["-e", "x", "-f", "y", "coap+tcp://h/"], "-e and -f cannot be used together"),
+    (["-s", "1", "-m", "put", "coap+tcp://h/"], "-s cannot be used with -m put, only with -m get"),
+    (["-m", "delete", "-s", "0", "coap+tcp://h/"], "-s cannot be used with -m delete, only with -m get"),
+    (["-s", "1", "-m", "post", "-e", "x", "-f", "y", "coap+tcp://h/"], "-e and -f cannot be used together"),
+]
+
+
+def refused_words(name, values, clashes, targets=()):
+    """Returns rows of command lines that a program refuses with a reason: arguments, status and both lines after the program's name."""
+    return (
+        [(words, 1, f"bad target {number}\n{name}: {why}") for words, number, why in targets]
+        + [(words, 1, f"bad value for {option}\n{name}: {option} takes {allowed}, not {given}") for words, option, allowed, given in values]
+        + [(words, 1, f"options exclude each other\n{name}: {why}") for words, why in clashes]
+    )
+
+
 # The beginning of the help of each program, and the options and arguments that it explains, each in one line.
 SERVER_HELP = (
     b"A CoAP server over TCP (RFC 8323)\n\nUsage: coap-server [OPTIONS]\n\nOptions:\n",
     ["-A <ADDRESS>", "-p <PORT>", "-d <MAX>", "--stdio", "--script <FILE>", "--max-message <N>", "--max-sent <N>", "--queue <N>", "--pending <N>"]
-    + ["--observers <N>", "--connections <N>", "--turns <N>", "-h, --help", "-V, --version"],
+    + ["--observers <N>", "--connections <N>", "--turns <N>", "--log <LEVEL>", "--idle <SECONDS>", "-h, --help", "-V, --version"],
 )
 
 CLIENT_HELP = (
     b"A CoAP client over TCP (RFC 8323)\n\nUsage: coap-client [OPTIONS] <URI>\n\nArguments:\n",
     ["<URI>", "-m <METHOD>", "-e <TEXT>", "-f <FILE>", "-o <FILE>", "-t <FORMAT>", "-A <FORMAT>", "-s <SECONDS>", "-B <SECONDS>", "-O <NUM,TEXT>"]
-    + ["-U", "-w", "-h, --help", "-V, --version"],
+    + ["-U", "-w", "--log <LEVEL>", "-h, --help", "-V, --version"],
 )
 
 # The arguments before --stdio, the input, and the output after the CSM.
@@ -248,8 +324,9 @@ def main(words):
         checks.same("bytes for %r" % sent, done.stdout.hex(), CSM + answered)
         checks.same("status for %r" % sent, (done.returncode, done.stderr), (0, b""))
     check_scripts(program, checks)
-    check_words(program, "coap-server", SERVER_WORDS, checks)
-    check_words(os.path.abspath(words[1]), "coap-client", CLIENT_WORDS, checks)
+    check_words(program, "coap-server", SERVER_WORDS + refused_words("coap-server", SERVER_VALUES, SERVER_CLASHES), checks)
+    client_words = CLIENT_WORDS + refused_words("coap-client", CLIENT_VALUES, CLIENT_CLASHES, TARGETS)
+    check_words(os.path.abspath(words[1]), "coap-client", client_words, checks)
     check_help(program, "coap-server", SERVER_HELP, checks)
     check_help(os.path.abspath(words[1]), "coap-client", CLIENT_HELP, checks)
     for said, sent, greeting, answered in STDIO_WORDS:

@@ -186,7 +186,7 @@ def check_bodies(checks, programs):
         done = client(programs.client, ["-m", "put", "-f", "-", server.uri("/c")], largest)
         checks.same("the largest payload, which exceeds any request", done, (3, b"", b"request fault 3\n"))
         done = client(programs.client, ["-m", "put", "-f", "-", server.uri("/c")], largest + b"x")
-        checks.same("a file that is longer than the largest payload", done, (1, b"", b"coap-client: bad value for -f\n"))
+        checks.same("a file that is longer than the largest payload", done, (1, b"", b"coap-client: bad value for -f\ncoap-client: -f takes a file of at most 1048576 bytes\n"))
         with open("/dev/full", "wb") as full:
             done = subprocess.run([programs.client, server.uri("/a")], stdout=full, stderr=subprocess.PIPE, timeout=LIMIT)
             checks.same("writing fails", (done.returncode, done.stderr), (3, b"coap-client: cannot write\n"))

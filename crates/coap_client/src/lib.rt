@@ -2,7 +2,8 @@
 //! public names of three crates:
 //!
 //! - `coap_request`: targets, requests and plans (`Target`, `Method`, `Extras`, `ClientPlan`, `ServerPlan`).
-//! - `coap_command_line`: parsers of command lines (`client_words`, `server_words`, `WordsFault`).
+//! - `coap_command_line`: parsers of command lines (`client_words`, `server_words`, `WordsFault`), and reasons for their
+//!   errors (`client_reason`, `server_reason`).
 //! - `coap_client_engine`: the connection and its run (`Client`, `Event`, `run_client`), and the theorems in `laws`.
 //!
 //! The types of arguments and results are re-exported too. `coap_conn` defines limits, phases and errors, `coap_wire`
@@ -14,7 +15,9 @@
 #![tactic(auto)]
 
 pub use coap_client_engine::{Client, ClientFault, Event, Taken, run_client};
-pub use coap_command_line::{WordsFault, client_words, server_words};
+pub use coap_command_line::{
+    WordsFault, client_reason, client_words, server_reason, server_words,
+};
 pub use coap_conn::{LimitFault, Limits, LimitsBuilder, Phase, Reason, RequestFault};
 pub use coap_io::{Clock, Got, Outlet, Wire, WriteFailed, WriteOutlet};
 pub use coap_request::{ClientPlan, Extras, Method, Mode, ServerPlan, Target, TargetFault};

@@ -7,7 +7,7 @@
 ghost use Rattle.std.specs.Prelude.{◌≡◌, ◌≤◌, IfSome, IfNone};
 ghost use Rattle.std.specs.Str.{IsUtf8};
 
-use coap_client::{ClientPlan, Target, client_words, run_client};
+use coap_client::{ClientPlan, Target, client_reason, client_words, run_client};
 use coap_io::WriteOutlet;
 use coap_program::{FAULT, FileError, Program, USAGE, occupy_standard_descriptors, read_whole};
 use coap_sockets::{ClientWire, ConnectError, ConnectFault};
@@ -30,7 +30,10 @@ fn print_file_error(rt: &impl Eprint, trouble: FileError, name: &str) -> u8
     match trouble {
         FileError::Open => PROGRAM.print_fault(rt, format_args!("cannot open {name}"), FAULT),
         FileError::Read => PROGRAM.print_fault(rt, "cannot read", FAULT),
-        FileError::TooLong => PROGRAM.print_fault(rt, "bad value for -f", USAGE),
+        FileError::TooLong => {
+            let status = PROGRAM.print_fault(rt, "bad value for -f", USAGE);
+            PROGRAM.print_fault(rt, "-f takes a file of at most 1048576 bytes", status)
+        }
         FileError::Memory => PROGRAM.print_fault(rt, "no memory", FAULT),
     }
 }
@@ -138,7 +141,10 @@ fn start(
     };
     match client_words(rt.alloc(), &words) {
         Ok(plan) => run(rt, err, plan),
-        Err(fault) => PROGRAM.refuse(rt, &fault),
+        Err(fault) => {
+            let reason = client_reason(rt.alloc(), &words, &fault).unwrap_or(None);
+            PROGRAM.refuse(rt, &fault, reason.as_ref())
+        }
     }
 }
 

@@ -1,3 +1,5 @@
 pub mod WordLemmas
 pub mod PlanLemmas
+pub mod ReasonLemmas
 mod WordsWorked
+mod ReasonsWorked

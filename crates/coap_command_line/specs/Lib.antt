@@ -2,4 +2,5 @@ pub mod CommandLines
 pub mod ServerWords
 pub mod ClientWords
 pub mod PlanViews
+pub mod Reasons
 pub mod Prelude

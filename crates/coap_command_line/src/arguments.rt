@@ -1,21 +1,26 @@
 //! Parsers of the command lines of both programs.
 
-ghost use Rattle.std.specs.Prelude.{map, ◌≡◌};
+ghost use Rattle.std.specs.Prelude.{map, option_map, ◌≡◌, IfOk};
 ghost use Rattle.coap_command_line.specs.Prelude.{IsClientPlan, IsServerPlan, is_help_or_version, words_fault_number};
+ghost use Rattle.coap_command_line.specs.Reasons.{line_of};
+ghost use Rattle.coap_command_line.specs.Reasons as spec;
 
 mod client;
 mod commands;
 mod help;
 mod option_values;
+mod reasons;
 mod server;
 
 use clap::Error as UsageError;
 use clap::error::ErrorKind;
 use client::client_plan;
+use coap_print::Line;
 use coap_request::{ClientPlan, ServerPlan, TargetFault};
 use commands::{client_command, matches_in, server_command};
+use reasons::{client_line, server_line};
 use server::server_plan;
-use std::alloc::Global;
+use std::alloc::{AllocError, Global};
 use std::convert::AsStr;
 use thiserror::Error;
 
@@ -125,4 +130,46 @@ pub fn client_words<'a, S: AsStr>(alloc: Global, words: &'a [S]) -> Result<Clien
         Err(fault) => return Err(fault),
     };
     client_plan(alloc, &matches)
+}
+
+/// Returns the reason for an error that `server_words` reported for these arguments: a line with what was given and what
+/// is allowed. There is no reason for arguments that `clap` rejects, and none for a failed allocation.
+///
+/// # Errors
+///
+/// Returns `AllocError` if allocation fails.
+pub fn server_reason<'a, S: AsStr>(
+    alloc: Global,
+    words: &'a [S],
+    fault: &WordsFault,
+) -> Result<Option<Line>, AllocError>
+    ensures { IfOk result (λ line. line ≡ option_map line_of (spec.server_reason (map S.text words.entry.now) fault.now)) }
+{
+    let command = server_command(alloc)?;
+    match matches_in(command, words) {
+        Ok(matches) => Ok(server_line(&matches, fault)),
+        Err(WordsFault::Usage(_)) => Ok(None),
+        Err(_) => Err(AllocError),
+    }
+}
+
+/// Returns the reason for an error that `client_words` reported for these arguments: a line with what was given and what
+/// is allowed. There is no reason for arguments that `clap` rejects, and none for a failed allocation.
+///
+/// # Errors
+///
+/// Returns `AllocError` if allocation fails.
+pub fn client_reason<'a, S: AsStr>(
+    alloc: Global,
+    words: &'a [S],
+    fault: &WordsFault,
+) -> Result<Option<Line>, AllocError>
+    ensures { IfOk result (λ line. line ≡ option_map line_of (spec.client_reason (map S.text words.entry.now) fault.now)) }
+{
+    let command = client_command(alloc)?;
+    match matches_in(command, words) {
+        Ok(matches) => Ok(client_line(&matches, fault)),
+        Err(WordsFault::Usage(_)) => Ok(None),
+        Err(_) => Err(AllocError),
+    }
 }

@@ -4,12 +4,13 @@ ghost use Rattle.std.specs.Prelude.{◌≡◌, ◌≤◌, ◌==◌, ◌⊎◌, f
 ghost use Rattle.coap_command_line.specs.Prelude.{is_help_or_version, words_fault_number};
 
 use coap_command_line::WordsFault;
+use coap_print::Line;
 use std::alloc::{AllocError, Global};
-use std::env;
 use std::env::Args;
 use std::fmt::Display;
 use std::io::ErrorKind;
 use std::rt::Env;
+use std::{env, str};
 
 /// Exit status of a run that ended, and of help and the version.
 pub const ENDED: u8 = 0;
@@ -63,9 +64,16 @@ impl Program<'_> {
     }
 
     /// Writes help or the version to standard output if the arguments ask for it, and otherwise the error to standard
-    /// error. Returns the exit status: 0 for help and the version, 1 for invalid arguments, 3 if an allocation failed.
-    /// If standard output does not accept the text, the status is 3.
-    pub fn refuse(&self, rt: &(impl Print + Eprint), fault: &WordsFault) -> u8
+    /// error. The reason for the error follows as a second line, if there is one.
+    ///
+    /// Returns the exit status: 0 for help and the version, 1 for invalid arguments, 3 if an allocation failed. If
+    /// standard output does not accept the text, the status is 3.
+    pub fn refuse(
+        &self,
+        rt: &(impl Print + Eprint),
+        fault: &WordsFault,
+        reason: Option<&Line>,
+    ) -> u8
         ensures within { result ≤ 3 }
         ensures helped { is_help_or_version fault.now ≡ true → (result ≡ 0) ⊎ (result ≡ 3) }
         ensures refused { is_help_or_version fault.now ≡ false →
@@ -84,7 +92,21 @@ impl Program<'_> {
                 USAGE
             }
             WordsFault::Memory => self.print_fault(rt, "no memory", FAULT),
-            _ => self.print_fault(rt, fault, USAGE),
+            _ => {
+                let _ = self.print_fault(rt, fault, USAGE);
+                self.print_reason(rt, reason);
+                USAGE
+            }
+        }
+    }
+
+    /// Writes the reason for an error to standard error, if there is one.
+    fn print_reason(&self, rt: &impl Eprint, reason: Option<&Line>) {
+        let Some(line) = reason else {
+            return;
+        };
+        if let Ok(text) = str::from_utf8(line.as_bytes()) {
+            let _ = self.print_fault(rt, text, USAGE);
         }
     }
 }

@@ -13,7 +13,7 @@ ghost use Rattle.coap_server.specs.Planned.{planned};
 mod listening;
 mod script;
 
-use coap_command_line::server_words;
+use coap_command_line::{server_reason, server_words};
 use coap_program::{ENDED, FAULT, Program, USAGE, occupy_standard_descriptors};
 use coap_request::{Mode, ServerPlan};
 use coap_serve::{Config, ReadSource, Starts, WriteOutlet, serve_one};
@@ -93,7 +93,10 @@ fn start(rt: &(impl Input + Print + Eprint + Env + Files + Net + time::Clock + A
     };
     match server_words(rt.alloc(), &words) {
         Ok(plan) => run(rt, &plan),
-        Err(fault) => PROGRAM.refuse(rt, &fault),
+        Err(fault) => {
+            let reason = server_reason(rt.alloc(), &words, &fault).unwrap_or(None);
+            PROGRAM.refuse(rt, &fault, reason.as_ref())
+        }
     }
 }
 

@@ -1,0 +1,15 @@
+use Rattle.std.proofs.Common.{◌∙◌, sym, ap, codes, bytes_eq, option_map, Some}
+use Rattle.std.proofs.lemmas.Bool.{cond-false}
+use Rattle.coap_command_line.specs.Prelude.{found_of, rows_of}
+use Rattle.coap_command_line.specs.Reasons.{line_of, server_value, server_values, row_in, row_text, given_for, queue_text, least_queue}
+use Rattle.coap_command_line.proofs.arguments.reasons.server_value.Goals as goal
+
+pub returns : goal.returns
+unfolding server_value
+returns c =
+    let name = c.args.name.now in
+    let rows = rows_of (found_of c.args.matches.now) in
+    c.row_line.ensures
+    ∙ ap (λ g. option_map line_of (row_text (row_in server_values name) g)) c.given_for-given.ensures
+    ∙ sym (ap (option_map line_of) (cond-false (bytes_eq name (codes "--queue")) (Some (queue_text (least_queue rows) (given_for name rows)))
+    (row_text (row_in server_values name) (given_for name rows)) (sym c.eq.ensures ∙ c.if-eq.false)))

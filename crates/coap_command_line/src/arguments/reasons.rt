@@ -1,0 +1,228 @@
+//! Reasons for refused command lines: the second line of an error, which says what was given and what is allowed.
+#![tactic(auto, using(crate::proofs::ReasonLemmas::pieces))]
+
+ghost use Rattle.std.specs.Prelude.{◌≡◌, ◌++◌, [], true, decimal, map, option_map, IfSome};
+ghost use Rattle.coap_command_line.specs.Prelude.{found_of, rows_of, is_text, appended, escaped_text, LINE_LENGTH};
+ghost use Rattle.coap_command_line.specs.Reasons as spec;
+
+mod tables;
+mod targets;
+
+use crate::arguments::WordsFault;
+use crate::arguments::option_values::{is_used, number, text_of};
+use clap::ArgMatches;
+use coap_print::Line;
+use coap_wire::{BASE_MESSAGE_SIZE, LARGEST_SENT_MESSAGE};
+use tables::{CLIENT_VALUES, SERVER_VALUES, ValueRow};
+use targets::target_line;
+
+/// Returns the reason for an error of the server, from the options that `clap` found.
+pub(super) fn server_line(matches: &ArgMatches<'_>, fault: &WordsFault) -> Option<Line>
+    ensures { result ≡ option_map spec.line_of (spec.server_reason_in (rows_of (found_of matches.now)) fault.now) }
+{
+    match fault {
+        WordsFault::Value(name) => server_value(matches, name),
+        WordsFault::Clash => Some(line_of(server_clash(matches))),
+        _ => None,
+    }
+}
+
+/// Returns the reason for an error of the client, from the options that `clap` found.
+#[tactic(auto, unfolding(crate::specs::ClientWords::uri_said))]
+pub(super) fn client_line(matches: &ArgMatches<'_>, fault: &WordsFault) -> Option<Line>
+    ensures { result ≡ option_map spec.line_of (spec.client_reason_in (rows_of (found_of matches.now)) fault.now) }
+{
+    match fault {
+        WordsFault::Target(fault) => target_line(*fault, given_for(matches, "URI").as_bytes()),
+        WordsFault::Value(name) => client_value(matches, name),
+        WordsFault::Clash => Some(client_clash(matches)),
+        _ => None,
+    }
+}
+
+/// Returns the line with this text.
+fn line_of(text: &str) -> Line
+    requires { is_text text.now ≡ true }
+    ensures { result ≡ spec.line_of text.now }
+{
+    let mut line = Line::new();
+    line.text(text);
+    line
+}
+
+/// Returns the line with a text of the user between two others.
+fn around(first: &str, given: &[u8], last: &str) -> Line
+    requires first { is_text first.now ≡ true }
+    requires last { is_text last.now ≡ true }
+    ensures { result ≡ spec.line_of (first.now ++ escaped_text given.now ++ last.now) }
+{
+    let mut line = Line::new();
+    line.text(first);
+    line.escaped(given);
+    line.text(last);
+    line
+}
+
+/// Appends a text of the user.
+fn append_given(line: &mut Line, given: &[u8])
+    ensures { line.new ≡ appended LINE_LENGTH line.old (spec.given_text given.now) }
+{
+    if given.is_empty() {
+        line.text("an empty text");
+    } else {
+        line.escaped(given);
+    }
+}
+
+/// Returns the text of an option, or an empty text if the option is not given.
+fn given_for<'a>(matches: &ArgMatches<'a>, name: &str) -> &'a str
+    ensures { result.now ≡ spec.given_for name.now (rows_of (found_of matches.now)) }
+{
+    text_of(matches, name).unwrap_or("")
+}
+
+// ---- values of options
+
+/// Returns the row of an option in a table, if the table has the option.
+#[tactic(auto, unfolding(crate::specs::Reasons::row_in))]
+fn find_row(mut table: &[ValueRow], name: &str) -> Option<ValueRow>
+    requires { spec.rows_are_text (map spec.value_row table.now) ≡ true }
+    ensures row { option_map spec.value_row result ≡ spec.row_in (map spec.value_row table.entry.now) name.now }
+    ensures option { IfSome result (λ row. is_text row.0.now ≡ true) }
+    ensures allowed { IfSome result (λ row. is_text row.1.now ≡ true) }
+{
+    while let [row, rest @ ..] = table {
+        if row.0 == name {
+            return Some(*row);
+        }
+        table = rest;
+    }
+    None
+}
+
+/// Returns the line for the value of an option in a table.
+fn row_line(table: &[ValueRow], name: &str, given: &str) -> Option<Line>
+    requires { spec.rows_are_text (map spec.value_row table.now) ≡ true }
+    ensures { result ≡ option_map spec.line_of (spec.row_text (spec.row_in (map spec.value_row table.now) name.now)
+        given.now) }
+{
+    match find_row(table, name) {
+        Some(row) => Some(value_line(row.0, row.1, given)),
+        None => None,
+    }
+}
+
+/// Returns the line for an option with the values that it takes, and the one that was given.
+fn value_line(option: &str, allowed: &str, given: &str) -> Line
+    requires option { is_text option.now ≡ true }
+    requires allowed { is_text allowed.now ≡ true }
+    ensures { result ≡ spec.line_of (spec.value_text option.now allowed.now given.now) }
+{
+    let mut line = Line::new();
+    line.text(option);
+    line.text(" takes ");
+    line.text(allowed);
+    line.text(", not ");
+    append_given(&mut line, given.as_bytes());
+    line
+}
+
+/// Returns the minimum of `--queue`, which is the value of `--max-sent`.
+#[tactic(auto, unfolding(crate::specs::Reasons::least_queue))]
+fn least_queue(matches: &ArgMatches<'_>) -> u64
+    ensures { result ≡ spec.least_queue (rows_of (found_of matches.now)) }
+{
+    let largest = LARGEST_SENT_MESSAGE as u64;
+    match number(
+        matches,
+        "--max-sent",
+        BASE_MESSAGE_SIZE as u64,
+        largest,
+        largest,
+    ) {
+        Ok(least) => least,
+        Err(_) => largest,
+    }
+}
+
+/// Returns the line for an option with its minimum and the rest of the values that it takes, and the value that was given.
+fn least_line(option: &str, least: u64, rest: &str, given: &str) -> Line
+    requires option { is_text option.now ≡ true }
+    requires rest { is_text rest.now ≡ true }
+    ensures { result ≡ spec.line_of (spec.value_text option.now (decimal least ++ rest.now) given.now) }
+{
+    let mut line = Line::new();
+    line.text(option);
+    line.text(" takes ");
+    line.number(least);
+    line.text(rest);
+    line.text(", not ");
+    append_given(&mut line, given.as_bytes());
+    line
+}
+
+/// Returns the line for `--queue`, with its minimum.
+#[tactic(auto, unfolding(crate::specs::Reasons::queue_text))]
+fn queue_line(least: u64, given: &str) -> Line
+    ensures { result ≡ spec.line_of (spec.queue_text least given.now) }
+{
+    least_line("--queue", least, " (--max-sent) to 4194304 bytes", given)
+}
+
+/// Returns the reason for the value of an option of the server.
+#[tactic(auto, unfolding(crate::specs::Reasons::server_value))]
+fn server_value(matches: &ArgMatches<'_>, name: &str) -> Option<Line>
+    ensures { result ≡ option_map spec.line_of (spec.server_value (rows_of (found_of matches.now)) name.now) }
+{
+    let given = given_for(matches, name);
+    if name == "--queue" {
+        return Some(queue_line(least_queue(matches), given));
+    }
+    row_line(&SERVER_VALUES, name, given)
+}
+
+/// Returns the reason for the value of an option of the client.
+#[tactic(auto, unfolding(crate::specs::Reasons::client_value))]
+fn client_value(matches: &ArgMatches<'_>, name: &str) -> Option<Line>
+    ensures { result ≡ option_map spec.line_of (spec.client_value (rows_of (found_of matches.now)) name.now) }
+{
+    row_line(&CLIENT_VALUES, name, given_for(matches, name))
+}
+
+// ---- options that exclude each other
+
+/// Returns the text for the first two options of the server that exclude each other.
+#[tactic(auto, unfolding(crate::specs::Reasons::server_clash))]
+fn server_clash(matches: &ArgMatches<'_>) -> &'static str
+    ensures text { result.now ≡ spec.server_clash (rows_of (found_of matches.now)) }
+    ensures printable { is_text result.now ≡ true }
+{
+    if text_of(matches, "--script").is_none() {
+        "--stdio and --idle cannot be used together"
+    } else if is_used(matches, "--stdio") {
+        "--stdio and --script cannot be used together"
+    } else if text_of(matches, "--log").is_some() {
+        "--script and --log cannot be used together"
+    } else {
+        "--script and --idle cannot be used together"
+    }
+}
+
+/// Returns the line for an observation with a method other than get.
+#[tactic(auto, unfolding(crate::specs::Reasons::method_text))]
+fn method_line(method: &[u8]) -> Line
+    ensures { result ≡ spec.line_of (spec.method_text method.now) }
+{
+    around("-s cannot be used with -m ", method, ", only with -m get")
+}
+
+/// Returns the reason for two options of the client that exclude each other.
+#[tactic(auto, unfolding(crate::specs::Reasons::client_clash))]
+fn client_clash(matches: &ArgMatches<'_>) -> Line
+    ensures { result ≡ spec.line_of (spec.client_clash (rows_of (found_of matches.now))) }
+{
+    if text_of(matches, "-e").is_some() && text_of(matches, "-f").is_some() {
+        return line_of("-e and -f cannot be used together");
+    }
+    method_line(given_for(matches, "-m").as_bytes())
+}
