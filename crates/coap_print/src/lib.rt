@@ -4,6 +4,7 @@
 //!   and the line then ends with `...` and accepts nothing more.
 //! - `describe` appends a message to a line: its code, its token, its options and its payload. An example is
 //!   `2.05 Content token 2a Content-Format=0 (text/plain) payload "21.5"`.
+//! - `option_name` returns the registered name of an option.
 //! - `laws` has the theorems on lines.
 //!
 //! The contracts name definitions of four files. `specs/Texts.antt` defines bytes as text, `specs/Lines.antt` text that
@@ -21,3 +22,4 @@ mod tables;
 
 pub use description::describe;
 pub use line::{LINE_LENGTH, Line};
+pub use names::option_name;
