@@ -18,7 +18,7 @@ use Rattle.coap_client_engine.specs.declared.run_end.Awaited.TheVariants.{Csm, R
 abbrev pub is_block_option : ℕ → Bool
 is_block_option number = number == 19 || number == 23 || number == 27 || number == 31
 
--- What a response does with a critical option.
+-- The words for what a response does with a critical option.
 abbrev pub fault_of_option : ℕ → List ℕ
 fault_of_option number = if is_block_option number then codes "uses block-wise transfer" else codes "has a critical option"
 
@@ -75,7 +75,7 @@ stop_words reason.TooLarge = codes "the server sent a message of more than 65536
 stop_words reason.TokenLength = codes "the server sent a token of more than 64 bytes"
 stop_words reason.ReservedCode = codes "the server sent a code of a reserved class"
 stop_words reason.CsmExpected = codes "the first message of the server is not a CSM"
-stop_words (reason.BadCsm number) = codes "the CSM of the server has an option that is not supported"
+stop_words (reason.BadCsm number) = codes "the CSM of the server has a bad option"
 stop_words reason.BadSignalOption = codes "the server sent a signal with an unknown critical option"
 stop_words reason.PeerAbort = codes "the server sent Abort"
 stop_words reason.PeerRelease = codes "the server sent Release"
@@ -106,7 +106,7 @@ stop_text why = stop_words why ++ stop_option why
 
 -- ---- waits
 
--- What did not arrive.
+-- The words for what did not arrive.
 abbrev pub awaited_words : Awaited → List ℕ
 awaited_words Csm = codes "the server sent no CSM within "
 awaited_words Response = codes "no response arrived within "

@@ -87,7 +87,7 @@ abbrev pub awaited_after : Option ℕ → Awaited
 awaited_after None = awaited.Response
 awaited_after (Some cancelled) = awaited.LastResponse
 
--- What the client awaits: the first CSM of the peer, then a response, and after a cancellation the last response.
+-- The message that the client awaits: the first CSM of the peer, then a response, and after a cancellation the last one.
 abbrev pub awaited_in : Phase → Option ℕ → Awaited
 awaited_in Waiting cancelled = awaited.Csm
 awaited_in Open cancelled = awaited_after cancelled

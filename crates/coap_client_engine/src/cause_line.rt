@@ -142,7 +142,7 @@ fn stop_words(reason: Reason) -> &'static str
         Reason::TokenLength => "the server sent a token of more than 64 bytes",
         Reason::ReservedCode => "the server sent a code of a reserved class",
         Reason::CsmExpected => "the first message of the server is not a CSM",
-        Reason::BadCsm(_) => "the CSM of the server has an option that is not supported",
+        Reason::BadCsm(_) => "the CSM of the server has a bad option",
         Reason::BadSignalOption => "the server sent a signal with an unknown critical option",
         Reason::PeerAbort => "the server sent Abort",
         Reason::PeerRelease => "the server sent Release",

@@ -40,7 +40,7 @@ pub struct Refusal {
     pub peer_max: u32,
 }
 
-/// What a client awaits of its peer.
+/// Message that a client awaits of its peer.
 #[derive(Clone, Copy, Debug, PartialEq, Eq)]
 pub enum Awaited {
     /// First Capabilities and Settings Message (CSM) of the peer.
