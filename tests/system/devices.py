@@ -91,10 +91,14 @@ def check_client_streams(checks, client, shim):
     checks.same("a client, the first write fails", play(WRITE_FAILS=0), (3, b"", b"coap-client: cannot write\n"))
 
 
+# The error output of a client whose connection fails or ends.
+STOPPED = b"stopped 11\ncoap-client: the connection ended before the last response\n"
+
+
 def check_client_socket(checks, client, shim):
     """Checks a client whose connection fails or ends, at each call in turn."""
     whole = ((0, b"hi\n", b""), ASKED)
-    for name, fault in (("RECV_FAILS", b"stopped 11\n"), ("RECV_ENDS", b"stopped 11\n"), ("SEND_FAILS", b"stopped 11\n")):
+    for name, fault in (("RECV_FAILS", STOPPED), ("RECV_ENDS", STOPPED), ("SEND_FAILS", STOPPED)):
         count = 0
         while (found := asked(client, ASKING, b"", setting(shim, **{name: count}))) != whole:
             (status, written, said), got = found

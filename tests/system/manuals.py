@@ -43,11 +43,11 @@ SOURCES = {
     "coap-server": ["coap_server/src/*.rt", "coap_serve/src/*.rt", "coap_script/src/*.rt", "coap_model/src/*.rt",
                     "coap_server_engine/src/*.rt"] + LIBRARIES,
     "coap-client": ["coap_client_main/src/*.rt", "coap_client_engine/src/run.rt", "coap_client_engine/src/run/*.rt",
-                    "coap_client_engine/src/error_lines.rt"] + LIBRARIES,
+                    "coap_client_engine/src/error_lines.rt", "coap_client_engine/src/cause_line.rt"] + LIBRARIES,
 }
 
-# Text for a plan that no command line can make. The manual does not have it.
-UNREACHED = {"a limit is out of its range"}
+# Text for a plan that no command line can make, and texts for ends that no run of the client has. The manuals do not have them.
+UNREACHED = {"a limit is out of its range", "the message is too large", "the queue has no room", "the client sent Release"}
 
 URI = "coap+tcp://127.0.0.1:%d/"
 
@@ -160,7 +160,7 @@ def source_of(patterns):
 
 def front_of(line):
     """Returns a line up to the first part that differs from run to run."""
-    return re.split(r"[{]| (?:n|file|option|address|-\w)$", line)[0].strip()
+    return re.split(r"[{]| (?:n|file|option|address|-\w)(?: No seconds)?$", line)[0].strip()
 
 
 def known_options(program):
@@ -266,6 +266,14 @@ def check_hindrances(checks, manual):
     checks.same("%s: errors of a connection" % manual.name, re.findall(r"(?m)^\.It (.*)", text), wanted)
 
 
+def check_causes(checks, manual):
+    """Checks that the manual has the words for each cause of an end that the source has, except for ends that no run has."""
+    text = " ".join(manual.rendered()[1].split())
+    source = source_of(["coap_client_engine/src/cause_line.rt"])
+    for words in re.findall(r'(?:=>|\{)\s+"([^"]+)"', source):
+        checks.same("%s: %r" % (manual.name, words), words.strip() in text, words not in UNREACHED)
+
+
 def check_faults(checks, manual, program, faults):
     """Checks that each error is reported with the line and the status of the manual."""
     statuses = manual.lines_told()
@@ -350,6 +358,7 @@ def check(server, client):
             check_examples(checks, manual, programs)
         check_formats(checks, Manual("coap-client"), client, [URI % port])
         check_hindrances(checks, Manual("coap-client"))
+        check_causes(checks, Manual("coap-client"))
         check_answered(checks, Manual("coap-client"), server, programs)
     print("manuals: %d passed, %d failed" % (checks.passed, checks.failed))
     return 1 if checks.failed else 0

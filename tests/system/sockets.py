@@ -118,7 +118,7 @@ def check_requests(checks, programs):
             ([], "/a", (2, b"", b"4.04\n")),
             (["-B", "5"], "/async?0", (0, b"done", b"")),
             (["-B", "5"], "/async?1", (0, b"done", b"")),
-            (["-B", "1"], "/async?5", (4, b"", b"")),
+            (["-B", "1"], "/async?5", (4, b"", explained("no response arrived within 1 second"))),
         ]
         for words, path, wanted in rows:
             checks.same("coap-client %r %s" % (words, path), client(programs.client, [*words, server.uri(path)]), wanted)
@@ -184,7 +184,7 @@ def check_bodies(checks, programs):
         checks.same("get into standard output", client(programs.client, ["-o", "-", server.uri("/b")]) == (0, body, b""), True)
         largest = bytes(1 << 20)
         done = client(programs.client, ["-m", "put", "-f", "-", server.uri("/c")], largest)
-        checks.same("the largest payload, which exceeds any request", done, (3, b"", b"request fault 3\n"))
+        checks.same("the largest payload, which exceeds any request", done, (3, b"", b"request fault 3\n" + explained(TOO_BIG)))
         done = client(programs.client, ["-m", "put", "-f", "-", server.uri("/c")], largest + b"x")
         checks.same("a file that is longer than the largest payload", done, (1, b"", b"coap-client: bad value for -f\ncoap-client: -f takes a file of at most 1048576 bytes\n"))
         with open("/dev/full", "wb") as full:
@@ -192,9 +192,18 @@ def check_bodies(checks, programs):
             checks.same("writing fails", (done.returncode, done.stderr), (3, b"coap-client: cannot write\n"))
 
 
+def explained(why):
+    """Returns the last line of a client that gives the cause of its end."""
+    return b"coap-client: %s\n" % why.encode()
+
+
+# The cause if a PUT of 1,048,576 bytes to /c is not sent.
+TOO_BIG = "the request has 1048586 bytes; the client sends at most 65536"
+
+
 def cannot_connect(why):
     """Returns the text of a client that cannot connect to a host, with the error of the last address."""
-    return b"coap-client: cannot connect\ncoap-client: %s\n" % why.encode()
+    return explained("cannot connect") + explained(why)
 
 
 def check_connecting(checks, programs):
@@ -227,8 +236,70 @@ def ended(programs, how):
 
 def check_ended(checks, programs):
     """Checks a client whose peer ends or resets the connection."""
-    checks.same("a peer that ends", ended(programs, lambda it: it.shutdown(socket.SHUT_WR)), (CSM, b"stopped 11\n", 3))
-    checks.same("a peer that resets", ended(programs, reset), (CSM, b"stopped 11\n", 3))
+    wanted = (CSM, b"stopped 11\n" + explained("the connection ended before the last response"), 3)
+    checks.same("a peer that ends", ended(programs, lambda it: it.shutdown(socket.SHUT_WR)), wanted)
+    checks.same("a peer that resets", ended(programs, reset), wanted)
+
+
+# Arguments of a client, and a path: a GET of 3 bytes, and a PUT of 2,000 bytes. The last is an observation that is cancelled after its first
+# notification.
+GET, PUT, OBSERVE = (["-B", "1"], ""), (["-m", "put", "-e", "a" * 1992], "/a"), (["-s", "0", "-B", "1"], "/a")
+
+# Such arguments, what the peer sends in turn, the status of the client, and both lines that it writes. A line is empty if it is not written.
+CAUSES = [
+    (PUT, ["00e1"], 3, "request fault 3", "the request has 2000 bytes; the peer accepts 1152"),
+    (PUT, ["30e12207cf"], 3, "request fault 3", "the request has 2000 bytes; the peer accepts 1999"),
+    (PUT, ["30e12207d0", "014401"], 0, "", ""),
+    (OBSERVE, ["20e12106", "11450160"], 3, "request fault 3", "the message that cancels the observation has 7 bytes; the peer accepts 6"),
+    # The peer announces a smaller size after the request.
+    (OBSERVE, ["00e1", "20e1210511450160"], 3, "request fault 3", "the message that cancels the observation has 7 bytes; the peer accepts 5"),
+    # The options Block2, Block1, Q-Block2, OSCORE, and one that is not registered.
+    (GET, ["00e1", "314501d10a0a"], 2, "bad option 23", "the response uses block-wise transfer (option 23, Block2), which is not supported"),
+    (GET, ["00e1", "314501d10e0a"], 2, "bad option 27", "the response uses block-wise transfer (option 27, Block1), which is not supported"),
+    (GET, ["00e1", "314501d1120a"], 2, "bad option 31", "the response uses block-wise transfer (option 31, Q-Block2), which is not supported"),
+    (GET, ["00e1", "11450190"], 2, "bad option 9", "the response has a critical option (option 9, OSCORE), which is not supported"),
+    (GET, ["00e1", "314501e0fcdc"], 2, "bad option 65001", "the response has a critical option (option 65001), which is not supported"),
+    (GET, ["00e1", "114501ff"], 3, "stopped 1", "the server sent a malformed message"),
+    (GET, ["00e1", "f0ffffffff01"], 3, "stopped 2", "the server sent a message of more than 65536 bytes"),
+    (GET, ["00e1", "0d4534"], 3, "stopped 3", "the server sent a token of more than 64 bytes"),
+    (GET, ["00e1", "00c0"], 3, "stopped 4", "the server sent a code of a reserved class"),
+    (GET, ["014501"], 3, "stopped 5", "the first message of the server is not a CSM"),
+    (GET, ["10e110"], 3, "stopped 6", "the CSM of the server has a bad option (option 1)"),
+    (GET, ["60e1250000000001"], 3, "stopped 6", "the CSM of the server has a bad option (option 2)"),
+    (GET, ["00e1", "10e210"], 3, "stopped 7", "the server sent a signal with an unknown critical option"),
+    (GET, ["00e1", "00e5"], 3, "stopped 8", "the server sent Abort"),
+    (GET, ["00e1", "00e4"], 3, "stopped 9", "the server sent Release"),
+    # After the request, the peer announces a size for which each Pong is too large.
+    (GET, ["20e12103", "20e12102" "01e205"], 3, "stopped 10", "a message exceeds the Max-Message-Size of the server"),
+    (GET, [], 4, "", "the server sent no CSM within 1 second"),
+    (GET, ["00e1"], 4, "", "no response arrived within 1 second"),
+    (OBSERVE, ["00e1", "11450160"], 4, "", "no response to the cancellation arrived within 1 second"),
+    # Responses that are no error of the transport have no second line.
+    (GET, ["00e1", "018401"], 2, "4.04", ""),
+    (GET, ["00e1", "014501"], 0, "", ""),
+]
+
+
+def caused(programs, arguments, pieces):
+    """Returns the result of a client whose peer sends each of these pieces after it has received bytes from the client."""
+    words, path = arguments
+    with socket.create_server((LOCAL, 0)) as listener:
+        uri = "coap+tcp://" + authority(*listener.getsockname()) + path
+        with subprocess.Popen([programs.client, *words, uri], stdout=subprocess.PIPE, stderr=subprocess.PIPE) as process:
+            peer, _ = listener.accept()
+            with peer:
+                for piece in pieces:
+                    select.select([peer], [], [], LIMIT)
+                    peer.recv(1 << 16)
+                    peer.sendall(bytes.fromhex(piece))
+                return process.wait(LIMIT), process.stdout.read(), process.stderr.read()
+
+
+def check_causes(checks, programs):
+    """Checks the last line of a client that ends without a response that it accepts."""
+    for arguments, pieces, status, first, cause in CAUSES:
+        wanted = b"".join(it.encode() + b"\n" for it in [first] if it) + (explained(cause) if cause else b"")
+        checks.same("%r, and the peer sends %r" % ([it[:8] for it in arguments[0]], pieces), caused(programs, arguments, pieces), (status, b"", wanted))
 
 
 def check_silent(checks, programs):
@@ -347,11 +418,15 @@ def check_timeouts(checks, programs):
         port = silent_port(stack, [silent])
         # A silent peer at the same port, at an address that connects.
         stack.enter_context(socket.create_server((mute, port)))
-        unconnected, unanswered = (3, b"", cannot_connect("timed out")), (4, b"", b"")
+        unconnected = (3, b"", cannot_connect("timed out"))
+
+        def unanswered(seconds):
+            return 4, b"", explained("the server sent no CSM within %d second%s" % (seconds, "s" * (seconds != 1)))
+
         rows = [(silent, seconds, unconnected, seconds) for seconds in (1, 2, 3, 100, 100_000)]
-        rows += [(mute, seconds, unanswered, seconds) for seconds in (1, 2, 3, 100)]
+        rows += [(mute, seconds, unanswered(seconds), seconds) for seconds in (1, 2, 3, 100)]
         # Half of the time is for the first address. After the second one connects, all of it is for the response.
-        rows += [("many.test", seconds, unanswered, seconds // 2 + seconds) for seconds in (2, 4, 100)]
+        rows += [("many.test", seconds, unanswered(seconds), seconds // 2 + seconds) for seconds in (2, 4, 100)]
         for host, seconds, wanted, after in rows:
             done = client(programs.client, ["-B", str(seconds), "coap+tcp://%s:%d/" % (host, port)], **waits.how())
             checks.same("%s, -B %d" % (host, seconds), done, wanted)
@@ -518,7 +593,7 @@ def check_flooded_client(checks, programs):
                 before = processor_time(process)
                 select.select([process.stderr], [], [], 4)
                 checks.same("a client in a flood, in 4 s", (process.poll(), processor_time(process) - before < 0.2), (None, True))
-                checks.same("it ends in time", (process.wait(LIMIT), process.stderr.read()), (4, b""))
+                checks.same("it ends in time", (process.wait(LIMIT), process.stderr.read()), (4, explained("no response arrived within 7 seconds")))
 
 
 class Programs:
@@ -529,7 +604,7 @@ class Programs:
 
 
 CHECKS = [
-    check_requests, check_tokens, check_observers, check_bodies, check_connecting, check_ended, check_silent, check_address, check_files, check_close,
+    check_requests, check_tokens, check_observers, check_bodies, check_connecting, check_ended, check_causes, check_silent, check_address, check_files, check_close,
     check_flooded_client, check_addresses, check_closed, check_urgent, check_timeouts, check_connections, check_versions, check_room,
 ]
 

@@ -14,4 +14,6 @@ pub use Rattle.coap_client_engine.specs.RunFaults
 pub use Rattle.coap_client_engine.specs.RunTexts
 pub use Rattle.coap_client_engine.specs.RunSteps
 pub use Rattle.coap_client_engine.specs.RunTrace
+pub use Rattle.coap_client_engine.specs.RunCauses
+pub use Rattle.coap_client_engine.specs.CauseTexts
 pub use Rattle.coap_client_engine.specs.ClientRun

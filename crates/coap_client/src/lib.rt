@@ -4,22 +4,27 @@
 //! - `coap_request`: targets, requests and plans (`Target`, `Method`, `Extras`, `ClientPlan`, `ServerPlan`).
 //! - `coap_command_line`: parsers of command lines (`client_words`, `server_words`, `WordsFault`), and reasons for their
 //!   errors (`client_reason`, `server_reason`).
-//! - `coap_client_engine`: the connection and its run (`Client`, `Event`, `run_client`), and the theorems in `laws`.
+//! - `coap_client_engine`: the connection and its run (`Client`, `Event`, `run_client`, `run_to_end`), and the theorems in
+//!   `laws`.
 //!
 //! The types of arguments and results are re-exported too. `coap_conn` defines limits, phases and errors, `coap_wire`
-//! tokens and messages, and `coap_io` the traits for transports and clocks.
+//! tokens and messages, `coap_io` the traits for transports and clocks, and `coap_print` the line of `explain`.
 //!
 //! This crate contains no function. A program that embeds a client imports these names from here, as `coap_client_main`
 //! does. `coap_server` imports from the first two crates, so that its build does not wait for the proof of the client.
 //! Continue with `coap_client_engine/src/client.rt`.
 #![tactic(auto)]
 
-pub use coap_client_engine::{Client, ClientFault, Event, Taken, run_client};
+pub use coap_client_engine::{
+    Awaited, Cause, Client, ClientFault, Event, Refusal, RunEnd, Taken, explain, run_client,
+    run_to_end,
+};
 pub use coap_command_line::{
     WordsFault, client_reason, client_words, server_reason, server_words,
 };
 pub use coap_conn::{LimitFault, Limits, LimitsBuilder, Phase, Reason, RequestFault};
 pub use coap_io::{Clock, Got, Outlet, Wire, WriteFailed, WriteOutlet};
+pub use coap_print::Line;
 pub use coap_request::{ClientPlan, Extras, Method, Mode, ServerPlan, Target, TargetFault};
 pub use coap_wire::{Code, MessageRef, OptionRef, Token, TokenRef};
 

@@ -14,3 +14,4 @@ pub mod TakenLemmas
 pub mod RunLemmas
 mod WorkedClient
 mod WorkedLaws
+mod LineRules

@@ -19,7 +19,9 @@ use Rattle.coap_client_engine.specs.Prelude.{output_in, errors_in, has_looked, I
 use Rattle.coap_client_engine.specs.Prelude.{IsTakenUp, IsFresh, IsPlanned, IsRefused, HasWaited, IsDone, IsResting}
 use Rattle.coap_client_engine.specs.Prelude.{IsBetween, MayWrite, RunDevices, seen, token_of, IsAtTrace, ExtendsTraceOn, IsAsked, IsTaken}
 use Rattle.coap_client_engine.specs.Prelude.{IsHeard, IsFinished, IsFlushed, most_turns, IsEnded, IsOutOfTurns, IsClientRun}
-use Rattle.coap_client_engine.specs.Prelude.{ClientPlan, Run}
+use Rattle.coap_client_engine.specs.Prelude.{ClientPlan, Run, RunEnd, Cause, Awaited, IsExplainedRun, cause_after, cause_stopped}
+use Rattle.coap_client_engine.specs.Prelude.{cause_told, cause_refused, awaited_in, cause_waited, watched_cause, cause_in}
+use Rattle.coap_client_engine.specs.declared.run_end.Cause.TheVariants as ending
 use Rattle.std.proofs.lemmas.Bool.{eqb-true, ltb-true, lt-ltb}
 use Rattle.std.proofs.lemmas.List.{length-drop, nil_from_length}
 use Rattle.coap_conn.specs.declared.phase.Phase.TheVariants as phase
@@ -53,6 +55,10 @@ no_more_asking Waiting token is = false_is_true is
 no_more_asking Open token is = false_is_true is
 no_more_asking (Releasing why) token is = false_is_true is
 no_more_asking (phase.Stopped why) token is = false_is_true is
+
+none_where_asked : (p : Phase) (token : Option (List ℕ)) → must_send_request p token ≡ true → token ≡ None
+none_where_asked p None is = refl
+none_where_asked p (Some token) is = absurd (no_more_asking p token is)
 
 asking_refused : (asks : Bool) {refusal : Option RequestFault} (fault : RequestFault) → asks ≡ true → refusal ≡ Some fault → cond asks refusal None ≡ Some fault
 asking_refused true fault asks is = is
@@ -115,11 +121,12 @@ rests_stand stands done = record {
   moment = stands.moment;
   first = stands.first;
   cancelled = stands.cancelled;
+  cause = stands.cause;
   told = record { given = stands.told.given; written = stands.told.written; answers = stands.told.answers; moments = stands.told.moments; out = stands.told.out; err = stands.told.err };
 }
 
-given_up_stand : {plan : ClientPlan} {start now : RunDevices} {r : Run} {c : RunTrace} → IsAtTrace plan start now r c → status_in c ≡ None → HasWaited plan c → IsAtTrace plan start now r (GivesUp c)
-given_up_stand stands goes waited = record {
+given_up_stand : {plan : ClientPlan} {start now : RunDevices} (r : Run) {before : Option Cause} {c : RunTrace} → IsAtTrace plan start now (record r { cause = before }) c → status_in c ≡ None → HasWaited plan c → r.cause ≡ cause_in plan (GivesUp c) → IsAtTrace plan start now r (GivesUp c)
+given_up_stand r stands goes waited cause = record {
   follows = (stands.follows, goes, waited);
   shows = stands.shows;
   limits = stands.limits;
@@ -129,6 +136,7 @@ given_up_stand stands goes waited = record {
   moment = stands.moment;
   first = stands.first;
   cancelled = stands.cancelled;
+  cause = cause;
   told = record { given = stands.told.given; written = stands.told.written; answers = stands.told.answers; moments = stands.told.moments; out = stands.told.out; err = stands.told.err };
 }
 
@@ -180,6 +188,7 @@ module _ (plan : ClientPlan) (start now : RunDevices) (r : Run) (c : RunTrace) (
       (rest : r'.rest ≡ drop (taking r.client r.rest).count r.rest)
       (first : r'.first ≡ first_told (taking r.client r.rest).event r.first r.moment)
       (token : r'.token ≡ r.token) (started : r'.started ≡ r.started) (moment : r'.moment ≡ r.moment) (cancelled : r'.cancelled ≡ r.cancelled)
+      (cause : r'.cause ≡ cause_after r.cause (cause_told (taking r.client r.rest).event))
       (out : AddsBytes now.out o (output_told (taking r.client r.rest).event plan.newline))
       (err : AddsBytes now.err e (errors_told (taking r.client r.rest).event)) where
     abbrev taken_of_rest : List ℕ
@@ -214,6 +223,10 @@ module _ (plan : ClientPlan) (start now : RunDevices) (r : Run) (c : RunTrace) (
           ∙ ap (λ (f : Option ℕ). first_told (event_in c (Took taken_of_rest)) f r.moment) stands.first
           ∙ ap (λ (m : ℕ). first_told (event_in c (Took taken_of_rest)) (first_in c) m) stands.moment;
       cancelled = cancelled ∙ stands.cancelled;
+      cause =
+          cause
+          ∙ ap (λ (e : Option ClientEventValue). cause_after r.cause (cause_told e)) event_is
+          ∙ ap (λ (k : Option Cause). cause_after k (cause_told (event_in c (Took taken_of_rest)))) stands.cause;
       told = record {
         given = stands.told.given;
         written = stands.told.written;
@@ -242,8 +255,8 @@ module _ (plan : ClientPlan) (start now : RunDevices) (r : Run) (c : RunTrace) (
   module _ (r' : Run) (e : Option (List ℕ)) (goes : status_in c ≡ None)
       (rest : r'.rest ≡ r.rest) (started : r'.started ≡ r.started) (moment : r'.moment ≡ r.moment) (first : r'.first ≡ r.first) (cancelled : r'.cancelled ≡ r.cancelled) where
     -- Nothing was sent or refused.
-    same_stands : r'.client ≡ r.client → token_of r' ≡ token_of r → AddsBytes now.err e [] → IsAtTrace plan start (seen now.given now.written now.answers now.moments now.out e) r' c
-    same_stands client token err = record {
+    same_stands : r'.client ≡ r.client → token_of r' ≡ token_of r → r'.cause ≡ r.cause → AddsBytes now.err e [] → IsAtTrace plan start (seen now.given now.written now.answers now.moments now.out e) r' c
+    same_stands client token cause err = record {
       follows = stands.follows;
       shows = subst (λ (v : ClientValue). ClientShows v 0 (calls_in c)) (sym client) stands.shows;
       limits = ap (λ (v : ClientValue). v.link.limits) client ∙ stands.limits;
@@ -253,6 +266,7 @@ module _ (plan : ClientPlan) (start now : RunDevices) (r : Run) (c : RunTrace) (
       moment = moment ∙ stands.moment;
       first = first ∙ stands.first;
       cancelled = cancelled ∙ stands.cancelled;
+      cause = cause ∙ stands.cause;
       told = record {
         given = stands.told.given;
         written = stands.told.written;
@@ -264,9 +278,10 @@ module _ (plan : ClientPlan) (start now : RunDevices) (r : Run) (c : RunTrace) (
     }
 
     -- The request was refused.
-    refused_stands : (fault : RequestFault) → IsRefused plan c fault → r'.client ≡ r.client → token_of r' ≡ token_of r → AddsBytes now.err e (refusal_text (Some fault))
+    refused_stands : (fault : RequestFault) → IsRefused plan c fault → r'.client ≡ r.client → token_of r' ≡ token_of r
+        → r'.cause ≡ cause_after r.cause (cause_refused (token_in c) (client_in c).link.peer_max plan (Some fault)) → AddsBytes now.err e (refusal_text (Some fault))
         → IsAtTrace plan start (seen now.given now.written now.answers now.moments now.out e) r' (Refuses c fault)
-    refused_stands fault why client token err = record {
+    refused_stands fault why client token cause err = record {
       follows = (stands.follows, goes, why);
       shows = subst (λ (v : ClientValue). ClientShows v 0 (calls_in c)) (sym client) stands.shows;
       limits = ap (λ (v : ClientValue). v.link.limits) client ∙ stands.limits;
@@ -276,6 +291,7 @@ module _ (plan : ClientPlan) (start now : RunDevices) (r : Run) (c : RunTrace) (
       moment = moment ∙ stands.moment;
       first = first ∙ stands.first;
       cancelled = cancelled ∙ stands.cancelled;
+      cause = cause ∙ ap (λ (k : Option Cause). cause_after k (cause_refused (token_in c) (client_in c).link.peer_max plan (Some fault))) stands.cause;
       told = record {
         given = stands.told.given;
         written = stands.told.written;
@@ -288,9 +304,9 @@ module _ (plan : ClientPlan) (start now : RunDevices) (r : Run) (c : RunTrace) (
 
     -- The request was sent.
     sent_stands : must_send_request r.client.link.phase r.token ≡ true → send_refusal r.client.link plan.method plan.target (planned_extras plan) ≡ None
-        → r'.client ≡ client_sent r.client plan.method plan.target (planned_extras plan) → token_of r' ≡ Some (next_token r.client.link.tokens) → AddsBytes now.err e []
+        → r'.client ≡ client_sent r.client plan.method plan.target (planned_extras plan) → token_of r' ≡ Some (next_token r.client.link.tokens) → r'.cause ≡ r.cause → AddsBytes now.err e []
         → IsAtTrace plan start (seen now.given now.written now.answers now.moments now.out e) r' (Calls c (Sent plan.method plan.target (planned_extras plan)))
-    sent_stands asks none client token err =
+    sent_stands asks none client token cause err =
         let nothing : event_in c (Sent plan.method plan.target (planned_extras plan)) ≡ None = send_tells_none (calls_in c) plan.method plan.target (planned_extras plan) default_limits in
         record {
           follows = (stands.follows, goes, (sym asks_same ∙ asks, refl, refl, refl));
@@ -302,6 +318,7 @@ module _ (plan : ClientPlan) (start now : RunDevices) (r : Run) (c : RunTrace) (
           moment = moment ∙ stands.moment;
           first = first ∙ stands.first ∙ ap (λ (told : Option ClientEventValue). first_told told (first_in c) (moment_in c)) (sym nothing);
           cancelled = cancelled ∙ stands.cancelled;
+          cause = cause ∙ stands.cause ∙ ap (λ (told : Option ClientEventValue). cause_after (cause_in plan c) (cause_told told)) (sym nothing);
           told = record {
             given = stands.told.given;
             written = stands.told.written;
@@ -319,16 +336,21 @@ module _ (plan : ClientPlan) (start now : RunDevices) (r : Run) (c : RunTrace) (
     asked_to : has_looked c ≡ true → must_send_request r.client.link.phase r.token ≡ true → (refusal : Option RequestFault) → send_refusal r.client.link plan.method plan.target (planned_extras plan) ≡ refusal
         → r'.client ≡ unless_refused refusal (client_sent r.client plan.method plan.target (planned_extras plan)) r.client
         → token_of r' ≡ unless_refused refusal (Some (next_token r.client.link.tokens)) (token_of r)
+        → r'.cause ≡ cause_after r.cause (cause_refused None r.client.link.peer_max plan refusal)
         → AddsBytes now.err e (refusal_text refusal) → After (ended_by refusal)
-    asked_to looked asks None is client token err = record {
+    asked_to looked asks None is client token cause err = record {
       course = Calls c (Sent plan.method plan.target (planned_extras plan));
-      stands = sent_stands asks is client token err;
+      stands = sent_stands asks is client token cause err;
       ends = ap status_told (send_tells_none (calls_in c) plan.method plan.target (planned_extras plan) default_limits);
       holds = record { turns = refl; looked = looked; asked = λ going still. absurd (no_more_asking (phase_in (Calls c (Sent plan.method plan.target (planned_extras plan)))) (next_token (client_in c).link.tokens) still); writes = λ ended. tt };
     }
-    asked_to looked asks (Some fault) is client token err = record {
+    asked_to looked asks (Some fault) is client token cause err = record {
       course = Refuses c fault;
-      stands = refused_stands fault (inl (asking_refused (must_send_request (phase_in c) (token_in c)) fault (sym asks_same ∙ asks) (ap (λ (v : ClientValue). send_refusal v.link plan.method plan.target (planned_extras plan)) (sym client_of_course) ∙ is))) client token err;
+      stands = refused_stands fault (inl (asking_refused (must_send_request (phase_in c) (token_in c)) fault (sym asks_same ∙ asks) (ap (λ (v : ClientValue). send_refusal v.link plan.method plan.target (planned_extras plan)) (sym client_of_course) ∙ is))) client token
+          (cause
+          ∙ ap (λ (v : ClientValue). cause_after r.cause (cause_refused None v.link.peer_max plan (Some fault))) client_of_course
+          ∙ ap (λ (t : Option (List ℕ)). cause_after r.cause (cause_refused t (client_in c).link.peer_max plan (Some fault))) (sym (none_where_asked (phase_in c) (token_in c) (sym asks_same ∙ asks))))
+          err;
       ends = refl;
       holds = record { turns = refl; looked = looked; asked = λ going still. refl; writes = λ ended. tt };
     }
@@ -336,26 +358,29 @@ module _ (plan : ClientPlan) (start now : RunDevices) (r : Run) (c : RunTrace) (
     asked_by : has_looked c ≡ true → (asks : Bool) → must_send_request r.client.link.phase r.token ≡ asks
         → r'.client ≡ cond asks (unless_refused (send_refusal r.client.link plan.method plan.target (planned_extras plan)) (client_sent r.client plan.method plan.target (planned_extras plan)) r.client) r.client
         → token_of r' ≡ cond asks (unless_refused (send_refusal r.client.link plan.method plan.target (planned_extras plan)) (Some (next_token r.client.link.tokens)) (token_of r)) (token_of r)
+        → r'.cause ≡ cause_after r.cause (cause_refused None r.client.link.peer_max plan (cond asks (send_refusal r.client.link plan.method plan.target (planned_extras plan)) None))
         → AddsBytes now.err e (refusal_text (cond asks (send_refusal r.client.link plan.method plan.target (planned_extras plan)) None))
         → After (ended_by (cond asks (send_refusal r.client.link plan.method plan.target (planned_extras plan)) None))
-    asked_by looked true asks client token err = asked_to looked asks (send_refusal r.client.link plan.method plan.target (planned_extras plan)) refl client token err
-    asked_by looked false asks client token err = record {
+    asked_by looked true asks client token cause err = asked_to looked asks (send_refusal r.client.link plan.method plan.target (planned_extras plan)) refl client token cause err
+    asked_by looked false asks client token cause err = record {
       course = c;
-      stands = same_stands client token err;
+      stands = same_stands client token cause err;
       ends = goes;
       holds = record { turns = refl; looked = looked; asked = λ going still. absurd (false_is_true (sym asks ∙ asks_same ∙ still)); writes = λ ended. absurd (ended goes) };
     }
 
     pub asked_on : has_looked c ≡ true → r'.client ≡ client_asking r.client r.token plan → token_of r' ≡ token_asking r.client (token_of r) plan
+        → r'.cause ≡ cause_after r.cause (cause_refused None r.client.link.peer_max plan (asking_refusal r.client r.token plan))
         → AddsBytes now.err e (refusal_text (asking_refusal r.client r.token plan)) → After (ended_by (asking_refusal r.client r.token plan))
-    asked_on looked client token err =
+    asked_on looked client token cause err =
         asked_by looked (must_send_request r.client.link.phase r.token) refl client
-        (token ∙ ap (λ (asks : Bool). cond asks (unless_refused (send_refusal r.client.link plan.method plan.target (planned_extras plan)) (Some (next_token r.client.link.tokens)) (token_of r)) (token_of r)) (ask_same r.client.link.phase r.token (λ t. t.items))) err
+        (token ∙ ap (λ (asks : Bool). cond asks (unless_refused (send_refusal r.client.link plan.method plan.target (planned_extras plan)) (Some (next_token r.client.link.tokens)) (token_of r)) (token_of r)) (ask_same r.client.link.phase r.token (λ t. t.items))) cause err
 
     -- The same for the returned value.
     pub asked_next : has_looked c ≡ true → r'.client ≡ client_asking r.client r.token plan → token_of r' ≡ token_asking r.client (token_of r) plan
+        → r'.cause ≡ cause_after r.cause (cause_refused None r.client.link.peer_max plan (asking_refusal r.client r.token plan))
         → AddsBytes now.err e (refusal_text (asking_refusal r.client r.token plan)) → (next : Option ℕ) → next ≡ ended_by (asking_refusal r.client r.token plan) → After next
-    asked_next looked client token err next is = subst After (sym is) (asked_on looked client token err)
+    asked_next looked client token cause err next is = subst After (sym is) (asked_on looked client token cause err)
 
   -- ---- a read
 
@@ -375,8 +400,8 @@ module _ (plan : ClientPlan) (start now : RunDevices) (r : Run) (c : RunTrace) (
     pub read_stops : stop_behind r'.client.link.phase got ≡ stop_read c got r'.rest
     read_stops = ap (λ (v : ClientValue). stop_behind v.link.phase got) read_same
 
-    read_stands : AddsBytes now.err e (stop_text (stop_behind r'.client.link.phase got)) → IsAtTrace plan start (seen given written answers now.moments now.out e) r' (Reads c got r'.rest)
-    read_stands err = record {
+    read_stands : r'.cause ≡ cause_after r.cause (cause_stopped (stop_behind r'.client.link.phase got)) → AddsBytes now.err e (stop_text (stop_behind r'.client.link.phase got)) → IsAtTrace plan start (seen given written answers now.moments now.out e) r' (Reads c got r'.rest)
+    read_stands cause err = record {
       follows = (stands.follows, goes, fresh, sym stands.rest ∙ none, count);
       shows = read_calls;
       limits = read_keeps;
@@ -386,6 +411,10 @@ module _ (plan : ClientPlan) (start now : RunDevices) (r : Run) (c : RunTrace) (
       moment = moment ∙ stands.moment;
       first = first ∙ stands.first;
       cancelled = cancelled ∙ stands.cancelled;
+      cause =
+          cause
+          ∙ ap (λ (why : Option Reason). cause_after r.cause (cause_stopped why)) read_stops
+          ∙ ap (λ (k : Option Cause). cause_after k (cause_stopped (stop_read c got r'.rest))) stands.cause;
       told = record {
         given = bytes_then start.given now.given given (given_in c) r'.rest stands.told.given gave;
         written = bytes_stay start.written now.written written (written_in c) stands.told.written wrote;
@@ -396,10 +425,10 @@ module _ (plan : ClientPlan) (start now : RunDevices) (r : Run) (c : RunTrace) (
       };
     }
 
-    pub heard_on : (why : Option Reason) → why ≡ stop_behind r'.client.link.phase got → AddsBytes now.err e (stop_text why) → ExtendsTraceOn plan start (seen given written answers now.moments now.out e) r' (IsHeard (turns_in c)) (status_stopped why)
-    heard_on why is err = record {
+    pub heard_on : (why : Option Reason) → why ≡ stop_behind r'.client.link.phase got → r'.cause ≡ cause_after r.cause (cause_stopped why) → AddsBytes now.err e (stop_text why) → ExtendsTraceOn plan start (seen given written answers now.moments now.out e) r' (IsHeard (turns_in c)) (status_stopped why)
+    heard_on why is cause err = record {
       course = Reads c got r'.rest;
-      stands = read_stands (subst (λ (w : Option Reason). AddsBytes now.err e (stop_text w)) is err);
+      stands = read_stands (cause ∙ ap (λ (w : Option Reason). cause_after r.cause (cause_stopped w)) is) (subst (λ (w : Option Reason). AddsBytes now.err e (stop_text w)) is err);
       ends = ap status_stopped (sym read_stops ∙ sym is);
       holds = record { turns = refl; looked = λ goes. refl; early = λ may. may };
     }
@@ -414,8 +443,8 @@ module _ (plan : ClientPlan) (start now : RunDevices) (r : Run) (c : RunTrace) (
     waits_same : r.client.link.waiting ≡ waiting_in c
     waits_same = ap (λ (v : ClientValue). v.link.waiting) client_of_course
 
-    wrote_stands : AddsBytes now.err e (stop_text (stop_written (status_in c) got)) → IsAtTrace plan start (seen given written answers now.moments now.out e) r' (Writes c got)
-    wrote_stands err = record {
+    wrote_stands : r'.cause ≡ cause_after r.cause (cause_stopped (stop_written (status_in c) got)) → AddsBytes now.err e (stop_text (stop_written (status_in c) got)) → IsAtTrace plan start (seen given written answers now.moments now.out e) r' (Writes c got)
+    wrote_stands cause err = record {
       follows = (stands.follows, (λ shut. some (waits_same ∙ shut)), may, rests);
       shows = shown;
       limits = ap (λ (v : ClientValue). v.link.limits) client ∙ stands.limits;
@@ -425,6 +454,7 @@ module _ (plan : ClientPlan) (start now : RunDevices) (r : Run) (c : RunTrace) (
       moment = moment ∙ stands.moment;
       first = first ∙ stands.first;
       cancelled = cancelled ∙ stands.cancelled;
+      cause = cause ∙ ap (λ (k : Option Cause). cause_after k (cause_stopped (stop_written (status_in c) got))) stands.cause;
       told = record {
         given = bytes_stay start.given now.given given (given_in c) stands.told.given gave;
         written = bytes_then start.written now.written written (written_in c) (bytes_passed (waiting_in c) got) stands.told.written (subst (λ (w : List ℕ). AddsBytes now.written written (bytes_passed w got)) waits_same wrote);
@@ -435,22 +465,22 @@ module _ (plan : ClientPlan) (start now : RunDevices) (r : Run) (c : RunTrace) (
       };
     }
 
-    wrote_leads : (next : Option ℕ) → status_in c ≡ next → (why : Option Reason) → why ≡ stop_written next got → AddsBytes now.err e (stop_text why)
+    wrote_leads : (next : Option ℕ) → status_in c ≡ next → (why : Option Reason) → why ≡ stop_written next got → r'.cause ≡ cause_after r.cause (cause_stopped why) → AddsBytes now.err e (stop_text why)
         → ExtendsTraceOn plan start (seen given written answers now.moments now.out e) r' (IsFlushed (turns_in c)) (or_then next (status_stopped why))
-    wrote_leads next ends why is err = record {
+    wrote_leads next ends why is cause err = record {
       course = Writes c got;
-      stands = wrote_stands (subst (λ (w : Option Reason). AddsBytes now.err e (stop_text w)) (is ∙ ap (λ (n : Option ℕ). stop_written n got) (sym ends)) err);
+      stands = wrote_stands (cause ∙ ap (λ (w : Option Reason). cause_after r.cause (cause_stopped w)) (is ∙ ap (λ (n : Option ℕ). stop_written n got) (sym ends))) (subst (λ (w : Option Reason). AddsBytes now.err e (stop_text w)) (is ∙ ap (λ (n : Option ℕ). stop_written n got) (sym ends)) err);
       ends = ap (λ (n : Option ℕ). or_then n (status_stopped (stop_written n got))) ends ∙ ap (λ (w : Option Reason). or_then next (status_stopped w)) (sym is);
       holds = record { turns = refl; between = λ still. tt; written = λ may. absurd may };
     }
 
     -- The run continues, or ends with the status that it had.
-    pub write_leads_on : (next : Option ℕ) → status_in c ≡ next → None ≡ stop_written next got → AddsBytes now.err e [] → ExtendsTraceOn plan start (seen given written answers now.moments now.out e) r' (IsFlushed (turns_in c)) next
-    write_leads_on next ends is err = subst (ExtendsTraceOn plan start (seen given written answers now.moments now.out e) r' (IsFlushed (turns_in c))) (or_then_none next) (wrote_leads next ends None is err)
+    pub write_leads_on : (next : Option ℕ) → status_in c ≡ next → None ≡ stop_written next got → r'.cause ≡ r.cause → AddsBytes now.err e [] → ExtendsTraceOn plan start (seen given written answers now.moments now.out e) r' (IsFlushed (turns_in c)) next
+    write_leads_on next ends is cause err = subst (ExtendsTraceOn plan start (seen given written answers now.moments now.out e) r' (IsFlushed (turns_in c))) (or_then_none next) (wrote_leads next ends None is cause err)
 
     -- A failed write ended the run.
-    pub wrote_last : (next : Option ℕ) → status_in c ≡ next → (why : Reason) → Some why ≡ stop_written next got → AddsBytes now.err e (stop_text (Some why)) → ExtendsTraceOn plan start (seen given written answers now.moments now.out e) r' (IsFlushed (turns_in c)) (Some 3)
-    wrote_last next ends why is err = subst (ExtendsTraceOn plan start (seen given written answers now.moments now.out e) r' (IsFlushed (turns_in c))) (or_then_some next got why is) (wrote_leads next ends (Some why) is err)
+    pub wrote_last : (next : Option ℕ) → status_in c ≡ next → (why : Reason) → Some why ≡ stop_written next got → r'.cause ≡ cause_after r.cause (cause_stopped (Some why)) → AddsBytes now.err e (stop_text (Some why)) → ExtendsTraceOn plan start (seen given written answers now.moments now.out e) r' (IsFlushed (turns_in c)) (Some 3)
+    wrote_last next ends why is cause err = subst (ExtendsTraceOn plan start (seen given written answers now.moments now.out e) r' (IsFlushed (turns_in c))) (or_then_some next got why is) (wrote_leads next ends (Some why) is cause err)
 
   -- ---- deadlines
 
@@ -463,9 +493,9 @@ module _ (plan : ClientPlan) (start now : RunDevices) (r : Run) (c : RunTrace) (
     tokens_same = token_kept r r' token
 
     -- Nothing was due, and the run continues.
-    done_nothing : IsCancelledWhereDue plan c → is_overdue plan c ≡ false → r'.client ≡ r.client → r'.cancelled ≡ r.cancelled → AddsBytes now.err e [] → Due None
-    done_nothing cancels early client cancelled err =
-        let here = same_stands r' e goes rest started moment first cancelled client tokens_same err in
+    done_nothing : IsCancelledWhereDue plan c → is_overdue plan c ≡ false → r'.client ≡ r.client → r'.cancelled ≡ r.cancelled → r'.cause ≡ r.cause → AddsBytes now.err e [] → Due None
+    done_nothing cancels early client cancelled cause err =
+        let here = same_stands r' e goes rest started moment first cancelled client tokens_same cause err in
         record {
           course = Rests c;
           stands = rests_stand here (record { goes_on = goes; in_time = early; looked = looked; taken = taken; asked = asked; cancelled = cancels });
@@ -474,35 +504,36 @@ module _ (plan : ClientPlan) (start now : RunDevices) (r : Run) (c : RunTrace) (
         }
 
     -- The run has waited long enough, or not yet.
-    waited_by : (since : ℕ) → since_in c ≡ Some since → is_cancel_due plan c ≡ false → r'.client ≡ r.client → r'.cancelled ≡ r.cancelled → AddsBytes now.err e []
-        → (passed : Bool) → has_passed r.moment since plan.wait ≡ passed → Due (cond passed (Some 4) None)
-    waited_by since is not client cancelled err true passed =
-        let here = same_stands r' e goes rest started moment first cancelled client tokens_same err in
+    waited_by : (what : Awaited) → what ≡ awaited_in (phase_in c) (cancelled_in c) → (since : ℕ) → since_in c ≡ Some since → is_cancel_due plan c ≡ false → r'.client ≡ r.client → r'.cancelled ≡ r.cancelled → AddsBytes now.err e []
+        → (passed : Bool) → has_passed r.moment since plan.wait ≡ passed → r'.cause ≡ cause_after r.cause (cond passed (Some (ending.TimedOut what plan.wait)) None) → Due (cond passed (Some 4) None)
+    waited_by what awaits since is not client cancelled err true passed cause =
+        let here = same_stands (record r' { cause = r.cause }) e goes rest started moment first cancelled client tokens_same refl err in
         record {
           course = GivesUp c;
-          stands = given_up_stand here goes (record {
+          stands = given_up_stand r' here goes (record {
             late = ap (λ (s : Option ℕ). is_late_since s (moment_in c) plan.wait) is ∙ ap (λ (m : ℕ). has_passed m since plan.wait) (sym stands.moment) ∙ passed;
             looked = looked;
             taken = taken;
             asked = asked;
-          });
+          }) (cause ∙ ap (λ (w : Awaited). Some (ending.TimedOut w plan.wait)) awaits);
           ends = refl;
           holds = record { turns = refl; rests = λ still. absurd (some_is_none still); writes = tt };
         }
-    waited_by since is not client cancelled err false passed =
+    waited_by what awaits since is not client cancelled err false passed cause =
         done_nothing (λ held has due. absurd (false_is_true (sym not ∙ due)))
         (ap (λ (s : Option ℕ). is_overdue_since s (moment_in c) plan.wait) is
         ∙ and_none (nat_lt since (moment_in c)) (has_passed (moment_in c) since plan.wait) (ap (λ (m : ℕ). has_passed m since plan.wait) (sym stands.moment) ∙ passed))
-        client cancelled err
+        client cancelled cause err
 
-    waited : (since : ℕ) → since_in c ≡ Some since → is_cancel_due plan c ≡ false → r'.client ≡ r.client → r'.cancelled ≡ r.cancelled → AddsBytes now.err e [] → Due (timeout_status r.moment since plan.wait)
-    waited since is not client cancelled err = waited_by since is not client cancelled err (has_passed r.moment since plan.wait) refl
+    waited : (what : Awaited) → what ≡ awaited_in (phase_in c) (cancelled_in c) → (since : ℕ) → since_in c ≡ Some since → is_cancel_due plan c ≡ false → r'.client ≡ r.client → r'.cancelled ≡ r.cancelled
+        → r'.cause ≡ cause_after r.cause (cause_waited what r.moment since plan.wait) → AddsBytes now.err e [] → Due (timeout_status r.moment since plan.wait)
+    waited what awaits since is not client cancelled cause err = waited_by what awaits since is not client cancelled err (has_passed r.moment since plan.wait) refl cause
 
     -- The observation was cancelled.
     cancelled_stands : (held : List ℕ) → is_cancel_due plan c ≡ true → token_of r ≡ Some held → value.cancelling_refusal r.client.link held plan.target (planned_extras plan) ≡ None
-        → r'.client ≡ client_cancelled r.client held plan.target (planned_extras plan) → r'.cancelled ≡ Some r.moment → AddsBytes now.err e []
+        → r'.client ≡ client_cancelled r.client held plan.target (planned_extras plan) → r'.cancelled ≡ Some r.moment → r'.cause ≡ r.cause → AddsBytes now.err e []
         → IsAtTrace plan start (seen now.given now.written now.answers now.moments now.out e) r' (Calls c (Cancelled held plan.target (planned_extras plan)))
-    cancelled_stands held due has none client when err =
+    cancelled_stands held due has none client when cause err =
         let nothing : event_in c (Cancelled held plan.target (planned_extras plan)) ≡ None = cancel_tells_none (calls_in c) held plan.target (planned_extras plan) default_limits in
         record {
           follows = (stands.follows, goes, (due, sym stands.token ∙ has, refl, refl));
@@ -514,6 +545,7 @@ module _ (plan : ClientPlan) (start now : RunDevices) (r : Run) (c : RunTrace) (
           moment = moment ∙ stands.moment;
           first = first ∙ stands.first ∙ ap (λ (told : Option ClientEventValue). first_told told (first_in c) (moment_in c)) (sym nothing);
           cancelled = when ∙ ap (λ (m : ℕ). Some m) stands.moment;
+          cause = cause ∙ stands.cause ∙ ap (λ (told : Option ClientEventValue). cause_after (cause_in plan c) (cause_told told)) (sym nothing);
           told = record {
             given = stands.told.given;
             written = stands.told.written;
@@ -532,95 +564,106 @@ module _ (plan : ClientPlan) (start now : RunDevices) (r : Run) (c : RunTrace) (
     cancelled_taken held here has client (inr (inr shut)) =
         inr (inr (ap client_takes (sym (client_stands here) ∙ client) ∙ cancelled_takes r.client held plan.target (planned_extras plan) (ap client_takes client_of_course ∙ shut)))
 
-    ends_refused : (fault : RequestFault) → IsRefused plan c fault → ended_by (Some fault) ≡ Some 3 → r'.client ≡ r.client → r'.cancelled ≡ r.cancelled → AddsBytes now.err e (refusal_text (Some fault)) → Due (ended_by (Some fault))
-    ends_refused fault why three client cancelled err = record {
+    ends_refused : (fault : RequestFault) → IsRefused plan c fault → ended_by (Some fault) ≡ Some 3 → r'.client ≡ r.client → r'.cancelled ≡ r.cancelled → r'.cause ≡ cause_after r.cause (cause_refused (token_in c) (client_in c).link.peer_max plan (Some fault)) → AddsBytes now.err e (refusal_text (Some fault)) → Due (ended_by (Some fault))
+    ends_refused fault why three client cancelled cause err = record {
       course = Refuses c fault;
-      stands = refused_stands r' e goes rest started moment first cancelled fault why client tokens_same err;
+      stands = refused_stands r' e goes rest started moment first cancelled fault why client tokens_same cause err;
       ends = refl;
       holds = record { turns = refl; rests = λ still. absurd (some_is_none (sym three ∙ still)); writes = tt };
     }
 
     -- The cancellation was refused.
-    refused_by : (fault : RequestFault) → IsRefused plan c fault → is_overdue plan c ≡ false → r'.client ≡ r.client → r'.cancelled ≡ r.cancelled → AddsBytes now.err e (refusal_text (Some fault)) → Due (ended_by (Some fault))
-    refused_by NoRoom why early client cancelled err = record {
+    refused_by : (fault : RequestFault) → IsRefused plan c fault → is_overdue plan c ≡ false → r'.client ≡ r.client → r'.cancelled ≡ r.cancelled → r'.cause ≡ cause_after r.cause (cause_refused (token_in c) (client_in c).link.peer_max plan (Some fault)) → AddsBytes now.err e (refusal_text (Some fault)) → Due (ended_by (Some fault))
+    refused_by NoRoom why early client cancelled cause err = record {
       course = Rests (Refuses c NoRoom);
-      stands = rests_stand (refused_stands r' e goes rest started moment first cancelled NoRoom why client tokens_same err) (record { goes_on = refl; in_time = early; looked = looked; taken = taken; asked = λ still. refl; cancelled = λ held has due. refl });
+      stands = rests_stand (refused_stands r' e goes rest started moment first cancelled NoRoom why client tokens_same cause err) (record { goes_on = refl; in_time = early; looked = looked; taken = taken; asked = λ still. refl; cancelled = λ held has due. refl });
       ends = refl;
       holds = record { turns = refl; rests = λ still. tt; writes = tt };
     }
-    refused_by NotOpen why early client cancelled err = ends_refused NotOpen why refl client cancelled err
-    refused_by TooMany why early client cancelled err = ends_refused TooMany why refl client cancelled err
-    refused_by TooBig why early client cancelled err = ends_refused TooBig why refl client cancelled err
-    refused_by TokensSpent why early client cancelled err = ends_refused TokensSpent why refl client cancelled err
-    refused_by NoSuchToken why early client cancelled err = ends_refused NoSuchToken why refl client cancelled err
+    refused_by NotOpen why early client cancelled cause err = ends_refused NotOpen why refl client cancelled cause err
+    refused_by TooMany why early client cancelled cause err = ends_refused TooMany why refl client cancelled cause err
+    refused_by TooBig why early client cancelled cause err = ends_refused TooBig why refl client cancelled cause err
+    refused_by TokensSpent why early client cancelled cause err = ends_refused TokensSpent why refl client cancelled cause err
+    refused_by NoSuchToken why early client cancelled cause err = ends_refused NoSuchToken why refl client cancelled cause err
 
     cancels_as : (held : List ℕ) → is_cancel_due plan c ≡ true → token_of r ≡ Some held → is_overdue plan c ≡ false → (refusal : Option RequestFault) → value.cancelling_refusal r.client.link held plan.target (planned_extras plan) ≡ refusal
         → r'.client ≡ unless_refused refusal (client_cancelled r.client held plan.target (planned_extras plan)) r.client
         → r'.cancelled ≡ cancelled_at (Some held) refusal r.moment r.cancelled
+        → r'.cause ≡ cause_after r.cause (cause_refused (Some held) r.client.link.peer_max plan refusal)
         → AddsBytes now.err e (refusal_text refusal) → Due (ended_by refusal)
-    cancels_as held due has early None is client when err = record {
+    cancels_as held due has early None is client when cause err = record {
       course = Rests (Calls c (Cancelled held plan.target (planned_extras plan)));
-      stands = rests_stand (cancelled_stands held due has is client when err) (record {
+      stands = rests_stand (cancelled_stands held due has is client when cause err) (record {
         goes_on = ap status_told (cancel_tells_none (calls_in c) held plan.target (planned_extras plan) default_limits);
         in_time = and_first (nat_lt (moment_in c) (moment_in c)) (has_passed (moment_in c) (moment_in c) plan.wait) (not_below (moment_in c));
         looked = looked;
-        taken = cancelled_taken held (cancelled_stands held due has is client when err) has client taken;
+        taken = cancelled_taken held (cancelled_stands held due has is client when cause err) has client taken;
         asked = λ still. absurd (no_more_asking (phase_in (Calls c (Cancelled held plan.target (planned_extras plan)))) held (subst (λ (t : Option (List ℕ)). must_send_request (phase_in (Calls c (Cancelled held plan.target (planned_extras plan)))) t ≡ true) (sym stands.token ∙ has) still));
         cancelled = λ other has again. absurd (false_is_true again);
       });
       ends = ap status_told (cancel_tells_none (calls_in c) held plan.target (planned_extras plan) default_limits);
       holds = record { turns = refl; rests = λ still. tt; writes = tt };
     }
-    cancels_as held due has early (Some fault) is client when err =
+    cancels_as held due has early (Some fault) is client when cause err =
         refused_by fault
         (inr (due, ap (λ (t : Option (List ℕ)). cancelling_refusal (client_in c) t plan) (sym stands.token ∙ has) ∙ ap (λ (v : ClientValue). value.cancelling_refusal v.link held plan.target (planned_extras plan)) (sym client_of_course) ∙ is))
-        early client when err
+        early client when
+        (cause
+        ∙ ap (λ (v : ClientValue). cause_after r.cause (cause_refused (Some held) v.link.peer_max plan (Some fault))) client_of_course
+        ∙ ap (λ (t : Option (List ℕ)). cause_after r.cause (cause_refused t (client_in c).link.peer_max plan (Some fault))) (sym has ∙ stands.token))
+        err
 
     cancels_to : is_cancel_due plan c ≡ true → is_overdue plan c ≡ false → (held : Option (List ℕ)) → token_of r ≡ held
         → r'.client ≡ client_cancelling r.client held plan → r'.cancelled ≡ cancelled_at held (cancelling_refusal r.client held plan) r.moment r.cancelled
+        → r'.cause ≡ cause_after r.cause (cause_refused held r.client.link.peer_max plan (cancelling_refusal r.client held plan))
         → AddsBytes now.err e (refusal_text (cancelling_refusal r.client held plan)) → Due (ended_by (cancelling_refusal r.client held plan))
-    cancels_to due early None has client when err =
-        done_nothing (λ held some again. absurd (some_is_none (sym some ∙ sym stands.token ∙ has))) early client when err
-    cancels_to due early (Some held) has client when err =
-        cancels_as held due has early (value.cancelling_refusal r.client.link held plan.target (planned_extras plan)) refl client when err
+    cancels_to due early None has client when cause err =
+        done_nothing (λ held some again. absurd (some_is_none (sym some ∙ sym stands.token ∙ has))) early client when cause err
+    cancels_to due early (Some held) has client when cause err =
+        cancels_as held due has early (value.cancelling_refusal r.client.link held plan.target (planned_extras plan)) refl client when cause err
 
     cancels_by : is_overdue plan c ≡ false → (due : Bool) → is_cancel_due plan c ≡ due
         → r'.client ≡ cond due (client_cancelling r.client (token_of r) plan) r.client
         → r'.cancelled ≡ cond due (cancelled_at (token_of r) (cancelling_refusal r.client (token_of r) plan) r.moment r.cancelled) r.cancelled
+        → r'.cause ≡ cause_after r.cause (cond due (cause_refused (token_of r) r.client.link.peer_max plan (cancelling_refusal r.client (token_of r) plan)) None)
         → AddsBytes now.err e (cond due (refusal_text (cancelling_refusal r.client (token_of r) plan)) []) → Due (cond due (ended_by (cancelling_refusal r.client (token_of r) plan)) None)
-    cancels_by early true is client when err = cancels_to is early (token_of r) refl client when err
-    cancels_by early false is client when err = done_nothing (λ held has due. absurd (false_is_true (sym is ∙ due))) early client when err
+    cancels_by early true is client when cause err = cancels_to is early (token_of r) refl client when cause err
+    cancels_by early false is client when cause err = done_nothing (λ held has due. absurd (false_is_true (sym is ∙ due))) early client when cause err
 
     watched_by : (k f : Option ℕ) → r.cancelled ≡ k → r.first ≡ f
         → r'.client ≡ cond (is_to_cancel k f r.moment plan.observe) (client_cancelling r.client (token_of r) plan) r.client
         → r'.cancelled ≡ cond (is_to_cancel k f r.moment plan.observe) (cancelled_at (token_of r) (cancelling_refusal r.client (token_of r) plan) r.moment r.cancelled) r.cancelled
+        → r'.cause ≡ cause_after r.cause (watched_cause k f r.started r.moment plan r.client.link.phase (cause_refused (token_of r) r.client.link.peer_max plan (cancelling_refusal r.client (token_of r) plan)))
         → AddsBytes now.err e (cond (is_to_cancel k f r.moment plan.observe) (refusal_text (cancelling_refusal r.client (token_of r) plan)) [])
         → Due (watched k f r.started r.moment plan (ended_by (cancelling_refusal r.client (token_of r) plan)))
-    watched_by (Some since) f ek ef client when err =
+    watched_by (Some since) f ek ef client when cause err =
         let k : cancelled_in c ≡ Some since = sym stands.cancelled ∙ ek in
-        waited since (ap (λ (k : Option ℕ). waits_since k (first_in c) (started_in c)) k) (ap (λ (k : Option ℕ). is_to_cancel k (first_in c) (moment_in c) plan.observe) k) client when err
-    watched_by None None ek ef client when err =
+        waited (awaited_in r.client.link.phase (Some since)) (ap (λ (v : ClientValue). awaited_in v.link.phase (Some since)) client_of_course ∙ ap (awaited_in (phase_in c)) (sym k))
+        since (ap (λ (k : Option ℕ). waits_since k (first_in c) (started_in c)) k) (ap (λ (k : Option ℕ). is_to_cancel k (first_in c) (moment_in c) plan.observe) k) client when cause err
+    watched_by None None ek ef client when cause err =
         let k : cancelled_in c ≡ None = sym stands.cancelled ∙ ek in
         let f : first_in c ≡ None = sym stands.first ∙ ef in
-        waited r.started
+        waited (awaited_in r.client.link.phase None) (ap (λ (v : ClientValue). awaited_in v.link.phase None) client_of_course ∙ ap (awaited_in (phase_in c)) (sym k))
+        r.started
         (ap (λ (k : Option ℕ). waits_since k (first_in c) (started_in c)) k ∙ ap (λ (f : Option ℕ). waits_since None f (started_in c)) f ∙ ap (λ (m : ℕ). Some m) (sym stands.started))
-        (ap (λ (k : Option ℕ). is_to_cancel k (first_in c) (moment_in c) plan.observe) k ∙ ap (λ (f : Option ℕ). is_to_cancel None f (moment_in c) plan.observe) f) client when err
-    watched_by None (Some at_first) ek ef client when err =
+        (ap (λ (k : Option ℕ). is_to_cancel k (first_in c) (moment_in c) plan.observe) k ∙ ap (λ (f : Option ℕ). is_to_cancel None f (moment_in c) plan.observe) f) client when cause err
+    watched_by None (Some at_first) ek ef client when cause err =
         let k : cancelled_in c ≡ None = sym stands.cancelled ∙ ek in
         let f : first_in c ≡ Some at_first = sym stands.first ∙ ef in
         cancels_by
         (ap (λ (k : Option ℕ). is_overdue_since (waits_since k (first_in c) (started_in c)) (moment_in c) plan.wait) k ∙ ap (λ (f : Option ℕ). is_overdue_since (waits_since None f (started_in c)) (moment_in c) plan.wait) f)
         (is_to_cancel None (Some at_first) r.moment plan.observe)
         (ap (λ (k : Option ℕ). is_to_cancel k (first_in c) (moment_in c) plan.observe) k ∙ ap (λ (f : Option ℕ). is_to_cancel None f (moment_in c) plan.observe) f ∙ ap (λ (m : ℕ). is_to_cancel None (Some at_first) m plan.observe) (sym stands.moment))
-        client when err
+        client when cause err
 
     pub watched_on : r'.client ≡ cond (is_to_cancel r.cancelled r.first r.moment plan.observe) (client_cancelling r.client (token_of r) plan) r.client
         → r'.cancelled ≡ cond (is_to_cancel r.cancelled r.first r.moment plan.observe) (cancelled_at r.token (cancelling_refusal r.client (token_of r) plan) r.moment r.cancelled) r.cancelled
+        → r'.cause ≡ cause_after r.cause (watched_cause r.cancelled r.first r.started r.moment plan r.client.link.phase (cause_refused (token_of r) r.client.link.peer_max plan (cancelling_refusal r.client (token_of r) plan)))
         → AddsBytes now.err e (cond (is_to_cancel r.cancelled r.first r.moment plan.observe) (refusal_text (cancelling_refusal r.client (token_of r) plan)) [])
         → Due (watched r.cancelled r.first r.started r.moment plan (ended_by (cancelling_refusal r.client (token_of r) plan)))
-    watched_on client when err =
+    watched_on client when cause err =
         watched_by r.cancelled r.first refl refl client
-        (when ∙ ap (λ (k : Option ℕ). cond (is_to_cancel r.cancelled r.first r.moment plan.observe) k r.cancelled) (cancelled_same r.token (λ t. t.items) (cancelling_refusal r.client (token_of r) plan) r.moment r.cancelled)) err
+        (when ∙ ap (λ (k : Option ℕ). cond (is_to_cancel r.cancelled r.first r.moment plan.observe) k r.cancelled) (cancelled_same r.token (λ t. t.items) (cancelling_refusal r.client (token_of r) plan) r.moment r.cancelled)) cause err
 
 -- ---- results of the parts of an iteration
 
@@ -671,11 +714,12 @@ module _ (plan : ClientPlan) (start now : RunDevices) (r : Run) (n : ℕ) (next 
     (rest : r'.rest ≡ r.rest) (token : r'.token ≡ r.token) (started : r'.started ≡ r.started) (moment : r'.moment ≡ r.moment) (first : r'.first ≡ r.first) where
   pub watched_so : r'.client ≡ cond (is_to_cancel r.cancelled r.first r.moment plan.observe) (client_cancelling r.client (token_of r) plan) r.client
       → r'.cancelled ≡ cond (is_to_cancel r.cancelled r.first r.moment plan.observe) (cancelled_at r.token (cancelling_refusal r.client (token_of r) plan) r.moment r.cancelled) r.cancelled
+      → r'.cause ≡ cause_after r.cause (watched_cause r.cancelled r.first r.started r.moment plan r.client.link.phase (cause_refused (token_of r) r.client.link.peer_max plan (cancelling_refusal r.client (token_of r) plan)))
       → AddsBytes now.err e (cond (is_to_cancel r.cancelled r.first r.moment plan.observe) (refusal_text (cancelling_refusal r.client (token_of r) plan)) [])
       → ExtendsTraceOn plan start (seen now.given now.written now.answers now.moments now.out e) r' (IsFinished n) (watched r.cancelled r.first r.started r.moment plan (ended_by (cancelling_refusal r.client (token_of r) plan)))
-  watched_so client when err =
+  watched_so client when cause err =
       as_many IsFinished (turns_in led.course) n led.holds.turns
-      (watched_on plan start now r led.course led.stands r' e (led.ends ∙ goes) led.holds.looked (led.holds.taken (led.ends ∙ goes)) (led.holds.asked (led.ends ∙ goes)) rest token started moment first client when err)
+      (watched_on plan start now r led.course led.stands r' e (led.ends ∙ goes) led.holds.looked (led.holds.taken (led.ends ∙ goes)) (led.holds.asked (led.ends ∙ goes)) rest token started moment first client when cause err)
 
 -- A `take` after the request was sent, and the next attempt to send it.
 module _ (plan : ClientPlan) (start now : RunDevices) (r : Run) (n : ℕ) (led : ExtendsTraceOn plan start now r (IsAsked n) None) (r' : Run) (o e : Option (List ℕ))
@@ -685,13 +729,14 @@ module _ (plan : ClientPlan) (start now : RunDevices) (r : Run) (n : ℕ) (led :
     (rest : r'.rest ≡ drop (taking r.client r.rest).count r.rest)
     (first : r'.first ≡ first_told (taking r.client r.rest).event r.first r.moment)
     (token : r'.token ≡ r.token) (started : r'.started ≡ r.started) (moment : r'.moment ≡ r.moment) (cancelled : r'.cancelled ≡ r.cancelled)
+    (cause : r'.cause ≡ cause_after r.cause (cause_told (taking r.client r.rest).event))
     (out : AddsBytes now.out o (output_told (taking r.client r.rest).event plan.newline))
     (err : AddsBytes now.err e (errors_told (taking r.client r.rest).event))
     (next : Option ℕ) (told : next ≡ status_told (taking r.client r.rest).event) where
   pub took_ends : (status : ℕ) → next ≡ Some status → ExtendsTraceOn plan start (seen now.given now.written now.answers now.moments o e) r' (IsAsked n) (Some status)
   took_ends status is =
       as_many IsAsked (turns_in led.course) n led.holds.turns
-      (took_last plan start now r led.course led.stands r' o e led.ends may within client rest first token started moment cancelled out err led.holds.looked status (sym is ∙ told))
+      (took_last plan start now r led.course led.stands r' o e led.ends may within client rest first token started moment cancelled cause out err led.holds.looked status (sym is ∙ told))
 
   abbrev seen_then : RunDevices
   seen_then = seen now.given now.written now.answers now.moments o e
@@ -699,20 +744,21 @@ module _ (plan : ClientPlan) (start now : RunDevices) (r : Run) (n : ℕ) (led :
   pub took_asked : next ≡ None → (r'' : Run) (e' : Option (List ℕ))
       → r''.rest ≡ r'.rest → r''.started ≡ r'.started → r''.moment ≡ r'.moment → r''.first ≡ r'.first → r''.cancelled ≡ r'.cancelled
       → r''.client ≡ client_asking r'.client r'.token plan → token_of r'' ≡ token_asking r'.client (token_of r') plan
+      → r''.cause ≡ cause_after r'.cause (cause_refused None r'.client.link.peer_max plan (asking_refusal r'.client r'.token plan))
       → AddsBytes e e' (refusal_text (asking_refusal r'.client r'.token plan)) → (answer : Option ℕ) → answer ≡ ended_by (asking_refusal r'.client r'.token plan)
       → ExtendsTraceOn plan start (seen now.given now.written now.answers now.moments o e') r'' (IsAsked n) answer
-  took_asked goes r'' e' rest' started' moment' first' cancelled' client' token' err' answer is =
+  took_asked goes r'' e' rest' started' moment' first' cancelled' client' token' cause' err' answer is =
       let c : RunTrace = Calls led.course (Took (take (taking r.client r.rest).count r.rest)) in
-      let stands : IsAtTrace plan start seen_then r' c = took_stands plan start now r led.course led.stands r' o e led.ends may within client rest first token started moment cancelled out err in
-      let on : status_in c ≡ None = took_status plan start now r led.course led.stands r' o e led.ends may within client rest first token started moment cancelled out err ∙ sym told ∙ goes in
+      let stands : IsAtTrace plan start seen_then r' c = took_stands plan start now r led.course led.stands r' o e led.ends may within client rest first token started moment cancelled cause out err in
+      let on : status_in c ≡ None = took_status plan start now r led.course led.stands r' o e led.ends may within client rest first token started moment cancelled cause out err ∙ sym told ∙ goes in
       as_many IsAsked (turns_in led.course) n led.holds.turns
-      (asked_next plan start seen_then r' c stands r'' e' on rest' started' moment' first' cancelled' led.holds.looked client' token' err' answer is)
+      (asked_next plan start seen_then r' c stands r'' e' on rest' started' moment' first' cancelled' led.holds.looked client' token' cause' err' answer is)
 
 -- ---- the start, an iteration, and the end
 
 module _ (plan : ClientPlan) (r : Run) (given written out err told moments : Option (List ℕ)) (answers : Option (List Got)) (moment : ℕ)
     (client : r.client ≡ value.new_client default_limits 0) (shows : ClientShows r.client 0 []) (rest : r.rest ≡ []) (token : r.token ≡ None)
-    (started : r.started ≡ moment) (now : r.moment ≡ moment) (first : r.first ≡ None) (cancelled : r.cancelled ≡ None)
+    (started : r.started ≡ moment) (now : r.moment ≡ moment) (first : r.first ≡ None) (cancelled : r.cancelled ≡ None) (cause : r.cause ≡ None)
     (asked : TellsMore told moments (moment ∷ [])) where
   pub began : IsAtTrace plan (seen given written answers told out err) (seen given written answers moments out err) r (Begins moment)
   began = record {
@@ -725,6 +771,7 @@ module _ (plan : ClientPlan) (r : Run) (given written out err told moments : Opt
     moment = now;
     first = first;
     cancelled = cancelled;
+    cause = cause;
     told = record {
       given = bytes_none given;
       written = bytes_none written;
@@ -737,7 +784,7 @@ module _ (plan : ClientPlan) (r : Run) (given written out err told moments : Opt
 
 module _ (plan : ClientPlan) (start now : RunDevices) (r : Run) (c : RunTrace) (stands : IsAtTrace plan start now r c) (goes : status_in c ≡ None) (between : IsBetween c)
     (r' : Run) (moment : ℕ) (moments : Option (List ℕ)) (client : r'.client ≡ r.client) (rest : r'.rest ≡ r.rest) (token : r'.token ≡ r.token)
-    (started : r'.started ≡ r.started) (later : r'.moment ≡ max r.moment moment) (first : r'.first ≡ r.first) (cancelled : r'.cancelled ≡ r.cancelled)
+    (started : r'.started ≡ r.started) (later : r'.moment ≡ max r.moment moment) (first : r'.first ≡ r.first) (cancelled : r'.cancelled ≡ r.cancelled) (cause : r'.cause ≡ r.cause)
     (asked : TellsMore now.moments moments (moment ∷ [])) where
   pub turn_made : IsAtTrace plan start (seen now.given now.written now.answers moments now.out now.err) r' (Turns c moment)
   turn_made = record {
@@ -750,6 +797,7 @@ module _ (plan : ClientPlan) (start now : RunDevices) (r : Run) (c : RunTrace) (
     moment = later ∙ ap (λ (m : ℕ). max m moment) stands.moment;
     first = first ∙ stands.first;
     cancelled = cancelled ∙ stands.cancelled;
+    cause = cause ∙ stands.cause;
     told = record {
       given = stands.told.given;
       written = stands.told.written;
@@ -781,3 +829,8 @@ module _ (plan : ClientPlan) (start now : RunDevices) (r : Run) (c : RunTrace) (
         turns = few;
         ends = ends;
       }
+
+  -- The same with the cause of the end.
+  pub explained_of : (end : RunEnd) → IsEnded c end.status ⊎ IsOutOfTurns c end.status → end.cause ≡ r.cause → IsExplainedRun plan start now end
+  unfolding run_of
+  explained_of end ends same = record { run = run_of end.status ends; cause = same ∙ stands.cause }

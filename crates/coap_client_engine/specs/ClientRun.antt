@@ -9,7 +9,9 @@ use Rattle.coap_io.specs.streams.DeviceTraces.{TellsMore}
 use Rattle.coap_client_engine.specs.ClientWorld.{AreAccepted, ClientShows}
 use Rattle.coap_client_engine.specs.RunTrace.{RunTrace, Begins, calls_in, history_in, token_in, moments_in, turns_in, moment_in, started_in, first_in, cancelled_in, answers_in, taken_in, given_in, rest_in, waiting_in, written_in, status_in, output_in, errors_in, has_looked, IsAskedWhereDue, IsTakenUp, IsResting, IsBetween, MayWrite, HasWritten, IsRunTrace}
 use Rattle.coap_request.specs.declared.plan.ClientPlan.{ClientPlan}
+use Rattle.coap_client_engine.specs.RunCauses.{cause_in}
 use Rattle.coap_client_engine.specs.declared.run.state.Run.{Run}
+use Rattle.coap_client_engine.specs.declared.run_end.RunEnd.{RunEnd}
 use Rattle.coap_conn.specs.Limits.{default_limits}
 
 -- ---- the records of the devices
@@ -66,6 +68,11 @@ pub record IsClientRun (plan : ClientPlan) (start now : RunDevices) (status : �
   pub turns : turns_in course ≤ most_turns
   pub ends : IsEnded course status ⊎ IsOutOfTurns course status
 
+-- The contract of a run that returns its end: it is a run that returns the status, and the cause is that of its trace.
+pub record IsExplainedRun (plan : ClientPlan) (start now : RunDevices) (end : RunEnd) : Type 0 where
+  pub run : IsClientRun plan start now end.status
+  pub cause : end.cause ≡ cause_in plan run.course
+
 -- The contract of a run for which allocation fails: the clock recorded one time, and the other devices recorded
 -- nothing.
 pub record FailedBeforeStart (plan : ClientPlan) (start now : RunDevices) : Type 0 where
@@ -89,6 +96,7 @@ pub record IsAtTrace (plan : ClientPlan) (start now : RunDevices) (run : Run) (c
   pub moment : run.moment ≡ moment_in course
   pub first : run.first ≡ first_in course
   pub cancelled : run.cancelled ≡ cancelled_in course
+  pub cause : run.cause ≡ cause_in plan course
   pub told : IsRecorded plan start now course
 
 -- Says that a part of an iteration leads to a trace for which `P` holds. `next` is the exit status after that trace, or

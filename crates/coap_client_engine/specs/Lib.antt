@@ -6,5 +6,7 @@ pub mod RunFaults
 pub mod RunTexts
 pub mod RunSteps
 pub mod RunTrace
+pub mod RunCauses
+pub mod CauseTexts
 pub mod ClientRun
 pub mod Prelude

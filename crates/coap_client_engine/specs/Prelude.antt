@@ -79,7 +79,7 @@ pub use Rattle.coap_request.specs.declared.request.Method.{Method}
 pub use Rattle.coap_request.specs.declared.request.Method.TheVariants.{Get}
 -- ---- coap_client_engine
 pub use Rattle.coap_client_engine.specs.ClientLaws.{AreDifferent, tokens_given, token_given, tokens_behind}
-pub use Rattle.coap_client_engine.specs.ClientRun.{IsReady, IsClientRun, FailedBeforeStart, seen, with_outlets, with_wire}
+pub use Rattle.coap_client_engine.specs.ClientRun.{IsReady, IsClientRun, IsExplainedRun, FailedBeforeStart, seen, with_outlets, with_wire}
 pub use Rattle.coap_client_engine.specs.ClientRun.{with_all, HasReadClock, IsHeard, IsTaken, IsFinished, IsFlushed, ExtendsTrace}
 pub use Rattle.coap_client_engine.specs.ClientRun.{ExtendsAllTraces, Flushes, IsAsked, IsEnded, IsOutOfTurns, ExtendsTraceOn, RunDevices}
 pub use Rattle.coap_client_engine.specs.ClientRun.{IsAtTrace, most_turns, token_of}
@@ -108,6 +108,8 @@ pub use Rattle.coap_client_engine.specs.RunTrace.{moment_in, moments_in, or_then
 pub use Rattle.coap_client_engine.specs.RunTrace.{since_in, started_in, status_in, status_stopped, stop_read}
 pub use Rattle.coap_client_engine.specs.RunTrace.{stop_text, taken_in, token_in, turns_in, waiting_in, waits_since}
 pub use Rattle.coap_client_engine.specs.RunTrace.{written_in}
+pub use Rattle.coap_client_engine.specs.RunCauses.{cause_after, cause_stopped, cause_of, cause_told, cause_refused_as}
+pub use Rattle.coap_client_engine.specs.RunCauses.{cause_refused, awaited_in, cause_waited, watched_cause, cause_in}
 pub use Rattle.coap_client_engine.specs.RunFaults.{is_output_fault, IfMemory, IsStatus, EndsWithStatus}
 pub use Rattle.coap_client_engine.specs.RunSteps.{calls_read, calls_written, cancelled_at, client_asking}
 pub use Rattle.coap_client_engine.specs.RunSteps.{client_cancelling, client_read, ended_by, errors_told, first_told}
@@ -118,3 +120,6 @@ pub use Rattle.coap_client_engine.specs.RunSteps.{token_asking, unless_refused, 
 pub use Rattle.coap_client_engine.specs.declared.client.Client.TheInside.{Inside}
 pub use Rattle.coap_client_engine.specs.declared.client.Received.{Received}
 pub use Rattle.coap_client_engine.specs.declared.run.state.Run.{Run}
+pub use Rattle.coap_client_engine.specs.declared.run_end.Awaited.{Awaited}
+pub use Rattle.coap_client_engine.specs.declared.run_end.Cause.{Cause}
+pub use Rattle.coap_client_engine.specs.declared.run_end.RunEnd.{RunEnd}

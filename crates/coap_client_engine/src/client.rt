@@ -16,7 +16,9 @@ ghost use Rattle.coap_conn.specs.Calls as call;
 ghost use Rattle.coap_client_engine.specs.declared.client.Received.TheVariants as heard;
 ghost use Rattle.coap_client_engine.specs.contracts.client.Client.{the_row};
 
-use coap_conn::{Limits, Link, Phase, Reason, Reject, RequestFault, Role, Verdict};
+mod state;
+
+use coap_conn::{Limits, Link, Reason, Reject, RequestFault, Role, Verdict};
 use coap_frame::Framer;
 use coap_request::{Extras, Method, Target, cancellation_message, formats_of, request_message};
 use coap_wire::{MessageRef, Token, TokenRef, parse};
@@ -309,28 +311,6 @@ impl Client {
     {
         self.link.end(self.framer.kept() > 0);
         self.framer.clear();
-    }
-
-    /// Returns the number of outstanding requests, observations and Pings.
-    pub fn outstanding(&self) -> usize
-        ensures count { result ≡ length self.now.link.outstanding }
-        ensures within { length self.now.link.outstanding ≤ self.now.link.limits.outstanding }
-    {
-        self.link.outstanding()
-    }
-
-    /// Returns the phase of the connection.
-    pub fn phase(&self) -> Phase
-        ensures { result ≡ self.now.link.phase }
-    {
-        self.link.phase()
-    }
-
-    /// Returns the number of bytes queued for writing.
-    pub fn waiting(&self) -> usize
-        ensures { result ≡ length self.now.link.waiting }
-    {
-        self.link.waiting()
     }
 
     /// Returns `true` if the client accepts bytes. The queue must have room for a message of maximum size, and the

@@ -4,7 +4,7 @@
 //! - `Client` is the engine of one connection. It does no I/O: the caller passes in received bytes and writes the
 //!   queued bytes. `Event` is the event that a call of `Client::take` reports.
 //! - `run_client` joins a `Client` to a wire, a clock and two outlets, and runs it as a plan says. The value that it
-//!   returns is the exit status of `coap-client`.
+//!   returns is the exit status of `coap-client`. `run_to_end` also returns the cause of the end, a `Cause`.
 //! - `laws` has the theorems over all clients.
 //!
 //! The contracts use the definitions of `specs/ClientWorld.antt` for the calls of a client, and those of
@@ -37,10 +37,14 @@
 //! ```
 #![tactic(auto)]
 
+mod cause_line;
 mod client;
 mod error_lines;
 pub mod laws;
 mod run;
+mod run_end;
 
+pub use cause_line::explain;
 pub use client::{Client, Event, Taken};
-pub use run::{ClientFault, run_client};
+pub use run::{ClientFault, run_client, run_to_end};
+pub use run_end::{Awaited, Cause, Refusal, RunEnd};

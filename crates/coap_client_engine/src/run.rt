@@ -2,6 +2,7 @@
 
 ghost use Rattle.std.specs.Prelude.{◌≡◌, ◌||◌, false, is_err, IfOk, IfSome};
 ghost use Rattle.coap_client_engine.specs.Prelude.{is_output_fault, IfMemory, IsStatus, IsFresh, IsClientRun};
+ghost use Rattle.coap_client_engine.specs.Prelude.{IsExplainedRun};
 ghost use Rattle.coap_client_engine.specs.Prelude.{FailedBeforeStart, seen, with_outlets, with_all, HasReadClock};
 ghost use Rattle.coap_client_engine.specs.Prelude.{IsFinished, IsFlushed, ExtendsTrace};
 
@@ -11,6 +12,7 @@ mod report;
 mod state;
 mod transmit;
 
+use crate::run_end::RunEnd;
 use coap_io::{Clock, Outlet, Wire};
 use coap_request::ClientPlan;
 pub use state::ClientFault;
@@ -68,16 +70,60 @@ pub fn run_client<W: Wire, C: Clock, O: Outlet, E: Outlet>(
     // `Output` is returned if and only if an outlet failed.
     ensures output { (O.is_failed out.new || E.is_failed err.new) ≡ is_output_fault result }
 {
+    Ok(run_to_end(alloc, wire, clock, out, err, plan)?.status)
+}
+
+/// Runs a client over one transport connection as `run_client` does, and returns its end: the exit status and the
+/// cause.
+///
+/// # Errors
+///
+/// - `Output`: an outlet failed.
+/// - `Memory`: allocation of the client's memory failed.
+///
+/// # Preconditions
+///
+/// Neither outlet has failed before.
+pub fn run_to_end<W: Wire, C: Clock, O: Outlet, E: Outlet>(
+    alloc: Global,
+    wire: &mut W,
+    clock: &mut C,
+    out: &mut O,
+    err: &mut E,
+    plan: &ClientPlan,
+) -> Result<RunEnd, ClientFault>
+    requires out_works { O.is_failed out.old ≡ false }
+    requires err_works { E.is_failed err.old ≡ false }
+    // A trace of the run agrees with the records of its devices. It ends with the returned status and cause.
+    ensures run { IfOk result (IsExplainedRun plan.now (seen (W.given wire.old) (W.written wire.old) (W.answers wire.old)
+        (C.moments clock.old) (O.written out.old) (E.written err.old))
+        (seen (W.given wire.new) (W.written wire.new) (W.answers wire.new) (C.moments clock.new) (O.written out.new)
+        (E.written err.new))) }
+    ensures status { IfOk result (λ end. IsStatus end.status) }
+    // If allocation fails, nothing was read or written before.
+    ensures memory { IfMemory result (FailedBeforeStart plan.now
+        (seen (W.given wire.old) (W.written wire.old) (W.answers wire.old) (C.moments clock.old) (O.written out.old)
+        (E.written err.old)) (seen (W.given wire.new) (W.written wire.new) (W.answers wire.new) (C.moments clock.new)
+        (O.written out.new) (E.written err.new))) }
+    // `Output` is returned if and only if an outlet failed.
+    ensures output { (O.is_failed out.new || E.is_failed err.new) ≡ is_output_fault result }
+{
     let Ok(mut run) = Run::open(alloc, clock.now()) else {
         return Err(ClientFault::Memory);
     };
     for _ in 0..TURNS {
         run.moment = run.moment.max(clock.now());
         if let Some(status) = run.turn(wire, out, err, plan)? {
-            return Ok(status);
+            return Ok(RunEnd {
+                status,
+                cause: run.cause,
+            });
         }
     }
-    Ok(TIMED_OUT)
+    Ok(RunEnd {
+        status: TIMED_OUT,
+        cause: run.cause,
+    })
 }
 
 impl Run {

@@ -1,13 +1,16 @@
 //! The program `coap-client`: one request over a reliable transport (RFC 8323).
 //!
 //! The arguments are those of `coap_client::client_words`. The program reads the payload file of `-f`, connects to the
-//! host of the URI, opens the response file of `-o`, and then runs `coap_client::run_client`.
+//! host of the URI, opens the response file of `-o`, and then runs `coap_client::run_to_end`. If the run has a cause for
+//! its end, a last line on standard error gives it in words.
 #![tactic(auto)]
 
 ghost use Rattle.std.specs.Prelude.{◌≡◌, ◌≤◌, IfSome, IfNone};
 ghost use Rattle.std.specs.Str.{IsUtf8};
 
-use coap_client::{ClientPlan, Target, client_reason, client_words, run_client};
+use coap_client::{
+    ClientPlan, Line, RunEnd, Target, client_reason, client_words, explain, run_to_end,
+};
 use coap_io::WriteOutlet;
 use coap_program::{FAULT, FileError, Program, USAGE, occupy_standard_descriptors, read_whole};
 use coap_sockets::{ClientWire, ConnectError, ConnectFault};
@@ -79,6 +82,18 @@ fn connect<'a, R: Net + time::Clock + AllocGlobal>(
     }
 }
 
+/// Writes the cause of the end of a run in words, if it has one, and returns the exit status.
+fn print_cause(rt: &impl Eprint, end: &RunEnd) -> u8
+    ensures { result ≡ end.now.status }
+{
+    let Some(cause) = &end.cause else {
+        return end.status;
+    };
+    let mut line = Line::new();
+    explain(&mut line, cause);
+    PROGRAM.print_fault(rt, line.as_str(), end.status)
+}
+
 /// Runs a client over a connection, with writers for payloads and for reports, and returns the exit status.
 fn run_on_connection<R: Eprint + Net + time::Clock + AllocGlobal>(
     rt: &R,
@@ -92,8 +107,8 @@ fn run_on_connection<R: Eprint + Net + time::Clock + AllocGlobal>(
     let mut clock = line.clock();
     let mut out = WriteOutlet::new(out);
     let mut err = WriteOutlet::new(err);
-    match run_client(rt.alloc(), &mut line, &mut clock, &mut out, &mut err, plan) {
-        Ok(status) => status,
+    match run_to_end(rt.alloc(), &mut line, &mut clock, &mut out, &mut err, plan) {
+        Ok(end) => print_cause(rt, &end),
         Err(fault) => PROGRAM.print_fault(rt, fault, FAULT),
     }
 }

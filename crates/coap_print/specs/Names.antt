@@ -1,5 +1,5 @@
 -- The names of codes, options and Content-Formats: rows of the tables of src/tables.rt.
-use Rattle.std.specs.Prelude.{ℕ, Bool, ◌==◌, ◌||◌, List, [], ◌∷◌, map, Option, Some, None, if◌then◌else◌}
+use Rattle.std.specs.Prelude.{ℕ, Bool, ◌==◌, ◌||◌, List, [], ◌∷◌, map, Option, Some, None, option_map, if◌then◌else◌}
 use Rattle.std.specs.Borrow.{Bor}
 use Rattle.std.specs.List.{list_all}
 use Rattle.coap_wire.specs.Codes as codes
@@ -86,6 +86,10 @@ signalling_option code number =
     else (if code == codes.release then option_in release_options number
     else (if code == codes.abort then option_in abort_options number
     else None)))
+
+-- The name of an option of requests and responses.
+unfoldable pub option_name : ℕ → Option (List ℕ)
+option_name number = option_map (λ row. row.name) (option_in options number)
 
 -- The row of an option in a message with a code.
 unfoldable pub known_option : ℕ → ℕ → Option OptionRow

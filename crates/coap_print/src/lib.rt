@@ -5,6 +5,7 @@
 //! - `describe` appends a message to a line: its code, its token, its options and its payload. An example is
 //!   `2.05 Content token 2a Content-Format=0 (text/plain) payload "21.5"`.
 //! - `LogLevel` says what a log contains.
+//! - `option_name` returns the registered name of an option.
 //! - `laws` has the theorems on lines.
 //!
 //! The contracts name definitions of five files. `specs/Texts.antt` defines bytes as text, `specs/Lines.antt` text that
@@ -25,3 +26,4 @@ mod tables;
 pub use description::describe;
 pub use level::LogLevel;
 pub use line::{LINE_LENGTH, Line};
+pub use names::option_name;

@@ -8,6 +8,7 @@ ghost use Rattle.coap_print.specs.Lines.{appended, IsLine};
 use arrayvec::ArrayVec;
 use itoa::Buffer;
 use std::marker::Model;
+use std::str;
 
 /// Maximum length of a line in bytes.
 pub const LINE_LENGTH: usize = 1_024;
@@ -52,6 +53,16 @@ impl Line {
         ensures line { IsLine LINE_LENGTH self.now }
     {
         self.bytes.as_slice()
+    }
+
+    /// Returns the bytes of the line as text.
+    pub fn as_str(&self) -> &str
+        ensures { result.now ≡ self.now }
+    {
+        let Ok(text) = str::from_utf8(self.bytes.as_slice()) else {
+            unreachable!()
+        };
+        text
     }
 
     /// Appends words as they are.

@@ -28,6 +28,18 @@ pub(crate) fn content_format_name(number: u32) -> Option<&'static str>
     find_name(&CONTENT_FORMATS, number)
 }
 
+/// Returns the name of an option of requests and responses, if it is known. Signalling Messages have options of their
+/// own, which this function does not name.
+pub fn option_name(number: u16) -> Option<&'static str>
+    ensures name { option_map (λ name. name.now) result ≡ spec.option_name number }
+    ensures text { IfSome result (λ name. is_text name.now ≡ true) }
+{
+    match find_option(&OPTIONS, number) {
+        Some(row) => Some(row.1),
+        None => None,
+    }
+}
+
 /// Returns the name and the format of an option in a message with this code, if the option is known.
 #[tactic(auto, unfolding(crate::specs::Names::known_option))]
 pub(crate) fn option_row(code: Code, number: u16) -> Option<OptionRow>

@@ -1,10 +1,12 @@
-//! A run of `run_client` over recording devices, for which its contract is about the records.
+//! Runs of `run_client` and `run_to_end` over recording devices, for which their contracts are about the records.
 
 ghost use Rattle.std.specs.Prelude.{◌≡◌, ◌++◌, ◌∷◌, false, [], Some, IfOk};
-ghost use Rattle.coap_client.specs.ClientRun.{IsClientRun, seen};
+ghost use Rattle.coap_client.specs.ClientRun.{IsClientRun, IsExplainedRun, seen};
 
 use crate::devices::RecordingOutlet;
-use coap_client::{ClientFault, ClientPlan, client_words, run_client};
+use coap_client::{
+    Cause, ClientFault, ClientPlan, Line, Refusal, RequestFault, RunEnd, client_words, explain, run_client, run_to_end,
+};
 use coap_serve::{Clock, Got, Wire};
 use std::alloc::Global;
 use std::process::Abort;
@@ -106,6 +108,64 @@ fn run_told<A: Abort>(
         (Some clock.new.moments.items) (Some out.new.bytes.items) (Some err.new.bytes.items))) }
 {
     run_client(alloc, wire, clock, out, err, plan)
+}
+
+/// Runs a client over recording devices, and returns the end of the run.
+fn run_explained<A: Abort>(
+    alloc: Global,
+    wire: &mut ScriptedClientWire<A>,
+    clock: &mut Seconds<A>,
+    out: &mut RecordingOutlet,
+    err: &mut RecordingOutlet,
+    plan: &ClientPlan,
+) -> Result<RunEnd, ClientFault>
+    requires out_works { out.old.failed ≡ false }
+    requires err_works { err.old.failed ≡ false }
+    requires nothing_passed { (wire.old.given.items ≡ []) × (wire.old.written.items ≡ [])
+        × (wire.old.answers.items ≡ []) }
+    requires no_moment { clock.old.moments.items ≡ [] }
+    requires nothing_told { (out.old.bytes.items ≡ []) × (err.old.bytes.items ≡ []) }
+    ensures { IfOk result (IsExplainedRun plan.now (seen (Some []) (Some []) (Some []) (Some []) (Some []) (Some []))
+        (seen (Some wire.new.given.items) (Some wire.new.written.items) (Some wire.new.answers.items)
+        (Some clock.new.moments.items) (Some out.new.bytes.items) (Some err.new.bytes.items))) }
+{
+    run_to_end(alloc, wire, clock, out, err, plan)
+}
+
+#[test]
+fn explains_a_request_that_the_peer_does_not_accept(rt: HostRuntime) {
+    let plan = client_words(rt.alloc(), &["coap+tcp://127.0.0.1/"]).expect(&rt, "a plan");
+    // A CSM with a Max-Message-Size of 2 bytes.
+    let mut wire = ScriptedClientWire {
+        rt: &rt,
+        rest: b"\x20\xe1\x21\x02",
+        most: 9,
+        given: Vec::new(rt.alloc()),
+        written: Vec::new(rt.alloc()),
+        answers: Vec::new(rt.alloc()),
+    };
+    let mut clock = Seconds {
+        rt: &rt,
+        next: 7,
+        moments: Vec::new(rt.alloc()),
+    };
+    let mut out = RecordingOutlet::new(rt.alloc(), usize::MAX, usize::MAX, None);
+    let mut err = RecordingOutlet::new(rt.alloc(), usize::MAX, usize::MAX, None);
+    let end = run_explained(rt.alloc(), &mut wire, &mut clock, &mut out, &mut err, &plan);
+    let cause = Cause::Request(Refusal {
+        fault: RequestFault::TooBig,
+        size: Some(3),
+        peer_max: 2,
+    });
+    let wanted = RunEnd {
+        status: 3,
+        cause: Some(cause),
+    };
+    assert!(&rt; end == Ok(wanted));
+    assert!(&rt; err.bytes.as_slice() == b"request fault 3\n".as_slice());
+    let mut line = Line::new();
+    explain(&mut line, &cause);
+    assert!(&rt; line.as_str() == "the request has 3 bytes; the peer accepts 2");
 }
 
 #[test]

@@ -5,10 +5,12 @@ ghost use Rattle.coap_client_engine.specs.Prelude.{TellsMore, count_passed, Adds
 ghost use Rattle.coap_client_engine.specs.Prelude.{with_wire, IsReady, IsHeard, IsTaken, ExtendsTrace};
 ghost use Rattle.coap_client_engine.specs.Prelude.{ExtendsAllTraces};
 ghost use Rattle.coap_client_engine.specs.ClientValues as value;
+ghost use Rattle.coap_client_engine.specs.RunCauses as causes;
 ghost use Rattle.coap_client_engine.specs.RunSteps as spec;
 
-use crate::run::report::{handle_event, stopped};
+use crate::run::report::{cause_of, handle_event, stopped};
 use crate::run::state::{EventOutcome, Run, StepResult};
+use crate::run_end::Cause;
 use coap_conn::{Phase, Reason};
 use coap_io::{Got, Outlet, Wire};
 use coap_request::ClientPlan;
@@ -28,7 +30,10 @@ impl Run {
         }
         let got = self.read(wire);
         match stop_behind(self.client.phase(), got) {
-            Some(reason) => stopped(err, reason),
+            Some(reason) => {
+                self.cause = Some(Cause::Stopped(reason));
+                stopped(err, reason)
+            }
             None => Ok(None),
         }
     }
@@ -42,7 +47,7 @@ impl Run {
         ensures client { self.new.client ≡ spec.client_read self.old.client result }
         ensures kept { (self.new.token ≡ self.old.token) × (self.new.started ≡ self.old.started)
             × (self.new.moment ≡ self.old.moment) × (self.new.first ≡ self.old.first)
-            × (self.new.cancelled ≡ self.old.cancelled) }
+            × (self.new.cancelled ≡ self.old.cancelled) × (self.new.cause ≡ self.old.cause) }
     {
         match self.rest.read(wire) {
             Got::Bytes(count) => Got::Bytes(count),
@@ -117,16 +122,19 @@ impl Run {
             × (self.new.moment ≡ self.old.moment) × (self.new.cancelled ≡ self.old.cancelled) }
         ensures first { OnOk result (self.new.first ≡ spec.first_told (value.taking self.old.client self.old.rest).event
             self.old.first self.old.moment) }
+        ensures cause { OnOk result (self.new.cause ≡ causes.cause_after self.old.cause
+            (causes.cause_told (value.taking self.old.client self.old.rest).event)) }
         ensures status { IfOk result (λ next. IfSome next IsStatus) }
         ensures output { (O.is_failed out.new || E.is_failed err.new) ≡ is_err result }
     {
         let taken = self.client.take(self.rest.bytes());
         let bytes = taken.bytes;
-        let heard = match taken.event() {
-            Some(event) => handle_event(&event, out, err, newline)?,
-            None => EventOutcome::Nothing,
+        let (heard, cause) = match taken.event() {
+            Some(event) => (handle_event(&event, out, err, newline)?, cause_of(&event)),
+            None => (EventOutcome::Nothing, None),
         };
         self.rest.advance(bytes);
+        self.record_cause(cause);
         match heard {
             EventOutcome::Nothing => Ok(None),
             EventOutcome::Notified => {

@@ -3,6 +3,7 @@
 ghost use Rattle.std.specs.Prelude.{◌≡◌, ◌||◌, false, is_err, Some, IfOk, IfSome, OnOk};
 ghost use Rattle.coap_client_engine.specs.Prelude.{AddsBytes, event_value, IsStatus, EndsWithStatus};
 ghost use Rattle.coap_client_engine.specs.ClientValues as value;
+ghost use Rattle.coap_client_engine.specs.RunCauses as causes;
 ghost use Rattle.coap_client_engine.specs.RunSteps as spec;
 ghost use Rattle.coap_client_engine.specs.RunTexts as text;
 
@@ -11,6 +12,7 @@ use crate::error_lines::{
     report_option, report_refusal, report_response, report_stop, write_payload,
 };
 use crate::run::state::{ANSWERED, CONNECTION_FAILED, ERROR_RESPONSE, EventOutcome, StepResult};
+use crate::run_end::Cause;
 use coap_conn::{Reason, RequestFault};
 use coap_io::{Outlet, WriteFailed};
 use coap_wire::MessageRef;
@@ -49,6 +51,21 @@ pub(super) fn handle_event<O: Outlet, E: Outlet>(
         Event::Ready => Ok(EventOutcome::Nothing),
         Event::Pong { .. } => Ok(EventOutcome::Nothing),
         Event::Stranger => Ok(EventOutcome::Nothing),
+    }
+}
+
+/// Returns the cause of the end of the run, if an event ends it without a response that the client accepts.
+pub(super) fn cause_of(event: &Event) -> Option<Cause>
+    ensures { result ≡ causes.cause_of (event_value event.now) }
+{
+    match event {
+        Event::Rejected { number, .. } => Some(Cause::BadOption(*number)),
+        Event::Stopped(reason) => Some(Cause::Stopped(*reason)),
+        Event::Response(_) => None,
+        Event::Notification(_) => None,
+        Event::Ready => None,
+        Event::Pong { .. } => None,
+        Event::Stranger => None,
     }
 }
 

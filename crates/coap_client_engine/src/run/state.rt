@@ -1,11 +1,12 @@
 //! State of a run, and the results of its steps.
 
 ghost use Rattle.std.specs.Prelude.{◌≡◌, None, [], IfOk};
-ghost use Rattle.coap_client_engine.specs.Prelude.{ClientShows, default_limits};
+ghost use Rattle.coap_client_engine.specs.Prelude.{ClientShows, default_limits, cause_after};
 ghost use Rattle.coap_client_engine.specs.ClientValues as value;
 ghost use Rattle.coap_client_engine.specs.declared.run.state.ClientFault.TheVariants as fault;
 
 use crate::client::Client;
+use crate::run_end::Cause;
 use coap_conn::Limits;
 use coap_io::{ReadBuffer, WriteFailed};
 use coap_wire::Token;
@@ -76,6 +77,8 @@ pub(super) struct Run {
     pub(super) first: Option<u64>,
     /// Time at which the observation was cancelled, in seconds.
     pub(super) cancelled: Option<u64>,
+    /// Cause of the end of the run, if it has ended by one.
+    pub(super) cause: Option<Cause>,
 }
 
 impl Run {
@@ -87,6 +90,7 @@ impl Run {
         ensures token { IfOk result (λ r. r.token ≡ None) }
         ensures started { IfOk result (λ r. (r.started ≡ started) × (r.moment ≡ started)) }
         ensures moments { IfOk result (λ r. (r.first ≡ None) × (r.cancelled ≡ None)) }
+        ensures cause { IfOk result (λ r. r.cause ≡ None) }
     {
         let Ok(limits) = Limits::builder().build() else {
             unreachable!()
@@ -99,6 +103,16 @@ impl Run {
             moment: started,
             first: None,
             cancelled: None,
+            cause: None,
         })
+    }
+
+    /// Records a cause of the end of the run, if there is one.
+    pub(super) fn record_cause(&mut self, cause: Option<Cause>)
+        ensures { self.new ≡ record self.old { cause = cause_after self.old.cause cause } }
+    {
+        if cause.is_some() {
+            self.cause = cause;
+        }
     }
 }

@@ -4,13 +4,16 @@ ghost use Rattle.std.specs.Prelude.{◌≡◌, ◌++◌, ◌∷◌, ℕ, List, f
 ghost use Rattle.coap_client_engine.specs.Prelude.{TellsMore, bytes_passed, count_passed, AddsBytes, extras_value};
 ghost use Rattle.coap_client_engine.specs.Prelude.{IsStatus, ClientCall, ClientShows, with_wire, Flushes};
 ghost use Rattle.coap_client_engine.specs.ClientValues as value;
+ghost use Rattle.coap_client_engine.specs.RunCauses as causes;
 ghost use Rattle.coap_client_engine.specs.RunSteps as spec;
 
 use crate::run::report::{refused, stopped};
 use crate::run::state::{Run, StepResult};
+use crate::run_end::{Cause, Refusal};
 use coap_conn::{Phase, Reason, RequestFault, first_part};
 use coap_io::{Got, Outlet, Wire};
-use coap_request::{ClientPlan, Extras};
+use coap_request::{ClientPlan, Extras, cancellation_message, formats_of, request_message};
+use coap_wire::{Token, uint_bytes};
 
 impl Run {
     /// Returns `true` if the request must be sent: the connection is open, and the request was not sent before.
@@ -36,6 +39,9 @@ impl Run {
         ensures kept { (self.new.rest ≡ self.old.rest) × (self.new.started ≡ self.old.started)
             × (self.new.moment ≡ self.old.moment) × (self.new.first ≡ self.old.first)
             × (self.new.cancelled ≡ self.old.cancelled) }
+        ensures cause { self.new.cause ≡ causes.cause_after self.old.cause
+            (causes.cause_refused None self.old.client.link.peer_max plan.now
+            (spec.asking_refusal self.old.client self.old.token plan.now)) }
         ensures status { IfOk result (λ next. IfSome next IsStatus) }
         ensures output { E.is_failed err.new ≡ is_err result }
     {
@@ -51,7 +57,10 @@ impl Run {
                 Ok(None)
             }
             Err(RequestFault::NoRoom) => Ok(None),
-            Err(fault) => refused(err, fault),
+            Err(fault) => {
+                self.cause = Some(Cause::Request(self.refusal(fault, request_size(plan))));
+                refused(err, fault)
+            }
         }
     }
 
@@ -71,6 +80,9 @@ impl Run {
         ensures kept { (self.new.rest ≡ self.old.rest) × (self.new.token ≡ self.old.token)
             × (self.new.started ≡ self.old.started) × (self.new.moment ≡ self.old.moment)
             × (self.new.first ≡ self.old.first) }
+        ensures cause { self.new.cause ≡ causes.cause_after self.old.cause
+            (causes.cause_refused (option_map (λ t. t.items) self.old.token) self.old.client.link.peer_max plan.now
+            (spec.cancelling_refusal self.old.client (option_map (λ t. t.items) self.old.token) plan.now)) }
         ensures status { IfOk result (λ next. IfSome next IsStatus) }
         ensures output { E.is_failed err.new ≡ is_err result }
     {
@@ -83,7 +95,22 @@ impl Run {
                 Ok(None)
             }
             Err(RequestFault::NoRoom) => Ok(None),
-            Err(fault) => refused(err, fault),
+            Err(fault) => {
+                let size = cancellation_size(token, plan);
+                self.cause = Some(Cause::Cancellation(self.refusal(fault, size)));
+                refused(err, fault)
+            }
+        }
+    }
+
+    /// Returns the error of a message of this size, with the Max-Message-Size of the peer.
+    fn refusal(&self, fault: RequestFault, size: Option<u64>) -> Refusal
+        ensures { result ≡ record { fault = fault; size = size; peer_max = self.now.client.link.peer_max } }
+    {
+        Refusal {
+            fault,
+            size,
+            peer_max: self.client.peer_max(),
         }
     }
 
@@ -107,7 +134,10 @@ impl Run {
         }
         let got = self.write(wire);
         match stop_written(next, got) {
-            Some(reason) => stopped(err, reason),
+            Some(reason) => {
+                self.cause = Some(Cause::Stopped(reason));
+                stopped(err, reason)
+            }
             None => Ok(next),
         }
     }
@@ -123,7 +153,8 @@ impl Run {
         ensures answered { TellsMore (W.answers wire.old) (W.answers wire.new) (result ∷ []) }
         ensures kept { (self.new.rest ≡ self.old.rest) × (self.new.token ≡ self.old.token)
             × (self.new.started ≡ self.old.started) × (self.new.moment ≡ self.old.moment)
-            × (self.new.first ≡ self.old.first) × (self.new.cancelled ≡ self.old.cancelled) }
+            × (self.new.first ≡ self.old.first) × (self.new.cancelled ≡ self.old.cancelled)
+            × (self.new.cause ≡ self.old.cause) }
     {
         let part = first_part(self.client.parts());
         match wire.write(part) {
@@ -136,6 +167,39 @@ impl Run {
             Got::Failed => Got::Failed,
         }
     }
+}
+
+/// Returns the length of the encoded request of a plan. Returns `None` if its extra option or its payload is too long.
+fn request_size(plan: &ClientPlan) -> Option<u64>
+    ensures { result ≡ causes.request_size plan.now }
+{
+    let extras = extras_of(plan);
+    let formats = formats_of(&extras);
+    let token = first_token();
+    let message = request_message(plan.method, &plan.target, &extras, &formats)?;
+    Some(message.with_token(&token).size())
+}
+
+/// Returns the token of the request of a run, which is the first one of its client.
+fn first_token() -> Token
+    ensures { result.items ≡ causes.first_token }
+{
+    let bytes = uint_bytes(1);
+    let Ok(token) = Token::try_from(bytes.as_slice()) else {
+        unreachable!()
+    };
+    token
+}
+
+/// Returns the length of the encoded message that cancels the observation with this token. Returns `None` if its extra
+/// option is too long.
+fn cancellation_size(token: &Token, plan: &ClientPlan) -> Option<u64>
+    ensures { result ≡ causes.cancellation_size token.now.items plan.now }
+{
+    let extras = extras_of(plan);
+    let formats = formats_of(&extras);
+    let message = cancellation_message(&plan.target, &extras, &formats)?;
+    Some(message.with_token(token).size())
 }
 
 /// Returns the reason if a write ends the run: the wire failed, and the run had not ended before.

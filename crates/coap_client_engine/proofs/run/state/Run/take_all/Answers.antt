@@ -26,7 +26,7 @@ returns-in-Some-clause-runs g c = λ start now course stands goes ready.
     let take = c.in_ok-status.ensures in
     ended_taken (took_ends c.args.plan.now start (with_outlets (g.O.Outlet.written c.loop.out) (g.E.Outlet.written c.loop.err) now) c.loop.self (turns_in course) (c.loop.invariant.runs start now course stands goes ready).0
     c.take.new.self (g.O.Outlet.written c.take.new.out) (g.E.Outlet.written c.take.new.err)
-    (sym c.may_take.ensures ∙ c.if-not-may_take.false) take.within take.client take.rest take.first take.kept.0 take.kept.1 take.kept.2 take.kept.3 take.out take.err
+    (sym c.may_take.ensures ∙ c.if-not-may_take.false) take.within take.client take.rest take.first take.kept.0 take.kept.1 take.kept.2 take.kept.3 take.cause take.out take.err
     c.in_ok-status.field-0 take.next c.in-Some.status c.in-Some.is)
 
 pub returns-in-Some-2-clause-runs : goal.returns-in-Some-2-clause-runs
@@ -35,9 +35,9 @@ returns-in-Some-2-clause-runs g c = λ start now course stands goes ready.
     let ask = c.in_ok-status-2.ensures in
     ended_taken (took_asked c.args.plan.now start (with_outlets (g.O.Outlet.written c.loop.out) (g.E.Outlet.written c.loop.err) now) c.loop.self (turns_in course) (c.loop.invariant.runs start now course stands goes ready).0
     c.take.new.self (g.O.Outlet.written c.take.new.out) (g.E.Outlet.written c.take.new.err)
-    (sym c.may_take.ensures ∙ c.if-not-may_take.false) take.within take.client take.rest take.first take.kept.0 take.kept.1 take.kept.2 take.kept.3 take.out take.err
+    (sym c.may_take.ensures ∙ c.if-not-may_take.false) take.within take.client take.rest take.first take.kept.0 take.kept.1 take.kept.2 take.kept.3 take.cause take.out take.err
     c.in_ok-status.field-0 take.next c.in_default.is
-    c.send_request.new.self (g.E.Outlet.written c.send_request.new.err) ask.kept.0 ask.kept.1 ask.kept.2 ask.kept.3 ask.kept.4 ask.after ask.token ask.told
+    c.send_request.new.self (g.E.Outlet.written c.send_request.new.err) ask.kept.0 ask.kept.1 ask.kept.2 ask.kept.3 ask.kept.4 ask.after ask.token ask.cause ask.told
     (Some c.in-Some-2.status) (sym c.in-Some-2.is ∙ ask.next))
 
 pub loop-preserved : goal.loop-preserved
@@ -51,9 +51,9 @@ loop-preserved g c = record {
       let seen = with_outlets (g.O.Outlet.written c.loop.out) (g.E.Outlet.written c.loop.err) now in (
         took_asked c.args.plan.now start seen c.loop.self (turns_in course) so_far.0
             c.take.new.self (g.O.Outlet.written c.take.new.out) (g.E.Outlet.written c.take.new.err)
-            (sym c.may_take.ensures ∙ c.if-not-may_take.false) take.within take.client take.rest take.first take.kept.0 take.kept.1 take.kept.2 take.kept.3 take.out take.err
+            (sym c.may_take.ensures ∙ c.if-not-may_take.false) take.within take.client take.rest take.first take.kept.0 take.kept.1 take.kept.2 take.kept.3 take.cause take.out take.err
             c.in_ok-status.field-0 take.next c.in_default.is
-            c.send_request.new.self (g.E.Outlet.written c.send_request.new.err) ask.kept.0 ask.kept.1 ask.kept.2 ask.kept.3 ask.kept.4 ask.after ask.token ask.told
+            c.send_request.new.self (g.E.Outlet.written c.send_request.new.err) ask.kept.0 ask.kept.1 ask.kept.2 ask.kept.3 ask.kept.4 ask.after ask.token ask.cause ask.told
             None (sym c.in_default-2.is ∙ ask.next),
         fewer_left c.loop.counter (length c.args.self.now.rest) _ c.loop.self.rest c.take.new.self.rest c.send_request.new.self.rest so_far.1
             (takes_one c.args.plan.now start seen c.loop.self so_far.0.course so_far.0.stands (sym c.may_take.ensures ∙ c.if-not-may_take.false))

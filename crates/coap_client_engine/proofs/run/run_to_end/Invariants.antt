@@ -1,6 +1,6 @@
 use Rattle.std.proofs.Common.{◌≡◌, None, false}
 use Rattle.coap_client_engine.specs.Prelude.{seen, ExtendsTraceOn, IsFlushed}
-use Rattle.coap_client_engine.proofs.run.run_client.Given as goal
+use Rattle.coap_client_engine.proofs.run.run_to_end.Given as goal
 
 -- No outlet has failed, and the run continues after the counted number of iterations.
 abbrev pub invariant-loop : goal.invariant-loop
