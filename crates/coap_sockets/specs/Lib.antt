@@ -1,3 +1,4 @@
 pub mod IoResults
 pub mod Ready
 pub mod Durations
+pub mod ListenFaults

@@ -4,14 +4,17 @@
 ghost use Rattle.std.specs.Prelude.{◌≡◌, ◌≤◌, ◌&&◌, true, false, length, Some, None, IsSome, IfSome, IfNone, IfOk};
 ghost use Rattle.std.specs.Prelude.{option_map};
 ghost use Rattle.std.specs.Duration.{as_nanos};
+ghost use Rattle.std.specs.IoError.{error_kind, raw_os_error};
 ghost use Rattle.coap_io.specs.declared.wire.Wait.TheVariants as asked;
 ghost use Rattle.coap_sockets.specs.Durations.{second};
 ghost use Rattle.coap_sockets.specs.declared.io_results.AcceptError.TheVariants as refusal;
 ghost use Rattle.coap_sockets.specs.declared.door.ListenFault.TheVariants as fault;
+ghost use Rattle.coap_sockets.specs.IoResults.{listen_error_of};
+ghost use Rattle.coap_sockets.specs.ListenFaults.{listen_fault_number};
 
 use crate::clock::monotonic;
 use crate::durations::{at_most, left_of, left_until, second};
-use crate::io_results::{AcceptError, accept_fault};
+use crate::io_results::{AcceptError, ListenError, accept_fault, listen_error_of};
 use crate::readiness::Readiness;
 use coap_io::{Door, Got, READ_SIZE, Ready, Wait, Wire};
 use mio::net::{TcpListener, TcpStream};
@@ -25,26 +28,35 @@ use std::time::Duration;
 use std::{io, time};
 use thiserror::Error;
 
-/// Error of `SocketDoor::listen`. The discriminants are the numbers of the errors.
+/// Error of `SocketDoor::listen`.
 #[derive(Clone, Copy, Debug, PartialEq, Eq, Error)]
 pub enum ListenFault {
-    /// Address at which the system cannot listen.
+    /// Address at which the system cannot listen, with the cause.
     #[error("cannot listen")]
-    Socket = 1,
+    Socket(ListenError),
     /// Failed allocation.
     #[error("no memory")]
-    Memory = 2,
+    Memory,
 }
 
-const _: () = prove!(ListenFault::Socket as u8 == 1);
-
-const _: () = prove!(ListenFault::Memory as u8 == 2);
+impl ListenFault {
+    /// Returns the number of the error: 1 for `Socket`, 2 for `Memory`.
+    pub const fn number(self) -> u8
+        ensures { result ≡ listen_fault_number self }
+    {
+        match self {
+            ListenFault::Socket(_) => 1,
+            ListenFault::Memory => 2,
+        }
+    }
+}
 
 impl From<io::Error> for ListenFault {
-    ghost from_gives = { λ error given. given ≡ fault.Socket };
+    ghost from_gives = { λ error given.
+        given ≡ fault.Socket (listen_error_of (error_kind error) (raw_os_error error)) };
 
-    fn from(_error: io::Error) -> ListenFault {
-        ListenFault::Socket
+    fn from(error: io::Error) -> ListenFault {
+        ListenFault::Socket(listen_error_of(error))
     }
 }
 
@@ -158,7 +170,7 @@ impl<'a, R: Net + time::Clock> SocketDoor<'a, R> {
     ///
     /// # Errors
     ///
-    /// - `Socket`: the system cannot listen at the address.
+    /// - `Socket`: the system cannot listen at the address, for this reason.
     /// - `Memory`: an allocation failed.
     pub fn listen(
         rt: &'a R,
