@@ -11,6 +11,7 @@ import contextlib
 import errno
 import itertools
 import os
+import resource
 import select
 import signal
 import socket
@@ -243,6 +244,26 @@ def check_silent(checks, programs):
         checks.same("an idle client", usage.ru_utime + usage.ru_stime < 0.5, True)
 
 
+def cannot_listen(why):
+    """Returns the text of a server that cannot listen, with the reason."""
+    return b"coap-server: cannot listen\ncoap-server: %s\n" % why.encode()
+
+
+def check_reserved(checks, programs):
+    """Checks a server that is started without the permission for a port that the system reserves, and one for which the system fails otherwise."""
+    with open("/proc/sys/net/ipv4/ip_unprivileged_port_start", encoding="ascii") as file:
+        port = min(int(file.read()), 1024) - 1
+    words = ["setpriv", "--bounding-set", "-net_bind_service"] if os.geteuid() == 0 else []
+    if port > 0:
+        program, *more = [*words, programs.server, "-A", LOCAL, "-p", str(port)]
+        done = client(program, more)
+        why = "permission denied for port %d; choose a port from 1024 on with -p" % port
+        checks.same("a reserved port", done, (3, b"", cannot_listen(why)))
+    # The standard streams and the set of events use all descriptors.
+    done = client(programs.server, ["-A", LOCAL, "-p", "5683"], preexec_fn=lambda: resource.setrlimit(resource.RLIMIT_NOFILE, (4, 4)))
+    checks.same("no descriptor for the socket", done, (3, b"", cannot_listen("address %s port 5683: Too many open files (os error 24)" % LOCAL)))
+
+
 def check_address(checks, programs):
     """Checks IPv6, an address that is in use, and one that is not of this machine."""
     if socket.has_ipv6:
@@ -250,9 +271,11 @@ def check_address(checks, programs):
             checks.same("IPv6: line", server.said, listens(server))
             checks.same("IPv6", client(programs.client, [server.uri()]), (0, b"coap+tcp", b""))
     with Server(programs.server) as server:
-        for host, port in [(LOCAL, server.port), ("192.0.2.1", free_port())]:
+        in_use = "address %s port %d is already in use; choose another port with -p" % (LOCAL, server.port)
+        foreign = "address 192.0.2.1 is not an address of this machine; choose another with -A"
+        for host, port, why in [(LOCAL, server.port, in_use), ("192.0.2.1", free_port(), foreign)]:
             done = client(programs.server, ["-A", host, "-p", str(port)])
-            checks.same("an address that is not available", done, (3, b"", b"coap-server: cannot listen\n"))
+            checks.same("an address that is not available", done, (3, b"", cannot_listen(why)))
     port = free_port()
     told = b"coap-server: listening on %s:%d\ncoap-server: too many turns\n" % (LOCAL.encode(), port)
     checks.same("turns", client(programs.server, ["-A", LOCAL, "-p", str(port), "--turns", "1"]), (3, b"", told))
@@ -529,8 +552,8 @@ class Programs:
 
 
 CHECKS = [
-    check_requests, check_tokens, check_observers, check_bodies, check_connecting, check_ended, check_silent, check_address, check_files, check_close,
-    check_flooded_client, check_addresses, check_closed, check_urgent, check_timeouts, check_connections, check_versions, check_room,
+    check_requests, check_tokens, check_observers, check_bodies, check_connecting, check_ended, check_silent, check_address, check_reserved, check_files,
+    check_close, check_flooded_client, check_addresses, check_closed, check_urgent, check_timeouts, check_connections, check_versions, check_room,
 ]
 
 
