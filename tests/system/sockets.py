@@ -158,6 +158,13 @@ def check_observers(checks, programs):
         # The first response, two notifications, and the response to the cancellation.
         are_all = sorted(set(moments)) == list(range(moments[0], moments[-1] + 1))
         checks.same("observe /time", (done[0], len(moments) in (3, 4, 5), are_all, done[2]), (0, True, True, b""))
+        # The observation begins in the middle of a second, and each notification arrives at the beginning of one.
+        time.sleep((0.5 - time.time()) % 1)
+        with subprocess.Popen([programs.client, "-s", "2", "-w", server.uri("/time")], stdout=subprocess.PIPE) as watching:
+            lines = [(line_of(watching.stdout), time.time() % 1) for _ in range(3)]
+            watching.stdout.read()
+        late = min(at for _, at in lines[1:])
+        checks.same("a notification arrives %.2f s after its second begins" % late, late < 0.4, True)
         client(programs.client, ["-m", "put", "-e", "one", server.uri("/a")])
         with subprocess.Popen([programs.client, "-s", "1", "-w", server.uri("/a")], stdout=subprocess.PIPE) as watching:
             checks.same("first state", line_of(watching.stdout), b"one\n")

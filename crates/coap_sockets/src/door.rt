@@ -260,7 +260,9 @@ impl<'a, R: Net + time::Clock> SocketDoor<'a, R> {
         // A client that is already waiting is not delayed, unless the system has no room for its connection.
         ensures at_once { opens && self.now.may_accept ≡ true → self.now.full_since ≡ None →
             option_map as_nanos result ≡ Some 0 }
-        ensures full { opens && self.now.may_accept ≡ true → IfSome result (λ time. as_nanos time ≤ second) }
+        // A wait with an end lasts at most a second. The system does not end it earlier if the clock is set forward, or
+        // after the machine was suspended.
+        ensures short { IfSome result (λ time. as_nanos time ≤ second) }
     {
         let asked = match wait {
             Wait::No => Some(Duration::ZERO),
@@ -274,11 +276,13 @@ impl<'a, R: Net + time::Clock> SocketDoor<'a, R> {
         }
     }
 
-    /// Returns the time until a second since 1970 begins. If the system's clock cannot be read, the result is one
-    /// second.
-    fn left_until(&self, moment: u64) -> Duration {
+    /// Returns the time until a second since 1970 begins, at most one second. If the system's clock cannot be read, the
+    /// result is one second.
+    fn left_until(&self, moment: u64) -> Duration
+        ensures { as_nanos result ≤ second }
+    {
         match self.rt.since_1970() {
-            Ok(now) => left_until(moment, now),
+            Ok(now) => left_until(moment, now).min(second()),
             Err(_) => second(),
         }
     }
