@@ -452,6 +452,50 @@ def check_room(checks, programs):
             checks.same("after it reads, the peer receives the rest", len(read_bytes(peer, count * len(body))), count * len(body))
 
 
+# The options of TCP keep-alive that both programs set, and the seconds of silence before the first probe.
+KEEP_ALIVE = {"keepalive": [1], "keepidle": [60], "keepintvl": [10], "keepcnt": [5]}
+KEEP_IDLE = 60
+
+
+def keep_alive(waits):
+    """Returns the options of TCP keep-alive that a program set, with their values."""
+    return {name: [value for _, value in waits.calls(name)] for name in KEEP_ALIVE}
+
+
+def probe_in(local, remote):
+    """Returns the seconds until the system probes the peer of the connection between two local ports, or None if it does not."""
+    ends = time.monotonic() + LIMIT / 3
+    while time.monotonic() < ends:
+        with open("/proc/net/tcp", encoding="ascii") as file:
+            rows = [line.split() for line in file.readlines()[1:]]
+        for row in rows:
+            ports = [int(row[it].split(":")[1], 16) for it in (1, 2)]
+            # Timer 2 is that of keep-alive, with hundredths of a second. Another one runs while the peer has not acknowledged all bytes.
+            timer, left = (int(it, 16) for it in row[5].split(":"))
+            if ports == [local, remote] and timer == 2:
+                return left / 100
+        time.sleep(0.05)
+    return None
+
+
+def check_alive(checks, programs):
+    """Checks that both programs let the system probe silent peers: the options, and the timers of an accepted and of a connected socket."""
+    with Waits() as waits, Server(programs.server, **waits.how()) as server, server.connect() as peer:
+        peer.sendall(HELLO)
+        read_bytes(peer, len(GREETED))
+        checks.same("the options of the server", keep_alive(waits), KEEP_ALIVE)
+        left = probe_in(server.port, peer.getsockname()[1])
+        checks.same("an accepted socket is probed in %s s" % left, left is not None and KEEP_IDLE - 10 < left <= KEEP_IDLE + 1, True)
+    with Waits() as waits, socket.create_server((LOCAL, 0)) as listener:
+        words = [programs.client, "-B", "10", "coap+tcp://%s:%d/" % listener.getsockname()]
+        with subprocess.Popen(words, stderr=subprocess.PIPE, **waits.how()) as process, listener.accept()[0] as peer:
+            read_bytes(peer, len(CSM) // 2)
+            checks.same("the options of the client", keep_alive(waits), KEEP_ALIVE)
+            left = probe_in(peer.getpeername()[1], peer.getsockname()[1])
+            checks.same("the socket of a client is probed in %s s" % left, left is not None and KEEP_IDLE - 10 < left <= KEEP_IDLE + 1, True)
+            process.kill()
+
+
 def closing(numbers):
     """Returns a function that closes these descriptors in a program before it begins."""
     return lambda: [os.close(number) for number in numbers]
@@ -561,6 +605,7 @@ class Programs:
 CHECKS = [
     check_requests, check_tokens, check_observers, check_bodies, check_connecting, check_ended, check_silent, check_address, check_reserved, check_files,
     check_close, check_flooded_client, check_addresses, check_closed, check_urgent, check_timeouts, check_connections, check_versions, check_room,
+    check_alive,
 ]
 
 

@@ -15,6 +15,7 @@ ghost use Rattle.coap_sockets.specs.ListenFaults.{listen_fault_number};
 use crate::clock::monotonic;
 use crate::durations::{at_most, left_of, left_until, second};
 use crate::io_results::{AcceptError, ListenError, accept_fault, listen_error_of};
+use crate::keepalive::keep_alive;
 use crate::readiness::Readiness;
 use coap_io::{Door, Got, READ_SIZE, Ready, Wait, Wire};
 use mio::net::{TcpListener, TcpStream};
@@ -185,6 +186,7 @@ impl<'a, R: Net + time::Clock> SocketDoor<'a, R> {
         let events = Events::with_capacity(alloc, wires.saturating_add(1))?;
         let poll = Poll::new(rt)?;
         let mut listener = TcpListener::bind(rt, address)?;
+        keep_alive(&listener);
         poll.registry()
             .register(&mut listener, LISTENER, Interest::READABLE)?;
         Ok(SocketDoor {

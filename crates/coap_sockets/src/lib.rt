@@ -21,6 +21,7 @@ mod clock;
 mod door;
 mod durations;
 mod io_results;
+mod keepalive;
 mod readiness;
 
 pub use client_wire::{ClientWire, ConnectFault};
