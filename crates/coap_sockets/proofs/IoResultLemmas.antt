@@ -12,6 +12,8 @@ use Rattle.coap_io.specs.streams.Wires.{IsWithin}
 use Rattle.coap_sockets.specs.declared.io_results.ConnectError.TheVariants.{System}
 use Rattle.coap_sockets.specs.declared.io_results.ListenError.TheVariants as listening
 use Rattle.coap_sockets.specs.declared.io_results.AcceptError.TheVariants.{Full}
+use Rattle.coap_sockets.specs.declared.troubles.DoorTroubles.{DoorTroubles}
+use Rattle.coap_sockets.specs.Troubles.{after_accept, after_failure}
 use Rattle.coap_sockets.specs.IoResults.{is_would_block, fault_got, accept_fault, connect_error_of, read_got, write_got, listen_error_of, number_of}
 
 pub another_is_no_would_block : (k : ErrorKind) → k ≢ WouldBlock → false ≡ is_would_block k
@@ -52,6 +54,13 @@ another_is_another_listen_error kind.AddrInUse number not_1 not_2 not_3 = absurd
 another_is_another_listen_error kind.PermissionDenied number not_1 not_2 not_3 = absurd (not_2 refl)
 another_is_another_listen_error kind.AddrNotAvailable number not_1 not_2 not_3 = absurd (not_3 refl)
 another_is_another_listen_error _ number not_1 not_2 not_3 = refl
+
+pub another_has_failed : (d : DoorTroubles) (k : ErrorKind) (number : Option ℤ)
+    → k ≢ WouldBlock → k ≢ Interrupted → after_failure d (number_of number) ≡ after_accept d k number
+unfolding after_accept
+another_has_failed d WouldBlock number not_1 not_2 = absurd (not_1 refl)
+another_has_failed d Interrupted number not_1 not_2 = absurd (not_2 refl)
+another_has_failed d _ number not_1 not_2 = refl
 
 fault_is_within : (room : ℕ) (k : ErrorKind) → IsWithin room (fault_got k)
 unfolding fault_got

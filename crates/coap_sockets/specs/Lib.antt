@@ -2,3 +2,4 @@ pub mod IoResults
 pub mod Ready
 pub mod Durations
 pub mod ListenFaults
+pub mod Troubles

@@ -17,6 +17,7 @@ use crate::durations::{at_most, left_of, left_until, second};
 use crate::io_results::{AcceptError, ListenError, accept_fault, listen_error_of};
 use crate::keepalive::keep_alive;
 use crate::readiness::Readiness;
+use crate::troubles::DoorTroubles;
 use coap_io::{Door, Got, READ_SIZE, Ready, Wait, Wire};
 use mio::net::{TcpListener, TcpStream};
 use mio::{Events, Interest, Poll, Token};
@@ -72,6 +73,9 @@ impl From<AllocError> for ListenFault {
 /// Readiness of a wire's socket, which the wire and the listener share.
 type Shared = Rc<Cell<Readiness>>;
 
+/// Numbers of failed system calls of a listener, which the listener and a log share.
+type Troubles = Rc<Cell<DoorTroubles>>;
+
 /// Token of the listening socket. No wire has it: the token of a wire is the index of its place.
 const LISTENER: Token = Token(usize::MAX);
 
@@ -84,6 +88,16 @@ const WRITES_BEFORE_READS: usize = 8;
 pub struct SocketWire {
     stream: TcpStream,
     readiness: Shared,
+    peer: SocketAddr,
+}
+
+impl SocketWire {
+    /// Returns the address of the peer, as the system reported it when it accepted the connection.
+    pub fn peer(&self) -> SocketAddr
+        ensures { result ≡ self.now.peer }
+    {
+        self.peer
+    }
 }
 
 // The system resets a connection that is closed with unread bytes, and the peer may then lose the last bytes written.
@@ -93,6 +107,7 @@ impl Drop for SocketWire {
         let SocketWire {
             mut stream,
             readiness: _,
+            peer: _,
         } = self;
         let _ = stream.shutdown(Shutdown::Write);
         give_up(&mut stream);
@@ -163,6 +178,8 @@ pub struct SocketDoor<'a, R> {
     may_accept: bool,
     /// Time at which the system had no room for a connection. Nothing is accepted for one second after it.
     full_since: Option<Duration>,
+    /// Numbers of failed system calls, which the program can share.
+    troubles: Troubles,
 }
 
 impl<'a, R: Net + time::Clock> SocketDoor<'a, R> {
@@ -184,6 +201,7 @@ impl<'a, R: Net + time::Clock> SocketDoor<'a, R> {
     {
         let slots = slots(alloc, wires)?;
         let events = Events::with_capacity(alloc, wires.saturating_add(1))?;
+        let troubles = no_troubles(alloc)?;
         let poll = Poll::new(rt)?;
         let mut listener = TcpListener::bind(rt, address)?;
         keep_alive(&listener);
@@ -197,6 +215,7 @@ impl<'a, R: Net + time::Clock> SocketDoor<'a, R> {
             slots,
             may_accept: true,
             full_since: None,
+            troubles,
         })
     }
 
@@ -207,6 +226,12 @@ impl<'a, R: Net + time::Clock> SocketDoor<'a, R> {
     /// The error of the system, if it does not report the address.
     pub fn address(&self) -> io::Result<SocketAddr> {
         self.listener.local_addr()
+    }
+
+    /// Returns a share of the numbers of failed system calls. The listener updates them whenever a call fails, and a log
+    /// can read them while the listener is borrowed. If the numbers have too many shares, the result is `None`.
+    pub fn troubles(&self) -> Option<Rc<Cell<DoorTroubles>>> {
+        self.troubles.clone().ok()
     }
 
     /// Returns the time for which nothing is accepted, because the system had no room for a connection.
@@ -220,9 +245,11 @@ impl<'a, R: Net + time::Clock> SocketDoor<'a, R> {
         }
     }
 
-    /// Returns the wire of a new connection, for a place. If its socket cannot be set up, the connection is closed and
-    /// the result is `None`.
-    fn wire(&self, mut stream: TcpStream, place: usize) -> Option<SocketWire> {
+    /// Returns the wire of a new connection to a peer, for a place. If its socket cannot be set up, the connection is
+    /// closed and the result is `None`.
+    fn wire(&self, mut stream: TcpStream, peer: SocketAddr, place: usize) -> Option<SocketWire>
+        ensures { IfSome result (λ wire. wire.peer ≡ peer) }
+    {
         stream.set_nodelay(true).ok()?;
         let readiness = self.slots.get(place)?.clone().ok()?;
         readiness.set(Readiness::unknown());
@@ -234,7 +261,11 @@ impl<'a, R: Net + time::Clock> SocketDoor<'a, R> {
                 Interest::READABLE | Interest::WRITABLE | Interest::PRIORITY,
             )
             .ok()?;
-        Some(SocketWire { stream, readiness })
+        Some(SocketWire {
+            stream,
+            readiness,
+            peer,
+        })
     }
 
     /// Records the reason for which an accept gave no connection.
@@ -304,6 +335,11 @@ impl<'a, R: Net + time::Clock> SocketDoor<'a, R> {
     }
 }
 
+/// Returns the numbers of failed system calls of a new listener.
+fn no_troubles(alloc: Global) -> Result<Troubles, AllocError> {
+    Ok(Rc::new(alloc, Cell::new(DoorTroubles::none()))?)
+}
+
 /// Returns `count` places that no wire shares yet.
 fn slots(alloc: Global, count: usize) -> Result<Vec<Shared>, AllocError>
     ensures { IfOk result (λ slots. length slots.items ≡ count) }
@@ -330,9 +366,16 @@ impl<'a, R: Net + time::Clock> Door for SocketDoor<'a, R> {
             .iter()
             .position(|place| Rc::strong_count(place) == 1)?;
         match self.listener.accept() {
-            Ok((stream, _)) => self.wire(stream, place),
+            Ok((stream, peer)) => {
+                let wire = self.wire(stream, peer, place);
+                if wire.is_none() {
+                    self.troubles.set(self.troubles.get().after_other());
+                }
+                wire
+            }
             Err(error) => {
                 self.keep(accept_fault(error));
+                self.troubles.set(self.troubles.get().after_accept(error));
                 None
             }
         }
@@ -343,6 +386,8 @@ impl<'a, R: Net + time::Clock> Door for SocketDoor<'a, R> {
         let time = self.time_for(wait, opens);
         if self.poll.poll(&mut self.events, time).is_ok() {
             self.tell();
+        } else {
+            self.troubles.set(self.troubles.get().after_wait());
         }
     }
 }

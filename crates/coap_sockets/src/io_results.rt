@@ -140,7 +140,7 @@ pub(crate) fn listen_error_of(error: io::Error) -> ListenError
 }
 
 /// Returns the number of an error of the system, or 0 for any other error.
-fn number_of(error: io::Error) -> i32
+pub(crate) fn number_of(error: io::Error) -> i32
     ensures { result ≡ spec.number_of (raw_os_error error) }
 {
     match error.raw_os_error() {
