@@ -6,8 +6,9 @@
    SENDS_WITHOUT_ROOM number of calls of send, from the first, that fail with EAGAIN
    WAITS_TOLD         descriptor to which each call is written as a line, `MILLISECONDS CALL RESULT`
 
-   The milliseconds are the time since the program began, by its own clock. The calls are `wait`, `send`, `accept` and `nodelay`. If a call fails,
-   the result is the negative error number. The result of `nodelay` is the value to which the program set TCP_NODELAY. */
+   The milliseconds are the time since the program began, by its own clock. The calls are `wait`, `send`, `accept`, `nodelay`, `keepalive`,
+   `keepidle`, `keepintvl` and `keepcnt`. If a call fails, the result is the negative error number. The result of the last five is the value to which
+   the program set TCP_NODELAY, SO_KEEPALIVE, TCP_KEEPIDLE, TCP_KEEPINTVL or TCP_KEEPCNT. */
 #define _GNU_SOURCE
 #include <errno.h>
 #include <netinet/in.h>
@@ -82,7 +83,18 @@ int accept4(int socket, struct sockaddr *address, socklen_t *size, int flags) {
 }
 
 int setsockopt(int socket, int level, int name, const void *value, socklen_t size) {
-    if (level == IPPROTO_TCP && name == TCP_NODELAY)
-        tell("nodelay", *(const int *)value);
+    static const struct {
+        int level, name;
+        const char *call;
+    } told[] = {
+        {IPPROTO_TCP, TCP_NODELAY, "nodelay"},
+        {SOL_SOCKET, SO_KEEPALIVE, "keepalive"},
+        {IPPROTO_TCP, TCP_KEEPIDLE, "keepidle"},
+        {IPPROTO_TCP, TCP_KEEPINTVL, "keepintvl"},
+        {IPPROTO_TCP, TCP_KEEPCNT, "keepcnt"},
+    };
+    for (size_t it = 0; it < sizeof told / sizeof told[0]; it++)
+        if (told[it].level == level && told[it].name == name)
+            tell(told[it].call, *(const int *)value);
     return syscall(SYS_setsockopt, socket, level, name, value, size);
 }

@@ -262,7 +262,8 @@ def check_lines(checks, manual, source):
 def check_hindrances(checks, manual):
     """Checks that the second lines of a client that cannot connect are those of the source."""
     text = "\n".join(next(lines for words, lines in manual.items("DIAGNOSTICS") if words == ["cannot", "connect"]))
-    wanted = re.findall(r'#\[error\("([^"]+)"\)\]', source_of(["coap_sockets/src/io_results.rt"]))
+    causes = re.search(r"(?ms)^pub enum ConnectError \{.*?^\}", source_of(["coap_sockets/src/io_results.rt"]))
+    wanted = re.findall(r'#\[error\("([^"]+)"\)\]', causes[0])
     checks.same("%s: errors of a connection" % manual.name, re.findall(r"(?m)^\.It (.*)", text), wanted)
 
 

@@ -94,14 +94,26 @@ BAD_SCRIPTS = [
     ("open\n" * 1000 + "é\n", 1001),
 ]
 
+
+def cannot_listen(host):
+    """Returns the texts after the program's name for an address that this machine does not have, at the standard port."""
+    why = "address %s is not an address of this machine; choose another with -A" % host
+    if ":" in host:
+        try:
+            socket.socket(socket.AF_INET6).close()
+        except OSError as trouble:
+            why = "address %s port 5683: %s (os error %d)" % (host, os.strerror(trouble.errno), trouble.errno)
+    return "cannot listen\ncoap-server: %s" % why
+
+
 # The arguments of coap-server and of coap-client, the status, and the text after the program's name; None is a text of clap.
 SERVER_WORDS = [
     (["--stdio", "--stdio"], 1, None), (["--script"], 1, None), (["--stdio=1"], 1, None), (["-"], 1, None), (["stdio"], 1, None), ([""], 1, None),
     (["--script", "-", "-"], 1, None), (["-", "--script"], 1, None), (["-x"], 1, None), (["--stdio", "--Queue", "70000"], 1, None), (["-d"], 1, None),
     (["x", "--help"], 1, None), (["--help=x"], 1, None), (["-x", "-V"], 1, None), (["--log", "1", "--log", "1"], 1, None), (["--idle"], 1, None),
     # Addresses for documentation, which no machine has.
-    (["-A", "192.0.2.1"], 3, "cannot listen"), (["-A", "2001:db8::1", "-p", "0005683"], 3, "cannot listen"),
-    (["-A", "192.0.2.1", "-p", "1", "--turns", "1"], 3, "cannot listen"),
+    (["-A", "192.0.2.1"], 3, cannot_listen("192.0.2.1")), (["-A", "2001:db8::1", "-p", "0005683"], 3, cannot_listen("2001:db8::1")),
+    (["-A", "192.0.2.1", "-p", "1", "--turns", "1"], 3, cannot_listen("192.0.2.1")),
 ]
 
 # The arguments of coap-server, the name of the bad option, the values that it takes, and the one that was given.
@@ -143,7 +155,6 @@ SERVER_CLASHES = [
     (["--idle", "5", "--log", "1", "--script", "-"], "--script and --log cannot be used together"),
     (["--idle", "5", "--script", "-", "--stdio"], "--stdio and --script cannot be used together"),
 ]
-
 
 def hindrance_v6():
     """Returns the error of a connection to port 1 of this machine over IPv6, which a system may not support."""

@@ -11,6 +11,7 @@ import contextlib
 import errno
 import itertools
 import os
+import resource
 import select
 import signal
 import socket
@@ -157,6 +158,13 @@ def check_observers(checks, programs):
         # The first response, two notifications, and the response to the cancellation.
         are_all = sorted(set(moments)) == list(range(moments[0], moments[-1] + 1))
         checks.same("observe /time", (done[0], len(moments) in (3, 4, 5), are_all, done[2]), (0, True, True, b""))
+        # The observation begins in the middle of a second, and each notification arrives at the beginning of one.
+        time.sleep((0.5 - time.time()) % 1)
+        with subprocess.Popen([programs.client, "-s", "2", "-w", server.uri("/time")], stdout=subprocess.PIPE) as watching:
+            lines = [(line_of(watching.stdout), time.time() % 1) for _ in range(3)]
+            watching.stdout.read()
+        late = min(at for _, at in lines[1:])
+        checks.same("a notification arrives %.2f s after its second begins" % late, late < 0.4, True)
         client(programs.client, ["-m", "put", "-e", "one", server.uri("/a")])
         with subprocess.Popen([programs.client, "-s", "1", "-w", server.uri("/a")], stdout=subprocess.PIPE) as watching:
             checks.same("first state", line_of(watching.stdout), b"one\n")
@@ -314,6 +322,26 @@ def check_silent(checks, programs):
         checks.same("an idle client", usage.ru_utime + usage.ru_stime < 0.5, True)
 
 
+def cannot_listen(why):
+    """Returns the text of a server that cannot listen, with the reason."""
+    return b"coap-server: cannot listen\ncoap-server: %s\n" % why.encode()
+
+
+def check_reserved(checks, programs):
+    """Checks a server that is started without the permission for a port that the system reserves, and one for which the system fails otherwise."""
+    with open("/proc/sys/net/ipv4/ip_unprivileged_port_start", encoding="ascii") as file:
+        port = min(int(file.read()), 1024) - 1
+    words = ["setpriv", "--bounding-set", "-net_bind_service"] if os.geteuid() == 0 else []
+    if port > 0:
+        program, *more = [*words, programs.server, "-A", LOCAL, "-p", str(port)]
+        done = client(program, more)
+        why = "permission denied for port %d; choose a port from 1024 on with -p" % port
+        checks.same("a reserved port", done, (3, b"", cannot_listen(why)))
+    # The standard streams and the set of events use all descriptors.
+    done = client(programs.server, ["-A", LOCAL, "-p", "5683"], preexec_fn=lambda: resource.setrlimit(resource.RLIMIT_NOFILE, (4, 4)))
+    checks.same("no descriptor for the socket", done, (3, b"", cannot_listen("address %s port 5683: Too many open files (os error 24)" % LOCAL)))
+
+
 def check_address(checks, programs):
     """Checks IPv6, an address that is in use, and one that is not of this machine."""
     if socket.has_ipv6:
@@ -321,9 +349,11 @@ def check_address(checks, programs):
             checks.same("IPv6: line", server.said, listens(server))
             checks.same("IPv6", client(programs.client, [server.uri()]), (0, b"coap+tcp", b""))
     with Server(programs.server) as server:
-        for host, port in [(LOCAL, server.port), ("192.0.2.1", free_port())]:
+        in_use = "address %s port %d is already in use; choose another port with -p" % (LOCAL, server.port)
+        foreign = "address 192.0.2.1 is not an address of this machine; choose another with -A"
+        for host, port, why in [(LOCAL, server.port, in_use), ("192.0.2.1", free_port(), foreign)]:
             done = client(programs.server, ["-A", host, "-p", str(port)])
-            checks.same("an address that is not available", done, (3, b"", b"coap-server: cannot listen\n"))
+            checks.same("an address that is not available", done, (3, b"", cannot_listen(why)))
     port = free_port()
     told = b"coap-server: listening on %s:%d\ncoap-server: too many turns\n" % (LOCAL.encode(), port)
     checks.same("turns", client(programs.server, ["-A", LOCAL, "-p", str(port), "--turns", "1"]), (3, b"", told))
@@ -497,6 +527,50 @@ def check_room(checks, programs):
             checks.same("after it reads, the peer receives the rest", len(read_bytes(peer, count * len(body))), count * len(body))
 
 
+# The options of TCP keep-alive that both programs set, and the seconds of silence before the first probe.
+KEEP_ALIVE = {"keepalive": [1], "keepidle": [60], "keepintvl": [10], "keepcnt": [5]}
+KEEP_IDLE = 60
+
+
+def keep_alive(waits):
+    """Returns the options of TCP keep-alive that a program set, with their values."""
+    return {name: [value for _, value in waits.calls(name)] for name in KEEP_ALIVE}
+
+
+def probe_in(local, remote):
+    """Returns the seconds until the system probes the peer of the connection between two local ports, or None if it does not."""
+    ends = time.monotonic() + LIMIT / 3
+    while time.monotonic() < ends:
+        with open("/proc/net/tcp", encoding="ascii") as file:
+            rows = [line.split() for line in file.readlines()[1:]]
+        for row in rows:
+            ports = [int(row[it].split(":")[1], 16) for it in (1, 2)]
+            # Timer 2 is that of keep-alive, with hundredths of a second. Another one runs while the peer has not acknowledged all bytes.
+            timer, left = (int(it, 16) for it in row[5].split(":"))
+            if ports == [local, remote] and timer == 2:
+                return left / 100
+        time.sleep(0.05)
+    return None
+
+
+def check_alive(checks, programs):
+    """Checks that both programs let the system probe silent peers: the options, and the timers of an accepted and of a connected socket."""
+    with Waits() as waits, Server(programs.server, **waits.how()) as server, server.connect() as peer:
+        peer.sendall(HELLO)
+        read_bytes(peer, len(GREETED))
+        checks.same("the options of the server", keep_alive(waits), KEEP_ALIVE)
+        left = probe_in(server.port, peer.getsockname()[1])
+        checks.same("an accepted socket is probed in %s s" % left, left is not None and KEEP_IDLE - 10 < left <= KEEP_IDLE + 1, True)
+    with Waits() as waits, socket.create_server((LOCAL, 0)) as listener:
+        words = [programs.client, "-B", "10", "coap+tcp://%s:%d/" % listener.getsockname()]
+        with subprocess.Popen(words, stderr=subprocess.PIPE, **waits.how()) as process, listener.accept()[0] as peer:
+            read_bytes(peer, len(CSM) // 2)
+            checks.same("the options of the client", keep_alive(waits), KEEP_ALIVE)
+            left = probe_in(peer.getpeername()[1], peer.getsockname()[1])
+            checks.same("the socket of a client is probed in %s s" % left, left is not None and KEEP_IDLE - 10 < left <= KEEP_IDLE + 1, True)
+            process.kill()
+
+
 def closing(numbers):
     """Returns a function that closes these descriptors in a program before it begins."""
     return lambda: [os.close(number) for number in numbers]
@@ -604,8 +678,9 @@ class Programs:
 
 
 CHECKS = [
-    check_requests, check_tokens, check_observers, check_bodies, check_connecting, check_ended, check_causes, check_silent, check_address, check_files, check_close,
-    check_flooded_client, check_addresses, check_closed, check_urgent, check_timeouts, check_connections, check_versions, check_room,
+    check_requests, check_tokens, check_observers, check_bodies, check_connecting, check_ended, check_causes, check_silent, check_address, check_reserved,
+    check_files, check_close, check_flooded_client, check_addresses, check_closed, check_urgent, check_timeouts, check_connections, check_versions, check_room,
+    check_alive,
 ]
 
 

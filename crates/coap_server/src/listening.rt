@@ -9,7 +9,7 @@ use crate::{PROGRAM, config_of};
 use coap_program::{FAULT, USAGE};
 use coap_request::ServerPlan;
 use coap_serve::{Clock, Config, Starts, serve_door};
-use coap_sockets::{SocketDoor, SystemClock};
+use coap_sockets::{ListenError, ListenFault, SocketDoor, SystemClock};
 use std::net::{Net, SocketAddr};
 use std::time;
 
@@ -23,6 +23,41 @@ fn config_now<C: Clock>(clock: &mut C, plan: &ServerPlan) -> Option<Config>
         ((moment : ℕ) → is_some (config_refusal (planned plan.now (starts_of moment))) ≡ true) }
 {
     config_of(plan, Starts::at(clock.now()))
+}
+
+/// Reports that the program cannot listen at an address, with the reason and a remedy, and returns the exit status.
+fn print_listen_fault(rt: &impl Eprint, fault: ListenFault, address: SocketAddr) -> u8
+    ensures { result ≡ 3 }
+{
+    let status = PROGRAM.print_fault(rt, fault, FAULT);
+    let ListenFault::Socket(error) = fault else {
+        return status;
+    };
+    let (ip, port) = (address.ip(), address.port());
+    match error {
+        ListenError::InUse => PROGRAM.print_fault(
+            rt,
+            format_args!("address {ip} port {port} is already in use; choose another port with -p"),
+            status,
+        ),
+        ListenError::Denied if port < 1_024 => PROGRAM.print_fault(
+            rt,
+            format_args!(
+                "permission denied for port {port}; choose a port from 1024 on with -p"
+            ),
+            status,
+        ),
+        ListenError::NotAvailable => PROGRAM.print_fault(
+            rt,
+            format_args!("address {ip} is not an address of this machine; choose another with -A"),
+            status,
+        ),
+        _ => PROGRAM.print_fault(
+            rt,
+            format_args!("address {ip} port {port}: {error}"),
+            status,
+        ),
+    }
 }
 
 /// Listens at an address, writes one line that says so to standard error, and serves the connections that clients open.
@@ -40,7 +75,7 @@ pub(crate) fn run(
     };
     let mut door = match SocketDoor::listen(rt, rt.alloc(), address, config.connections()) {
         Ok(door) => door,
-        Err(fault) => return PROGRAM.print_fault(rt, fault, FAULT),
+        Err(fault) => return print_listen_fault(rt, fault, address),
     };
     let _ = eprintln!(rt;
         "coap-server: listening on {}",

@@ -1,6 +1,6 @@
 -- The results for each kind of error, and that a call transfers at most as many bytes as its buffer has.
-use Rattle.std.proofs.Common.{◌≡◌, ◌≢◌, ℕ, zero, suc, false, List, length, refl, arith}
-use Rattle.std.specs.Prelude.{Result, Ok, Err}
+use Rattle.std.proofs.Common.{◌≡◌, ◌≢◌, ℕ, ℤ, zero, suc, false, List, length, refl, arith}
+use Rattle.std.specs.Prelude.{Option, Result, Ok, Err}
 use Rattle.std.specs.Io.{ReadsAtMost, WritesAtMost}
 use Rattle.std.specs.declared.io.Error.{Error}
 use Rattle.std.specs.declared.io.ErrorKind.{ErrorKind}
@@ -10,8 +10,11 @@ use Rattle.std.specs.IoError.{error_kind}
 use Rattle.coap_io.specs.declared.wire.Got.TheVariants.{Failed}
 use Rattle.coap_io.specs.streams.Wires.{IsWithin}
 use Rattle.coap_sockets.specs.declared.io_results.ConnectError.TheVariants.{System}
+use Rattle.coap_sockets.specs.declared.io_results.ListenError.TheVariants as listening
 use Rattle.coap_sockets.specs.declared.io_results.AcceptError.TheVariants.{Full}
-use Rattle.coap_sockets.specs.IoResults.{is_would_block, fault_got, accept_fault, connect_error_of, read_got, write_got}
+use Rattle.coap_sockets.specs.declared.troubles.DoorTroubles.{DoorTroubles}
+use Rattle.coap_sockets.specs.Troubles.{after_accept, after_failure}
+use Rattle.coap_sockets.specs.IoResults.{is_would_block, fault_got, accept_fault, connect_error_of, read_got, write_got, listen_error_of, number_of}
 
 pub another_is_no_would_block : (k : ErrorKind) → k ≢ WouldBlock → false ≡ is_would_block k
 unfolding is_would_block
@@ -42,6 +45,22 @@ another_is_of_the_system kind.NetworkDown not_1 not_2 not_3 not_4 not_5 not_6 = 
 another_is_of_the_system kind.AddrNotAvailable not_1 not_2 not_3 not_4 not_5 not_6 = absurd (not_5 refl)
 another_is_of_the_system kind.TimedOut not_1 not_2 not_3 not_4 not_5 not_6 = absurd (not_6 refl)
 another_is_of_the_system _ not_1 not_2 not_3 not_4 not_5 not_6 = refl
+
+pub another_is_another_listen_error : (k : ErrorKind) (number : Option ℤ)
+    → k ≢ kind.AddrInUse → k ≢ kind.PermissionDenied → k ≢ kind.AddrNotAvailable
+    → listening.System (number_of number) ≡ listen_error_of k number
+unfolding listen_error_of
+another_is_another_listen_error kind.AddrInUse number not_1 not_2 not_3 = absurd (not_1 refl)
+another_is_another_listen_error kind.PermissionDenied number not_1 not_2 not_3 = absurd (not_2 refl)
+another_is_another_listen_error kind.AddrNotAvailable number not_1 not_2 not_3 = absurd (not_3 refl)
+another_is_another_listen_error _ number not_1 not_2 not_3 = refl
+
+pub another_has_failed : (d : DoorTroubles) (k : ErrorKind) (number : Option ℤ)
+    → k ≢ WouldBlock → k ≢ Interrupted → after_failure d (number_of number) ≡ after_accept d k number
+unfolding after_accept
+another_has_failed d WouldBlock number not_1 not_2 = absurd (not_1 refl)
+another_has_failed d Interrupted number not_1 not_2 = absurd (not_2 refl)
+another_has_failed d _ number not_1 not_2 = refl
 
 fault_is_within : (room : ℕ) (k : ErrorKind) → IsWithin room (fault_got k)
 unfolding fault_got

@@ -1,5 +1,6 @@
 -- Defined by this project: durations of waits and of attempts to connect, in nanoseconds.
 use Rattle.std.specs.Prelude.{ℕ, suc, ◌+◌, ◌-◌, ◌*◌, ◌/◌, ◌%◌, ◌==◌, min, max, Option, Some, None, if◌then◌else◌}
+use Rattle.std.specs.Duration.{max_nanos}
 
 -- One second.
 abbrev pub second : ℕ
@@ -32,3 +33,9 @@ end_of_attempt passed limit index count =
 abbrev pub at_most : (limit : ℕ) → Option ℕ → ℕ
 at_most limit None = limit
 at_most limit (Some time) = min time limit
+
+-- The time of a clock that returned `last`, after `passed` by the monotonic clock. It is the time of the system's clock,
+-- unless that was set back or cannot be read. The clock then continues from its last time.
+abbrev pub continued : (last passed : ℕ) → (wall : Option ℕ) → ℕ
+continued last passed None = min (last + passed) max_nanos
+continued last passed (Some wall) = max wall (min (last + passed) max_nanos)

@@ -1,5 +1,5 @@
 -- Defined by this project: the meaning of the results of calls on a socket that does not block.
-use Rattle.std.specs.Prelude.{ℕ, zero, suc, Bool, true, false, Result, Ok, Err}
+use Rattle.std.specs.Prelude.{ℕ, zero, suc, ℤ, pos, Bool, true, false, Option, Some, None, Result, Ok, Err}
 use Rattle.std.specs.IoError.{error_kind}
 use Rattle.std.specs.declared.io.Error.{Error}
 use Rattle.std.specs.declared.io.ErrorKind.{ErrorKind}
@@ -11,6 +11,8 @@ use Rattle.coap_sockets.specs.declared.io_results.AcceptError.{AcceptError}
 use Rattle.coap_sockets.specs.declared.io_results.AcceptError.TheVariants.{NoneThere, Once, Full}
 use Rattle.coap_sockets.specs.declared.io_results.ConnectError.{ConnectError}
 use Rattle.coap_sockets.specs.declared.io_results.ConnectError.TheVariants as hindrance
+use Rattle.coap_sockets.specs.declared.io_results.ListenError.{ListenError}
+use Rattle.coap_sockets.specs.declared.io_results.ListenError.TheVariants as listening
 
 -- The socket has no input or no room.
 unfoldable pub is_would_block : ErrorKind → Bool
@@ -54,3 +56,15 @@ connect_error_of kind.NetworkDown = hindrance.Unreachable
 connect_error_of kind.AddrNotAvailable = hindrance.Unreachable
 connect_error_of kind.TimedOut = hindrance.TimedOut
 connect_error_of _ = hindrance.System
+
+-- The number of an error of the system, or 0 for any other error.
+abbrev pub number_of : Option ℤ → ℤ
+number_of (Some number) = number
+number_of None = pos 0
+
+-- The cause of a failed attempt to listen, by the kind and the number of the error of a call.
+unfoldable pub listen_error_of : ErrorKind → Option ℤ → ListenError
+listen_error_of kind.AddrInUse number = listening.InUse
+listen_error_of kind.PermissionDenied number = listening.Denied
+listen_error_of kind.AddrNotAvailable number = listening.NotAvailable
+listen_error_of _ number = listening.System (number_of number)

@@ -1,3 +1,5 @@
 pub mod IoResults
 pub mod Ready
 pub mod Durations
+pub mod ListenFaults
+pub mod Troubles

@@ -14,6 +14,7 @@ ghost use Rattle.coap_io.specs.streams.DeviceTraces.{TellsMore};
 use crate::clock::RunClock;
 use crate::durations::end_of_attempt;
 use crate::io_results::{ConnectError, connect_error_of, read_got, write_got};
+use crate::keepalive::keep_alive;
 use coap_io::{Got, Wire};
 use mio::net::TcpStream;
 use mio::{Events, Interest, Poll, Token};
@@ -90,6 +91,7 @@ impl<'a, R: Net + time::Clock> Dialer<'a, R> {
         }
         stream.peer_addr()?;
         stream.set_nodelay(true)?;
+        keep_alive(&stream);
         Ok(stream)
     }
 

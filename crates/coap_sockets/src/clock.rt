@@ -1,30 +1,48 @@
 //! The clocks of both programs.
 
-use crate::durations::to_next_second;
+ghost use Rattle.std.specs.Prelude.{◌≡◌, ◌≤◌, ◌/◌, ◌∷◌, ℕ, [], None};
+ghost use Rattle.std.specs.Duration.{as_nanos};
+ghost use Rattle.coap_io.specs.streams.DeviceTraces.{TellsMore};
+ghost use Rattle.coap_sockets.specs.Durations.{second};
+
+use crate::durations::{Reading, continued, to_next_second};
 use coap_io::Clock;
 use std::time;
 use std::time::Duration;
 
-/// Clock that returns the seconds since 1970. If the system's clock cannot be read, it returns the last time again.
+/// Clock that returns the seconds since 1970, and never goes back.
+///
+/// If the system's clock is set back, or cannot be read, this clock continues from its last time by the monotonic clock.
+/// It is then ahead of the system's clock, until that is set forward.
 #[derive(Drop)]
 pub struct SystemClock<'a, R> {
     rt: &'a R,
-    last: u64,
+    last: Reading,
 }
 
 impl<'a, R: time::Clock> SystemClock<'a, R> {
-    /// Returns the clock over the system's clock.
+    /// Returns the clock over the system's clock, which is read for the first time.
     pub fn new(rt: &'a R) -> SystemClock<'a, R> {
-        SystemClock { rt, last: 0 }
+        SystemClock {
+            rt,
+            last: Reading {
+                time: rt.since_1970().unwrap_or(Duration::ZERO),
+                monotonic: monotonic(rt),
+            },
+        }
     }
 }
 
 impl<'a, R: time::Clock> Clock for SystemClock<'a, R> {
-    fn now(&mut self) -> u64 {
-        if let Ok(now) = self.rt.since_1970() {
-            self.last = now.as_secs();
-        }
-        self.last
+    // The monotonic clock is read last, so that a pause between the two calls delays one reading only.
+    fn now(&mut self) -> u64
+        ensures told { TellsMore {A = ℕ} None None (result ∷ []) }
+        ensures forward { as_nanos self.old.last.time ≤ as_nanos self.new.last.time }
+        ensures seconds { result ≡ as_nanos self.new.last.time / second }
+    {
+        let wall = self.rt.since_1970().ok();
+        self.last = continued(self.last, wall, monotonic(self.rt));
+        self.last.time.as_secs()
     }
 }
 

@@ -4,15 +4,20 @@
 ghost use Rattle.std.specs.Prelude.{◌≡◌, ◌≤◌, ◌&&◌, true, false, length, Some, None, IsSome, IfSome, IfNone, IfOk};
 ghost use Rattle.std.specs.Prelude.{option_map};
 ghost use Rattle.std.specs.Duration.{as_nanos};
+ghost use Rattle.std.specs.IoError.{error_kind, raw_os_error};
 ghost use Rattle.coap_io.specs.declared.wire.Wait.TheVariants as asked;
 ghost use Rattle.coap_sockets.specs.Durations.{second};
 ghost use Rattle.coap_sockets.specs.declared.io_results.AcceptError.TheVariants as refusal;
 ghost use Rattle.coap_sockets.specs.declared.door.ListenFault.TheVariants as fault;
+ghost use Rattle.coap_sockets.specs.IoResults.{listen_error_of};
+ghost use Rattle.coap_sockets.specs.ListenFaults.{listen_fault_number};
 
 use crate::clock::monotonic;
 use crate::durations::{at_most, left_of, left_until, second};
-use crate::io_results::{AcceptError, accept_fault};
+use crate::io_results::{AcceptError, ListenError, accept_fault, listen_error_of};
+use crate::keepalive::keep_alive;
 use crate::readiness::Readiness;
+use crate::troubles::DoorTroubles;
 use coap_io::{Door, Got, READ_SIZE, Ready, Wait, Wire};
 use mio::net::{TcpListener, TcpStream};
 use mio::{Events, Interest, Poll, Token};
@@ -25,26 +30,35 @@ use std::time::Duration;
 use std::{io, time};
 use thiserror::Error;
 
-/// Error of `SocketDoor::listen`. The discriminants are the numbers of the errors.
+/// Error of `SocketDoor::listen`.
 #[derive(Clone, Copy, Debug, PartialEq, Eq, Error)]
 pub enum ListenFault {
-    /// Address at which the system cannot listen.
+    /// Address at which the system cannot listen, with the cause.
     #[error("cannot listen")]
-    Socket = 1,
+    Socket(ListenError),
     /// Failed allocation.
     #[error("no memory")]
-    Memory = 2,
+    Memory,
 }
 
-const _: () = prove!(ListenFault::Socket as u8 == 1);
-
-const _: () = prove!(ListenFault::Memory as u8 == 2);
+impl ListenFault {
+    /// Returns the number of the error: 1 for `Socket`, 2 for `Memory`.
+    pub const fn number(self) -> u8
+        ensures { result ≡ listen_fault_number self }
+    {
+        match self {
+            ListenFault::Socket(_) => 1,
+            ListenFault::Memory => 2,
+        }
+    }
+}
 
 impl From<io::Error> for ListenFault {
-    ghost from_gives = { λ error given. given ≡ fault.Socket };
+    ghost from_gives = { λ error given.
+        given ≡ fault.Socket (listen_error_of (error_kind error) (raw_os_error error)) };
 
-    fn from(_error: io::Error) -> ListenFault {
-        ListenFault::Socket
+    fn from(error: io::Error) -> ListenFault {
+        ListenFault::Socket(listen_error_of(error))
     }
 }
 
@@ -59,6 +73,9 @@ impl From<AllocError> for ListenFault {
 /// Readiness of a wire's socket, which the wire and the listener share.
 type Shared = Rc<Cell<Readiness>>;
 
+/// Numbers of failed system calls of a listener, which the listener and a log share.
+type Troubles = Rc<Cell<DoorTroubles>>;
+
 /// Token of the listening socket. No wire has it: the token of a wire is the index of its place.
 const LISTENER: Token = Token(usize::MAX);
 
@@ -71,6 +88,16 @@ const WRITES_BEFORE_READS: usize = 8;
 pub struct SocketWire {
     stream: TcpStream,
     readiness: Shared,
+    peer: SocketAddr,
+}
+
+impl SocketWire {
+    /// Returns the address of the peer, as the system reported it when it accepted the connection.
+    pub fn peer(&self) -> SocketAddr
+        ensures { result ≡ self.now.peer }
+    {
+        self.peer
+    }
 }
 
 // The system resets a connection that is closed with unread bytes, and the peer may then lose the last bytes written.
@@ -80,6 +107,7 @@ impl Drop for SocketWire {
         let SocketWire {
             mut stream,
             readiness: _,
+            peer: _,
         } = self;
         let _ = stream.shutdown(Shutdown::Write);
         give_up(&mut stream);
@@ -150,6 +178,8 @@ pub struct SocketDoor<'a, R> {
     may_accept: bool,
     /// Time at which the system had no room for a connection. Nothing is accepted for one second after it.
     full_since: Option<Duration>,
+    /// Numbers of failed system calls, which the program can share.
+    troubles: Troubles,
 }
 
 impl<'a, R: Net + time::Clock> SocketDoor<'a, R> {
@@ -158,7 +188,7 @@ impl<'a, R: Net + time::Clock> SocketDoor<'a, R> {
     ///
     /// # Errors
     ///
-    /// - `Socket`: the system cannot listen at the address.
+    /// - `Socket`: the system cannot listen at the address, for this reason.
     /// - `Memory`: an allocation failed.
     pub fn listen(
         rt: &'a R,
@@ -171,8 +201,10 @@ impl<'a, R: Net + time::Clock> SocketDoor<'a, R> {
     {
         let slots = slots(alloc, wires)?;
         let events = Events::with_capacity(alloc, wires.saturating_add(1))?;
+        let troubles = no_troubles(alloc)?;
         let poll = Poll::new(rt)?;
         let mut listener = TcpListener::bind(rt, address)?;
+        keep_alive(&listener);
         poll.registry()
             .register(&mut listener, LISTENER, Interest::READABLE)?;
         Ok(SocketDoor {
@@ -183,6 +215,7 @@ impl<'a, R: Net + time::Clock> SocketDoor<'a, R> {
             slots,
             may_accept: true,
             full_since: None,
+            troubles,
         })
     }
 
@@ -193,6 +226,12 @@ impl<'a, R: Net + time::Clock> SocketDoor<'a, R> {
     /// The error of the system, if it does not report the address.
     pub fn address(&self) -> io::Result<SocketAddr> {
         self.listener.local_addr()
+    }
+
+    /// Returns a share of the numbers of failed system calls. The listener updates them whenever a call fails, and a log
+    /// can read them while the listener is borrowed. If the numbers have too many shares, the result is `None`.
+    pub fn troubles(&self) -> Option<Rc<Cell<DoorTroubles>>> {
+        self.troubles.clone().ok()
     }
 
     /// Returns the time for which nothing is accepted, because the system had no room for a connection.
@@ -206,9 +245,11 @@ impl<'a, R: Net + time::Clock> SocketDoor<'a, R> {
         }
     }
 
-    /// Returns the wire of a new connection, for a place. If its socket cannot be set up, the connection is closed and
-    /// the result is `None`.
-    fn wire(&self, mut stream: TcpStream, place: usize) -> Option<SocketWire> {
+    /// Returns the wire of a new connection to a peer, for a place. If its socket cannot be set up, the connection is
+    /// closed and the result is `None`.
+    fn wire(&self, mut stream: TcpStream, peer: SocketAddr, place: usize) -> Option<SocketWire>
+        ensures { IfSome result (λ wire. wire.peer ≡ peer) }
+    {
         stream.set_nodelay(true).ok()?;
         let readiness = self.slots.get(place)?.clone().ok()?;
         readiness.set(Readiness::unknown());
@@ -220,7 +261,11 @@ impl<'a, R: Net + time::Clock> SocketDoor<'a, R> {
                 Interest::READABLE | Interest::WRITABLE | Interest::PRIORITY,
             )
             .ok()?;
-        Some(SocketWire { stream, readiness })
+        Some(SocketWire {
+            stream,
+            readiness,
+            peer,
+        })
     }
 
     /// Records the reason for which an accept gave no connection.
@@ -248,7 +293,9 @@ impl<'a, R: Net + time::Clock> SocketDoor<'a, R> {
         // A client that is already waiting is not delayed, unless the system has no room for its connection.
         ensures at_once { opens && self.now.may_accept ≡ true → self.now.full_since ≡ None →
             option_map as_nanos result ≡ Some 0 }
-        ensures full { opens && self.now.may_accept ≡ true → IfSome result (λ time. as_nanos time ≤ second) }
+        // A wait with an end lasts at most a second. The system does not end it earlier if the clock is set forward, or
+        // after the machine was suspended.
+        ensures short { IfSome result (λ time. as_nanos time ≤ second) }
     {
         let asked = match wait {
             Wait::No => Some(Duration::ZERO),
@@ -262,11 +309,13 @@ impl<'a, R: Net + time::Clock> SocketDoor<'a, R> {
         }
     }
 
-    /// Returns the time until a second since 1970 begins. If the system's clock cannot be read, the result is one
-    /// second.
-    fn left_until(&self, moment: u64) -> Duration {
+    /// Returns the time until a second since 1970 begins, at most one second. If the system's clock cannot be read, the
+    /// result is one second.
+    fn left_until(&self, moment: u64) -> Duration
+        ensures { as_nanos result ≤ second }
+    {
         match self.rt.since_1970() {
-            Ok(now) => left_until(moment, now),
+            Ok(now) => left_until(moment, now).min(second()),
             Err(_) => second(),
         }
     }
@@ -284,6 +333,11 @@ impl<'a, R: Net + time::Clock> SocketDoor<'a, R> {
             }
         }
     }
+}
+
+/// Returns the numbers of failed system calls of a new listener.
+fn no_troubles(alloc: Global) -> Result<Troubles, AllocError> {
+    Ok(Rc::new(alloc, Cell::new(DoorTroubles::none()))?)
 }
 
 /// Returns `count` places that no wire shares yet.
@@ -312,9 +366,16 @@ impl<'a, R: Net + time::Clock> Door for SocketDoor<'a, R> {
             .iter()
             .position(|place| Rc::strong_count(place) == 1)?;
         match self.listener.accept() {
-            Ok((stream, _)) => self.wire(stream, place),
+            Ok((stream, peer)) => {
+                let wire = self.wire(stream, peer, place);
+                if wire.is_none() {
+                    self.troubles.set(self.troubles.get().after_other());
+                }
+                wire
+            }
             Err(error) => {
                 self.keep(accept_fault(error));
+                self.troubles.set(self.troubles.get().after_accept(error));
                 None
             }
         }
@@ -325,6 +386,8 @@ impl<'a, R: Net + time::Clock> Door for SocketDoor<'a, R> {
         let time = self.time_for(wait, opens);
         if self.poll.poll(&mut self.events, time).is_ok() {
             self.tell();
+        } else {
+            self.troubles.set(self.troubles.get().after_wait());
         }
     }
 }

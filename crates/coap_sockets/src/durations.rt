@@ -1,6 +1,6 @@
-//! Durations of waits and of attempts to connect.
+//! Durations of waits and of attempts to connect, and the time of a clock that never goes back.
 
-ghost use Rattle.std.specs.Prelude.{◌≡◌, option_map};
+ghost use Rattle.std.specs.Prelude.{◌≡◌, ◌≤◌, ◌+◌, ◌-◌, max, option_map, IfSome};
 ghost use Rattle.std.specs.Duration.{as_nanos};
 ghost use Rattle.coap_sockets.specs.Durations as spec;
 
@@ -70,5 +70,38 @@ pub(crate) fn at_most(limit: Duration, time: Option<Duration>) -> Duration
     match time {
         Some(time) => time.min(limit),
         None => limit,
+    }
+}
+
+/// Reading of a clock: its time, and that of the monotonic clock, which was read with it.
+#[derive(Clone, Copy)]
+pub(crate) struct Reading {
+    /// Time since 1970.
+    pub time: Duration,
+    /// Time of the monotonic clock.
+    pub monotonic: Duration,
+}
+
+/// Returns the reading after `last`, for the times of the system's clock and of the monotonic clock. If the system's
+/// clock was set back, or cannot be read (`None`), the time continues by the monotonic clock.
+pub(crate) fn continued(last: Reading, wall: Option<Duration>, monotonic: Duration) -> Reading
+    ensures time { as_nanos result.time ≡ spec.continued (as_nanos last.time)
+        (as_nanos monotonic - as_nanos last.monotonic) (option_map as_nanos wall) }
+    ensures monotonic { as_nanos result.monotonic ≡ max (as_nanos last.monotonic) (as_nanos monotonic) }
+    // The time never goes back.
+    ensures forward { as_nanos last.time ≤ as_nanos result.time }
+    // The time is that of the system's clock, if this was not set back.
+    ensures wall { IfSome wall (λ wall.
+        as_nanos last.time + (as_nanos monotonic - as_nanos last.monotonic) ≤ as_nanos wall →
+        as_nanos result.time ≡ as_nanos wall) }
+{
+    let passed = monotonic.saturating_sub(last.monotonic);
+    let time = last.time.saturating_add(passed);
+    Reading {
+        time: match wall {
+            Some(wall) => wall.max(time),
+            None => time,
+        },
+        monotonic: monotonic.max(last.monotonic),
     }
 }

@@ -1,7 +1,7 @@
 //! The meaning of the results of calls on a socket that does not block.
 
 ghost use Rattle.std.specs.Prelude.{◌≡◌};
-ghost use Rattle.std.specs.IoError.{error_kind};
+ghost use Rattle.std.specs.IoError.{error_kind, raw_os_error};
 ghost use Rattle.coap_sockets.specs.IoResults as spec;
 
 use coap_io::Got;
@@ -38,6 +38,23 @@ pub enum ConnectError {
     /// Any other failure of the system, such as a lack of file descriptors.
     #[error("system fault")]
     System,
+}
+
+/// Cause of a failed attempt to listen.
+#[derive(Clone, Copy, Debug, PartialEq, Eq, Error)]
+pub enum ListenError {
+    /// Address and port that another socket uses.
+    #[error("address in use")]
+    InUse,
+    /// Lack of permission, such as for a port below 1024.
+    #[error("permission denied")]
+    Denied,
+    /// Address that is not one of this machine.
+    #[error("address not available")]
+    NotAvailable,
+    /// Any other failure of the system, with the number of its error, or 0 if it has none.
+    #[error("{}", io::Error::from_raw_os_error(*.0))]
+    System(i32),
 }
 
 /// Returns `true` if an error means that the socket has no input or no room.
@@ -107,5 +124,27 @@ pub(crate) fn connect_error_of(error: io::Error) -> ConnectError
         ErrorKind::AddrNotAvailable => ConnectError::Unreachable,
         ErrorKind::TimedOut => ConnectError::TimedOut,
         _ => ConnectError::System,
+    }
+}
+
+/// Returns the cause of a failed attempt to listen, from the error of a system call.
+pub(crate) fn listen_error_of(error: io::Error) -> ListenError
+    ensures { result ≡ spec.listen_error_of (error_kind error) (raw_os_error error) }
+{
+    match error.kind() {
+        ErrorKind::AddrInUse => ListenError::InUse,
+        ErrorKind::PermissionDenied => ListenError::Denied,
+        ErrorKind::AddrNotAvailable => ListenError::NotAvailable,
+        _ => ListenError::System(number_of(error)),
+    }
+}
+
+/// Returns the number of an error of the system, or 0 for any other error.
+pub(crate) fn number_of(error: io::Error) -> i32
+    ensures { result ≡ spec.number_of (raw_os_error error) }
+{
+    match error.raw_os_error() {
+        Some(number) => number,
+        None => 0,
     }
 }

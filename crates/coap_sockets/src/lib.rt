@@ -1,6 +1,7 @@
 //! The TCP sockets of both programs, and their clocks.
 //!
 //! - `SocketDoor` is the listener of a server (`coap_io::Door`), and `SocketWire` one connection that it accepted.
+//!   `ListenFault` and `ListenError` are the reasons if there is none. `DoorTroubles` counts system calls that failed.
 //! - `ClientWire` is the connection of a client (`coap_io::Wire`). `ConnectFault` and `ConnectError` are the reasons if there is
 //!   none.
 //! - `RunClock` and `SystemClock` return the time (`coap_io::Clock`).
@@ -20,10 +21,13 @@ mod clock;
 mod door;
 mod durations;
 mod io_results;
+mod keepalive;
 mod readiness;
+mod troubles;
 
 pub use client_wire::{ClientWire, ConnectFault};
 pub use clock::{RunClock, SystemClock};
 pub use door::{ListenFault, SocketDoor, SocketWire};
-pub use io_results::ConnectError;
+pub use io_results::{ConnectError, ListenError};
 pub use readiness::Readiness;
+pub use troubles::DoorTroubles;
