@@ -109,6 +109,10 @@ SERVER_WORDS = [
     (["--max-sent", "1152", "--queue", "1151"], 1, "bad value for --queue"),
     (["--pending", "257"], 1, "bad value for --pending"), (["--observers", "257"], 1, "bad value for --observers"),
     (["--connections", "0"], 1, "bad value for --connections"), (["--connections", "257"], 1, "bad value for --connections"),
+    (["--log", "4", "--stdio"], 1, "bad value for --log"), (["--idle", "4294967296"], 1, "bad value for --idle"),
+    (["--idle", "x", "--log", "x"], 1, "bad value for --log"), (["--log", "x", "--turns", "x"], 1, "bad value for --turns"),
+    (["--script", "-", "--log", "0"], 1, "options exclude each other"), (["--script", "-", "--idle", "0"], 1, "options exclude each other"),
+    (["--stdio", "--idle", "5"], 1, "options exclude each other"), (["--log", "1", "--log", "1"], 1, None), (["--idle"], 1, None),
     (["--turns", "0"], 1, "bad value for --turns"), (["--turns", "1000000000001"], 1, "bad value for --turns"),
     (["--turns", "0", "-p", "0", "--script", "-", "--stdio"], 1, "bad value for -p"),
     (["--queue", "1000", "--stdio"], 1, "bad value for --queue"),
@@ -146,6 +150,8 @@ CLIENT_WORDS = [
     (["-O", "1", "coap+tcp://h/"], 1, "bad value for -O"), (["-O", "65536,a", "coap+tcp://h/"], 1, "bad value for -O"),
     (["-O", "1,0x0", "coap+tcp://h/"], 1, "bad value for -O"), (["-O", "1," + "a" * 1035, "coap+tcp://h/"], 1, "bad value for -O"),
     (["-s", "1", "-m", "put", "coap+tcp://h/"], 1, "options exclude each other"), (["-e", "x", "-f", "y", "coap+tcp://h/"], 1, "options exclude each other"),
+    (["--log", "4", "coap+tcp://h/"], 1, "bad value for --log"), (["--log", "x", "-O", "1", "coap+tcp://h/"], 1, "bad value for -O"),
+    (["--log", "x", "-e", "x", "-f", "y", "coap+tcp://h/"], 1, "bad value for --log"), (["--idle", "1", "coap+tcp://h/"], 1, None),
     (["-e", "x", "-f", "y", "-B", "0", "coap+tcp://h/"], 1, "bad value for -B"), (["-B", "0", "coap://h/"], 1, "bad target 2"),
     (["-f", "/nothing/here", "-m", "put", "coap+tcp://h/"], 3, "cannot open /nothing/here"), (["-f", "/", "coap+tcp://h/"], 3, "cannot read"),
     (["-f", "/dev/zero", "coap+tcp://h/"], 1, "bad value for -f"), (["-o", "/nothing/here", "coap+tcp://127.0.0.1:1/"], 3, REFUSED),
@@ -158,13 +164,13 @@ CLIENT_WORDS = [
 SERVER_HELP = (
     b"A CoAP server over TCP (RFC 8323)\n\nUsage: coap-server [OPTIONS]\n\nOptions:\n",
     ["-A <ADDRESS>", "-p <PORT>", "-d <MAX>", "--stdio", "--script <FILE>", "--max-message <N>", "--max-sent <N>", "--queue <N>", "--pending <N>"]
-    + ["--observers <N>", "--connections <N>", "--turns <N>", "-h, --help", "-V, --version"],
+    + ["--observers <N>", "--connections <N>", "--turns <N>", "--log <LEVEL>", "--idle <SECONDS>", "-h, --help", "-V, --version"],
 )
 
 CLIENT_HELP = (
     b"A CoAP client over TCP (RFC 8323)\n\nUsage: coap-client [OPTIONS] <URI>\n\nArguments:\n",
     ["<URI>", "-m <METHOD>", "-e <TEXT>", "-f <FILE>", "-o <FILE>", "-t <FORMAT>", "-A <FORMAT>", "-s <SECONDS>", "-B <SECONDS>", "-O <NUM,TEXT>"]
-    + ["-U", "-w", "-h, --help", "-V, --version"],
+    + ["-U", "-w", "--log <LEVEL>", "-h, --help", "-V, --version"],
 )
 
 # The arguments before --stdio, the input, and the output after the CSM.

@@ -93,6 +93,12 @@ fn tell_server(plan: &ServerPlan, told: &mut RowLine) {
     told.number(plan.connections as u64);
     told.number(plan.dynamic_max as u64);
     told.number(plan.turns);
+    if plan.log.number() != 0 {
+        let _ = write!(told, "log {:?} ", plan.log);
+    }
+    if plan.idle != 0 {
+        let _ = write!(told, "idle {} ", plan.idle);
+    }
 }
 
 /// Writes a plan of `coap-client`.
@@ -111,6 +117,9 @@ fn tell_client(plan: &ClientPlan, told: &mut RowLine) {
     }
     told.hex(&plan.payload);
     let _ = write!(told, "{:?} {:?} ", plan.input, plan.output);
+    if plan.log.number() != 0 {
+        let _ = write!(told, "log {:?} ", plan.log);
+    }
 }
 
 /// Writes the text of the error, or `none` if the arguments are valid.

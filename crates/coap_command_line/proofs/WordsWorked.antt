@@ -6,76 +6,105 @@ use Rattle.coap_command_line.specs.Prelude.{decode_pairs, percent_decode, Get, P
 use Rattle.coap_command_line.specs.Prelude.{extra_said, format_named, format_of, method_named, option_bytes, payload_said}
 use Rattle.coap_command_line.specs.Prelude.{request_said, uri_said, Clash, Usage, Value, is_used, number_within, Listen}
 use Rattle.coap_command_line.specs.Prelude.{Script, Stdio, address_of, every_address, limits_said, server_plan_in}
-use Rattle.coap_command_line.specs.Prelude.{server_plan_of, values_said}
+use Rattle.coap_command_line.specs.Prelude.{server_plan_of, values_said, excludes_mode, level_in, level_of, log_said}
+use Rattle.coap_command_line.specs.Prelude.{Nothing, Warnings, Connections, Messages}
 use Rattle.std.specs.declared.net.ip_addr.IpAddr.TheVariants as ip
 use Rattle.clap.specs.declared.error.kind.ErrorKind.TheVariants as kind
 use Rattle.clap.proofs.OnLiterals.{clap_on_literals}
 
 -- ---- coap-server
 
-no_words : server_plan_of ([]) ≡ Ok (record { mode = Listen every_address 5683; limits = limits_of 65536 65536 131072 16 16 16; connections = 16; dynamic_max = 0; turns = 1000000000000 })
-unfolding clap_on_literals server_plan_of server_plan_in values_said limits_said number_within decimal_value is_used address_of read_ipv4 read_ipv6 read_octet read_segment read_segments read_number
+no_words : server_plan_of ([]) ≡ Ok (record { mode = Listen every_address 5683; limits = limits_of 65536 65536 131072 16 16 16; connections = 16; dynamic_max = 0; turns = 1000000000000; log = Nothing; idle = 0 })
+unfolding clap_on_literals server_plan_of server_plan_in values_said limits_said level_in level_of excludes_mode number_within decimal_value is_used address_of read_ipv4 read_ipv6 read_octet read_segment read_segments read_number
 no_words = refl
 
-stdio_with_a_port : server_plan_of (codes "-p" ∷ codes "5700" ∷ codes "--stdio" ∷ []) ≡ Ok (record { mode = Stdio; limits = limits_of 65536 65536 131072 16 16 16; connections = 16; dynamic_max = 0; turns = 1000000000000 })
-unfolding clap_on_literals server_plan_of server_plan_in values_said limits_said number_within decimal_value is_used address_of read_ipv4 read_ipv6 read_octet read_segment read_segments read_number
+stdio_with_a_port : server_plan_of (codes "-p" ∷ codes "5700" ∷ codes "--stdio" ∷ []) ≡ Ok (record { mode = Stdio; limits = limits_of 65536 65536 131072 16 16 16; connections = 16; dynamic_max = 0; turns = 1000000000000; log = Nothing; idle = 0 })
+unfolding clap_on_literals server_plan_of server_plan_in values_said limits_said level_in level_of excludes_mode number_within decimal_value is_used address_of read_ipv4 read_ipv6 read_octet read_segment read_segments read_number
 stdio_with_a_port = refl
 
 queue_too_small : server_plan_of (codes "-p" ∷ codes "5700" ∷ codes "--stdio" ∷ codes "--queue" ∷ codes "1000" ∷ []) ≡ Err (Value (codes "--queue"))
-unfolding clap_on_literals server_plan_of server_plan_in values_said limits_said number_within decimal_value is_used address_of read_ipv4 read_ipv6 read_octet read_segment read_segments read_number
+unfolding clap_on_literals server_plan_of server_plan_in values_said limits_said level_in level_of excludes_mode number_within decimal_value is_used address_of read_ipv4 read_ipv6 read_octet read_segment read_segments read_number
 queue_too_small = refl
 
-queue_of_the_greatest_message : server_plan_of (codes "--max-sent" ∷ codes "1152" ∷ codes "--queue=1152" ∷ codes "-d7" ∷ []) ≡ Ok (record { mode = Listen every_address 5683; limits = limits_of 65536 1152 1152 16 16 16; connections = 16; dynamic_max = 7; turns = 1000000000000 })
-unfolding clap_on_literals server_plan_of server_plan_in values_said limits_said number_within decimal_value is_used address_of read_ipv4 read_ipv6 read_octet read_segment read_segments read_number
+queue_of_the_greatest_message : server_plan_of (codes "--max-sent" ∷ codes "1152" ∷ codes "--queue=1152" ∷ codes "-d7" ∷ []) ≡ Ok (record { mode = Listen every_address 5683; limits = limits_of 65536 1152 1152 16 16 16; connections = 16; dynamic_max = 7; turns = 1000000000000; log = Nothing; idle = 0 })
+unfolding clap_on_literals server_plan_of server_plan_in values_said limits_said level_in level_of excludes_mode number_within decimal_value is_used address_of read_ipv4 read_ipv6 read_octet read_segment read_segments read_number
 queue_of_the_greatest_message = refl
 
 first_in_the_order_of_the_line : server_plan_of (codes "--turns" ∷ codes "x" ∷ codes "--stdio" ∷ codes "--script" ∷ codes "-" ∷ codes "-p" ∷ codes "0" ∷ []) ≡ Err (Value (codes "-p"))
-unfolding clap_on_literals server_plan_of server_plan_in values_said limits_said number_within decimal_value is_used address_of read_ipv4 read_ipv6 read_octet read_segment read_segments read_number
+unfolding clap_on_literals server_plan_of server_plan_in values_said limits_said level_in level_of excludes_mode number_within decimal_value is_used address_of read_ipv4 read_ipv6 read_octet read_segment read_segments read_number
 first_in_the_order_of_the_line = refl
 
 two_modes : server_plan_of (codes "--stdio" ∷ codes "--script" ∷ codes "-" ∷ []) ≡ Err Clash
-unfolding clap_on_literals server_plan_of server_plan_in values_said limits_said number_within decimal_value is_used address_of read_ipv4 read_ipv6 read_octet read_segment read_segments read_number
+unfolding clap_on_literals server_plan_of server_plan_in values_said limits_said level_in level_of excludes_mode number_within decimal_value is_used address_of read_ipv4 read_ipv6 read_octet read_segment read_segments read_number
 two_modes = refl
 
-a_script : server_plan_of (codes "--script" ∷ codes "-" ∷ codes "--observers" ∷ codes "0256" ∷ []) ≡ Ok (record { mode = Script (codes "-"); limits = limits_of 65536 65536 131072 16 256 16; connections = 16; dynamic_max = 0; turns = 1000000000000 })
-unfolding clap_on_literals server_plan_of server_plan_in values_said limits_said number_within decimal_value is_used address_of read_ipv4 read_ipv6 read_octet read_segment read_segments read_number
+a_script : server_plan_of (codes "--script" ∷ codes "-" ∷ codes "--observers" ∷ codes "0256" ∷ []) ≡ Ok (record { mode = Script (codes "-"); limits = limits_of 65536 65536 131072 16 256 16; connections = 16; dynamic_max = 0; turns = 1000000000000; log = Nothing; idle = 0 })
+unfolding clap_on_literals server_plan_of server_plan_in values_said limits_said level_in level_of excludes_mode number_within decimal_value is_used address_of read_ipv4 read_ipv6 read_octet read_segment read_segments read_number
 a_script = refl
 
 a_stray_word : server_plan_of (codes "x" ∷ []) ≡ Err (Usage (kind.UnknownArgument ∷ []))
-unfolding clap_on_literals server_plan_of server_plan_in values_said limits_said number_within decimal_value is_used address_of read_ipv4 read_ipv6 read_octet read_segment read_segments read_number
+unfolding clap_on_literals server_plan_of server_plan_in values_said limits_said level_in level_of excludes_mode number_within decimal_value is_used address_of read_ipv4 read_ipv6 read_octet read_segment read_segments read_number
 a_stray_word = refl
 
 help_of_the_server : server_plan_of (codes "--help" ∷ []) ≡ Err (Usage (kind.DisplayHelp ∷ []))
-unfolding clap_on_literals server_plan_of server_plan_in values_said limits_said number_within decimal_value is_used address_of read_ipv4 read_ipv6 read_octet read_segment read_segments read_number
+unfolding clap_on_literals server_plan_of server_plan_in values_said limits_said level_in level_of excludes_mode number_within decimal_value is_used address_of read_ipv4 read_ipv6 read_octet read_segment read_segments read_number
 help_of_the_server = refl
 
 help_by_its_letter : server_plan_of (codes "-p" ∷ codes "0" ∷ codes "-h" ∷ []) ≡ Err (Usage (kind.DisplayHelp ∷ []))
-unfolding clap_on_literals server_plan_of server_plan_in values_said limits_said number_within decimal_value is_used address_of read_ipv4 read_ipv6 read_octet read_segment read_segments read_number
+unfolding clap_on_literals server_plan_of server_plan_in values_said limits_said level_in level_of excludes_mode number_within decimal_value is_used address_of read_ipv4 read_ipv6 read_octet read_segment read_segments read_number
 help_by_its_letter = refl
 
 version_of_the_server : server_plan_of (codes "--version" ∷ []) ≡ Err (Usage (kind.DisplayVersion ∷ []))
-unfolding clap_on_literals server_plan_of server_plan_in values_said limits_said number_within decimal_value is_used address_of read_ipv4 read_ipv6 read_octet read_segment read_segments read_number
+unfolding clap_on_literals server_plan_of server_plan_in values_said limits_said level_in level_of excludes_mode number_within decimal_value is_used address_of read_ipv4 read_ipv6 read_octet read_segment read_segments read_number
 version_of_the_server = refl
 
 version_by_its_letter : server_plan_of (codes "-V" ∷ codes "--turns" ∷ codes "0" ∷ []) ≡ Err (Usage (kind.DisplayVersion ∷ []))
-unfolding clap_on_literals server_plan_of server_plan_in values_said limits_said number_within decimal_value is_used address_of read_ipv4 read_ipv6 read_octet read_segment read_segments read_number
+unfolding clap_on_literals server_plan_of server_plan_in values_said limits_said level_in level_of excludes_mode number_within decimal_value is_used address_of read_ipv4 read_ipv6 read_octet read_segment read_segments read_number
 version_by_its_letter = refl
 
 an_option_twice : server_plan_of (codes "-p" ∷ codes "1" ∷ codes "-p" ∷ codes "1" ∷ []) ≡ Err (Usage (kind.ArgumentConflict ∷ []))
-unfolding clap_on_literals server_plan_of server_plan_in values_said limits_said number_within decimal_value is_used address_of read_ipv4 read_ipv6 read_octet read_segment read_segments read_number
+unfolding clap_on_literals server_plan_of server_plan_in values_said limits_said level_in level_of excludes_mode number_within decimal_value is_used address_of read_ipv4 read_ipv6 read_octet read_segment read_segments read_number
 an_option_twice = refl
 
-an_address : server_plan_of (codes "-A" ∷ codes "127.0.0.1" ∷ []) ≡ Ok (record { mode = Listen (ip.V4 (record { octets = 127 ∷ 0 ∷ 0 ∷ 1 ∷ [] })) 5683; limits = limits_of 65536 65536 131072 16 16 16; connections = 16; dynamic_max = 0; turns = 1000000000000 })
-unfolding clap_on_literals server_plan_of server_plan_in values_said limits_said number_within decimal_value is_used address_of read_ipv4 read_ipv6 read_octet read_segment read_segments read_number
+an_address : server_plan_of (codes "-A" ∷ codes "127.0.0.1" ∷ []) ≡ Ok (record { mode = Listen (ip.V4 (record { octets = 127 ∷ 0 ∷ 0 ∷ 1 ∷ [] })) 5683; limits = limits_of 65536 65536 131072 16 16 16; connections = 16; dynamic_max = 0; turns = 1000000000000; log = Nothing; idle = 0 })
+unfolding clap_on_literals server_plan_of server_plan_in values_said limits_said level_in level_of excludes_mode number_within decimal_value is_used address_of read_ipv4 read_ipv6 read_octet read_segment read_segments read_number
 an_address = refl
 
-an_address_with_colons : server_plan_of (codes "-A" ∷ codes "::1" ∷ []) ≡ Ok (record { mode = Listen (ip.V6 (record { segments = 0 ∷ 0 ∷ 0 ∷ 0 ∷ 0 ∷ 0 ∷ 0 ∷ 1 ∷ [] })) 5683; limits = limits_of 65536 65536 131072 16 16 16; connections = 16; dynamic_max = 0; turns = 1000000000000 })
-unfolding clap_on_literals server_plan_of server_plan_in values_said limits_said number_within decimal_value is_used address_of read_ipv4 read_ipv6 read_octet read_segment read_segments read_number
+an_address_with_colons : server_plan_of (codes "-A" ∷ codes "::1" ∷ []) ≡ Ok (record { mode = Listen (ip.V6 (record { segments = 0 ∷ 0 ∷ 0 ∷ 0 ∷ 0 ∷ 0 ∷ 0 ∷ 1 ∷ [] })) 5683; limits = limits_of 65536 65536 131072 16 16 16; connections = 16; dynamic_max = 0; turns = 1000000000000; log = Nothing; idle = 0 })
+unfolding clap_on_literals server_plan_of server_plan_in values_said limits_said level_in level_of excludes_mode number_within decimal_value is_used address_of read_ipv4 read_ipv6 read_octet read_segment read_segments read_number
 an_address_with_colons = refl
 
 no_address : server_plan_of (codes "-A" ∷ codes "localhost" ∷ []) ≡ Err (Value (codes "-A"))
-unfolding clap_on_literals server_plan_of server_plan_in values_said limits_said number_within decimal_value is_used address_of read_ipv4 read_ipv6 read_octet read_segment read_segments read_number
+unfolding clap_on_literals server_plan_of server_plan_in values_said limits_said level_in level_of excludes_mode number_within decimal_value is_used address_of read_ipv4 read_ipv6 read_octet read_segment read_segments read_number
 no_address = refl
+
+a_log : server_plan_of (codes "--log" ∷ codes "2" ∷ codes "--idle" ∷ codes "5" ∷ []) ≡ Ok (record { mode = Listen every_address 5683; limits = limits_of 65536 65536 131072 16 16 16; connections = 16; dynamic_max = 0; turns = 1000000000000; log = Connections; idle = 5 })
+unfolding clap_on_literals server_plan_of server_plan_in values_said limits_said level_in level_of excludes_mode number_within decimal_value is_used address_of read_ipv4 read_ipv6 read_octet read_segment read_segments read_number
+a_log = refl
+
+no_level : server_plan_of (codes "--idle" ∷ codes "x" ∷ codes "--log" ∷ codes "4" ∷ []) ≡ Err (Value (codes "--log"))
+unfolding clap_on_literals server_plan_of server_plan_in values_said limits_said level_in level_of excludes_mode number_within decimal_value is_used address_of read_ipv4 read_ipv6 read_octet read_segment read_segments read_number
+no_level = refl
+
+too_long_a_silence : server_plan_of (codes "--idle" ∷ codes "4294967296" ∷ []) ≡ Err (Value (codes "--idle"))
+unfolding clap_on_literals server_plan_of server_plan_in values_said limits_said level_in level_of excludes_mode number_within decimal_value is_used address_of read_ipv4 read_ipv6 read_octet read_segment read_segments read_number
+too_long_a_silence = refl
+
+a_log_of_a_script : server_plan_of (codes "--script" ∷ codes "-" ∷ codes "--log" ∷ codes "0" ∷ []) ≡ Err Clash
+unfolding clap_on_literals server_plan_of server_plan_in values_said limits_said level_in level_of excludes_mode number_within decimal_value is_used address_of read_ipv4 read_ipv6 read_octet read_segment read_segments read_number
+a_log_of_a_script = refl
+
+silence_of_a_script : server_plan_of (codes "--script" ∷ codes "-" ∷ codes "--idle" ∷ codes "0" ∷ []) ≡ Err Clash
+unfolding clap_on_literals server_plan_of server_plan_in values_said limits_said level_in level_of excludes_mode number_within decimal_value is_used address_of read_ipv4 read_ipv6 read_octet read_segment read_segments read_number
+silence_of_a_script = refl
+
+silence_of_standard_input : server_plan_of (codes "--stdio" ∷ codes "--idle" ∷ codes "0" ∷ []) ≡ Err Clash
+unfolding clap_on_literals server_plan_of server_plan_in values_said limits_said level_in level_of excludes_mode number_within decimal_value is_used address_of read_ipv4 read_ipv6 read_octet read_segment read_segments read_number
+silence_of_standard_input = refl
+
+a_log_of_standard_input : server_plan_of (codes "--stdio" ∷ codes "--log" ∷ codes "3" ∷ []) ≡ Ok (record { mode = Stdio; limits = limits_of 65536 65536 131072 16 16 16; connections = 16; dynamic_max = 0; turns = 1000000000000; log = Messages; idle = 0 })
+unfolding clap_on_literals server_plan_of server_plan_in values_said limits_said level_in level_of excludes_mode number_within decimal_value is_used address_of read_ipv4 read_ipv6 read_octet read_segment read_segments read_number
+a_log_of_standard_input = refl
 
 -- ---- coap-client
 
@@ -182,3 +211,15 @@ observed_with_put = refl
 observed_with_get : clashes (matches_of client_app (codes "-f" ∷ codes "y" ∷ codes "coap+tcp://h/" ∷ [])) (record { method = Get; content_format = None; accept = None; observe = Some 0; wait = 90 }) ≡ false
 unfolding clap_on_literals request_said uri_said payload_said clashes number_within decimal_value is_used method_named format_named format_of option_bytes extra_of hex_value decode_pairs percent_decode
 observed_with_get = refl
+
+a_log_of_the_client : log_said (matches_of client_app (codes "coap+tcp://h/" ∷ codes "--log=1" ∷ [])) ≡ Ok Warnings
+unfolding clap_on_literals request_said uri_said payload_said clashes level_in level_of number_within decimal_value is_used method_named format_named format_of option_bytes extra_of hex_value decode_pairs percent_decode
+a_log_of_the_client = refl
+
+no_log_of_the_client : log_said (matches_of client_app (codes "coap+tcp://h/" ∷ [])) ≡ Ok Nothing
+unfolding clap_on_literals request_said uri_said payload_said clashes level_in level_of number_within decimal_value is_used method_named format_named format_of option_bytes extra_of hex_value decode_pairs percent_decode
+no_log_of_the_client = refl
+
+a_level_of_two_digits : log_said (matches_of client_app (codes "coap+tcp://h/" ∷ codes "--log" ∷ codes "10" ∷ [])) ≡ Err (codes "--log")
+unfolding clap_on_literals request_said uri_said payload_said clashes level_in level_of number_within decimal_value is_used method_named format_named format_of option_bytes extra_of hex_value decode_pairs percent_decode
+a_level_of_two_digits = refl

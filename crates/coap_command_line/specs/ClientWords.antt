@@ -6,7 +6,9 @@ use Rattle.clap.specs.Simple.{new_shape}
 use Rattle.clap.specs.Words.{App, Row, Rule, Text, fault_of, first_of, matches_of, new_rule}
 use Rattle.percent_encoding.specs.Percent.{percent_decode}
 use Rattle.coap_text.specs.Words.{hex_value}
-use Rattle.coap_command_line.specs.CommandLines.{◌>>=◌, WordsFaultValue, Clash, Target, Value, is_used, letter_flag, letter_option, number_within, option_value, unless_refused}
+use Rattle.coap_print.specs.declared.level.LogLevel.{LogLevel}
+use Rattle.coap_print.specs.declared.level.LogLevel.TheVariants.{Nothing}
+use Rattle.coap_command_line.specs.CommandLines.{◌>>=◌, WordsFaultValue, Clash, Target, Value, is_used, letter_flag, letter_option, level_in, number_within, option_value, unless_refused, word_option}
 use Rattle.coap_request.specs.Targets.{TargetValue, target_of}
 use Rattle.coap_request.specs.declared.request.Method.{Method}
 use Rattle.coap_request.specs.declared.request.Method.TheVariants.{Get, Put, Post, Delete}
@@ -30,6 +32,7 @@ pub record ClientPlanValue : Type 0 where
   pub payload : Text
   pub input : Option Text
   pub output : Option Text
+  pub log : LogLevel
 
 -- ---- the options
 
@@ -45,7 +48,8 @@ client_app = record {
   top = record (new_shape (codes "coap-client")) {
     rules = letter_option (codes "-m") ∷ letter_option (codes "-e") ∷ letter_option (codes "-f") ∷ letter_option (codes "-o")
         ∷ letter_option (codes "-t") ∷ letter_option (codes "-A") ∷ letter_option (codes "-s") ∷ letter_option (codes "-B")
-        ∷ letter_option (codes "-O") ∷ letter_flag (codes "-U") ∷ letter_flag (codes "-w") ∷ uri_rule ∷ [];
+        ∷ letter_option (codes "-O") ∷ letter_flag (codes "-U") ∷ letter_flag (codes "-w")
+        ∷ word_option (codes "--log") ∷ uri_rule ∷ [];
     has_version = true;
     no_binary_name = true;
   };
@@ -133,6 +137,10 @@ request_said rows = do
 abbrev pub extra_said : List Row → Result (Option (ℕ × Text)) Text
 extra_said rows = option_value (codes "-O") (perhaps extra_of) None rows
 
+-- The level of the log, or the name `--log` if its text is invalid.
+abbrev pub log_said : List Row → Result LogLevel Text
+log_said rows = option_value (codes "--log") level_in Nothing rows
+
 -- The URI, whose presence `clap` checks.
 unfoldable pub uri_said : List Row → Text
 uri_said rows = unwrap_or (first_of (codes "URI") rows) []
@@ -155,8 +163,8 @@ clashes rows values =
     || (is_some values.observe && not (is_get values.method))
 
 -- The plan with these values.
-abbrev pub client_plan : TargetValue → RequestValues → Option (ℕ × Text) → List Row → ClientPlanValue
-client_plan target values extra rows = record {
+abbrev pub client_plan : TargetValue → RequestValues → Option (ℕ × Text) → LogLevel → List Row → ClientPlanValue
+client_plan target values extra log rows = record {
   target = target;
   method = values.method;
   observe = values.observe;
@@ -169,6 +177,7 @@ client_plan target values extra rows = record {
   payload = payload_said rows;
   input = first_of (codes "-f") rows;
   output = first_of (codes "-o") rows;
+  log = log;
 }
 
 -- The target, or its error as an error of the command line.
@@ -187,7 +196,8 @@ client_plan_in rows = do
   target ← aimed (target_of (uri_said rows))
   values ← spoken (request_said rows)
   extra ← spoken (extra_said rows)
-  if clashes rows values then Err Clash else Ok (client_plan target values extra rows)
+  log ← spoken (log_said rows)
+  if clashes rows values then Err Clash else Ok (client_plan target values extra log rows)
 
 -- The plan for the arguments, or the first error that applies. The order is: `clap`, the target, the text of an option,
 -- two options together.

@@ -8,6 +8,8 @@ use Rattle.clap.specs.Words.{App, Kinds, Row, Rule, Text, first_of, new_rule}
 use Rattle.clap.specs.declared.builder.action.ArgAction.TheVariants.{SetTrue}
 use Rattle.coap_conn.specs.Limits.{is_within}
 use Rattle.coap_text.specs.Words.{decimal_value}
+use Rattle.coap_print.specs.Levels.{level_of}
+use Rattle.coap_print.specs.declared.level.LogLevel.{LogLevel}
 use Rattle.coap_request.specs.declared.target.TargetFault.{TargetFault}
 
 -- ---- refusals
@@ -84,6 +86,15 @@ bounded low high (Some n) = if is_within low n high then Some n else None
 -- The number in a text of 1 to 20 decimal digits, if it is between the bounds. The bounds are included.
 unfoldable pub number_within : ℕ → ℕ → Text → Option ℕ
 number_within low high text = bounded low high (decimal_value text)
+
+-- The level of a log with a number, if there is one.
+abbrev pub leveled : Option ℕ → Option LogLevel
+leveled None = None
+leveled (Some number) = level_of number
+
+-- The level of a log in a text: a decimal number of 0 to 3.
+unfoldable pub level_in : Text → Option LogLevel
+level_in text = leveled (decimal_value text)
 
 -- ---- results of the code
 

@@ -30,6 +30,8 @@ server_value plan = record {
   connections = plan.connections;
   dynamic_max = plan.dynamic_max;
   turns = plan.turns;
+  log = plan.log;
+  idle = plan.idle;
 }
 
 -- The number and the value of the extra option.
@@ -56,6 +58,7 @@ client_value plan = record {
   payload = plan.payload.items;
   input = option_map string_bytes plan.input;
   output = option_map string_bytes plan.output;
+  log = plan.log;
 }
 
 -- The number of an error.

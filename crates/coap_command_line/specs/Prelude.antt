@@ -18,6 +18,9 @@ pub use Rattle.std.specs.Result.{result_ok}
 pub use Rattle.std.specs.declared.net.ip_addr.IpAddr.{IpAddr}
 -- ---- coap_conn
 pub use Rattle.coap_conn.specs.Limits.{limits_of}
+-- ---- coap_print
+unfoldable pub use Rattle.coap_print.specs.Levels.{level_of}
+pub use Rattle.coap_print.specs.declared.level.LogLevel.TheVariants.{Nothing, Warnings, Connections, Messages}
 -- ---- coap_text
 unfoldable pub use Rattle.coap_text.specs.Words.{decimal_value, hex_value}
 -- ---- coap_request
@@ -27,18 +30,18 @@ pub use Rattle.coap_request.specs.declared.plan.ServerPlan.{ServerPlan}
 pub use Rattle.coap_request.specs.declared.request.Method.TheVariants.{Get, Put}
 -- ---- coap_command_line
 pub use Rattle.coap_command_line.specs.ClientWords.{client_app, uri_rule, AreHalves, client_plan_in, extra_said}
-pub use Rattle.coap_command_line.specs.ClientWords.{is_comma}
+pub use Rattle.coap_command_line.specs.ClientWords.{is_comma, log_said}
 unfoldable pub use Rattle.coap_command_line.specs.ClientWords.{clashes, client_plan_of, extra_of, format_named}
 unfoldable pub use Rattle.coap_command_line.specs.ClientWords.{format_of, method_named, option_bytes, payload_said}
 unfoldable pub use Rattle.coap_command_line.specs.ClientWords.{request_said, uri_said}
 pub use Rattle.coap_command_line.specs.CommandLines.{named, option_value, Clash, Usage, Value, WordsFaultValue}
 pub use Rattle.coap_command_line.specs.CommandLines.{bare_app, letter_flag, letter_option, word_flag, word_option}
-unfoldable pub use Rattle.coap_command_line.specs.CommandLines.{number_within, is_used}
+unfoldable pub use Rattle.coap_command_line.specs.CommandLines.{number_within, is_used, level_in}
 pub use Rattle.coap_command_line.specs.PlanViews.{IsClientPlan, IsServerPlan, is_help_or_version, words_fault_number}
 pub use Rattle.coap_command_line.specs.PlanViews.{TellsClientPlan, client_value, extra_named, extra_value, IsTurnedDown}
 pub use Rattle.coap_command_line.specs.PlanViews.{TellsServerPlan, mode_value}
 pub use Rattle.coap_command_line.specs.ServerWords.{server_app, Listen, Script, Stdio, every_address}
 unfoldable pub use Rattle.coap_command_line.specs.ServerWords.{address_of, limits_said, server_plan_in, server_plan_of}
-unfoldable pub use Rattle.coap_command_line.specs.ServerWords.{values_said}
+unfoldable pub use Rattle.coap_command_line.specs.ServerWords.{values_said, excludes_mode}
 -- ---- coap_command_line, declared
 pub use Rattle.coap_command_line.specs.declared.arguments.WordsFault.{WordsFault}

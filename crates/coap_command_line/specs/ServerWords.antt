@@ -1,12 +1,14 @@
 -- Defined by this project: the plan for the arguments of `coap-server`.
-use Rattle.std.specs.Prelude.{◌∷◌, [], ℕ, Bool, true, false, List, Option, Some, None, Result, Ok, Err, codes}
+use Rattle.std.specs.Prelude.{◌∷◌, [], ◌&&◌, ◌||◌, ℕ, Bool, true, false, List, Option, Some, None, is_some, Result, Ok, Err, codes, if◌then◌else◌}
 use Rattle.std.specs.Net.Reader.{read_ipv4, read_ipv6, whole_value}
 use Rattle.std.specs.declared.net.ip_addr.IpAddr.{IpAddr}
 use Rattle.std.specs.declared.net.ip_addr.IpAddr.TheVariants as ip
 use Rattle.clap.specs.Simple.{new_shape}
 use Rattle.clap.specs.Words.{App, Row, Text, fault_of, first_of, matches_of}
 use Rattle.coap_conn.specs.Limits.{LimitValues, limits_of}
-use Rattle.coap_command_line.specs.CommandLines.{◌>>=◌, WordsFaultValue, Clash, Value, is_used, letter_option, number_within, option_value, unless_refused, word_flag, word_option}
+use Rattle.coap_print.specs.declared.level.LogLevel.{LogLevel}
+use Rattle.coap_print.specs.declared.level.LogLevel.TheVariants.{Nothing}
+use Rattle.coap_command_line.specs.CommandLines.{◌>>=◌, WordsFaultValue, Clash, Value, is_used, letter_option, level_in, number_within, option_value, unless_refused, word_flag, word_option}
 use Rattle.coap_command_line.specs.declared.arguments.server.ServerValues.{ServerValues}
 use Rattle.coap_wire.specs.declared.sizes.TheConstants.{BASE_MESSAGE_SIZE, LARGEST_MESSAGE, LARGEST_SENT_MESSAGE}
 use Rattle.coap_wire.specs.declared.sizes.TheConstants.{LARGEST_QUEUE, DEFAULT_QUEUE}
@@ -27,6 +29,8 @@ pub record ServerPlanValue : Type 0 where
   pub connections : ℕ
   pub dynamic_max : ℕ
   pub turns : ℕ
+  pub log : LogLevel
+  pub idle : ℕ
 
 -- ---- the options
 
@@ -40,7 +44,8 @@ server_app = record {
         ∷ word_flag (codes "--stdio") ∷ word_option (codes "--script")
         ∷ word_option (codes "--max-message") ∷ word_option (codes "--max-sent") ∷ word_option (codes "--queue")
         ∷ word_option (codes "--pending") ∷ word_option (codes "--observers")
-        ∷ word_option (codes "--connections") ∷ word_option (codes "--turns") ∷ [];
+        ∷ word_option (codes "--connections") ∷ word_option (codes "--turns")
+        ∷ word_option (codes "--log") ∷ word_option (codes "--idle") ∷ [];
     has_version = true;
     no_binary_name = true;
   };
@@ -85,9 +90,19 @@ values_said rows = do
   limits ← limits_said rows
   connections ← option_value (codes "--connections") (number_within 1 256) 16 rows
   turns ← option_value (codes "--turns") (number_within 1 1000000000000) 1000000000000 rows
-  Ok (record { address = address; port = port; dynamic_max = dynamic_max; limits = limits; connections = connections; turns = turns })
+  log ← option_value (codes "--log") level_in Nothing rows
+  idle ← option_value (codes "--idle") (number_within 0 4294967295) 0 rows
+  Ok (record { address = address; port = port; dynamic_max = dynamic_max; limits = limits; connections = connections; turns = turns; log = log; idle = idle })
 
 -- ---- the plan for the arguments
+
+-- True if an option of the log or of silent connections is given with a mode that excludes it. A script excludes both,
+-- and standard input and output exclude `--idle`.
+unfoldable pub excludes_mode : List Row → Bool
+excludes_mode rows =
+    (is_some (first_of (codes "--script") rows) && is_some (first_of (codes "--log") rows))
+    || (is_some (first_of (codes "--script") rows) && is_some (first_of (codes "--idle") rows))
+    || (is_used (codes "--stdio") rows && is_some (first_of (codes "--idle") rows))
 
 -- The mode: standard input and output, the script with a name, or otherwise the address and the port. The first two
 -- exclude each other.
@@ -101,16 +116,18 @@ mode_of true (Some name) address port = None
 abbrev pub with_mode : ServerValues → Option ModeValue → Result ServerPlanValue WordsFaultValue
 with_mode values None = Err Clash
 with_mode values (Some mode) =
-    Ok (record { mode = mode; limits = values.limits; connections = values.connections; dynamic_max = values.dynamic_max; turns = values.turns })
+    Ok (record { mode = mode; limits = values.limits; connections = values.connections; dynamic_max = values.dynamic_max; turns = values.turns; log = values.log; idle = values.idle })
 
--- The plan with a mode, or the error of the values.
-abbrev pub planned : Bool → Option Text → Result ServerValues Text → Result ServerPlanValue WordsFaultValue
-planned stdio script (Err name) = Err (Value name)
-planned stdio script (Ok values) = with_mode values (mode_of stdio script values.address values.port)
+-- The plan with a mode, or the error of the values. `excluded` is true if an option excludes the mode.
+abbrev pub planned : Bool → Bool → Option Text → Result ServerValues Text → Result ServerPlanValue WordsFaultValue
+planned excluded stdio script (Err name) = Err (Value name)
+planned excluded stdio script (Ok values) =
+    if excluded then Err Clash else with_mode values (mode_of stdio script values.address values.port)
 
 -- The plan for the options that `clap` found, or the error.
 unfoldable pub server_plan_in : List Row → Result ServerPlanValue WordsFaultValue
-server_plan_in rows = planned (is_used (codes "--stdio") rows) (first_of (codes "--script") rows) (values_said rows)
+server_plan_in rows =
+    planned (excludes_mode rows) (is_used (codes "--stdio") rows) (first_of (codes "--script") rows) (values_said rows)
 
 -- The plan for the arguments, or the first error that applies. The order is: `clap`, the text of an option, two options
 -- together.

@@ -4,10 +4,12 @@
 //!   and the line then ends with `...` and accepts nothing more.
 //! - `describe` appends a message to a line: its code, its token, its options and its payload. An example is
 //!   `2.05 Content token 2a Content-Format=0 (text/plain) payload "21.5"`.
+//! - `LogLevel` says what a log contains.
 //! - `laws` has the theorems on lines.
 //!
-//! The contracts name definitions of four files. `specs/Texts.antt` defines bytes as text, `specs/Lines.antt` text that
+//! The contracts name definitions of five files. `specs/Texts.antt` defines bytes as text, `specs/Lines.antt` text that
 //! is appended to a line. `specs/Names.antt` defines the names in the tables, `specs/Descriptions.antt` a message as text.
+//! `specs/Levels.antt` defines the numbers of levels.
 //!
 //! This crate allocates nothing and does no I/O: the caller writes the bytes of a line where its log is. Continue with
 //! `line.rt`.
@@ -15,9 +17,11 @@
 
 mod description;
 pub mod laws;
+mod level;
 mod line;
 mod names;
 mod tables;
 
 pub use description::describe;
+pub use level::LogLevel;
 pub use line::{LINE_LENGTH, Line};

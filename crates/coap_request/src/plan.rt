@@ -3,6 +3,7 @@
 use crate::request::Method;
 use crate::target::Target;
 use coap_conn::Limits;
+use coap_print::LogLevel;
 use std::net::IpAddr;
 
 /// Mode of `coap-server`.
@@ -29,6 +30,10 @@ pub struct ServerPlan {
     pub dynamic_max: usize,
     /// Maximum number of iterations of a run, 1 to 1,000,000,000,000.
     pub turns: u64,
+    /// Level of the log on standard error.
+    pub log: LogLevel,
+    /// Maximum time in seconds that a connection may be silent, or 0 if there is no limit.
+    pub idle: u32,
 }
 
 /// Settings of a run of `coap-client`.
@@ -58,4 +63,6 @@ pub struct ClientPlan {
     pub input: Option<String>,
     /// Name of the file for responses. Both `-` and `None` stand for standard output.
     pub output: Option<String>,
+    /// Level of the log on standard error.
+    pub log: LogLevel,
 }

@@ -5,7 +5,8 @@ line for the user. Numbers of errors are compared if a row has them. The result 
 `\\n` for a newline. `{9*a}` is 9 times `a`.
 
 The plan of a server has its mode, its six limits, and the limits on connections, resources and turns. The plan of a client has its method, its
-target (layers/target.py), and then the other fields, each after its name.
+target (layers/target.py), and then the other fields, each after its name. The level of a log follows as `log LEVEL` and the time after which
+silent connections are closed as `idle SECONDS`, unless they are Nothing and 0.
 """
 
 import re
@@ -24,7 +25,8 @@ def client_told(words):
     target, words = target_of(words[1:])
     if words[6] != "None":
         words[6:8] = [" ".join(words[6:8])]
-    return target + "".join(f" {name} {word}" for name, word in zip(NAMES, words, strict=True))
+    named = [f" {name} {word}" for name, word in zip(NAMES, words[: len(NAMES)], strict=True)]
+    return target + "".join(named) + "".join(f" {word}" for word in words[len(NAMES) :])
 
 
 def told_as(wanted):

@@ -8,8 +8,9 @@ ghost use Rattle.coap_command_line.specs.ClientWords as spec;
 ghost use Rattle.coap_request.specs.declared.request.Method.TheVariants.{Get};
 
 use crate::arguments::WordsFault;
-use crate::arguments::option_values::{is_used, number, number_within, text_of};
+use crate::arguments::option_values::{is_used, log, number, number_within, text_of};
 use clap::ArgMatches;
+use coap_print::LogLevel;
 use coap_request::{ClientPlan, Method, Target, TargetFault};
 use coap_text::bytes_in;
 use percent_encoding::percent_decode;
@@ -265,8 +266,9 @@ fn plan_with(
     target: Target,
     values: RequestValues,
     extra: Option<(u16, Vec<u8>)>,
+    log: LogLevel,
 ) -> Result<ClientPlan, AllocError>
-    ensures { IfOk result (λ plan. client_value plan ≡ spec.client_plan target values (option_map extra_value extra)
+    ensures { IfOk result (λ plan. client_value plan ≡ spec.client_plan target values (option_map extra_value extra) log
         (rows_of (found_of matches.now))) }
 {
     let payload = payload(alloc, matches)?;
@@ -285,6 +287,7 @@ fn plan_with(
         payload,
         input,
         output,
+        log,
     })
 }
 
@@ -307,10 +310,14 @@ pub(super) fn client_plan(alloc: Global, matches: &ArgMatches<'_>) -> Result<Cli
         Ok(Err(name)) => return Err(WordsFault::Value(name)),
         Err(_) => return Err(WordsFault::Memory),
     };
+    let log = match log(matches) {
+        Ok(level) => level,
+        Err(name) => return Err(WordsFault::Value(name)),
+    };
     if clashes(matches, &values) {
         return Err(WordsFault::Clash);
     }
-    match plan_with(alloc, matches, target, values, extra) {
+    match plan_with(alloc, matches, target, values, extra, log) {
         Ok(plan) => Ok(plan),
         Err(_) => Err(WordsFault::Memory),
     }

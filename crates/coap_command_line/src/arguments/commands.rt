@@ -139,7 +139,9 @@ pub(super) fn server_command<'a>(alloc: Global) -> Result<Command<'a>, AllocErro
         "connections",
         help::CONNECTIONS,
     )?;
-    with_number(alloc, command, "--turns", "turns", help::TURNS)
+    let command = with_number(alloc, command, "--turns", "turns", help::TURNS)?;
+    let command = with_word(alloc, command, "--log", "log", "LEVEL", help::LOG)?;
+    with_word(alloc, command, "--idle", "idle", "SECONDS", help::IDLE)
 }
 
 /// Adds the URI as the only argument that is no option. The URI is required.
@@ -166,6 +168,7 @@ pub(super) fn client_command<'a>(alloc: Global) -> Result<Command<'a>, AllocErro
     let command = with_letter(alloc, command, "-O", 'O', "NUM,TEXT", help::OPTION)?;
     let command = with_letter_flag(alloc, command, "-U", 'U', help::PLAIN)?;
     let command = with_letter_flag(alloc, command, "-w", 'w', help::NEWLINE)?;
+    let command = with_word(alloc, command, "--log", "log", "LEVEL", help::LOG)?;
     with_uri(alloc, command)
 }
 

@@ -3,6 +3,11 @@
 /// Version of both programs.
 pub(super) const VERSION: &str = "0.1.0";
 
+// ---- both programs
+
+pub(super) const LOG: &str =
+    "Log on standard error: 0 nothing, 1 warnings, 2 also connections, 3 also messages [default: 0]";
+
 // ---- coap-server
 
 pub(super) const SERVER: &str = "A CoAP server over TCP (RFC 8323)";
@@ -33,6 +38,9 @@ pub(super) const CONNECTIONS: &str = "Connections at the same time, 1 to 256 [de
 
 pub(super) const TURNS: &str =
     "Iterations until the server ends, 1 to 1000000000000 [default: 1000000000000]";
+
+pub(super) const IDLE: &str =
+    "Seconds until a silent connection is closed, 0 to 4294967295 (0: never) [default: 0]";
 
 // ---- coap-client
 

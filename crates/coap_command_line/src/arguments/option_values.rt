@@ -1,10 +1,11 @@
 //! Values of options, for both programs.
 
-ghost use Rattle.std.specs.Prelude.{◌≡◌, ◌≤◌, IfOk, IfSome, option_map};
-ghost use Rattle.coap_command_line.specs.Prelude.{first_of, found_of, rows_of};
+ghost use Rattle.std.specs.Prelude.{◌≡◌, ◌≤◌, IfOk, IfSome, codes, option_map};
+ghost use Rattle.coap_command_line.specs.Prelude.{first_of, found_of, rows_of, Nothing};
 ghost use Rattle.coap_command_line.specs.CommandLines as spec;
 
 use clap::ArgMatches;
+use coap_print::LogLevel;
 use coap_text::number_in;
 
 /// Returns the text of an option, if the option is given.
@@ -61,5 +62,30 @@ pub(super) fn number(
             None => Err(name),
         },
         None => Ok(unused),
+    }
+}
+
+/// Returns the level of a log in a text: a decimal number of 0 to 3.
+#[tactic(auto, unfolding(crate::specs::CommandLines::level_in))]
+fn level_in(text: &str) -> Option<LogLevel>
+    ensures { result ≡ spec.level_in text.now }
+{
+    let number = number_in(text.as_bytes())?;
+    LogLevel::of_number(number)
+}
+
+/// Returns the level of the log, by default `Nothing`.
+///
+/// The error is the name of the option, if its text is no level.
+pub(super) fn log(matches: &ArgMatches<'_>) -> Result<LogLevel, &'static str>
+    ensures { spec.named result
+        ≡ spec.option_value (codes "--log") spec.level_in Nothing (rows_of (found_of matches.now)) }
+{
+    match text_of(matches, "--log") {
+        Some(text) => match level_in(text) {
+            Some(level) => Ok(level),
+            None => Err("--log"),
+        },
+        None => Ok(LogLevel::Nothing),
     }
 }

@@ -5,9 +5,10 @@ ghost use Rattle.coap_command_line.specs.Prelude.{found_of, rows_of, named, opti
 ghost use Rattle.coap_command_line.specs.ServerWords as spec;
 
 use crate::arguments::WordsFault;
-use crate::arguments::option_values::{is_used, number, text_of};
+use crate::arguments::option_values::{is_used, log, number, text_of};
 use clap::ArgMatches;
 use coap_conn::Limits;
+use coap_print::LogLevel;
 use coap_request::{Mode, ServerPlan};
 use coap_wire::{
     BASE_MESSAGE_SIZE, DEFAULT_QUEUE, LARGEST_MESSAGE, LARGEST_QUEUE, LARGEST_SENT_MESSAGE,
@@ -24,6 +25,8 @@ pub(super) struct ServerValues {
     pub(super) limits: Limits,
     pub(super) connections: usize,
     pub(super) turns: u64,
+    pub(super) log: LogLevel,
+    pub(super) idle: u32,
 }
 
 /// Returns the numeric IP address that a text denotes, or `None` if there is none.
@@ -101,6 +104,8 @@ pub(super) fn server_values(matches: &ArgMatches<'_>) -> Result<ServerValues, &'
     let limits = limits(matches)?;
     let connections = number(matches, "--connections", 1, 256, 16)?;
     let turns = number(matches, "--turns", 1, 1_000_000_000_000, 1_000_000_000_000)?;
+    let log = log(matches)?;
+    let idle = number(matches, "--idle", 0, 4_294_967_295, 0)?;
     Ok(ServerValues {
         address,
         port: port as u16,
@@ -108,7 +113,21 @@ pub(super) fn server_values(matches: &ArgMatches<'_>) -> Result<ServerValues, &'
         limits,
         connections: connections as usize,
         turns,
+        log,
+        idle: idle as u32,
     })
+}
+
+/// Returns `true` if `--log` or `--idle` is given with a mode that excludes it.
+#[tactic(auto, unfolding(crate::specs::ServerWords::excludes_mode))]
+fn excludes_mode(matches: &ArgMatches<'_>) -> bool
+    ensures { result ≡ spec.excludes_mode (rows_of (found_of matches.now)) }
+{
+    let idle = text_of(matches, "--idle").is_some();
+    if text_of(matches, "--script").is_some() && (idle || text_of(matches, "--log").is_some()) {
+        return true;
+    }
+    is_used(matches, "--stdio") && idle
 }
 
 /// Returns the mode of the server, or `None` if both `--stdio` and `--script` are given.
@@ -148,6 +167,9 @@ pub(super) fn server_plan(alloc: Global, matches: &ArgMatches<'_>) -> Result<Ser
         Ok(values) => values,
         Err(name) => return Err(WordsFault::Value(name)),
     };
+    if excludes_mode(matches) {
+        return Err(WordsFault::Clash);
+    }
     let stdio = is_used(matches, "--stdio");
     let script = text_of(matches, "--script");
     match mode_in(alloc, stdio, script, values.address, values.port) {
@@ -157,6 +179,8 @@ pub(super) fn server_plan(alloc: Global, matches: &ArgMatches<'_>) -> Result<Ser
             connections: values.connections,
             dynamic_max: values.dynamic_max,
             turns: values.turns,
+            log: values.log,
+            idle: values.idle,
         }),
         Ok(None) => Err(WordsFault::Clash),
         Err(_) => Err(WordsFault::Memory),

@@ -1,6 +1,6 @@
 use Rattle.std.proofs.Common.{codes}
 use Rattle.std.proofs.lemmas.Result.{IfOk-weaker}
-use Rattle.coap_command_line.specs.Prelude.{app_of, uri_rule, bare_app, letter_flag, letter_option}
+use Rattle.coap_command_line.specs.Prelude.{app_of, uri_rule, bare_app, letter_flag, letter_option, word_option}
 use Rattle.coap_command_line.proofs.WordLemmas.{shape_with_rule}
 use Rattle.coap_command_line.proofs.arguments.commands.client_command.Goals as goal
 
@@ -17,4 +17,5 @@ returns c =
     let e9 = shape_with_rule (app_of c.in_ok-command-8.command) (app_of c.in_ok-command-9.command) _ (letter_option (codes "-O")) c.in_ok-command-9.ensures e8 in
     let e10 = shape_with_rule (app_of c.in_ok-command-9.command) (app_of c.in_ok-command-10.command) _ (letter_flag (codes "-U")) c.in_ok-command-10.ensures e9 in
     let e11 = shape_with_rule (app_of c.in_ok-command-10.command) (app_of c.in_ok-command-11.command) _ (letter_flag (codes "-w")) c.in_ok-command-11.ensures e10 in
-    IfOk-weaker c.with_uri.result _ _ (λ done h. shape_with_rule (app_of c.in_ok-command-11.command) (app_of done) _ uri_rule h e11) c.with_uri.ensures
+    let e12 = shape_with_rule (app_of c.in_ok-command-11.command) (app_of c.in_ok-command-12.command) _ (word_option (codes "--log")) c.in_ok-command-12.ensures e11 in
+    IfOk-weaker c.with_uri.result _ _ (λ done h. shape_with_rule (app_of c.in_ok-command-12.command) (app_of done) _ uri_rule h e12) c.with_uri.ensures

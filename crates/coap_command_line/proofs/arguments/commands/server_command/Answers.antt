@@ -17,4 +17,6 @@ returns c =
     let e9 = shape_with_rule (app_of c.in_ok-command-8.command) (app_of c.in_ok-command-9.command) _ (word_option (codes "--pending")) c.in_ok-command-9.ensures e8 in
     let e10 = shape_with_rule (app_of c.in_ok-command-9.command) (app_of c.in_ok-command-10.command) _ (word_option (codes "--observers")) c.in_ok-command-10.ensures e9 in
     let e11 = shape_with_rule (app_of c.in_ok-command-10.command) (app_of c.in_ok-command-11.command) _ (word_option (codes "--connections")) c.in_ok-command-11.ensures e10 in
-    IfOk-weaker c.with_number-7.result _ _ (λ done h. shape_with_rule (app_of c.in_ok-command-11.command) (app_of done) _ (word_option (codes "--turns")) h e11) c.with_number-7.ensures
+    let e12 = shape_with_rule (app_of c.in_ok-command-11.command) (app_of c.in_ok-command-12.command) _ (word_option (codes "--turns")) c.in_ok-command-12.ensures e11 in
+    let e13 = shape_with_rule (app_of c.in_ok-command-12.command) (app_of c.in_ok-command-13.command) _ (word_option (codes "--log")) c.in_ok-command-13.ensures e12 in
+    IfOk-weaker c.with_word-3.result _ _ (λ done h. shape_with_rule (app_of c.in_ok-command-13.command) (app_of done) _ (word_option (codes "--idle")) h e13) c.with_word-3.ensures
