@@ -1,0 +1,4 @@
+pub mod LimitLaws
+pub mod TimeLemmas
+pub mod WriterLemmas
+pub mod LogLemmas

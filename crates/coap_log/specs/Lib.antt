@@ -1,0 +1,4 @@
+pub mod Limits
+pub mod Times
+pub mod Writers
+pub mod Logs
