@@ -2,3 +2,4 @@ pub mod LimitLaws
 pub mod TimeLemmas
 pub mod WriterLemmas
 pub mod LogLemmas
+pub mod TapLemmas

@@ -2,3 +2,5 @@ pub mod Limits
 pub mod Times
 pub mod Writers
 pub mod Logs
+pub mod Taps
+pub mod TapViews

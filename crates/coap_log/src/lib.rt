@@ -20,10 +20,12 @@ mod limit;
 mod log;
 mod moment;
 mod stderr;
+mod tap;
 mod writer;
 
 pub use limit::{Admission, LINES_A_SECOND, LineLimit};
 pub use log::Log;
 pub use moment::append_time;
 pub use stderr::Stderr;
+pub use tap::{COUNTED, DESCRIBED, Tap};
 pub use writer::{LineWriter, LogWriter};
