@@ -3,3 +3,4 @@ pub mod TimeLemmas
 pub mod WriterLemmas
 pub mod LogLemmas
 pub mod TapLemmas
+pub mod TapLaws
