@@ -4,3 +4,4 @@ pub mod Writers
 pub mod Logs
 pub mod Taps
 pub mod TapViews
+pub mod Glimpses

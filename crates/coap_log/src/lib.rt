@@ -15,6 +15,7 @@
 //! This crate opens no file and reads no clock: its callers pass the time. Continue with `log.rt`.
 #![tactic(auto)]
 
+mod glimpse;
 pub mod laws;
 mod limit;
 mod log;
@@ -23,6 +24,7 @@ mod stderr;
 mod tap;
 mod writer;
 
+pub use glimpse::describe_head;
 pub use limit::{Admission, LINES_A_SECOND, LineLimit};
 pub use log::Log;
 pub use moment::append_time;

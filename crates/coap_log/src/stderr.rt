@@ -6,8 +6,8 @@ use coap_io::Outlet;
 use libc::STDERR_FILENO;
 use libc::types::pollfd;
 
-/// Maximum number of bytes of one write to a terminal that is ready. The buffer of a terminal that is ready has at least
-/// this number of bytes free, even if each newline becomes two bytes.
+/// Maximum number of bytes of one write to a terminal. A terminal that is ready accepts this number of bytes at once, or
+/// one newline. A newline after other bytes can block, because the terminal writes it as two bytes.
 const TERMINAL_WRITE: usize = 128;
 
 /// Maximum number of bytes of one write otherwise. A pipe that is ready accepts this number of bytes at once.
@@ -25,21 +25,27 @@ const OTHER_WRITE: usize = 4_096;
 /// process fills a pipe between the question and the write.
 #[derive(Drop)]
 pub struct Stderr {
-    most: usize,
+    is_terminal: bool,
     failed: bool,
 }
 
 impl Stderr {
     /// Creates an outlet for the standard error of the process.
     pub fn new() -> Stderr {
-        let is_terminal = libc::isatty(STDERR_FILENO) == 1;
         Stderr {
-            most: if is_terminal {
-                TERMINAL_WRITE
-            } else {
-                OTHER_WRITE
-            },
+            is_terminal: libc::isatty(STDERR_FILENO) == 1,
             failed: false,
+        }
+    }
+
+    /// Returns the number of bytes that one write passes to the system.
+    fn part_of(&self, bytes: &[u8]) -> usize
+        ensures { result ≤ length bytes.now }
+    {
+        if self.is_terminal {
+            terminal_part(bytes)
+        } else {
+            bytes.len().min(OTHER_WRITE)
         }
     }
 }
@@ -50,7 +56,7 @@ impl Outlet for Stderr {
     ghost is_failed = { λ s. s.failed };
 
     fn write(&mut self, bytes: &[u8]) -> Option<usize> {
-        let count = write_if_ready(&bytes[..self.most.min(bytes.len())]);
+        let count = write_if_ready(&bytes[..self.part_of(bytes)]);
         if count == 0 && !bytes.is_empty() {
             self.failed = true;
         }
@@ -59,6 +65,17 @@ impl Outlet for Stderr {
 
     fn failed(&self) -> bool {
         self.failed
+    }
+}
+
+/// Returns the number of bytes that one write passes to a terminal: a newline, or bytes before a newline.
+fn terminal_part(bytes: &[u8]) -> usize
+    ensures { result ≤ length bytes.now }
+{
+    match bytes.iter().position(|byte| *byte == b'\n') {
+        Some(0) => 1,
+        Some(end) => end.min(TERMINAL_WRITE),
+        None => bytes.len().min(TERMINAL_WRITE),
     }
 }
 
