@@ -5,3 +5,4 @@ pub mod Logs
 pub mod Taps
 pub mod TapViews
 pub mod Glimpses
+pub mod Connections

@@ -15,18 +15,22 @@
 //! This crate opens no file and reads no clock: its callers pass the time. Continue with `log.rt`.
 #![tactic(auto)]
 
+mod connection;
 mod glimpse;
 pub mod laws;
 mod limit;
 mod log;
+mod logged_wire;
 mod moment;
 mod stderr;
 mod tap;
 mod writer;
 
+pub use connection::{append_counts, log_messages};
 pub use glimpse::describe_head;
 pub use limit::{Admission, LINES_A_SECOND, LineLimit};
 pub use log::Log;
+pub use logged_wire::LoggedWire;
 pub use moment::append_time;
 pub use stderr::Stderr;
 pub use tap::{COUNTED, DESCRIBED, Tap};
