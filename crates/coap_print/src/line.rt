@@ -77,6 +77,13 @@ impl Line {
         self.append(words.as_bytes());
     }
 
+    /// Appends the bytes of another line.
+    pub fn line(&mut self, other: &Line)
+        ensures { self.new ≡ appended LINE_LENGTH self.old other.now }
+    {
+        self.append(other.bytes.as_slice());
+    }
+
     /// Appends a number in decimal digits.
     pub fn number(&mut self, number: u64)
         ensures { self.new ≡ appended LINE_LENGTH self.old (decimal number) }

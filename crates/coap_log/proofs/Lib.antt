@@ -1,0 +1,6 @@
+pub mod LimitLaws
+pub mod TimeLemmas
+pub mod WriterLemmas
+pub mod LogLemmas
+pub mod TapLemmas
+pub mod TapLaws

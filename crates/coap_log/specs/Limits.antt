@@ -1,0 +1,91 @@
+-- Defined by this project: a limit on the number of lines a second.
+use Rattle.std.specs.Prelude.{ℕ, ◌+◌, ◌-◌, ◌^◌, Bool, ◌&&◌, ◌==◌, nat_lt, min, List, [], ◌∷◌, Option, Some, None, if◌then◌else◌}
+use Rattle.coap_log.specs.declared.limit.LineLimit.{LineLimit}
+use Rattle.coap_log.specs.declared.limit.Admission.{Admission}
+use Rattle.coap_log.specs.declared.limit.Admission.TheVariants.{LeftOut, Line, AfterReport}
+
+-- The maximum number of lines in one second.
+abbrev pub most : ℕ
+most = 100
+
+-- The limit of a log without lines.
+abbrev pub fresh : LineLimit
+fresh = record { second = 0; written = 0; left_out = 0 }
+
+-- The limit at a time. A second after the present one begins with no line written, any other time belongs to the
+-- present second.
+abbrev pub begun : LineLimit → ℕ → LineLimit
+begun l second = if nat_lt l.second second then record l { second = second; written = 0 } else l
+
+-- True if the present second begins with a report: lines were left out, and no line was written in it.
+abbrev pub is_report_due : LineLimit → Bool
+is_report_due l = (l.written == 0) && nat_lt 0 l.left_out
+
+-- The number of lines left out that a line reports at a time, if it does.
+unfoldable pub report : LineLimit → ℕ → Option ℕ
+report l second = if is_report_due (begun l second) then Some l.left_out else None
+
+-- The limit after that line, if there is one.
+unfoldable pub after_report : LineLimit → ℕ → LineLimit
+after_report l second =
+    if is_report_due (begun l second) then record (begun l second) { written = 1; left_out = 0 } else begun l second
+
+-- The limit after `count` more lines were left out.
+unfoldable pub missed : ℕ → LineLimit → LineLimit
+missed count l = record l { left_out = min (l.left_out + count) (2 ^ 64 - 1) }
+
+-- True if the present second has room for a line.
+abbrev pub has_room : LineLimit → Bool
+has_room l = nat_lt l.written most
+
+-- The decision on a line, after this report or none.
+abbrev pub admitted : Option ℕ → Admission
+admitted None = Line
+admitted (Some count) = AfterReport count
+
+-- The decision on a line at a time.
+unfoldable pub admission : LineLimit → ℕ → Admission
+admission l second = if has_room (after_report l second) then admitted (report l second) else LeftOut
+
+-- The limit after the decision.
+unfoldable pub after_admission : LineLimit → ℕ → LineLimit
+after_admission l second =
+    let l = after_report l second in
+    if has_room l then record l { written = l.written + 1 } else missed 1 l
+
+-- ---- lists of calls
+
+-- A call of a limit: a decision on a line at a time, a report at a time, or lines that could not be written.
+pub data LimitCall : Type 0 where
+  Admit : (second : ℕ) → LimitCall
+  Report : (second : ℕ) → LimitCall
+  Miss : (count : ℕ) → LimitCall
+
+-- The limit after a call.
+abbrev pub after_call : LineLimit → LimitCall → LineLimit
+after_call l (Admit second) = after_admission l second
+after_call l (Report second) = after_report l second
+after_call l (Miss count) = missed count l
+
+-- The number of lines that a decision writes.
+abbrev pub lines_of_admission : Admission → ℕ
+lines_of_admission LeftOut = 0
+lines_of_admission Line = 1
+lines_of_admission (AfterReport count) = 2
+
+-- The number of lines that a report writes.
+abbrev pub lines_of_report : Option ℕ → ℕ
+lines_of_report None = 0
+lines_of_report (Some count) = 1
+
+-- The number of lines that a call writes.
+abbrev pub lines_of_call : LineLimit → LimitCall → ℕ
+lines_of_call l (Admit second) = lines_of_admission (admission l second)
+lines_of_call l (Report second) = lines_of_report (report l second)
+lines_of_call l (Miss count) = 0
+
+-- The number of lines that these calls write in a second: the calls after which it is the present second.
+unfoldable pub lines_in : ℕ → LineLimit → List LimitCall → ℕ
+lines_in second l [] = 0
+lines_in second l (call ∷ calls) =
+    (if (after_call l call).second == second then lines_of_call l call else 0) + lines_in second (after_call l call) calls

@@ -1,0 +1,22 @@
+//! Theorems on logs. Each is the contract of a function that does nothing.
+
+ghost use Rattle.std.specs.Prelude.{◌≡◌, ◌≤◌, ℕ, List, map};
+ghost use Rattle.coap_wire.specs.Frames.{constant_size, sized_frames};
+ghost use Rattle.coap_wire.specs.declared.sizes.TheConstants.{LARGEST_MESSAGE};
+ghost use Rattle.coap_log.specs.Limits.{LimitCall, lines_in};
+ghost use Rattle.coap_log.specs.Taps.{new_tap, glimpse, output_of};
+ghost use Rattle.coap_log.specs.declared.limit.LineLimit.{LineLimit as Limit};
+
+/// States that in each second of the clock at most 100 lines are written, whatever the calls before and in between.
+/// The reports of lines left out are lines too.
+pub fn lines_of_a_second_are_limited()
+    ensures { (second : ℕ) (l : Limit) (calls : List LimitCall) → lines_in second l calls ≤ 100 }
+{}
+
+/// States that a tap shows exactly the frames of its stream (RFC 8323 section 3.2), each with its first bytes and its
+/// size, however the stream is split into pieces. The stream is the bytes that the tap took. Frames have at most
+/// 1,048,576 bytes, and a malformed one is the end of the stream.
+pub fn tap_shows_frames_of_stream()
+    ensures { (room : ℕ) (pieces : List (List ℕ)) → 8 ≤ room → (output_of (new_tap room) pieces).frames
+        ≡ map (glimpse room) (sized_frames (constant_size LARGEST_MESSAGE) (output_of (new_tap room) pieces).taken).frames }
+{}

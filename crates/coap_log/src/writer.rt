@@ -1,0 +1,125 @@
+//! Writers of whole lines, which never block.
+
+ghost use Rattle.std.specs.Prelude.{◌≡◌, ◌≤◌, ◌++◌, ℕ, List, [], ◌∷◌, length, take, drop, Option, None, true};
+ghost use Rattle.coap_io.specs.Prelude.{AddsBytes, TellsMore};
+ghost use Rattle.coap_log.specs.Writers.{Offer, bytes_of, ended, with_rest};
+
+use arrayvec::ArrayVec;
+use coap_io::Outlet;
+use coap_print::{LINE_LENGTH, Line};
+
+/// Maximum number of bytes of a line and its newline.
+const ENDED_LENGTH: usize = LINE_LENGTH + 1;
+
+/// Writer of the lines of a log. Its calls never block.
+pub trait LogWriter {
+    /// Lines offered so far, in order, if the writer records them.
+    ghost offers: { Self → Option (List Offer) } = { λ _. None };
+
+    /// Bytes of the lines accepted so far, each followed by a newline, if the writer records them.
+    ghost accepted: { Self → Option (List ℕ) } = { λ _. None };
+
+    /// Writes a line and a newline, and returns `true`. Returns `false` if the line cannot be written now or fails:
+    /// then none of its bytes is written.
+    fn write(&mut self, line: &Line) -> bool
+        ensures offered { TellsMore (offers self.old) (offers self.new)
+            (record { line = line.now; accepted = result } ∷ []) }
+        ensures bytes { AddsBytes (accepted self.old) (accepted self.new)
+            (bytes_of (record { line = line.now; accepted = result })) };
+
+    /// Writes what is left of the last line that was accepted, as far as it can be written now.
+    fn flush(&mut self)
+        ensures offered { TellsMore (offers self.old) (offers self.new) [] }
+        ensures bytes { AddsBytes (accepted self.old) (accepted self.new) [] };
+}
+
+/// Writer of lines to an outlet that may accept only a part of a line.
+///
+/// A line of which the outlet accepted a byte is accepted. The rest of its bytes is kept and written before any other
+/// line. Until then no other line is accepted, so at most one line is kept.
+#[derive(Drop)]
+pub struct LineWriter<O> {
+    outlet: O,
+    rest: ArrayVec<u8, ENDED_LENGTH>,
+}
+
+impl<O: Outlet> LineWriter<O> {
+    /// Creates a writer to an outlet.
+    pub fn new(outlet: O) -> LineWriter<O>
+        ensures { ⟦<LineWriter<O> as LogWriter>⟧.accepted result ≡ with_rest (O.written outlet) [] }
+    {
+        LineWriter {
+            outlet,
+            rest: ArrayVec::new(),
+        }
+    }
+}
+
+impl<O: Outlet> LogWriter for LineWriter<O> {
+    ghost accepted = { λ writer. with_rest (O.written writer.outlet) writer.rest.items };
+
+    fn write(&mut self, line: &Line) -> bool {
+        self.flush();
+        if !self.rest.is_empty() {
+            return false;
+        }
+        let bytes = ended(line);
+        let count = push(&mut self.outlet, bytes.as_slice());
+        if count == 0 {
+            return false;
+        }
+        self.rest = rest_after(bytes.as_slice(), count);
+        true
+    }
+
+    fn flush(&mut self) {
+        let count = push(&mut self.outlet, self.rest.as_slice());
+        self.rest = rest_after(self.rest.as_slice(), count);
+    }
+}
+
+/// Returns the bytes of a line, followed by a newline.
+fn ended(line: &Line) -> ArrayVec<u8, ENDED_LENGTH>
+    ensures { result.items ≡ ended line.now }
+{
+    let mut bytes = ArrayVec::new();
+    let (Ok(()), Ok(())) = (
+        bytes.try_extend_from_slice(line.as_bytes()),
+        bytes.try_push(b'\n'),
+    ) else {
+        unreachable!()
+    };
+    bytes
+}
+
+/// Returns the bytes after the first `count`.
+fn rest_after(bytes: &[u8], count: usize) -> ArrayVec<u8, ENDED_LENGTH>
+    requires { length bytes.now ≤ ENDED_LENGTH }
+    ensures { result.items ≡ drop count bytes.now }
+{
+    let mut rest = ArrayVec::new();
+    if count < bytes.len() {
+        let Ok(()) = rest.try_extend_from_slice(&bytes[count..]) else {
+            unreachable!()
+        };
+    }
+    rest
+}
+
+/// Writes bytes until the outlet accepts no more of them, and returns the number of bytes written.
+fn push<O: Outlet>(outlet: &mut O, bytes: &[u8]) -> usize
+    ensures within { result ≤ length bytes.now }
+    ensures bytes { AddsBytes (O.written outlet.old) (O.written outlet.new) (take result bytes.now) }
+{
+    let mut done = 0;
+    while done < bytes.len() {
+        let Some(count) = outlet.write(&bytes[done..]) else {
+            return done;
+        };
+        if count == 0 {
+            return done;
+        }
+        done += count;
+    }
+    done
+}
