@@ -7,8 +7,10 @@ ghost use Rattle.coap_server.specs.Planned.{planned, starts_of};
 
 use crate::{PROGRAM, config_of};
 use coap_program::{FAULT, USAGE};
+use crate::log::ServerLog;
+use coap_print::LogLevel;
 use coap_request::ServerPlan;
-use coap_serve::{Clock, Config, Starts, serve_door};
+use coap_serve::{Clock, Config, IoFault, Starts, serve_door, serve_door_with};
 use coap_sockets::{ListenError, ListenFault, SocketDoor, SystemClock};
 use std::net::{Net, SocketAddr};
 use std::time;
@@ -81,8 +83,29 @@ pub(crate) fn run(
         "coap-server: listening on {}",
         door.address().unwrap_or(address)
     );
-    match serve_door(rt.alloc(), &mut door, &mut clock, config) {
+    let served = match plan.log {
+        LogLevel::Nothing => serve_door(rt.alloc(), &mut door, &mut clock, config),
+        level => serve_logged(rt, &mut door, &mut clock, config, level),
+    };
+    match served {
         Ok(()) => unreachable!(),
         Err(fault) => PROGRAM.print_fault(rt, fault, FAULT),
     }
+}
+
+/// Serves the connections of a listener with a log of this level.
+fn serve_logged<'a, R: Eprint + Net + time::Clock + AllocGlobal>(
+    rt: &'a R,
+    door: &mut SocketDoor<'a, R>,
+    clock: &mut SystemClock<'a, R>,
+    config: Config,
+    level: LogLevel,
+) -> Result<(), IoFault>
+    ensures { IsErr result }
+{
+    let troubles = door.troubles();
+    let Ok(mut log) = ServerLog::new(rt, rt.alloc(), level, config.connections(), troubles) else {
+        return Err(IoFault::Memory);
+    };
+    serve_door_with(rt.alloc(), door, clock, config, &mut log)
 }

@@ -11,6 +11,7 @@ ghost use Rattle.coap_serve.specs.Configs.{config_refusal};
 ghost use Rattle.coap_server.specs.Planned.{planned};
 
 mod listening;
+mod log;
 mod script;
 
 use coap_command_line::{server_reason, server_words};

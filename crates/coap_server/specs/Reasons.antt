@@ -1,0 +1,31 @@
+-- Defined by this project: the texts of a server's log.
+use Rattle.std.specs.Prelude.{ℕ, ◌/◌, Bool, List, [], ◌∷◌, Option, None, slice_get, ◌==◌, ◌||◌, codes}
+use Rattle.coap_wire.specs.Forms.{extension_of}
+use Rattle.coap_conn.specs.declared.reason.Reason.{Reason}
+use Rattle.coap_conn.specs.declared.reason.Reason.TheVariants as reason
+
+-- The text of a reason for which a connection stopped.
+abbrev pub reason_text : Reason → List ℕ
+reason_text reason.Format = codes "malformed message"
+reason_text reason.TooLarge = codes "message above the maximum size"
+reason_text reason.TokenLength = codes "token of more than 64 bytes"
+reason_text reason.ReservedCode = codes "message with a reserved code"
+reason_text reason.CsmExpected = codes "first message is no CSM"
+reason_text (reason.BadCsm number) = codes "CSM with an option that is not supported"
+reason_text reason.BadSignalOption = codes "signaling message with an option that is not supported"
+reason_text reason.PeerAbort = codes "Abort by the peer"
+reason_text reason.PeerRelease = codes "Release by the peer"
+reason_text reason.PeerTooSmall = codes "response above the maximum size of the peer"
+reason_text reason.Ended = codes "end of input"
+reason_text reason.Cut = codes "end of input within a message"
+reason_text reason.ReleasedHere = codes "Release by the server"
+
+-- The codes of responses that refuse a request because of a limit (RFC 7252 section 12.1.2): 4.13 Request Entity Too
+-- Large, 5.00 Internal Server Error, 5.03 Service Unavailable.
+abbrev pub is_refusal : ℕ → Bool
+is_refusal code = (code == 141) || (code == 160) || (code == 163)
+
+-- RFC 8323 section 3.2: the code of a frame, by its first bytes. It follows the extended length.
+abbrev pub code_in : List ℕ → Option ℕ
+code_in [] = None
+code_in (first ∷ after) = slice_get after (extension_of (first / 16))

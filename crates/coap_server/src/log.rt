@@ -1,0 +1,356 @@
+//! The log of a serving server: warnings, connections and messages, up to a level.
+
+ghost use Rattle.std.specs.Prelude.{◌≡◌, ◌≤◌, length, take};
+ghost use Rattle.coap_server.specs.Reasons.{code_in, is_refusal, reason_text};
+
+use coap_log::{
+    COUNTED, DESCRIBED, LineWriter, Log, Stderr, Tap, append_counts, describe_head,
+};
+use coap_print::{Line, LogLevel};
+use coap_serve::{Call, ConnId, Handled, Monitor, Reason, Server};
+use coap_sockets::{DoorTroubles, SocketWire};
+use indexmap::IndexMap;
+use std::alloc::{AllocError, Global};
+use std::cell::Cell;
+use std::net::SocketAddr;
+use std::rc::Rc;
+use std::time;
+use std::time::Duration;
+
+/// Connection in the log.
+#[derive(Drop)]
+struct Followed {
+    /// Bytes received.
+    incoming: Tap,
+    /// Bytes written.
+    outgoing: Tap,
+    /// Reason for which the connection stopped, if it did.
+    stop: Option<Reason>,
+}
+
+/// Log of a server, which receives the calls that the server accepts.
+///
+/// With the level `Warnings`, it has a line for each response that refuses a request because of a limit, for each
+/// message above the maximum size, for each failed connection, and for system calls of the listener that failed. If
+/// the number of connections reaches its limit, a line says so.
+#[derive(Drop)]
+pub(crate) struct ServerLog<'a, R> {
+    rt: &'a R,
+    alloc: Global,
+    log: Log<LineWriter<Stderr>>,
+    connections: IndexMap<u64, Followed>,
+    troubles: Option<Rc<Cell<DoorTroubles>>>,
+    reported: DoorTroubles,
+}
+
+/// Returns the text of a reason.
+fn text_of(reason: Reason) -> &'static str
+    ensures { result.now ≡ reason_text reason }
+{
+    match reason {
+        Reason::Format => "malformed message",
+        Reason::TooLarge => "message above the maximum size",
+        Reason::TokenLength => "token of more than 64 bytes",
+        Reason::ReservedCode => "message with a reserved code",
+        Reason::CsmExpected => "first message is no CSM",
+        Reason::BadCsm(_) => "CSM with an option that is not supported",
+        Reason::BadSignalOption => "signaling message with an option that is not supported",
+        Reason::PeerAbort => "Abort by the peer",
+        Reason::PeerRelease => "Release by the peer",
+        Reason::PeerTooSmall => "response above the maximum size of the peer",
+        Reason::Ended => "end of input",
+        Reason::Cut => "end of input within a message",
+        Reason::ReleasedHere => "Release by the server",
+    }
+}
+
+/// Returns `true` if a response with this code refuses a request because of a limit: 4.13, 5.00 or 5.03.
+fn is_refusal(code: u8) -> bool
+    ensures { result ≡ is_refusal code }
+{
+    code == 141 || code == 160 || code == 163
+}
+
+/// Returns the first words of the lines of a connection.
+fn front(id: ConnId) -> Line {
+    let mut line = Line::new();
+    line.text("connection ");
+    line.number(id);
+    line
+}
+
+/// Returns the text before a message of a connection.
+fn front_of(id: ConnId, direction: &'static str) -> Line {
+    let mut line = front(id);
+    line.escaped(direction.as_bytes());
+    line
+}
+
+/// Appends an address and a port to a line.
+fn append_address(alloc: Global, line: &mut Line, address: SocketAddr) {
+    match format!(in alloc; "{address}") {
+        Ok(text) => line.escaped(text.as_bytes()),
+        Err(_) => line.text("unknown address"),
+    }
+}
+
+impl<'a, R: time::Clock> ServerLog<'a, R> {
+    /// Returns the log of a server with at most `connections` connections. `troubles` counts the failed system calls of
+    /// its listener.
+    ///
+    /// # Errors
+    ///
+    /// Returns `AllocError` if allocation fails.
+    pub(crate) fn new(
+        rt: &'a R,
+        alloc: Global,
+        level: LogLevel,
+        connections: usize,
+        troubles: Option<Rc<Cell<DoorTroubles>>>,
+    ) -> Result<ServerLog<'a, R>, AllocError> {
+        let mut program = Line::new();
+        program.text("coap-server");
+        Ok(ServerLog {
+            rt,
+            alloc,
+            log: Log::new(level, program, LineWriter::new(Stderr::new())),
+            connections: IndexMap::with_capacity(alloc, connections)?,
+            troubles,
+            reported: DoorTroubles {
+                full: 0,
+                other: 0,
+                waits: 0,
+            },
+        })
+    }
+
+    /// Returns the time since the start of 1970, or zero if the clock cannot be read.
+    fn now(&self) -> Duration {
+        self.rt.since_1970().unwrap_or(Duration::ZERO)
+    }
+
+    /// Writes a line of a level.
+    fn write(&mut self, level: LogLevel, line: &Line) {
+        let now = self.now();
+        self.log.line(level, now, line);
+    }
+
+    /// Writes a warning about a connection.
+    fn warn(&mut self, id: ConnId, text: &'static str) {
+        let mut line = front(id);
+        line.escaped(text.as_bytes());
+        self.write(LogLevel::Warnings, &line);
+    }
+
+    /// Returns a new connection of the log.
+    fn followed(&self) -> Result<Followed, AllocError> {
+        let room = if self.log.is_on(LogLevel::Messages) {
+            DESCRIBED
+        } else {
+            COUNTED
+        };
+        Ok(Followed {
+            incoming: Tap::new(self.alloc, room)?,
+            outgoing: Tap::new(self.alloc, room)?,
+            stop: None,
+        })
+    }
+
+    /// Adds a connection to the log.
+    fn follow(&mut self, id: ConnId) -> Result<(), AllocError> {
+        let followed = self.followed()?;
+        self.connections.insert(id, followed)?;
+        Ok(())
+    }
+
+    /// Follows bytes that a connection accepted.
+    fn receive(&mut self, id: ConnId, bytes: &[u8], handled: Handled) {
+        let now = self.now();
+        if let Some(followed) = self.connections.get_mut(&id) {
+            log_passed(
+                &mut self.log,
+                now,
+                &mut followed.incoming,
+                &front_of(id, " in: "),
+                bytes,
+            );
+            if let Handled::Stopped(reason) = handled {
+                followed.stop = Some(reason);
+            }
+        }
+        if handled == Handled::Stopped(Reason::TooLarge) {
+            self.warn(id, ": message above the maximum size");
+        }
+    }
+
+    /// Follows bytes of a connection that were written.
+    fn send(&mut self, id: ConnId, bytes: &[u8]) {
+        let now = self.now();
+        if let Some(followed) = self.connections.get_mut(&id) {
+            log_passed(
+                &mut self.log,
+                now,
+                &mut followed.outgoing,
+                &front_of(id, " out: "),
+                bytes,
+            );
+        }
+    }
+
+    /// Records the reason for which a connection stopped.
+    fn note_stop(&mut self, id: ConnId, server: &Server) {
+        let Some(status) = server.status(id) else {
+            return;
+        };
+        if let Some(followed) = self.connections.get_mut(&id) {
+            followed.stop = status.phase.stop();
+        }
+    }
+
+    /// Writes the last line of a connection, and removes it from the log.
+    fn end(&mut self, id: ConnId) {
+        let Some(followed) = self.connections.shift_remove(&id) else {
+            return;
+        };
+        let mut line = front(id);
+        line.text(" ended: ");
+        match followed.stop {
+            Some(reason) => line.escaped(text_of(reason).as_bytes()),
+            None => {
+                self.warn(id, " failed");
+                line.text("failed connection");
+            }
+        }
+        line.text("; ");
+        append_counts(&mut line, &followed.incoming, &followed.outgoing);
+        self.write(LogLevel::Connections, &line);
+    }
+
+    /// Writes a warning if a number of failed system calls has grown.
+    fn report(&mut self, before: u64, now: u64, text: &'static str) {
+        if now != before {
+            let mut line = Line::new();
+            line.escaped(text.as_bytes());
+            line.text(": ");
+            line.number(now);
+            line.text(" so far");
+            self.write(LogLevel::Warnings, &line);
+        }
+    }
+
+    /// Writes a warning for each kind of system call of the listener that has failed since the last report.
+    fn report_troubles(&mut self) {
+        let Some(troubles) = &self.troubles else {
+            return;
+        };
+        let now = troubles.get();
+        let before = self.reported;
+        if now == before {
+            return;
+        }
+        self.reported = now;
+        self.report(
+            before.full,
+            now.full,
+            "connections not accepted for lack of descriptors or memory",
+        );
+        self.report(before.other, now.other, "connections not accepted");
+        self.report(before.waits, now.waits, "failed waits");
+    }
+}
+
+/// Passes bytes of one direction of a connection to its tap, and writes a line for each message that ends with them. A
+/// response that refuses a request because of a limit is a warning.
+fn log_passed(
+    log: &mut Log<LineWriter<Stderr>>,
+    now: Duration,
+    tap: &mut Tap,
+    front: &Line,
+    bytes: &[u8],
+) {
+    let mut left = bytes;
+    while !left.is_empty() {
+        let taken = tap.take(left);
+        if taken == 0 {
+            return;
+        }
+        left = &left[taken..];
+        if tap.is_whole() {
+            log_message(log, now, tap, front);
+        }
+    }
+}
+
+/// Writes a line for the whole message of a tap.
+fn log_message(log: &mut Log<LineWriter<Stderr>>, now: Duration, tap: &Tap, front: &Line) {
+    let level = match code_in(tap.head()) {
+        Some(code) if is_refusal(code) => LogLevel::Warnings,
+        _ => LogLevel::Messages,
+    };
+    if log.is_on(level) {
+        let mut line = Line::new();
+        line.line(front);
+        describe_head(&mut line, described(tap.head()), tap.size());
+        log.line(level, now, &line);
+    }
+}
+
+/// Returns the code of a message by its first bytes, or `None` if they end before it (RFC 8323 section 3.2).
+fn code_in(head: &[u8]) -> Option<u8>
+    ensures { result ≡ code_in head.now }
+{
+    let (first, after) = head.split_first()?;
+    let extension = match *first / 16 {
+        0..=12 => 0,
+        13 => 1,
+        14 => 2,
+        _ => 4,
+    };
+    after.get(extension).copied()
+}
+
+/// Returns the first bytes of a message, at most 2,048.
+fn described(head: &[u8]) -> &[u8]
+    ensures bytes { result.now ≡ take DESCRIBED head.now }
+    ensures few { length result.now ≤ DESCRIBED }
+{
+    if head.len() <= DESCRIBED {
+        head
+    } else {
+        &head[..DESCRIBED]
+    }
+}
+
+impl<'a, R: time::Clock> Monitor<SocketWire> for ServerLog<'a, R> {
+    fn opened(&mut self, id: ConnId, wire: &SocketWire, server: &Server) {
+        let mut line = front(id);
+        line.text(" opened by ");
+        append_address(self.alloc, &mut line, wire.peer());
+        self.write(LogLevel::Connections, &line);
+        if self.follow(id).is_err() {
+            self.warn(id, ": no memory to follow it");
+        }
+        if !server.can_open() {
+            self.warn(id, " is the last of the maximum number of connections");
+        }
+    }
+
+    fn accepted(&mut self, call: Call<'_>, server: &Server) {
+        match call {
+            Call::Took { id, bytes, handled } => self.receive(id, bytes, handled),
+            Call::Wrote(id, first, second) => {
+                self.send(id, first);
+                self.send(id, second);
+            }
+            Call::Ended(id) | Call::Released(id) => self.note_stop(id, server),
+            Call::Dropped(id) => self.end(id),
+            _ => {}
+        }
+    }
+
+    fn turn_ended(&mut self) {
+        self.report_troubles();
+        let now = self.now();
+        self.log.tick(now);
+    }
+}

@@ -1,0 +1,264 @@
+#!/usr/bin/env python3
+"""Checks the lines that both programs write with `--log`, and that no log delays or ends a server.
+
+    tests/system/log.py bin/coap-server bin/coap-client [--connections N] [--messages N]
+
+N connections (100,000 by default) are opened and closed with `--log 2`, and N random messages (100,000) are sent with `--log 3`.
+"""
+
+import collections
+import contextlib
+import fcntl
+import os
+import random
+import re
+import socket
+import subprocess
+import sys
+import tempfile
+import time
+
+sys.path.insert(0, os.path.join(os.path.dirname(os.path.abspath(__file__)), "..", "harness"))
+from checks import CSM, Checks  # noqa: E402
+from message_syntax import encoded  # noqa: E402
+from peers import LIMIT, LOCAL, Server, free_port, read_bytes, reset  # noqa: E402
+
+SERVER, CLIENT = sys.argv[1:3]
+
+# A line of a log: the time, the program, and a text of printable ASCII.
+LINE = re.compile(rb"(\d{4}-\d\d-\d\dT\d\d:\d\d:\d\d)\.\d{3}Z (coap-server|coap-client): ([\x20-\x7e]+)\n")
+
+# Maximum number of lines of one second, and of bytes of one line without its newline.
+MOST_LINES, MOST_BYTES = 100, 1_024
+
+SETTINGS = bytes.fromhex(CSM)
+GET_ROOT, EMPTY, PING = bytes.fromhex("0001"), bytes.fromhex("0000"), bytes.fromhex("00e2")
+GREETING = bytes.fromhex("c0ff636f61702b746370")
+
+
+def number_after(name, default):
+    """Returns the number after an option of this test."""
+    return int(sys.argv[sys.argv.index(name) + 1]) if name in sys.argv else default
+
+
+@contextlib.contextmanager
+def logging(*words, file=None, **how):
+    """Runs a server whose standard error is a file, and yields the server and the name of the file."""
+    with tempfile.TemporaryDirectory() as folder:
+        name = file or f"{folder}/log"
+        port = free_port()
+        with open(name, "wb") as log:
+            process = subprocess.Popen([SERVER, "-A", LOCAL, "-p", str(port), *words], stdin=subprocess.DEVNULL, stdout=subprocess.DEVNULL, stderr=log, **how)
+        try:
+            wait_for(port)
+            yield process, port, name
+        finally:
+            process.kill()
+            process.wait(LIMIT)
+
+
+def wait_for(port):
+    """Waits until a program accepts connections at a port."""
+    ends = time.monotonic() + LIMIT
+    while time.monotonic() < ends:
+        with contextlib.suppress(OSError):
+            socket.create_connection((LOCAL, port), LIMIT).close()
+            return
+        time.sleep(0.02)
+
+
+def lines_in(name):
+    """Returns the lines of a log after the line that says where the server listens."""
+    with open(name, "rb") as log:
+        return log.read().splitlines(keepends=True)[1:]
+
+
+def texts_in(name):
+    """Returns the texts of the lines of a log, without the time and the name of the program."""
+    return [found[3].decode() for it in lines_in(name) if (found := LINE.fullmatch(it))]
+
+
+def ask(port, *messages):
+    """Sends a CSM and messages, and returns the response to the last one, a GET of the root. The connection is closed."""
+    with socket.create_connection((LOCAL, port), LIMIT) as peer:
+        peer.sendall(SETTINGS + b"".join(messages))
+        got = b""
+        while not got.endswith(GREETING):
+            piece = read_bytes(peer, 1)
+            if not piece:
+                return got
+            got += piece
+        return GREETING
+
+
+def settled(name, count, seconds=3):
+    """Waits until a log has this number of lines, and returns its texts."""
+    ends = time.monotonic() + seconds
+    while time.monotonic() < ends and len(lines_in(name)) < count:
+        time.sleep(0.05)
+    time.sleep(0.2)
+    return texts_in(name)
+
+
+def check_levels(checks):
+    """Each level has its lines and those of the lower levels."""
+    for level, wanted in ((None, 0), ("0", 0), ("1", 0), ("2", 2), ("3", 8)):
+        with logging(*(["--log", level] if level else [])) as (_, port, name):
+            wait_until_silent(name)
+            before = len(lines_in(name))
+            checks.same(f"response at level {level}", ask(port, GET_ROOT), GREETING)
+            lines = settled(name, before + wanted)[before:]
+            checks.same(f"number of lines at level {level}", len(lines), wanted - (wanted == 8) * 2)
+
+
+def wait_until_silent(name):
+    """Waits until the lines of the first connection, which only finds out if the server listens, are written."""
+    time.sleep(0.3)
+
+
+def check_lines(checks):
+    """The lines of a connection name its number, its peer, its messages and its end."""
+    with logging("--log", "3", "-d", "4") as (_, port, name):
+        wait_until_silent(name)
+        before = len(lines_in(name))
+        with socket.create_connection((LOCAL, port), LIMIT) as peer:
+            own = peer.getsockname()[1]
+            peer.sendall(SETTINGS + encoded(3, b"\x2a", [(11, b"heat"), (12, b"")], b"21.5"))
+            read_bytes(peer, 3)
+            time.sleep(0.2)
+        lines = settled(name, before + 6)[before:]
+        checks.same("first line", lines[:1], [f"connection 2 opened by 127.0.0.1:{own}"])
+        checks.same("CSM", [it for it in lines if "CSM" in it or "7.01" in it][:1] != [], True)
+        checks.same("PUT", any(" in: " in it and "PUT" in it and "Uri-Path" in it and "heat" in it and "21.5" in it for it in lines), True)
+        checks.same("2.01", any(" out: " in it and "2.01 Created" in it for it in lines), True)
+        checks.same("last line", bool(re.fullmatch(r"connection 2 ended: end of input; 2 messages, \d+ bytes in; 2 messages, \d+ bytes out", lines[-1])), True)
+
+
+def check_warnings(checks):
+    """A limit that refused something is a warning."""
+    with logging("--log", "1", "-d", "1", "--connections", "2") as (_, port, name):
+        wait_until_silent(name)
+        put = [encoded(3, bytes([i]), [(11, b"a%d" % i)], b"x") for i in range(2)]
+        ask(port, *put, GET_ROOT)
+        lines = settled(name, 1)
+        checks.same("5.03 is a warning", [it for it in lines if "out: 5.03 Service Unavailable" in it and it.startswith("connection ")] != [], True)
+        with socket.create_connection((LOCAL, port), LIMIT), socket.create_connection((LOCAL, port), LIMIT):
+            lines = settled(name, 2)
+        checks.same("number of connections", [it for it in lines if "maximum number of connections" in it] != [], True)
+        with socket.create_connection((LOCAL, port), LIMIT) as peer:
+            peer.sendall(SETTINGS + bytes.fromhex("f0ffffff0003"))
+            time.sleep(0.3)
+        checks.same("too large", [it for it in settled(name, 3) if "message above the maximum size" in it] != [], True)
+        peer = socket.create_connection((LOCAL, port), LIMIT)
+        peer.sendall(SETTINGS)
+        time.sleep(0.2)
+        reset(peer)
+        checks.same("failed connection", [it for it in settled(name, 4) if it.endswith(" failed")] != [], True)
+
+
+def check_rate(checks, count):
+    """Many connections write at most 100 lines a second, and a line says how many were left out."""
+    with logging("--log", "2", "--connections", "256") as (process, port, name):
+        began = time.monotonic()
+        for _ in range(count):
+            socket.create_connection((LOCAL, port), LIMIT).close()
+        took = time.monotonic() - began
+        time.sleep(1.5)
+        lines = lines_in(name)
+        seconds = collections.Counter(found[1] for it in lines if (found := LINE.fullmatch(it)))
+        checks.same("each line is one of a log", [it for it in lines if not LINE.fullmatch(it)], [])
+        checks.same("lines of a second", max(seconds.values()) <= MOST_LINES, True)
+        checks.same("lines of all seconds", len(lines) <= MOST_LINES * (took + 4), True)
+        left_out = sum(int(it.rpartition(" ")[2]) for it in texts_in(name) if it.startswith("lines left out: "))
+        written = sum(not it.startswith("lines left out: ") for it in texts_in(name))
+        checks.same("no line is lost without a report", left_out + written, 2 * (count + 1))
+        checks.same("the server still serves", ask(port, GET_ROOT), GREETING)
+        checks.same("the server still runs", process.poll(), None)
+
+
+def random_message(chance):
+    """Returns a message of random options and payload, with zero bytes, escapes, and invalid UTF-8."""
+    options, number = [], 0
+    for _ in range(chance.randrange(5)):
+        number += chance.choice([1, 2, 3, 4, 5, 7, 11, 13, 255, 1_000])
+        options.append((number, bytes(chance.choice(b"\x00\x1b[\n\r\x7f\xff\xc3aZ%\"\\") for _ in range(chance.randrange(9)))))
+    payload = bytes(chance.randrange(256) for _ in range(chance.randrange(40)))
+    return encoded(chance.choice([0x01, 0x02, 0x03, 0x04, 0x05, 0x45, 0x9f, 0xe2, 0x1f]), chance.randbytes(chance.randrange(9)), options, payload)
+
+
+def check_printable(checks, count):
+    """Whatever a peer sends, each line is printable ASCII of limited length."""
+    chance = random.Random(7)
+    with logging("--log", "3", "-d", "64") as (_, port, name):
+        sent = 0
+        while sent < count:
+            with socket.create_connection((LOCAL, port), LIMIT) as peer, contextlib.suppress(OSError):
+                peer.sendall(SETTINGS)
+                peer.settimeout(LIMIT)
+                for _ in range(2_000):
+                    peer.sendall(random_message(chance))
+                    sent += 1
+                    with contextlib.suppress(BlockingIOError):
+                        while peer.recv(65536, socket.MSG_DONTWAIT):
+                            pass
+        time.sleep(1.5)
+        lines = lines_in(name)
+        checks.same("random messages: each line is one of a log", [it for it in lines if not LINE.fullmatch(it)][:3], [])
+        checks.same("random messages: length of lines", max(map(len, lines)) <= MOST_BYTES + 1, True)
+        checks.same("random messages: some lines", len(lines) > 50, True)
+        checks.same("random messages: the server still serves", ask(port, GET_ROOT), GREETING)
+
+
+def check_standard_error(checks):
+    """A standard error that blocks, is closed or fails never stops serving."""
+    port = free_port()
+    read, write = os.pipe()
+    fcntl.fcntl(write, fcntl.F_SETPIPE_SZ, 4_096)
+    process = subprocess.Popen([SERVER, "-A", LOCAL, "-p", str(port), "--log", "3"], stdin=subprocess.DEVNULL, stdout=subprocess.DEVNULL, stderr=write)
+    os.close(write)
+    try:
+        wait_for(port)
+        for turn in range(60):
+            if ask(port, *[encoded(1, b"\x01", [(11, b"x" * 200)], b"") for _ in range(5)], GET_ROOT) != GREETING:
+                checks.same("a full pipe", turn, 60)
+                break
+        checks.same("a full pipe: the server still serves", ask(port, GET_ROOT), GREETING)
+        os.close(read)
+        checks.same("a broken pipe: the server still serves", [ask(port, GET_ROOT) for _ in range(3)], [GREETING] * 3)
+        checks.same("a broken pipe: the server still runs", process.poll(), None)
+    finally:
+        process.kill()
+        process.wait(LIMIT)
+    with logging("--log", "3", file="/dev/full") as (process, port, _):
+        checks.same("a full disk: the server still serves", [ask(port, GET_ROOT) for _ in range(3)], [GREETING] * 3)
+    with logging("--log", "3", preexec_fn=lambda: os.close(2)) as (process, port, _):
+        checks.same("a closed standard error: the server still serves", [ask(port, GET_ROOT) for _ in range(3)], [GREETING] * 3)
+
+
+def check_client(checks):
+    """The log of a client has its connection and its messages, and leaves its output as it is."""
+    with Server(SERVER) as server:
+        for level in ("0", "1", "2", "3"):
+            ran = subprocess.run([CLIENT, "--log", level, "-w", server.uri()], stdin=subprocess.DEVNULL, capture_output=True, timeout=LIMIT)
+            texts = [found[3].decode() for it in ran.stderr.splitlines(keepends=True) if (found := LINE.fullmatch(it))]
+            checks.same(f"client at level {level}", (ran.returncode, ran.stdout), (0, b"coap+tcp\n"))
+            checks.same(f"client at level {level}: only lines of a log", len(texts), len(ran.stderr.splitlines()))
+            checks.same(f"client at level {level}: connections", any("connected to" in it for it in texts), level in "23")
+            checks.same(f"client at level {level}: messages", any("out " in it and "GET" in it for it in texts) and any("2.05 Content" in it for it in texts), level == "3")
+
+
+def main():
+    checks = Checks()
+    check_levels(checks)
+    check_lines(checks)
+    check_warnings(checks)
+    check_standard_error(checks)
+    check_client(checks)
+    check_rate(checks, number_after("--connections", 100_000))
+    check_printable(checks, number_after("--messages", 100_000))
+    print("%d passed, %d failed" % (checks.passed, checks.failed))
+    return int(checks.failed > 0)
+
+
+if __name__ == "__main__":
+    sys.exit(main())
