@@ -27,7 +27,7 @@ mod tap;
 mod writer;
 
 pub use connection::{append_counts, log_messages};
-pub use glimpse::describe_head;
+pub use glimpse::{describe_head, head_code};
 pub use limit::{Admission, LINES_A_SECOND, LineLimit};
 pub use log::Log;
 pub use logged_wire::LoggedWire;
