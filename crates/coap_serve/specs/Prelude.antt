@@ -72,7 +72,7 @@ pub use Rattle.coap_serve.specs.streams.RecordedInterests.{true_end, AreNoted, I
 pub use Rattle.coap_serve.specs.streams.RecordedInterests.{IsNoted, Served}
 pub use Rattle.coap_serve.specs.streams.Serving.{HasServed, HasTurned, IsAskedOnce, IsTurnOf, HasGoneOn, AreServed}
 pub use Rattle.coap_serve.specs.streams.Serving.{asked_by, HadItsPart, HasOneMore, IsOpening, IsRound, IsServing}
-pub use Rattle.coap_serve.specs.streams.Serving.{NoMore, PassedOver, opening, Unrecorded}
+pub use Rattle.coap_serve.specs.streams.Serving.{NoMore, PassedOver, opening, Unrecorded, flush_calls}
 pub use Rattle.coap_serve.specs.streams.StdioProgress.{IsAtBytes, IsRunningAt, IsTurn, HasRead, IsCut, IsRefused, IsWhole, Says}
 pub use Rattle.coap_serve.specs.streams.StdioRun.{IsStdioRun, AreNotEmpty, EndsRun, GoesOn, IsLastByte, LeavesNothing}
 pub use Rattle.coap_serve.specs.streams.StdioRun.{LeavesNothingWaiting}
@@ -89,7 +89,7 @@ pub use Rattle.coap_server_engine.specs.values.InResults.{InResult, IsPartialIn,
 pub use Rattle.coap_server_engine.specs.values.Calls.{TellsPartlyFed, call_value}
 pub use Rattle.coap_server_engine.specs.values.InResults.{took, where_there}
 unfoldable pub use Rattle.coap_server_engine.specs.values.InResults.{fed_turns, took_turns}
-pub use Rattle.coap_server_engine.specs.values.Flushes.{IsFlushed, IsPartFlushed, waiting_at, more_at}
+pub use Rattle.coap_server_engine.specs.values.Flushes.{IsFlushed, IsFlushedOnce, IsPartFlushed, waiting_at, more_at}
 pub use Rattle.coap_server_engine.specs.values.Flushes.{more_in, waiting_in}
 unfoldable pub use Rattle.coap_server_engine.specs.values.Flushes.{flush_turns}
 pub use Rattle.coap_server_engine.specs.values.ServerAnswers.{stop_on, open_refusal, IsNotTaken}

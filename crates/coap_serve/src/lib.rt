@@ -33,4 +33,4 @@ pub use coap_server_engine::{Call, Monitor, NoMonitor, ReplayFault, Server};
 pub use coap_store::{PathKey, StoreFault};
 pub use coap_text::{bytes_in, number_in};
 pub use door::{Service, serve_door, serve_door_with};
-pub use serve::{IoFault, Report, serve_one};
+pub use serve::{IoFault, Report, serve_one, serve_one_with};

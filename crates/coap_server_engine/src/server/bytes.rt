@@ -180,6 +180,18 @@ impl Server {
         Ok(taken)
     }
 
+    /// Returns the number of pending entries plus the number of observers of a connection, or 0 if there is none. A
+    /// connection settles in at most this number of steps.
+    #[tactic(auto, using(crate::proofs::values::ServerLemmas::unmarked_at, crate::proofs::values::ServerLemmas::within_unmarked))]
+    pub fn settle_bound(&self, id: ConnId) -> usize
+        ensures { result ≡ more_at id self.now }
+    {
+        let Some(at) = find(&self.sessions, id) else {
+            return 0;
+        };
+        self.sessions[at].settle_bound()
+    }
+
     /// Returns all queued bytes of a connection in one slice, or `None` if no connection has this id.
     ///
     /// If the bytes wrap around the end of the queue, they are moved first; `parts` moves none.
