@@ -14,8 +14,8 @@ pub fn lines_of_a_second_are_limited()
 {}
 
 /// States that a tap shows exactly the frames of its stream (RFC 8323 section 3.2), each with its first bytes and its
-/// size, however the stream is split into pieces. The stream is the bytes that the tap took. Frames have at most
-/// 1,048,576 bytes, and a malformed one is the end of the stream.
+/// size. The split of the stream into pieces is irrelevant. The stream is the bytes that the tap took. Frames have at
+/// most 1,048,576 bytes, and a malformed one is the end of the stream.
 pub fn tap_shows_frames_of_stream()
     ensures { (room : ℕ) (pieces : List (List ℕ)) → 8 ≤ room → (output_of (new_tap room) pieces).frames
         ≡ map (glimpse room) (sized_frames (constant_size LARGEST_MESSAGE) (output_of (new_tap room) pieces).taken).frames }
