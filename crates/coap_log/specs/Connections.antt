@@ -1,5 +1,5 @@
 -- Defined by this project: the lines of a connection.
-use Rattle.std.specs.Prelude.{◌≡◌, ℕ, zero, suc, Bool, true, false, List, [], ◌∷◌, ◌++◌, take, drop, ◌==◌, codes, decimal, if◌then◌else◌}
+use Rattle.std.specs.Prelude.{◌≡◌, ℕ, zero, suc, Bool, true, false, List, [], ◌∷◌, ◌++◌, length, take, drop, ◌==◌, codes, decimal, if◌then◌else◌}
 use Rattle.coap_print.specs.Lines.{appended}
 use Rattle.coap_print.specs.declared.line.TheConstants.{LINE_LENGTH}
 use Rattle.coap_print.specs.declared.level.LogLevel.{LogLevel}
@@ -60,3 +60,11 @@ LogsBytes (suc turns) nanos front [] tap end before after = (end ≡ tap) × (af
 LogsBytes (suc turns) nanos front (b ∷ bytes) tap end before after =
     LogsTaken (λ rest now middle. LogsBytes turns nanos front rest now end middle after) nanos front (b ∷ bytes) tap end before after
     (taken tap (b ∷ bytes) == 0)
+
+-- Bytes are passed to a tap, and each message that ends with them is logged, at some time.
+abbrev pub LogsPassed : List ℕ → List ℕ → TapValue → TapValue → LogTrace → LogTrace → Type 0
+LogsPassed front bytes tap end before after = (nanos : ℕ) × LogsBytes (length bytes) nanos front bytes tap end before after
+
+-- The front of the lines of a wire, for a direction.
+abbrev pub front : List ℕ → List ℕ
+front direction = appended LINE_LENGTH [] direction

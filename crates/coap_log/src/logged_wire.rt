@@ -1,10 +1,12 @@
 //! `LoggedWire`, a wire whose messages are written to a log.
 
-ghost use Rattle.std.specs.Prelude.{◌≡◌, ◌≤◌, ℕ, IfOk};
+ghost use Rattle.std.specs.Prelude.{◌≡◌, ◌≤◌, ℕ, IfOk, [], ◌∷◌, true, length, codes};
+ghost use Rattle.coap_io.specs.Prelude.{AddsBytes, TellsMore, IsWithin, bytes_passed};
+ghost use Rattle.coap_print.specs.Texts.{is_text};
 ghost use Rattle.coap_print.specs.declared.level.LogLevel.TheVariants.{Connections};
 ghost use Rattle.coap_log.specs.Logs.{trace_of};
 ghost use Rattle.coap_log.specs.Taps.{new_tap};
-ghost use Rattle.coap_log.specs.Connections.{LogsAtATime, end_line};
+ghost use Rattle.coap_log.specs.Connections.{LogsAtATime, LogsPassed, end_line, front};
 
 use crate::connection::{append_counts, log_messages};
 use crate::log::Log;
@@ -86,34 +88,83 @@ impl<'a, W: Wire, L: LogWriter, C: time::Clock> Wire for LoggedWire<'a, W, L, C>
 
     ghost rooms = { λ logged. W.rooms logged.wire };
 
-    fn read(&mut self, buffer: &mut [u8]) -> Got {
+    fn read(&mut self, buffer: &mut [u8]) -> Got
+        ensures within { IsWithin (length buffer.new) result }
+        ensures gave { AddsBytes (W.given self.old.wire) (W.given self.new.wire) (bytes_passed buffer.new result) }
+        ensures wrote { AddsBytes (W.written self.old.wire) (W.written self.new.wire) [] }
+        ensures answered { TellsMore (W.answers self.old.wire) (W.answers self.new.wire) (result ∷ []) }
+        ensures had_room { TellsMore (W.rooms self.old.wire) (W.rooms self.new.wire) (length buffer.new ∷ []) }
+        // The messages that end with the bytes read are logged.
+        ensures logged { LogsPassed (front (codes "in ")) (bytes_passed buffer.new result)
+            self.old.incoming self.new.incoming
+            (trace_of L.offers L.accepted self.old.log) (trace_of L.offers L.accepted self.new.log) }
+        ensures outgoing { self.new.outgoing ≡ self.old.outgoing }
+    {
         let got = self.wire.read(buffer);
-        if let Got::Bytes(count) = got {
-            let time = now(self.clock);
-            log_messages(
-                &mut self.log,
-                time,
-                &mut self.incoming,
-                &front("in "),
-                &buffer[..count],
-            );
-        }
+        pass(
+            &mut self.log,
+            self.clock,
+            &mut self.incoming,
+            "in ",
+            buffer,
+            got,
+        );
         got
     }
 
-    fn write(&mut self, bytes: &[u8]) -> Got {
+    fn write(&mut self, bytes: &[u8]) -> Got
+        ensures within { IsWithin (length bytes.now) result }
+        ensures wrote { AddsBytes (W.written self.old.wire) (W.written self.new.wire)
+            (bytes_passed bytes.now result) }
+        ensures gave { AddsBytes (W.given self.old.wire) (W.given self.new.wire) [] }
+        ensures answered { TellsMore (W.answers self.old.wire) (W.answers self.new.wire) (result ∷ []) }
+        ensures no_read { TellsMore (W.rooms self.old.wire) (W.rooms self.new.wire) [] }
+        // The messages that end with the bytes written are logged.
+        ensures logged { LogsPassed (front (codes "out ")) (bytes_passed bytes.now result)
+            self.old.outgoing self.new.outgoing
+            (trace_of L.offers L.accepted self.old.log) (trace_of L.offers L.accepted self.new.log) }
+        ensures incoming { self.new.incoming ≡ self.old.incoming }
+    {
         let got = self.wire.write(bytes);
-        if let Got::Bytes(count) = got {
-            let time = now(self.clock);
-            log_messages(
-                &mut self.log,
-                time,
-                &mut self.outgoing,
-                &front("out "),
-                &bytes[..count],
-            );
-        }
+        pass(
+            &mut self.log,
+            self.clock,
+            &mut self.outgoing,
+            "out ",
+            bytes,
+            got,
+        );
         got
+    }
+}
+
+/// Logs the messages that end with the bytes of a read or a write with this result.
+fn pass<L: LogWriter>(
+    log: &mut Log<L>,
+    clock: &impl time::Clock,
+    tap: &mut Tap,
+    direction: &'static str,
+    bytes: &[u8],
+    got: Got,
+)
+    requires within { IsWithin (length bytes.now) got }
+    requires text { is_text direction.now ≡ true }
+    ensures { LogsPassed (front direction.now) (bytes_passed bytes.now got) tap.old tap.new
+        (trace_of L.offers L.accepted log.old) (trace_of L.offers L.accepted log.new) }
+{
+    log_messages(log, now(clock), tap, &front(direction), passed(bytes, got));
+}
+
+/// Returns the bytes that a read or a write with this result passed on.
+fn passed(bytes: &[u8], got: Got) -> &[u8]
+    requires { IsWithin (length bytes.now) got }
+    ensures { result.now ≡ bytes_passed bytes.now got }
+{
+    match got {
+        Got::Bytes(count) => &bytes[..count],
+        Got::Later => &[],
+        Got::End => &[],
+        Got::Failed => &[],
     }
 }
 
@@ -143,8 +194,11 @@ fn now(clock: &impl time::Clock) -> Duration {
 }
 
 /// Returns a direction as the front of a line.
-fn front(direction: &'static str) -> Line {
+fn front(direction: &'static str) -> Line
+    requires { is_text direction.now ≡ true }
+    ensures { result ≡ front direction.now }
+{
     let mut line = Line::new();
-    line.escaped(direction.as_bytes());
+    line.text(direction);
     line
 }
