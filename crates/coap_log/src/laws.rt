@@ -1,10 +1,10 @@
 //! Theorems on logs. Each is the contract of a function that does nothing.
 
-ghost use Rattle.std.specs.Prelude.{◌≡◌, ◌≤◌, ℕ, List, map};
+ghost use Rattle.std.specs.Prelude.{◌≡◌, ◌≤◌, ℕ, List, map, length};
 ghost use Rattle.coap_wire.specs.Frames.{constant_size, sized_frames};
 ghost use Rattle.coap_wire.specs.declared.sizes.TheConstants.{LARGEST_MESSAGE};
 ghost use Rattle.coap_log.specs.Limits.{LimitCall, lines_in};
-ghost use Rattle.coap_log.specs.Taps.{new_tap, glimpse, output_of};
+ghost use Rattle.coap_log.specs.Taps.{new_tap, glimpse, output_of, after_pieces, taken};
 ghost use Rattle.coap_log.specs.declared.limit.LineLimit.{LineLimit as Limit};
 
 /// States that in each second of the clock at most 100 lines are written, whatever the calls before and in between.
@@ -19,4 +19,11 @@ pub fn lines_of_a_second_are_limited()
 pub fn tap_shows_frames_of_stream()
     ensures { (room : ℕ) (pieces : List (List ℕ)) → 8 ≤ room → (output_of (new_tap room) pieces).frames
         ≡ map (glimpse room) (sized_frames (constant_size LARGEST_MESSAGE) (output_of (new_tap room) pieces).taken).frames }
+{}
+
+/// States that a tap takes at least one byte of a piece that has one, whatever it took before. So a caller that passes the
+/// other bytes again comes to the end of the piece.
+pub fn tap_takes_a_byte()
+    ensures { (room : ℕ) (pieces : List (List ℕ)) (piece : List ℕ) → 8 ≤ room → 1 ≤ length piece →
+        1 ≤ taken (after_pieces (new_tap room) pieces) piece }
 {}
