@@ -1,9 +1,9 @@
 //! Theorems on logs. Each is the contract of a function that does nothing.
 
-ghost use Rattle.std.specs.Prelude.{◌≡◌, ◌≤◌, ℕ, List, map, length};
+ghost use Rattle.std.specs.Prelude.{◌≡◌, ◌+◌, ◌<◌, ◌≤◌, ◌^◌, ℕ, List, map, length};
 ghost use Rattle.coap_wire.specs.Frames.{constant_size, sized_frames};
 ghost use Rattle.coap_wire.specs.declared.sizes.TheConstants.{LARGEST_MESSAGE};
-ghost use Rattle.coap_log.specs.Limits.{LimitCall, lines_in};
+ghost use Rattle.coap_log.specs.Limits.{LimitCall, lines_in, lost, reported, after_calls};
 ghost use Rattle.coap_log.specs.Taps.{new_tap, glimpse, output_of, after_pieces, taken};
 ghost use Rattle.coap_log.specs.declared.limit.LineLimit.{LineLimit as Limit};
 
@@ -11,6 +11,13 @@ ghost use Rattle.coap_log.specs.declared.limit.LineLimit.{LineLimit as Limit};
 /// The reports of lines left out are lines too.
 pub fn lines_of_a_second_are_limited()
     ensures { (second : ℕ) (l : Limit) (calls : List LimitCall) → lines_in second l calls ≤ 100 }
+{}
+
+/// States that each line that was left out is reported once: the lines reported and those still to be reported are the
+/// lines left out, as long as 64 bits can count them.
+pub fn lines_left_out_are_reported()
+    ensures { (l : Limit) (calls : List LimitCall) → l.left_out + lost l calls < 2 ^ 64 →
+        reported l calls + (after_calls l calls).left_out ≡ l.left_out + lost l calls }
 {}
 
 /// States that a tap shows exactly the frames of its stream (RFC 8323 section 3.2), each with its first bytes and its
