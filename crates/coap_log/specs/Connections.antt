@@ -1,7 +1,8 @@
 -- Defined by this project: the lines of a connection.
-use Rattle.std.specs.Prelude.{◌≡◌, ℕ, zero, suc, Bool, true, false, List, [], ◌∷◌, ◌++◌, take, drop, ◌==◌, codes, decimal, if◌then◌else◌}
+use Rattle.std.specs.Prelude.{◌≡◌, ℕ, zero, suc, Bool, true, false, List, [], ◌∷◌, ◌++◌, length, take, drop, ◌==◌, codes, decimal, if◌then◌else◌}
 use Rattle.coap_print.specs.Lines.{appended}
 use Rattle.coap_print.specs.declared.line.TheConstants.{LINE_LENGTH}
+use Rattle.coap_print.specs.declared.level.LogLevel.{LogLevel}
 use Rattle.coap_print.specs.declared.level.LogLevel.TheVariants.{Messages}
 use Rattle.coap_log.specs.Glimpses.{head_text}
 use Rattle.coap_log.specs.Logs.{LogTrace, LogsLine}
@@ -23,6 +24,14 @@ passed_text tap = count_text tap.messages (codes "message") ++ codes ", " ++ cou
 -- The numbers in both directions, as in 12 messages, 345 bytes in; 1 message, 45 bytes out.
 abbrev pub counts_text : TapValue → TapValue → List ℕ
 counts_text incoming outgoing = passed_text incoming ++ codes " in; " ++ passed_text outgoing ++ codes " out"
+
+-- The last line of a connection, after other text.
+abbrev pub end_line : List ℕ → TapValue → TapValue → List ℕ
+end_line text incoming outgoing = appended LINE_LENGTH [] (text ++ codes ": " ++ counts_text incoming outgoing)
+
+-- A text is logged as a line of a level, at some time.
+abbrev pub LogsAtATime : LogLevel → List ℕ → LogTrace → LogTrace → Type 0
+LogsAtATime level text before after = (nanos : ℕ) × LogsLine level nanos text before after
 
 -- ---- messages
 
@@ -51,3 +60,11 @@ LogsBytes (suc turns) nanos front [] tap end before after = (end ≡ tap) × (af
 LogsBytes (suc turns) nanos front (b ∷ bytes) tap end before after =
     LogsTaken (λ rest now middle. LogsBytes turns nanos front rest now end middle after) nanos front (b ∷ bytes) tap end before after
     (taken tap (b ∷ bytes) == 0)
+
+-- Bytes are passed to a tap, and each message that ends with them is logged, at some time.
+abbrev pub LogsPassed : List ℕ → List ℕ → TapValue → TapValue → LogTrace → LogTrace → Type 0
+LogsPassed front bytes tap end before after = (nanos : ℕ) × LogsBytes (length bytes) nanos front bytes tap end before after
+
+-- The front of the lines of a wire, for a direction.
+abbrev pub front : List ℕ → List ℕ
+front direction = appended LINE_LENGTH [] direction

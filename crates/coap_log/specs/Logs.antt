@@ -45,8 +45,8 @@ IsReported program nanos (Some count) before after offers =
 
 -- ---- the log and the records of its writer
 
--- A log: its level, the name of the program, its limit, and the lines offered to its writer and the bytes accepted, as far
--- as the writer records them.
+-- A log: its level, the name of the program and its limit. `offers` and `accepted` are the records of its writer: the
+-- lines offered, and the bytes of those accepted.
 pub record LogTrace : Type 0 where
   pub level : LogLevel
   pub program : List ℕ
