@@ -3,6 +3,7 @@
 ghost use Rattle.std.specs.Prelude.{◌≡◌, ◌∷◌, ℕ, [], true, is_some, IfSome, IfNone};
 ghost use Rattle.coap_serve.specs.Configs.{config_refusal};
 ghost use Rattle.coap_serve.specs.Prelude.{TellsMore};
+ghost use Rattle.std.specs.Prelude.{IsErr};
 ghost use Rattle.coap_server.specs.Planned.{planned, starts_of};
 
 use crate::{PROGRAM, config_of};

@@ -10,6 +10,7 @@ use coap_log::{
 use coap_print::{Line, LogLevel};
 use coap_serve::{Call, ConnId, Handled, Monitor, Reason, Server};
 use coap_sockets::{DoorTroubles, SocketWire};
+use coap_wire::Code;
 use indexmap::IndexMap;
 use std::alloc::{AllocError, Global};
 use std::cell::Cell;
@@ -66,10 +67,12 @@ fn text_of(reason: Reason) -> &'static str
 }
 
 /// Returns `true` if a response with this code refuses a request because of a limit: 4.13, 5.00 or 5.03.
-fn is_refusal(code: u8) -> bool
+fn is_refusal(code: Code) -> bool
     ensures { result ≡ is_refusal code }
 {
-    code == 141 || code == 160 || code == 163
+    code == Code::REQUEST_ENTITY_TOO_LARGE
+        || code == Code::INTERNAL_SERVER_ERROR
+        || code == Code::SERVICE_UNAVAILABLE
 }
 
 /// Returns the first words of the lines of a connection.

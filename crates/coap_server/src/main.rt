@@ -77,14 +77,14 @@ fn serve(
     let Ok(mut log) = ServerLog::new(rt, rt.alloc(), level, 1, None) else {
         return PROGRAM.print_fault(rt, "no memory", FAULT);
     };
-    let result = serve_one_with(rt.alloc(), &mut input, &mut output, config, &mut log);
+    let ended = serve_one_with(rt.alloc(), &mut input, &mut output, config, &mut log);
     log.finish();
-    status_of(rt, result)
+    status_of(rt, ended)
 }
 
 /// Returns the exit status for the result of a run, and reports an error.
-fn status_of(rt: &impl Eprint, result: Result<Report, IoFault>) -> u8 {
-    match result {
+fn status_of(rt: &impl Eprint, ended: Result<Report, IoFault>) -> u8 {
+    match ended {
         Ok(_) => ENDED,
         Err(fault) => PROGRAM.print_fault(rt, fault, FAULT),
     }
