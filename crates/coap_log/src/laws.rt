@@ -13,7 +13,7 @@ pub fn lines_of_a_second_are_limited()
     ensures { (second : ℕ) (l : Limit) (calls : List LimitCall) → lines_in second l calls ≤ 100 }
 {}
 
-/// States that each line that was left out is reported once: the lines reported and those still to be reported are the
+/// States that each line that was left out is reported once. The lines reported and those still to be reported are the
 /// lines left out, as long as 64 bits can count them.
 pub fn lines_left_out_are_reported()
     ensures { (l : Limit) (calls : List LimitCall) → l.left_out + lost l calls < 2 ^ 64 →

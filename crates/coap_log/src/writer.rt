@@ -1,6 +1,7 @@
 //! Writers of whole lines, which never block.
 
-ghost use Rattle.std.specs.Prelude.{◌≡◌, ◌≤◌, ◌++◌, ℕ, List, [], ◌∷◌, length, take, drop, Bool, Option, None, true, false};
+ghost use Rattle.std.specs.Prelude.{◌≡◌, ◌≤◌, ◌++◌, ℕ, List, [], ◌∷◌, length, take, drop, Bool, Option, None, true};
+ghost use Rattle.std.specs.Prelude.{false};
 ghost use Rattle.coap_io.specs.Prelude.{AddsBytes, TellsMore};
 ghost use Rattle.coap_log.specs.Writers.{Offer, bytes_of, ended, with_rest};
 
