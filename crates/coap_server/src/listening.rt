@@ -6,10 +6,10 @@ ghost use Rattle.coap_serve.specs.Prelude.{TellsMore};
 ghost use Rattle.std.specs.Prelude.{IsErr};
 ghost use Rattle.coap_server.specs.Planned.{planned, starts_of};
 
-use crate::{PROGRAM, config_of};
-use coap_program::{FAULT, USAGE};
 use crate::log::ServerLog;
+use crate::{PROGRAM, config_of};
 use coap_print::LogLevel;
+use coap_program::{FAULT, USAGE};
 use coap_request::ServerPlan;
 use coap_serve::{Clock, Config, IoFault, Starts, serve_door, serve_door_with};
 use coap_sockets::{ListenError, ListenFault, SocketDoor, SystemClock};
@@ -45,9 +45,7 @@ fn print_listen_fault(rt: &impl Eprint, fault: ListenFault, address: SocketAddr)
         ),
         ListenError::Denied if port < 1_024 => PROGRAM.print_fault(
             rt,
-            format_args!(
-                "permission denied for port {port}; choose a port from 1024 on with -p"
-            ),
+            format_args!("permission denied for port {port}; choose a port from 1024 on with -p"),
             status,
         ),
         ListenError::NotAvailable => PROGRAM.print_fault(

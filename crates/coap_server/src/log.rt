@@ -4,8 +4,7 @@ ghost use Rattle.std.specs.Prelude.{◌≡◌, ◌≤◌, length, take};
 ghost use Rattle.coap_server.specs.Reasons.{is_refusal, reason_text};
 
 use coap_log::{
-    COUNTED, DESCRIBED, LineWriter, Log, Stderr, Tap, append_counts, describe_head,
-    head_code,
+    COUNTED, DESCRIBED, LineWriter, Log, Stderr, Tap, append_counts, describe_head, head_code,
 };
 use coap_print::{Line, LogLevel};
 use coap_serve::{Call, ConnId, Handled, Monitor, Reason, Server};

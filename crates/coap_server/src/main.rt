@@ -15,9 +15,9 @@ mod log;
 mod script;
 
 use coap_command_line::{server_reason, server_words};
+use coap_print::LogLevel;
 use coap_program::{ENDED, FAULT, Program, USAGE, occupy_standard_descriptors};
 use coap_request::{Mode, ServerPlan};
-use coap_print::LogLevel;
 use coap_serve::{
     Config, IoFault, ReadSource, Report, Starts, WriteOutlet, serve_one, serve_one_with,
 };

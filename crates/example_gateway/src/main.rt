@@ -44,8 +44,9 @@ fn serve(
         .starts(Starts::at(clock.now()))
         .build()?;
     let path = PathKey::from_segments(&[b"measured"]).context("no path")?;
-    let mut door = SocketDoor::listen(rt, rt.alloc(), address, config.connections())
-        .context("cannot listen at the address")?;
+    let mut door = SocketDoor::listen(rt, rt.alloc(), address, config.connections()).context(
+        "cannot listen at the address",
+    )?;
     let mut service = Service::new(rt.alloc(), config).context("no memory for the server")?;
     eprintln!(rt;
         "example_gateway: listening on {}",

@@ -187,7 +187,7 @@ impl<W: Wire + Ready + Drop> Service<W> {
     ) -> Result<Wait, IoFault>
         // The events of a turn are at most one opened connection, followed by events of served connections.
         ensures shows { HasTurned (TellsMore (M.calls monitor.old) (M.calls monitor.new))
-             self.old.server self.new.server }
+            self.old.server self.new.server }
         // The listener is asked once if another connection may be opened, and not otherwise.
         ensures asks { self.old.is_spent ≡ false
             → IsAskedOnce (TellsMore (D.calls door.old) (D.calls door.new)) self.old.server }
@@ -205,13 +205,7 @@ impl<W: Wire + Ready + Drop> Service<W> {
             return Err(IoFault::Memory);
         }
         self.is_spent = true;
-        let wait = take_turn(
-            self.alloc,
-            &mut self.server,
-            &mut self.peers,
-            door,
-            monitor,
-        )?;
+        let wait = take_turn(self.alloc, &mut self.server, &mut self.peers, door, monitor)?;
         self.is_spent = false;
         Ok(wait)
     }

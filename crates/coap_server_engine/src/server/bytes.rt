@@ -2,8 +2,8 @@
 
 use super::sessions::{find, flush_at, settle_after, what_was_handled, written_at};
 use super::{FlushStep, Server};
-use coap_io::{Outlet, WriteFailed};
 use crate::monitor::{Call, Monitor, NoMonitor};
+use coap_io::{Outlet, WriteFailed};
 use coap_model::{ConnId, Handled, TakeFault, Taken, WrittenFault};
 use std::alloc::AllocError;
 
