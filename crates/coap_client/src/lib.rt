@@ -15,9 +15,7 @@
 #![tactic(auto)]
 
 pub use coap_client_engine::{Client, ClientFault, Event, Taken, run_client};
-pub use coap_command_line::{
-    WordsFault, client_reason, client_words, server_reason, server_words,
-};
+pub use coap_command_line::{WordsFault, client_reason, client_words, server_reason, server_words};
 pub use coap_conn::{LimitFault, Limits, LimitsBuilder, Phase, Reason, RequestFault};
 pub use coap_io::{Clock, Got, Outlet, Wire, WriteFailed, WriteOutlet};
 pub use coap_request::{ClientPlan, Extras, Method, Mode, ServerPlan, Target, TargetFault};
