@@ -102,8 +102,9 @@ fn serve_logged<'a, R: Eprint + Net + time::Clock + AllocGlobal>(
 ) -> Result<(), IoFault>
     ensures { IsErr result }
 {
+    door.wake_each_second();
     let troubles = door.troubles();
-    let Ok(mut log) = ServerLog::new(rt, rt.alloc(), level, config.connections(), troubles) else {
+    let Ok(mut log) = ServerLog::new(rt, rt.alloc(), level, &config, troubles) else {
         return Err(IoFault::Memory);
     };
     serve_door_with(rt.alloc(), door, clock, config, &mut log)

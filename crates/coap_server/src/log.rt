@@ -7,7 +7,7 @@ use coap_log::{
     COUNTED, DESCRIBED, LineWriter, Log, Stderr, Tap, append_counts, describe_head, head_code,
 };
 use coap_print::{Line, LogLevel};
-use coap_serve::{Call, ConnId, Handled, Monitor, Reason, Server};
+use coap_serve::{Call, Config, ConnId, Handled, Monitor, Reason, Server};
 use coap_sockets::{DoorTroubles, SocketWire};
 use coap_wire::Code;
 use indexmap::IndexMap;
@@ -31,15 +31,19 @@ struct Followed {
 
 /// Log of a server, which receives the calls that the server accepts.
 ///
-/// With the level `Warnings`, it has a line for each response that refuses a request because of a limit, for each
-/// message above the maximum size, for each failed connection, and for system calls of the listener that failed. If
-/// the number of connections reaches its limit, a line says so.
+/// The level `Warnings` has a line for each of these:
+///
+/// - A response that refuses a request because of a limit, or a message above the maximum size.
+/// - The last connection that the limit of connections allows, and each connection that failed.
+/// - System calls of the listener that failed.
 #[derive(Drop)]
 pub(crate) struct ServerLog<'a, R> {
     rt: &'a R,
     alloc: Global,
     log: Log<LineWriter<Stderr>>,
     connections: IndexMap<u64, Followed>,
+    /// Maximum number of resources that clients may create.
+    dynamic_max: usize,
     troubles: Option<Rc<Cell<DoorTroubles>>>,
     reported: DoorTroubles,
 }
@@ -65,11 +69,13 @@ fn text_of(reason: Reason) -> &'static str
     }
 }
 
-/// Returns `true` if a response with this code refuses a request because of a limit: 4.13, 5.00 or 5.03.
-fn is_refusal(code: Code) -> bool
-    ensures { result ≡ is_refusal code }
+/// Returns `true` if a response with this code refuses a request because of a limit: 4.13, 5.00 or 5.03, and 4.06 if the
+/// server has its maximum number of resources (`is_full`).
+fn is_refusal(code: Code, is_full: bool) -> bool
+    ensures { result ≡ is_refusal code is_full }
 {
-    code == Code::REQUEST_ENTITY_TOO_LARGE
+    is_full && code == Code::NOT_ACCEPTABLE
+        || code == Code::REQUEST_ENTITY_TOO_LARGE
         || code == Code::INTERNAL_SERVER_ERROR
         || code == Code::SERVICE_UNAVAILABLE
 }
@@ -98,7 +104,7 @@ fn append_address(alloc: Global, line: &mut Line, address: SocketAddr) {
 }
 
 impl<'a, R: time::Clock> ServerLog<'a, R> {
-    /// Returns the log of a server with at most `connections` connections. `troubles` counts the failed system calls of
+    /// Returns the log of a server with this configuration. `troubles` counts the failed system calls of
     /// its listener.
     ///
     /// # Errors
@@ -108,7 +114,7 @@ impl<'a, R: time::Clock> ServerLog<'a, R> {
         rt: &'a R,
         alloc: Global,
         level: LogLevel,
-        connections: usize,
+        config: &Config,
         troubles: Option<Rc<Cell<DoorTroubles>>>,
     ) -> Result<ServerLog<'a, R>, AllocError> {
         let mut program = Line::new();
@@ -117,7 +123,8 @@ impl<'a, R: time::Clock> ServerLog<'a, R> {
             rt,
             alloc,
             log: Log::new(level, program, LineWriter::new(Stderr::new())),
-            connections: IndexMap::with_capacity(alloc, connections)?,
+            connections: IndexMap::with_capacity(alloc, config.connections())?,
+            dynamic_max: config.dynamic_max(),
             troubles,
             reported: DoorTroubles {
                 full: 0,
@@ -176,6 +183,7 @@ impl<'a, R: time::Clock> ServerLog<'a, R> {
                 &mut followed.incoming,
                 &front_of(id, " in: "),
                 bytes,
+                false,
             );
             if let Handled::Stopped(reason) = handled {
                 followed.stop = Some(reason);
@@ -186,8 +194,9 @@ impl<'a, R: time::Clock> ServerLog<'a, R> {
         }
     }
 
-    /// Follows bytes of a connection that were written.
-    fn send(&mut self, id: ConnId, bytes: &[u8]) {
+    /// Follows bytes of a connection that were written. `is_full` is `true` if the server has its maximum number of
+    /// resources.
+    fn send(&mut self, id: ConnId, bytes: &[u8], is_full: bool) {
         let now = self.now();
         if let Some(followed) = self.connections.get_mut(&id) {
             log_passed(
@@ -196,6 +205,7 @@ impl<'a, R: time::Clock> ServerLog<'a, R> {
                 &mut followed.outgoing,
                 &front_of(id, " out: "),
                 bytes,
+                is_full,
             );
         }
     }
@@ -229,8 +239,9 @@ impl<'a, R: time::Clock> ServerLog<'a, R> {
         match call {
             Call::Took { id, bytes, handled } => self.receive(id, bytes, handled),
             Call::Wrote(id, first, second) => {
-                self.send(id, first);
-                self.send(id, second);
+                let is_full = server.stamp().resources >= self.dynamic_max;
+                self.send(id, first, is_full);
+                self.send(id, second, is_full);
             }
             Call::Ended(id) => self.note_stop(id, server),
             Call::Released(id) => self.note_stop(id, server),
@@ -304,6 +315,7 @@ fn log_passed(
     tap: &mut Tap,
     front: &Line,
     bytes: &[u8],
+    is_full: bool,
 ) {
     let mut left = bytes;
     while !left.is_empty() {
@@ -313,15 +325,21 @@ fn log_passed(
         }
         left = &left[taken..];
         if tap.is_whole() {
-            log_message(log, now, tap, front);
+            log_message(log, now, tap, front, is_full);
         }
     }
 }
 
 /// Writes a line for the whole message of a tap.
-fn log_message(log: &mut Log<LineWriter<Stderr>>, now: Duration, tap: &Tap, front: &Line) {
+fn log_message(
+    log: &mut Log<LineWriter<Stderr>>,
+    now: Duration,
+    tap: &Tap,
+    front: &Line,
+    is_full: bool,
+) {
     let level = match head_code(tap.head()) {
-        Some(code) if is_refusal(code) => LogLevel::Warnings,
+        Some(code) if is_refusal(code, is_full) => LogLevel::Warnings,
         _ => LogLevel::Messages,
     };
     if log.is_on(level) {

@@ -176,6 +176,8 @@ pub struct SocketDoor<'a, R> {
     slots: Vec<Shared>,
     /// `true` if a client may be waiting at the listening socket.
     may_accept: bool,
+    /// `true` if each wait lasts at most one second.
+    wakes: bool,
     /// Time at which the system had no room for a connection. Nothing is accepted for one second after it.
     full_since: Option<Duration>,
     /// Numbers of failed system calls, which the program can share.
@@ -198,6 +200,7 @@ impl<'a, R: Net + time::Clock> SocketDoor<'a, R> {
     ) -> Result<SocketDoor<'a, R>, ListenFault>
         ensures slots { IfOk result (λ door. length door.slots.items ≡ wires) }
         ensures ready { IfOk result (λ door. (door.may_accept ≡ true) × (door.full_since ≡ None)) }
+        ensures sleeps { IfOk result (λ door. door.wakes ≡ false) }
     {
         let slots = slots(alloc, wires)?;
         let events = Events::with_capacity(alloc, wires.saturating_add(1))?;
@@ -208,6 +211,7 @@ impl<'a, R: Net + time::Clock> SocketDoor<'a, R> {
         poll.registry()
             .register(&mut listener, LISTENER, Interest::READABLE)?;
         Ok(SocketDoor {
+            wakes: false,
             rt,
             listener,
             poll,
@@ -232,6 +236,23 @@ impl<'a, R: Net + time::Clock> SocketDoor<'a, R> {
     /// can read them while the listener is borrowed. If the numbers have too many shares, the result is `None`.
     pub fn troubles(&self) -> Option<Rc<Cell<DoorTroubles>>> {
         self.troubles.clone().ok()
+    }
+
+    /// Makes each wait last at most one second from now on. A program calls it if it has work of its own once a second.
+    pub fn wake_each_second(&mut self)
+        ensures wakes { self.new.wakes ≡ true }
+        ensures accepts { self.new.may_accept ≡ self.old.may_accept }
+    {
+        self.wakes = true;
+    }
+
+    /// Returns the longest time of a wait that has no end otherwise.
+    fn longest(&self) -> Option<Duration>
+        ensures none { self.now.wakes ≡ false → result ≡ None }
+        ensures some { self.now.wakes ≡ true → IsSome result }
+        ensures short { IfSome result (λ time. as_nanos time ≤ second) }
+    {
+        if self.wakes { Some(second()) } else { None }
     }
 
     /// Returns the time for which nothing is accepted, because the system had no room for a connection.
@@ -287,9 +308,10 @@ impl<'a, R: Net + time::Clock> SocketDoor<'a, R> {
     /// Returns the longest time of a wait, or `None` for a wait without end.
     fn time_for(&self, wait: Wait, opens: bool) -> Option<Duration>
         ensures no { wait ≡ asked.No → option_map as_nanos result ≡ Some 0 }
-        ensures forever { wait ≡ asked.Forever → opens && self.now.may_accept ≡ false → result ≡ None }
-        // A wait has an end, unless `Wait::Forever` is requested.
-        ensures ends { IfNone result (wait ≡ asked.Forever) }
+        ensures forever { self.now.wakes ≡ false → wait ≡ asked.Forever → opens && self.now.may_accept ≡ false →
+            result ≡ None }
+        // A wait has an end, unless `Wait::Forever` is requested, and then too if the listener wakes each second.
+        ensures ends { IfNone result ((wait ≡ asked.Forever) × (self.now.wakes ≡ false)) }
         // A client that is already waiting is not delayed, unless the system has no room for its connection.
         ensures at_once { opens && self.now.may_accept ≡ true → self.now.full_since ≡ None →
             option_map as_nanos result ≡ Some 0 }
@@ -300,7 +322,7 @@ impl<'a, R: Net + time::Clock> SocketDoor<'a, R> {
         let asked = match wait {
             Wait::No => Some(Duration::ZERO),
             Wait::Until(moment) => Some(self.left_until(moment)),
-            Wait::Forever => None,
+            Wait::Forever => self.longest(),
         };
         if opens && self.may_accept {
             Some(at_most(self.full_for(), asked))
