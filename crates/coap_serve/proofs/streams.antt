@@ -9,6 +9,8 @@ pub mod AgendaLemmas
 pub mod PassedLemmas
 pub mod NoteLemmas
 pub mod ServingLemmas
+pub mod RemovalLemmas
+pub mod SweepLemmas
 pub mod NextPartLemmas
 pub mod ServiceLemmas
 pub mod DoorLemmas

@@ -7,3 +7,4 @@ pub mod Turns
 pub mod RecordedInterests
 pub mod Serving
 pub mod DoorRun
+pub mod Idle

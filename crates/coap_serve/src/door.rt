@@ -3,10 +3,13 @@
 ghost use Rattle.coap_serve.specs.Prelude.{IsDoorRun, waited_behind, TellsMore, trace_by, IsMemoryOrTurns};
 ghost use Rattle.coap_serve.specs.Prelude.{Unrecorded};
 
+mod idle;
 mod next_wakeup;
 mod peer;
 mod peer_interest;
+mod removal;
 mod service;
+mod sweep;
 mod turn;
 
 use crate::serve::IoFault;

@@ -4,10 +4,11 @@ ghost use Rattle.std.specs.Prelude.{◌≡◌, false, All};
 ghost use Rattle.coap_serve.specs.streams.RecordedInterests.{IsNoted};
 
 use super::peer::Peers;
+use super::removal::record_on;
 use super::turn::take_turn;
 use crate::serve::IoFault;
 use coap_io::{Door, Ready, Wait, Wire};
-use coap_model::{Backwards, Config};
+use coap_model::{Backwards, Config, ConnId, NoSuch, ReleaseFault, Status};
 use coap_server_engine::{Call, Monitor, NoMonitor, Server};
 use coap_store::{PathKey, StoreFault};
 use indexmap::IndexMap;
@@ -27,11 +28,13 @@ pub struct Service<W> {
 
 impl<W: Wire + Ready + Drop> Service<W> {
     ghost use Rattle.std.specs.Prelude.{◌+◌, ◌++◌, ◌∷◌, true, List, [], is_none, is_ok, nat_le, IfErr, IfOk, OnErr};
-    ghost use Rattle.std.specs.Prelude.{OnOk, Err};
+    ghost use Rattle.std.specs.Prelude.{OnOk, Err, nat_eq};
     ghost use Rattle.coap_serve.specs.Prelude.{RefusedBy, RefusedOrMemory, put_refusal, remove_refusal, HasTurned};
     ghost use Rattle.coap_serve.specs.Prelude.{IsAskedOnce, IsTurnOf, moved_to, TellsMore, trace_by, IsMemory};
     ghost use Rattle.coap_serve.specs.Prelude.{open_refusal, new_server, server_put, server_removed, server_ticked};
     ghost use Rattle.coap_serve.specs.Prelude.{AcceptedCall, Ticked, Stored, Removed, Shows, Unrecorded};
+    ghost use Rattle.coap_serve.specs.Prelude.{Released, Dropped, released_refusal, server_released, server_dropped};
+    ghost use Rattle.coap_serve.specs.Prelude.{is_there, session_of, status_of, recorded_on, shift_remove_entry};
     ghost use Rattle.coap_serve.specs.declared.serve.IoFault.TheVariants as fault;
 
     /// Returns a server with no connection and an empty store. Its counters begin at the values that the configuration
@@ -139,6 +142,102 @@ impl<W: Wire + Ready + Drop> Service<W> {
         self.server.remove(path)
     }
 
+    /// Returns the status of a connection, or `None` if no connection has this number.
+    pub fn status(&self, id: ConnId) -> Option<Status>
+        ensures { result ≡ status_of self.now.server id }
+    {
+        self.server.status(id)
+    }
+
+    /// Queues a Release on a connection and stops it, as `Server::release` does (RFC 8323 section 5.5). Later turns write
+    /// its queue. The turn that writes the last byte drops the connection.
+    ///
+    /// # Errors
+    ///
+    /// Those of `Server::release`. The server is unchanged.
+    pub fn release(&mut self, id: ConnId) -> Result<(), ReleaseFault>
+        ensures answer { RefusedBy result (released_refusal self.old.server id) }
+        ensures ok { OnOk result (self.new.server ≡ server_released self.old.server id) }
+        ensures shows { OnOk result ((events : List AcceptedCall) → Shows self.old.server events →
+            Shows self.new.server (events ++ Released id ∷ [])) }
+        // The interest of the connection is recorded anew, and no wire is touched.
+        ensures peers { OnOk result (self.new.peers.entries
+            ≡ recorded_on self.new.server id self.old.peers.entries) }
+        ensures err { OnErr result ((self.new.server ≡ self.old.server) × (self.new.peers ≡ self.old.peers)) }
+        ensures spent { self.new.is_spent ≡ self.old.is_spent }
+    {
+        self.release_with(id, &mut NoMonitor)
+    }
+
+    /// Queues a Release as `release` does. If it succeeds, the monitor receives the call.
+    ///
+    /// # Errors
+    ///
+    /// Those of `Server::release`. The server is unchanged.
+    pub fn release_with<M: Monitor<W>>(
+        &mut self,
+        id: ConnId,
+        monitor: &mut M,
+    ) -> Result<(), ReleaseFault>
+        ensures answer { RefusedBy result (released_refusal self.old.server id) }
+        ensures ok { OnOk result (self.new.server ≡ server_released self.old.server id) }
+        ensures shows { OnOk result ((events : List AcceptedCall) → Shows self.old.server events →
+            Shows self.new.server (events ++ Released id ∷ [])) }
+        ensures told { OnOk result (TellsMore (M.calls monitor.old) (M.calls monitor.new) (Released id ∷ [])) }
+        // The interest of the connection is recorded anew, and no wire is touched.
+        ensures peers { OnOk result (self.new.peers.entries
+            ≡ recorded_on self.new.server id self.old.peers.entries) }
+        ensures err { OnErr result ((self.new.server ≡ self.old.server) × (self.new.peers ≡ self.old.peers)
+            × (monitor.new ≡ monitor.old)) }
+        ensures spent { self.new.is_spent ≡ self.old.is_spent }
+    {
+        self.server.release(id)?;
+        monitor.accepted(Call::Released(id), &self.server);
+        record_on(&self.server, &mut self.peers, id);
+        Ok(())
+    }
+
+    /// Removes a connection, with its queued bytes, and closes its transport connection.
+    ///
+    /// # Errors
+    ///
+    /// - `NoSuch`: no connection has this number. Nothing has changed.
+    pub fn drop_conn(&mut self, id: ConnId) -> Result<(), NoSuch>
+        ensures answer { is_ok result ≡ is_there (session_of id self.old.server.sessions) }
+        ensures ok { OnOk result (self.new.server ≡ server_dropped self.old.server id) }
+        ensures shows { OnOk result ((events : List AcceptedCall) → Shows self.old.server events →
+            Shows self.new.server (events ++ Dropped id ∷ [])) }
+        ensures peers { OnOk result (self.new.peers.entries
+            ≡ shift_remove_entry (nat_eq id) self.old.peers.entries) }
+        ensures err { OnErr result ((self.new.server ≡ self.old.server) × (self.new.peers ≡ self.old.peers)) }
+        ensures spent { self.new.is_spent ≡ self.old.is_spent }
+    {
+        self.drop_with(id, &mut NoMonitor)
+    }
+
+    /// Removes a connection as `drop_conn` does. If it succeeds, the monitor receives the call.
+    ///
+    /// # Errors
+    ///
+    /// - `NoSuch`: no connection has this number. Nothing has changed.
+    pub fn drop_with<M: Monitor<W>>(&mut self, id: ConnId, monitor: &mut M) -> Result<(), NoSuch>
+        ensures answer { is_ok result ≡ is_there (session_of id self.old.server.sessions) }
+        ensures ok { OnOk result (self.new.server ≡ server_dropped self.old.server id) }
+        ensures shows { OnOk result ((events : List AcceptedCall) → Shows self.old.server events →
+            Shows self.new.server (events ++ Dropped id ∷ [])) }
+        ensures told { OnOk result (TellsMore (M.calls monitor.old) (M.calls monitor.new) (Dropped id ∷ [])) }
+        ensures peers { OnOk result (self.new.peers.entries
+            ≡ shift_remove_entry (nat_eq id) self.old.peers.entries) }
+        ensures err { OnErr result ((self.new.server ≡ self.old.server) × (self.new.peers ≡ self.old.peers)
+            × (monitor.new ≡ monitor.old)) }
+        ensures spent { self.new.is_spent ≡ self.old.is_spent }
+    {
+        self.server.drop_conn(id)?;
+        monitor.accepted(Call::Dropped(id), &self.server);
+        let _ = self.peers.shift_remove(&id);
+        Ok(())
+    }
+
     /// Runs one turn of the event loop: opens at most one connection, and serves each connection. Returns how long the
     /// listener may wait before the next turn.
     ///
@@ -187,7 +286,7 @@ impl<W: Wire + Ready + Drop> Service<W> {
     ) -> Result<Wait, IoFault>
         // The events of a turn are at most one opened connection, followed by events of served connections.
         ensures shows { HasTurned (TellsMore (M.calls monitor.old) (M.calls monitor.new))
-             self.old.server self.new.server }
+            self.old.server self.new.server }
         // The listener is asked once if another connection may be opened, and not otherwise.
         ensures asks { self.old.is_spent ≡ false
             → IsAskedOnce (TellsMore (D.calls door.old) (D.calls door.new)) self.old.server }
@@ -205,13 +304,7 @@ impl<W: Wire + Ready + Drop> Service<W> {
             return Err(IoFault::Memory);
         }
         self.is_spent = true;
-        let wait = take_turn(
-            self.alloc,
-            &mut self.server,
-            &mut self.peers,
-            door,
-            monitor,
-        )?;
+        let wait = take_turn(self.alloc, &mut self.server, &mut self.peers, door, monitor)?;
         self.is_spent = false;
         Ok(wait)
     }

@@ -25,9 +25,9 @@ pub loop-turn-preserved : goal.loop-turn-preserved
 loop-turn-preserved g c =
     let trace = trace_by g.D.Wire.Wire.given g.D.Wire.Wire.written g.D.Wire.Wire.answers g.D.Wire.Wire.rooms in
     let ticked = shown_ticked g.M.Monitor.calls c.loop-turn.monitor c.tick_with.new.monitor c.tick_with.result (g.M.Monitor.calls c.args.monitor.now) c.loop-turn.service.server c.tick_with.new.self.server c.now.result
-        (shown_so_far g.D.Wire.Ready.readable g.D.Wire.Ready.writable trace c.args.config c.loop-turn.invariant) c.tick_with.ensures.shows c.tick_with.ensures.told c.tick_with.ensures.err in
+    (shown_so_far g.D.Wire.Ready.readable g.D.Wire.Ready.writable trace c.args.config c.loop-turn.invariant) c.tick_with.ensures.shows c.tick_with.ensures.told c.tick_with.ensures.err in
     let turned = shown_turned (g.M.Monitor.calls c.args.monitor.now) (g.M.Monitor.calls c.tick_with.new.monitor) (g.M.Monitor.calls c.turn_with.new.monitor) (g.M.Monitor.calls c.turn_ended.new.self) c.tick_with.new.self.server c.turn_with.new.self.server
-        ticked c.turn_with.ensures.shows c.turn_ended.ensures in
+    ticked c.turn_with.ensures.shows c.turn_ended.ensures in
     turned_once_more g.D.Wire.Ready.readable g.D.Wire.Ready.writable trace c.args.config
     (g.C.Clock.moments c.args.clock.now) (g.C.Clock.moments c.loop-turn.clock) (g.C.Clock.moments c.now.new.self)
     (g.D.Door.calls c.args.door.now) (g.D.Door.calls c.loop-turn.door) (g.D.Door.calls c.wait_after_turn.new.door) (g.D.Door.calls c.turn_with.new.door)
@@ -41,7 +41,7 @@ returns-in_err-wait-clause-run g c =
     let p = err_from_is_err_and c.from_residual.result c.from_residual.ensures.1 in
     let trace = trace_by g.D.Wire.Wire.given g.D.Wire.Wire.written g.D.Wire.Wire.answers g.D.Wire.Wire.rooms in
     let ticked = shown_ticked g.M.Monitor.calls c.loop-turn.monitor c.tick_with.new.monitor c.tick_with.result (g.M.Monitor.calls c.args.monitor.now) c.loop-turn.service.server c.tick_with.new.self.server c.now.result
-        (shown_so_far g.D.Wire.Ready.readable g.D.Wire.Ready.writable trace c.args.config c.loop-turn.invariant) c.tick_with.ensures.shows c.tick_with.ensures.told c.tick_with.ensures.err in
+    (shown_so_far g.D.Wire.Ready.readable g.D.Wire.Ready.writable trace c.args.config c.loop-turn.invariant) c.tick_with.ensures.shows c.tick_with.ensures.told c.tick_with.ensures.err in
     rw (p.1, p.2)
     (ended_by_memory g.D.Wire.Ready.readable g.D.Wire.Ready.writable trace c.args.config _ _ _ c.in_err-wait.field-0.0 c.in_err-wait.ensures.fault
     (cut_in_a_turn g.D.Wire.Ready.readable g.D.Wire.Ready.writable trace c.args.config
