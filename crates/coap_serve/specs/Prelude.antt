@@ -74,6 +74,8 @@ pub use Rattle.coap_serve.specs.streams.Idle.{idle_action, quiet_action, action_
 pub use Rattle.coap_serve.specs.streams.Idle.{changed_by, changed_from, moved_by, Sweep, swept_one, swept_both, acted}
 pub use Rattle.coap_serve.specs.streams.Idle.{HasSwept, HasSweptAt, drop_one, release_one}
 unfoldable pub use Rattle.coap_serve.specs.streams.Idle.{swept}
+pub use Rattle.coap_serve.specs.streams.IdleRun.{short_wait, AreEnded, HasEnded, is_sweep_due, IsIdleRun, IdleEndsWith}
+pub use Rattle.coap_serve.specs.streams.IdleRun.{HasIdleTurned, IsCutIdleRun, IsWholeIdleRun, NoneSoFar, OneSoFar}
 pub use Rattle.coap_serve.specs.streams.RecordedInterests.{true_end, recorded, recorded_on, AreNoted, IsNoEarlier, KeepsNotes}
 pub use Rattle.coap_serve.specs.streams.RecordedInterests.{WhilePassedOver, AtFirst}
 pub use Rattle.coap_serve.specs.streams.RecordedInterests.{IsNoted, Served}

@@ -8,3 +8,4 @@ pub mod RecordedInterests
 pub mod Serving
 pub mod DoorRun
 pub mod Idle
+pub mod IdleRun

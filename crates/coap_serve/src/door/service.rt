@@ -3,8 +3,10 @@
 ghost use Rattle.std.specs.Prelude.{◌≡◌, false, All};
 ghost use Rattle.coap_serve.specs.streams.RecordedInterests.{IsNoted};
 
+use super::idle::IdleWatch;
 use super::peer::Peers;
 use super::removal::record_on;
+use super::sweep::sweep;
 use super::turn::take_turn;
 use crate::serve::IoFault;
 use coap_io::{Door, Ready, Wait, Wire};
@@ -34,6 +36,7 @@ impl<W: Wire + Ready + Drop> Service<W> {
     ghost use Rattle.coap_serve.specs.Prelude.{open_refusal, new_server, server_put, server_removed, server_ticked};
     ghost use Rattle.coap_serve.specs.Prelude.{AcceptedCall, Ticked, Stored, Removed, Shows, Unrecorded};
     ghost use Rattle.coap_serve.specs.Prelude.{Released, Dropped, released_refusal, server_released, server_dropped};
+    ghost use Rattle.coap_serve.specs.Prelude.{HasSwept, swept, short_wait};
     ghost use Rattle.coap_serve.specs.Prelude.{is_there, session_of, status_of, recorded_on, shift_remove_entry};
     ghost use Rattle.coap_serve.specs.declared.serve.IoFault.TheVariants as fault;
 
@@ -236,6 +239,43 @@ impl<W: Wire + Ready + Drop> Service<W> {
         monitor.accepted(Call::Dropped(id), &self.server);
         let _ = self.peers.shift_remove(&id);
         Ok(())
+    }
+
+    /// Releases or drops the connections that are idle at the time `now`, in order of their numbers, by the times that
+    /// `watch` recorded. `now` is in seconds of a clock that never goes back, and the calls that follow have that time.
+    ///
+    /// - A connection is released if no byte was transferred for more than `idle` seconds, it has no observer, and
+    ///   nothing is pending on it. If `Server::release` is refused, it is dropped.
+    /// - A connection is dropped if its peer has sent no CSM for more than 10 seconds after it was opened.
+    /// - A released connection is dropped if its queue is not written within 5 seconds.
+    ///
+    /// After an allocation failed in a turn, nothing happens.
+    pub fn end_idle<M: Monitor<W>>(&mut self, idle: u32, now: u64, watch: &mut IdleWatch<M>)
+        ensures has { self.old.is_spent ≡ false → HasSwept
+            (TellsMore (M.calls watch.old.monitor) (M.calls watch.new.monitor))
+            (swept idle now self.old.server watch.old.activities.entries self.old.peers.entries) self.old.server
+            self.new.server watch.new.activities.entries }
+        ensures entries { self.old.is_spent ≡ false → self.new.peers.entries
+            ≡ (swept idle now self.old.server watch.old.activities.entries self.old.peers.entries).entries }
+        ensures now { self.old.is_spent ≡ false → watch.new.now ≡ now }
+        ensures over { self.old.is_spent ≡ true → (self.new ≡ self.old) × (watch.new ≡ watch.old) }
+        ensures spent { self.new.is_spent ≡ self.old.is_spent }
+    {
+        if self.is_spent {
+            return;
+        }
+        watch.now = now;
+        sweep(&mut self.server, &mut self.peers, idle, watch);
+    }
+
+    /// Returns a wait that lasts at most until the next second of the server's time, if there is a connection.
+    pub(super) fn at_most_a_second(&self, wait: Wait) -> Wait
+        ensures { result ≡ short_wait self.now.server.host.now self.now.peers.entries wait }
+    {
+        if self.peers.is_empty() {
+            return wait;
+        }
+        wait.at_most(self.server.stamp().moment.saturating_add(1))
     }
 
     /// Runs one turn of the event loop: opens at most one connection, and serves each connection. Returns how long the
