@@ -9,6 +9,9 @@ pub mod AgendaLemmas
 pub mod PassedLemmas
 pub mod NoteLemmas
 pub mod ServingLemmas
+pub mod RemovalLemmas
+pub mod SweepLemmas
 pub mod NextPartLemmas
 pub mod ServiceLemmas
 pub mod DoorLemmas
+pub mod IdleLemmas

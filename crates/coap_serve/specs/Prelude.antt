@@ -1,10 +1,10 @@
 -- Re-exports the definitions that the contracts and proofs of this crate use. This file defines nothing.
 
 -- ---- std and the kit's crates
-pub use Rattle.indexmap.specs.IndexMap.{insert_entry, set_value_at}
+pub use Rattle.indexmap.specs.IndexMap.{insert_entry, set_value_at, shift_remove_entry}
 pub use Rattle.std.specs.List.{AllByRecursion, concat, All}
 unfoldable pub use Rattle.std.specs.List.{IsDistinct}
-pub use Rattle.std.specs.Map.{keys_of, values_of}
+pub use Rattle.std.specs.Map.{keys_of, values_of, lookup, set_value}
 pub use Rattle.std.specs.Prelude.{OnErr, OnOk}
 pub use Rattle.std.specs.Prelude.{is_none, is_ok}
 -- ---- coap_wire
@@ -39,7 +39,7 @@ pub use Rattle.coap_model.specs.declared.answers.WrittenFault.{WrittenFault}
 pub use Rattle.coap_model.specs.streams.Output.{only_id, stream_of, stdio_output, Outcome, more_of, outcome_on}
 unfoldable pub use Rattle.coap_model.specs.streams.Output.{flushed, flushed_after, outcome, world_for, written_times}
 pub use Rattle.coap_model.specs.world.Events.{AcceptedCall, Ticked, Stored, Removed, Opened, Ended, Took, stream_on}
-pub use Rattle.coap_model.specs.world.Events.{Wrote, Dropped}
+pub use Rattle.coap_model.specs.world.Events.{Wrote, Dropped, Released}
 pub use Rattle.coap_model.specs.world.Events.{beyond, spelled_on}
 unfoldable pub use Rattle.coap_model.specs.world.Events.{size_on, world_after, takes}
 unfoldable pub use Rattle.coap_model.specs.world.Events.{steps_by}
@@ -52,6 +52,8 @@ unfoldable pub use Rattle.coap_model.specs.world.Connections.{settled}
 pub use Rattle.coap_model.specs.world.World.{World, Step}
 unfoldable pub use Rattle.coap_model.specs.world.World.{side_of, step}
 -- ---- coap_serve, declared
+pub use Rattle.coap_serve.specs.declared.door.idle.Activity.{Activity}
+pub use Rattle.coap_serve.specs.declared.door.idle.IdleAction.{IdleAction}
 pub use Rattle.coap_serve.specs.declared.door.next_wakeup.NextWakeup.{NextWakeup}
 pub use Rattle.coap_serve.specs.declared.door.peer.PeerOutcome.{PeerOutcome}
 pub use Rattle.coap_serve.specs.declared.door.peer.PeerOutcome.TheVariants.{Over}
@@ -68,7 +70,14 @@ pub use Rattle.coap_server_engine.specs.declared.server.ChangeStamp.{ChangeStamp
 pub use Rattle.coap_serve.specs.streams.DoorRun.{IsDoorRun, waited_behind, moved_to, EndsWith, HasTurnedSo, IsCutRun}
 pub use Rattle.coap_serve.specs.streams.DoorRun.{NoneYet, OneMore}
 pub use Rattle.coap_serve.specs.streams.Faults.{is_read_fault, is_write_fault, IsMemory, IsMemoryOrTurns}
-pub use Rattle.coap_serve.specs.streams.RecordedInterests.{true_end, AreNoted, IsNoEarlier, KeepsNotes, WhilePassedOver, AtFirst}
+pub use Rattle.coap_serve.specs.streams.Idle.{idle_action, quiet_action, action_for, new_activity, activities_after}
+pub use Rattle.coap_serve.specs.streams.Idle.{changed_by, changed_from, moved_by, Sweep, swept_one, swept_both, acted}
+pub use Rattle.coap_serve.specs.streams.Idle.{HasSwept, HasSweptAt, drop_one, release_one}
+unfoldable pub use Rattle.coap_serve.specs.streams.Idle.{swept}
+pub use Rattle.coap_serve.specs.streams.IdleRun.{short_wait, AreEnded, HasEnded, is_sweep_due, IsIdleRun, IdleEndsWith}
+pub use Rattle.coap_serve.specs.streams.IdleRun.{HasIdleTurned, IsCutIdleRun, IsWholeIdleRun, NoneSoFar, OneSoFar}
+pub use Rattle.coap_serve.specs.streams.RecordedInterests.{true_end, recorded, recorded_on, AreNoted, IsNoEarlier, KeepsNotes}
+pub use Rattle.coap_serve.specs.streams.RecordedInterests.{WhilePassedOver, AtFirst}
 pub use Rattle.coap_serve.specs.streams.RecordedInterests.{IsNoted, Served}
 pub use Rattle.coap_serve.specs.streams.Serving.{HasServed, HasTurned, IsAskedOnce, IsTurnOf, HasGoneOn, AreServed}
 pub use Rattle.coap_serve.specs.streams.Serving.{asked_by, HadItsPart, HasOneMore, IsOpening, IsRound, IsServing}
@@ -93,19 +102,19 @@ pub use Rattle.coap_server_engine.specs.values.Flushes.{IsFlushed, IsFlushedOnce
 pub use Rattle.coap_server_engine.specs.values.Flushes.{more_in, waiting_in}
 unfoldable pub use Rattle.coap_server_engine.specs.values.Flushes.{flush_turns}
 pub use Rattle.coap_server_engine.specs.values.ServerAnswers.{stop_on, open_refusal, IsNotTaken}
-pub use Rattle.coap_server_engine.specs.values.ServerAnswers.{written_refusal}
+pub use Rattle.coap_server_engine.specs.values.ServerAnswers.{written_refusal, released_refusal, status_of}
 pub use Rattle.coap_server_engine.specs.values.ServerAnswers.{RefusesPieceOn}
 pub use Rattle.coap_server_engine.specs.values.ServerDeadlines.{same_stamp, stamp_of, outlook_of}
 pub use Rattle.coap_server_engine.specs.values.ServerDeadlines.{session_outlook}
 pub use Rattle.coap_server_engine.specs.values.Servers.{new_server, server_put, server_removed, server_ticked, AreSettled}
 pub use Rattle.coap_server_engine.specs.values.Servers.{server_dropped, ServerValue, LiesAt, server_opened}
-pub use Rattle.coap_server_engine.specs.values.Servers.{is_there, server_written}
+pub use Rattle.coap_server_engine.specs.values.Servers.{is_there, server_written, server_released}
 pub use Rattle.coap_server_engine.specs.values.Servers.{settled_entry, count_on, server_settled}
 pub use Rattle.coap_server_engine.specs.values.Servers.{server_taken_on, session_becomes}
 unfoldable pub use Rattle.coap_server_engine.specs.values.Servers.{session_of, count_taken, server_taken}
 pub use Rattle.coap_server_session.specs.values.Sessions.{host_changed}
 pub use Rattle.coap_server_session.specs.values.Sessions.{SessionValue}
-pub use Rattle.coap_server_session.specs.values.Sessions.{session_written, session_ended}
+pub use Rattle.coap_server_session.specs.values.Sessions.{session_written, session_ended, session_released}
 pub use Rattle.coap_server_session.specs.values.Sessions.{session_takes}
 unfoldable pub use Rattle.coap_server_session.specs.values.Sessions.{session_settled}
 unfoldable pub use Rattle.coap_server_session.specs.values.Sessions.{taking}

@@ -75,7 +75,7 @@ same_length es fs same = simp length-map at (ap length same)
 value_at : {P : Type 0} (es : List (ℕ × P)) (i : ℕ) (p : P) → slice_get (values_of es) i ≡ Some p → (e : ℕ × P) × (slice_get es i ≡ Some e) × (e.1 ≡ p)
 value_at es i p at = one_made (λ e. e.1) (slice_get es i) p (sym (slice_get-map (λ e. e.1) es i) ∙ at)
 
-some_at_index : {X : Type 0} (xs : List X) (i : ℕ) → i < length xs → (x : X) × (slice_get xs i ≡ Some x)
+pub some_at_index : {X : Type 0} (xs : List X) (i : ℕ) → i < length xs → (x : X) × (slice_get xs i ≡ Some x)
 some_at_index xs i within = elim (slice_get_cases xs i).1 [ inl there ↦ (there.0, there.2) | inr past ↦ absurd (omega (arith, past.0)) ]
 
 -- ---- parts of a list
@@ -89,7 +89,7 @@ more_between xs from i x order at =
 front_between : {X : Type 0} (xs : List X) (from to : ℕ) → from ≤ to → take from xs ++ drop from (take to xs) ≡ take to xs
 front_between xs from to order = rw (← take-take from to xs order) (take-append-drop from (take to xs))
 
-next_first : {X : Type 0} (xs : List X) (i : ℕ) (x : X) → slice_get xs i ≡ Some x → drop i xs ≡ x ∷ drop (i + 1) xs
+pub next_first : {X : Type 0} (xs : List X) (i : ℕ) (x : X) → slice_get xs i ≡ Some x → drop i xs ≡ x ∷ drop (i + 1) xs
 next_first xs i x at = rw (drop_more xs i x (slice_get_within xs i x at), get_or_from_slice_get xs i x x at) refl
 
 -- The elements before one that is removed stay.

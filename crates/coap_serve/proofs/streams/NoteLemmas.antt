@@ -8,7 +8,8 @@ use Rattle.std.proofs.lemmas.Map.{NonePasses, lookup-none}
 use Rattle.std.proofs.lemmas.Map.Entries.{none_past_head, lookup_from_place}
 use Rattle.coap_serve.specs.Prelude.{Path, Resource, removed_at, Change, Nothing, Put, Delete, ServerState, ChangeStamp, ConnectionWork}
 use Rattle.coap_serve.specs.Prelude.{PeerOutcome, PeerInterest, Got, Bytes, End, SessionValue, taking, host_changed}
-use Rattle.coap_serve.specs.Prelude.{session_written, session_ended, session_settled, ServerValue, LiesAt}
+use Rattle.coap_serve.specs.Prelude.{session_written, session_ended, session_released, session_settled, ServerValue}
+use Rattle.coap_serve.specs.Prelude.{LiesAt, server_released}
 use Rattle.coap_serve.specs.Prelude.{AreSettled, session_of, session_becomes, settled_entry, server_settled}
 use Rattle.coap_serve.specs.Prelude.{server_opened, server_ticked, server_taken, server_taken_on, server_dropped}
 use Rattle.coap_serve.specs.Prelude.{is_there, stamp_of, outlook_of, InResult, fed_turns, in_result, fed_more, IsServedOnce}
@@ -185,6 +186,9 @@ module _ (may_read may_write : Bool) (v : ServerValue) (id : ℕ) (rest : List �
 pub dropped_on : (v : ServerValue) (id : ℕ) → GoesOnSparing (But id) v (server_dropped v id)
 dropped_on v id = entries_settle (But id) v v.host v.ids (filter (is_other id) v.sessions) (follows_itself v.host) (λ other. other_is_kept other id v.sessions)
 
+pub released_on : (v : ServerValue) (id : ℕ) → GoesOnSparing (But id) v (server_released v id)
+released_on v id = one_happens v id session_released v.host (follows_itself v.host)
+
 opened_on : (v : ServerValue) → GoesOnSparing (But (v.ids + 1)) v (server_opened v)
 opened_on v = entries_settle (But (v.ids + 1)) v v.host (v.ids + 1) _ (follows_itself v.host) (λ other. other_is_there other (v.ids + 1) _ v.sessions)
 
@@ -287,7 +291,7 @@ module _ {W : Type 0} (P Q : ℕ × Peer W → Type 0) (id : ℕ) (each : (e : �
       ] refl distinct
 
 -- An interest that was just recorded is correct.
-noted_now : {W : Type 0} (v : ServerValue) (id : ℕ) (p : Peer W) → p.wants ≡ wants_of v id p.rest → IsNoted v (id, p)
+pub noted_now : {W : Type 0} (v : ServerValue) (id : ℕ) (p : Peer W) → p.wants ≡ wants_of v id p.rest → IsNoted v (id, p)
 noted_now v id p is = record {
   no_earlier = rw (ap (λ (w : PeerInterest). w.stamp) is ∙ stamp_in (outlook_of v id) _ (stamp_of v.host)) (no_earlier_itself (stamp_of v.host));
   truth = λ same. is;

@@ -1,5 +1,5 @@
 -- Defined by this project: the recorded I/O interest of a connection, and how long it is correct.
-use Rattle.std.specs.Prelude.{◌≡◌, ◌≢◌, ◌≤◌, ◌+◌, ℕ, Bool, List, Option}
+use Rattle.std.specs.Prelude.{◌≡◌, ◌≢◌, ◌≤◌, ◌+◌, ℕ, Bool, List, Option, map, nat_eq, if◌then◌else◌}
 use Rattle.std.specs.List.{AllByRecursion}
 use Rattle.coap_server_engine.specs.values.Servers.{ServerValue, AreSettled, server_opened, server_ticked, server_dropped}
 use Rattle.coap_server_engine.specs.values.ServerDeadlines.{stamp_of}
@@ -25,6 +25,14 @@ pub record IsNoted {W : Type 0} (v : ServerValue) (e : ℕ × Peer W) : Type 0 w
 -- The recorded interest of each connection is correct.
 abbrev pub AreNoted : {W : Type 0} → ServerValue → List (ℕ × Peer W) → Type 0
 AreNoted v es = AllByRecursion (λ e. IsNoted v e) es
+
+-- The transport side of a connection after its present interest was recorded.
+abbrev pub recorded : {W : Type 0} → ServerValue → ℕ × Peer W → Peer W
+recorded v e = record e.1 { wants = wants_of v e.0 e.1.rest }
+
+-- The entries after the present interest of the connection with this number was recorded, if it has an entry.
+abbrev pub recorded_on : {W : Type 0} → ServerValue → ℕ → List (ℕ × Peer W) → List (ℕ × Peer W)
+recorded_on v id es = map (λ e. if nat_eq id e.0 then (e.0, recorded v e) else e) es
 
 -- The state of a connection that decides whether it can be served, with its present interest in place of the recorded
 -- one.

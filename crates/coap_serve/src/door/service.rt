@@ -3,11 +3,14 @@
 ghost use Rattle.std.specs.Prelude.{◌≡◌, false, All};
 ghost use Rattle.coap_serve.specs.streams.RecordedInterests.{IsNoted};
 
+use super::idle::IdleWatch;
 use super::peer::Peers;
+use super::removal::record_on;
+use super::sweep::sweep;
 use super::turn::take_turn;
 use crate::serve::IoFault;
 use coap_io::{Door, Ready, Wait, Wire};
-use coap_model::{Backwards, Config};
+use coap_model::{Backwards, Config, ConnId, NoSuch, ReleaseFault, Status};
 use coap_server_engine::{Call, Monitor, NoMonitor, Server};
 use coap_store::{PathKey, StoreFault};
 use indexmap::IndexMap;
@@ -27,11 +30,14 @@ pub struct Service<W> {
 
 impl<W: Wire + Ready + Drop> Service<W> {
     ghost use Rattle.std.specs.Prelude.{◌+◌, ◌++◌, ◌∷◌, true, List, [], is_none, is_ok, nat_le, IfErr, IfOk, OnErr};
-    ghost use Rattle.std.specs.Prelude.{OnOk, Err};
+    ghost use Rattle.std.specs.Prelude.{OnOk, Err, nat_eq};
     ghost use Rattle.coap_serve.specs.Prelude.{RefusedBy, RefusedOrMemory, put_refusal, remove_refusal, HasTurned};
     ghost use Rattle.coap_serve.specs.Prelude.{IsAskedOnce, IsTurnOf, moved_to, TellsMore, trace_by, IsMemory};
     ghost use Rattle.coap_serve.specs.Prelude.{open_refusal, new_server, server_put, server_removed, server_ticked};
     ghost use Rattle.coap_serve.specs.Prelude.{AcceptedCall, Ticked, Stored, Removed, Shows, Unrecorded};
+    ghost use Rattle.coap_serve.specs.Prelude.{Released, Dropped, released_refusal, server_released, server_dropped};
+    ghost use Rattle.coap_serve.specs.Prelude.{HasSwept, swept, short_wait};
+    ghost use Rattle.coap_serve.specs.Prelude.{is_there, session_of, status_of, recorded_on, shift_remove_entry};
     ghost use Rattle.coap_serve.specs.declared.serve.IoFault.TheVariants as fault;
 
     /// Returns a server with no connection and an empty store. Its counters begin at the values that the configuration
@@ -137,6 +143,139 @@ impl<W: Wire + Ready + Drop> Service<W> {
         ensures spent { self.new.is_spent ≡ self.old.is_spent }
     {
         self.server.remove(path)
+    }
+
+    /// Returns the status of a connection, or `None` if no connection has this number.
+    pub fn status(&self, id: ConnId) -> Option<Status>
+        ensures { result ≡ status_of self.now.server id }
+    {
+        self.server.status(id)
+    }
+
+    /// Queues a Release on a connection and stops it, as `Server::release` does (RFC 8323 section 5.5). Later turns write
+    /// its queue. The turn that writes the last byte drops the connection.
+    ///
+    /// # Errors
+    ///
+    /// Those of `Server::release`. The server is unchanged.
+    pub fn release(&mut self, id: ConnId) -> Result<(), ReleaseFault>
+        ensures answer { RefusedBy result (released_refusal self.old.server id) }
+        ensures ok { OnOk result (self.new.server ≡ server_released self.old.server id) }
+        ensures shows { OnOk result ((events : List AcceptedCall) → Shows self.old.server events →
+            Shows self.new.server (events ++ Released id ∷ [])) }
+        // The interest of the connection is recorded anew, and no wire is touched.
+        ensures peers { OnOk result (self.new.peers.entries
+            ≡ recorded_on self.new.server id self.old.peers.entries) }
+        ensures err { OnErr result ((self.new.server ≡ self.old.server) × (self.new.peers ≡ self.old.peers)) }
+        ensures spent { self.new.is_spent ≡ self.old.is_spent }
+    {
+        self.release_with(id, &mut NoMonitor)
+    }
+
+    /// Queues a Release as `release` does. If it succeeds, the monitor receives the call.
+    ///
+    /// # Errors
+    ///
+    /// Those of `Server::release`. The server is unchanged.
+    pub fn release_with<M: Monitor<W>>(
+        &mut self,
+        id: ConnId,
+        monitor: &mut M,
+    ) -> Result<(), ReleaseFault>
+        ensures answer { RefusedBy result (released_refusal self.old.server id) }
+        ensures ok { OnOk result (self.new.server ≡ server_released self.old.server id) }
+        ensures shows { OnOk result ((events : List AcceptedCall) → Shows self.old.server events →
+            Shows self.new.server (events ++ Released id ∷ [])) }
+        ensures told { OnOk result (TellsMore (M.calls monitor.old) (M.calls monitor.new) (Released id ∷ [])) }
+        // The interest of the connection is recorded anew, and no wire is touched.
+        ensures peers { OnOk result (self.new.peers.entries
+            ≡ recorded_on self.new.server id self.old.peers.entries) }
+        ensures err { OnErr result ((self.new.server ≡ self.old.server) × (self.new.peers ≡ self.old.peers)
+            × (monitor.new ≡ monitor.old)) }
+        ensures spent { self.new.is_spent ≡ self.old.is_spent }
+    {
+        self.server.release(id)?;
+        monitor.accepted(Call::Released(id), &self.server);
+        record_on(&self.server, &mut self.peers, id);
+        Ok(())
+    }
+
+    /// Removes a connection, with its queued bytes, and closes its transport connection.
+    ///
+    /// # Errors
+    ///
+    /// - `NoSuch`: no connection has this number. Nothing has changed.
+    pub fn drop_conn(&mut self, id: ConnId) -> Result<(), NoSuch>
+        ensures answer { is_ok result ≡ is_there (session_of id self.old.server.sessions) }
+        ensures ok { OnOk result (self.new.server ≡ server_dropped self.old.server id) }
+        ensures shows { OnOk result ((events : List AcceptedCall) → Shows self.old.server events →
+            Shows self.new.server (events ++ Dropped id ∷ [])) }
+        ensures peers { OnOk result (self.new.peers.entries
+            ≡ shift_remove_entry (nat_eq id) self.old.peers.entries) }
+        ensures err { OnErr result ((self.new.server ≡ self.old.server) × (self.new.peers ≡ self.old.peers)) }
+        ensures spent { self.new.is_spent ≡ self.old.is_spent }
+    {
+        self.drop_with(id, &mut NoMonitor)
+    }
+
+    /// Removes a connection as `drop_conn` does. If it succeeds, the monitor receives the call.
+    ///
+    /// # Errors
+    ///
+    /// - `NoSuch`: no connection has this number. Nothing has changed.
+    pub fn drop_with<M: Monitor<W>>(&mut self, id: ConnId, monitor: &mut M) -> Result<(), NoSuch>
+        ensures answer { is_ok result ≡ is_there (session_of id self.old.server.sessions) }
+        ensures ok { OnOk result (self.new.server ≡ server_dropped self.old.server id) }
+        ensures shows { OnOk result ((events : List AcceptedCall) → Shows self.old.server events →
+            Shows self.new.server (events ++ Dropped id ∷ [])) }
+        ensures told { OnOk result (TellsMore (M.calls monitor.old) (M.calls monitor.new) (Dropped id ∷ [])) }
+        ensures peers { OnOk result (self.new.peers.entries
+            ≡ shift_remove_entry (nat_eq id) self.old.peers.entries) }
+        ensures err { OnErr result ((self.new.server ≡ self.old.server) × (self.new.peers ≡ self.old.peers)
+            × (monitor.new ≡ monitor.old)) }
+        ensures spent { self.new.is_spent ≡ self.old.is_spent }
+    {
+        self.server.drop_conn(id)?;
+        monitor.accepted(Call::Dropped(id), &self.server);
+        let _ = self.peers.shift_remove(&id);
+        Ok(())
+    }
+
+    /// Releases or drops the connections that are idle at the time `now`, in order of their numbers, by the times that
+    /// `watch` recorded. `now` is in seconds of a clock that never goes back, and the calls that follow have that time.
+    ///
+    /// - A connection is released if no byte was transferred for more than `idle` seconds, it has no observer, and
+    ///   nothing is pending on it. If `Server::release` is refused, it is dropped.
+    /// - A connection is dropped if its peer has sent no CSM for more than 10 seconds after it was opened.
+    /// - A released connection is dropped if its queue is not written within 5 seconds.
+    ///
+    /// After an allocation failed in a turn, nothing happens.
+    pub fn end_idle<M: Monitor<W>>(&mut self, idle: u32, now: u64, watch: &mut IdleWatch<M>)
+        ensures has { self.old.is_spent ≡ false → HasSwept
+            (TellsMore (M.calls watch.old.monitor) (M.calls watch.new.monitor))
+            (swept idle now self.old.server watch.old.activities.entries self.old.peers.entries) self.old.server
+            self.new.server watch.new.activities.entries }
+        ensures entries { self.old.is_spent ≡ false → self.new.peers.entries
+            ≡ (swept idle now self.old.server watch.old.activities.entries self.old.peers.entries).entries }
+        ensures now { self.old.is_spent ≡ false → watch.new.now ≡ now }
+        ensures over { self.old.is_spent ≡ true → (self.new ≡ self.old) × (watch.new ≡ watch.old) }
+        ensures spent { self.new.is_spent ≡ self.old.is_spent }
+    {
+        if self.is_spent {
+            return;
+        }
+        watch.now = now;
+        sweep(&mut self.server, &mut self.peers, idle, watch);
+    }
+
+    /// Returns a wait that lasts at most until the next second of the server's time, if there is a connection.
+    pub(super) fn at_most_a_second(&self, wait: Wait) -> Wait
+        ensures { result ≡ short_wait self.now.server.host.now self.now.peers.entries wait }
+    {
+        if self.peers.is_empty() {
+            return wait;
+        }
+        wait.at_most(self.server.stamp().moment.saturating_add(1))
     }
 
     /// Runs one turn of the event loop: opens at most one connection, and serves each connection. Returns how long the

@@ -91,6 +91,7 @@ impl Server {
     /// - `PeerTooSmall`: the peer accepts fewer than 2 bytes.
     #[tactic(auto, using(crate::proofs::values::ServerLemmas::unmarked_at, crate::proofs::values::ServerLemmas::within_unmarked))]
     pub fn release(&mut self, id: ConnId) -> Result<(), ReleaseFault>
+        ensures settled { AreSettled self.old.host self.old.sessions }
         ensures answer { RefusedBy result (released_refusal self.old id) }
         ensures ok { OnOk result (self.new ≡ server_released self.old id) }
         ensures shows { OnOk result ((events : List AcceptedCall) → Shows self.old events →
@@ -141,6 +142,7 @@ impl Server {
     /// - `NoSuch`: no connection has this id. Nothing has changed.
     #[tactic(auto, using(crate::proofs::values::ServerLemmas::unmarked_at, crate::proofs::values::ServerLemmas::within_unmarked))]
     pub fn drop_conn(&mut self, id: ConnId) -> Result<(), NoSuch>
+        ensures settled { AreSettled self.old.host self.old.sessions }
         ensures answer { is_ok result ≡ is_there (session_of id self.old.sessions) }
         ensures ok { OnOk result (self.new ≡ server_dropped self.old id) }
         ensures shows { OnOk result ((events : List AcceptedCall) → Shows self.old events →

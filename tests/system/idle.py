@@ -1,0 +1,177 @@
+#!/usr/bin/env python3
+"""Checks that a server with --idle ends silent connections, and no others.
+
+    tests/system/idle.py bin/coap-server
+
+Four servers run side by side for 16 seconds:
+
+- `--idle 5`: 255 silent peers, of which every second one sends a CSM, beside a peer that makes a request every second. All silent peers must be
+    gone, and those that sent a CSM must have a Release. The server has room for 256 connections.
+- `--idle 5`: an observer and a peer that sends a Ping every 3 seconds must stay. A peer that requests much and never reads must be gone.
+- `--idle 60`: a peer that sends no CSM must be gone after 10 to 13 seconds, and a silent peer with a CSM must stay.
+- No `--idle`: silent peers must stay.
+"""
+
+import contextlib
+import os
+import socket
+import sys
+import time
+
+sys.path.insert(0, os.path.join(os.path.dirname(os.path.abspath(__file__)), "..", "harness"))
+import messages  # noqa: E402
+from checks import CSM, GREETING, Checks  # noqa: E402
+from message_syntax import encoded, uint  # noqa: E402
+from peers import Server  # noqa: E402
+
+# Seconds after which all silent peers must be gone, between two Pings, and between two requests of the good peer.
+WINDOW, PING_EVERY, ASK_EVERY = 16, 3, 1
+
+# Seconds until the good peer must have its response.
+SOON = 1
+
+SETTINGS, RELEASE, PING, PONG = (bytes.fromhex(it) for it in ("00e1", "00e4", "00e2", "00e3"))
+OWN = bytes.fromhex(CSM)
+
+# Codes and options.
+GET, PUT, OBSERVE, URI_PATH = 0x01, 0x03, 6, 11
+
+# Bytes of the representation that the peer requests which never reads.
+BIG = 60_000
+
+
+class Peer:
+    """A connection to a server, which keeps the bytes that it received."""
+
+    def __init__(self, server, greets=True, room=None):
+        self.socket, self.stream, self.ended = socket.socket(), b"", None
+        if room:
+            self.socket.setsockopt(socket.SOL_SOCKET, socket.SO_RCVBUF, room)
+        self.socket.settimeout(20)
+        self.socket.connect((server.host, server.port))
+        if greets:
+            self.socket.sendall(SETTINGS)
+
+    def ask(self, code, token, path, options=(), payload=b""):
+        named = [(URI_PATH, it.encode()) for it in path.split("/")[1:] if it]
+        self.socket.sendall(encoded(code, bytes([token]), sorted([*options, *named], key=lambda it: it[0]), payload))
+
+    def look(self):
+        """Reads what has arrived, and notes the end of the connection with its time."""
+        self.socket.setblocking(False)
+        with contextlib.suppress(BlockingIOError):
+            while self.ended is None:
+                try:
+                    piece = self.socket.recv(65_536)
+                except ConnectionError:
+                    piece = b""
+                self.stream += piece
+                if not piece:
+                    self.ended = time.monotonic()
+        self.socket.settimeout(20)
+        return self
+
+    def next(self):
+        """Returns the next message after the server's CSM, and waits for it."""
+        while True:
+            size = messages.length_of(self.stream)
+            if size is not None and size <= len(self.stream):
+                frame, self.stream = self.stream[:size], self.stream[size:]
+                if frame != OWN:
+                    return frame
+                continue
+            piece = self.socket.recv(65_536)
+            if not piece:
+                raise ConnectionError("the connection ended")
+            self.stream += piece
+
+
+def sockets_of(server):
+    """Returns the number of open sockets of a server."""
+    folder = f"/proc/{server.process.pid}/fd"
+    count = 0
+    for name in os.listdir(folder):
+        with contextlib.suppress(FileNotFoundError):
+            count += os.readlink(f"{folder}/{name}").startswith("socket:")
+    return count
+
+
+def fill(peer):
+    """Requests the large representation until the server accepts no more."""
+    peer.socket.settimeout(1)
+    with contextlib.suppress(TimeoutError):
+        for token in range(100_000):
+            peer.ask(GET, token % 256, "/big")
+
+
+def ends_when_read(peer):
+    """Reads everything, and returns true if the connection then ends."""
+    peer.socket.settimeout(3)
+    with contextlib.suppress(TimeoutError):
+        while True:
+            try:
+                if not peer.socket.recv(1 << 20):
+                    return True
+            except ConnectionError:
+                return True
+    return False
+
+
+def check(checks, program):
+    many = ["--idle", "5", "--connections", "256"]
+    with Server(program, many) as crowded, Server(program, ["--idle", "5", "-d", "4"]) as mixed, Server(program, ["--idle", "60"]) as patient, \
+            Server(program) as plain:
+        good, pings, observer = Peer(crowded), Peer(mixed), Peer(mixed)
+        silent = [Peer(crowded, greets=at % 2 == 0) for at in range(255)]
+        writer = Peer(mixed)
+        writer.ask(PUT, 1, "/big", payload=bytes(BIG))
+        checks.same("the representation is stored", writer.next()[1], 0x41)
+        writer.ask(PUT, 2, "/x", payload=b"1")
+        checks.same("another representation is stored", writer.next()[1], 0x41)
+        observer.ask(GET, 3, "/x", [(OBSERVE, uint(0))])
+        checks.same("the observer is registered", observer.next()[1], 0x45)
+        deaf = Peer(mixed, room=4_096)
+        fill(deaf)
+        mute, mild = Peer(patient, greets=False), Peer(patient)
+        stays = [Peer(plain, greets=greets) for greets in (False, True)]
+        began, asked, pinged, slow = time.monotonic(), 0, 0, 0
+        while (passed := time.monotonic() - began) < WINDOW:
+            if passed >= asked * ASK_EVERY:
+                asked += 1
+                before = time.monotonic()
+                good.ask(GET, 7, "/")
+                checks.same("the good peer is served", good.next().hex().endswith(GREETING), True)
+                slow += time.monotonic() - before > SOON
+            if passed >= pinged * PING_EVERY:
+                pinged += 1
+                pings.socket.sendall(PING)
+                checks.same("a Pong for each Ping", pings.next(), PONG)
+            mute.look()
+            time.sleep(0.1)
+        checks.same("the good peer waits for no response", slow, 0)
+        gone = [peer.look().ended is not None for peer in silent]
+        checks.same("all silent peers are gone", gone.count(False), 0)
+        checks.same("the server has closed their sockets", sockets_of(crowded), 2)
+        checks.same("silent peers with a CSM have a Release", {peer.stream for peer in silent[::2]}, {OWN + RELEASE})
+        checks.same("silent peers without a CSM have none", {peer.stream for peer in silent[1::2]}, {OWN})
+        checks.same("a peer that writes is released too", writer.look().ended is not None, True)
+        checks.same("a peer that never reads is gone", sockets_of(mixed), 3)
+        checks.same("its connection ends", ends_when_read(deaf), True)
+        again = Peer(mixed)
+        again.ask(PUT, 4, "/x", payload=b"2")
+        checks.same("the representation is changed", again.next()[1], 0x44)
+        checks.same("the observer is notified", observer.next()[-2:], b"\xff2")
+        checks.same("a peer without a CSM is gone after 10 seconds", mute.ended is not None and 10 <= mute.ended - began <= 13, True)
+        checks.same("a silent peer stays for the whole time of --idle", mild.look().ended, None)
+        checks.same("without --idle all peers stay", [peer.look().ended for peer in stays], [None, None])
+
+
+def main():
+    checks = Checks()
+    check(checks, os.path.abspath(sys.argv[1]))
+    print(f"{checks.passed} passed, {checks.failed} failed")
+    return 1 if checks.failed else 0
+
+
+if __name__ == "__main__":
+    sys.exit(main())
