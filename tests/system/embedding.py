@@ -50,6 +50,7 @@ def check_end(checks, gateway, sensor):
     """Checks that the gateway ends if the sensor cannot be read."""
     os.remove(sensor.name)
     checks.same("the gateway ends without a sensor", gateway.wait(LIMIT), 1)
+    checks.same("the gateway says why it ends", "cannot open the sensor's file" in gateway.stderr.read().decode(), True)
 
 
 def main(program, client_program):

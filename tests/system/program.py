@@ -135,7 +135,7 @@ SERVER_VALUES = [
     (["--pending", "257"], "--pending", "0 to 256 responses", "257"), (["--observers", "257"], "--observers", "0 to 256 observers", "257"),
     (["--connections", "0"], "--connections", "1 to 256 connections", "0"), (["--connections", "257"], "--connections", "1 to 256 connections", "257"),
     (["--turns", "0"], "--turns", "1 to 1000000000000 turns", "0"), (["--turns", "1000000000001"], "--turns", "1 to 1000000000000 turns", "1000000000001"),
-    (["--log", "4", "--stdio"], "--log", LEVEL, "4"), (["--log", "-1"], "--log", LEVEL, "-1"),
+    (["--log", "4", "--stdio"], "--log", LEVEL, "4"), (["--log=-1"], "--log", LEVEL, "-1"),
     (["--idle", "4294967296"], "--idle", "0 to 4294967295 seconds", "4294967296"),
     # The first bad value in the order of the usage line, also if options exclude each other.
     (["--turns", "0", "-p", "0", "--script", "-", "--stdio"], "-p", PORT, "0"), (["--idle", "x", "--log", "x"], "--log", LEVEL, "x"),

@@ -19,9 +19,7 @@ pub use coap_client_engine::{
     Awaited, Cause, Client, ClientFault, Event, Refusal, RunEnd, Taken, explain, run_client,
     run_to_end,
 };
-pub use coap_command_line::{
-    WordsFault, client_reason, client_words, server_reason, server_words,
-};
+pub use coap_command_line::{WordsFault, client_reason, client_words, server_reason, server_words};
 pub use coap_conn::{LimitFault, Limits, LimitsBuilder, Phase, Reason, RequestFault};
 pub use coap_io::{Clock, Got, Outlet, Wire, WriteFailed, WriteOutlet};
 pub use coap_print::Line;

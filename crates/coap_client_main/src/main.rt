@@ -8,13 +8,17 @@
 ghost use Rattle.std.specs.Prelude.{◌≡◌, ◌≤◌, IfSome, IfNone};
 ghost use Rattle.std.specs.Str.{IsUtf8};
 
+mod logged;
+
 use coap_client::{
     ClientPlan, Line, RunEnd, Target, client_reason, client_words, explain, run_to_end,
 };
-use coap_io::WriteOutlet;
+use coap_io::{Wire, WriteOutlet};
+use coap_print::LogLevel;
 use coap_program::{FAULT, FileError, Program, USAGE, occupy_standard_descriptors, read_whole};
-use coap_sockets::{ClientWire, ConnectError, ConnectFault};
+use coap_sockets::{ClientWire, ConnectError, ConnectFault, RunClock};
 use coap_wire::LARGEST_MESSAGE;
+use logged::run_logged;
 use std::io::Write;
 use std::net::Net;
 use std::process::ExitCode;
@@ -94,23 +98,40 @@ fn print_cause(rt: &impl Eprint, end: &RunEnd) -> u8
     PROGRAM.print_fault(rt, line.as_str(), end.status)
 }
 
-/// Runs a client over a connection, with writers for payloads and for reports, and returns the exit status.
-fn run_on_connection<R: Eprint + Net + time::Clock + AllocGlobal>(
+/// Runs a client over a wire, with writers for payloads and for reports, and returns the exit status.
+pub(crate) fn run_over<R: Eprint + time::Clock + AllocGlobal>(
     rt: &R,
-    mut line: ClientWire<'_, R>,
+    wire: &mut impl Wire,
+    mut clock: RunClock<'_, R>,
     out: impl Write + Drop,
     err: impl Write + Drop,
     plan: &ClientPlan,
 ) -> u8
     ensures { result ≤ 4 }
 {
-    let mut clock = line.clock();
     let mut out = WriteOutlet::new(out);
     let mut err = WriteOutlet::new(err);
-    match run_to_end(rt.alloc(), &mut line, &mut clock, &mut out, &mut err, plan) {
+    match run_to_end(rt.alloc(), wire, &mut clock, &mut out, &mut err, plan) {
         Ok(end) => print_cause(rt, &end),
         Err(fault) => PROGRAM.print_fault(rt, fault, FAULT),
     }
+}
+
+/// Runs a client over a connection, with or without a log, and returns the exit status.
+fn run_on_connection<R: Eprint + Net + time::Clock + AllocGlobal>(
+    rt: &R,
+    mut wire: ClientWire<'_, R>,
+    out: impl Write + Drop,
+    err: impl Write + Drop,
+    plan: &ClientPlan,
+) -> u8
+    ensures { result ≤ 4 }
+{
+    let clock = wire.clock();
+    if plan.log == LogLevel::Nothing {
+        return run_over(rt, &mut wire, clock, out, err, plan);
+    }
+    run_logged(rt, wire, clock, out, err, plan)
 }
 
 /// Runs a plan, with a writer for reports, and returns the exit status.

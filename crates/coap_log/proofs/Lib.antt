@@ -4,3 +4,4 @@ pub mod WriterLemmas
 pub mod LogLemmas
 pub mod TapLemmas
 pub mod TapLaws
+pub mod ConnectionLemmas

@@ -1,8 +1,9 @@
 -- The number of lines in a second.
-use Rattle.std.proofs.Common.{◌≡◌, ℕ, ◌+◌, ◌-◌, ◌<◌, ◌≤◌, ◌==◌, List, [], ◌∷◌, arith, if◌then◌else◌}
+use Rattle.std.proofs.Common.{◌≡◌, ℕ, ◌+◌, ◌-◌, ◌<◌, ◌≤◌, ◌^◌, ◌==◌, List, [], ◌∷◌, arith, if◌then◌else◌}
 use Rattle.std.proofs.lemmas.Bool.Decides.{nat_tests}
 use Rattle.coap_log.specs.Limits.{report, after_report, missed, admission, after_admission, LimitCall, Admit, Report, Miss}
 use Rattle.coap_log.specs.Limits.{after_call, lines_of_admission, lines_of_report, lines_of_call, lines_in}
+use Rattle.coap_log.specs.Limits.{lost_by_admission, lost_by_call, reported_by_admission, reported_in, reported_by_call, lost, reported, after_calls}
 use Rattle.coap_log.specs.declared.limit.LineLimit.{LineLimit}
 
 -- The limit before and after a call that writes `n` lines.
@@ -61,3 +62,31 @@ bounded second l (call ∷ calls) =
 
 pub limited : (second : ℕ) (l : LineLimit) (calls : List LimitCall) → lines_in second l calls ≤ 100
 limited second l calls = (bounded second l calls).before
+
+-- ---- the lines left out
+
+admission_counts : (l : LineLimit) (second : ℕ) → l.left_out + lost_by_admission (admission l second) < 2 ^ 64
+    → reported_by_admission (admission l second) + (after_admission l second).left_out ≡ l.left_out + lost_by_admission (admission l second)
+unfolding report after_report missed admission after_admission
+admission_counts l second few = grind (arith, nat_tests)
+
+report_counts : (l : LineLimit) (second : ℕ) → reported_in (report l second) + (after_report l second).left_out ≡ l.left_out
+unfolding report after_report
+report_counts l second = grind (arith, nat_tests)
+
+miss_counts : (l : LineLimit) (count : ℕ) → l.left_out + count < 2 ^ 64 → (missed count l).left_out ≡ l.left_out + count
+unfolding missed
+miss_counts l count few = omega arith
+
+call_counts : (l : LineLimit) (call : LimitCall) → l.left_out + lost_by_call l call < 2 ^ 64 → reported_by_call l call + (after_call l call).left_out ≡ l.left_out + lost_by_call l call
+call_counts l (Admit second) few = admission_counts l second few
+call_counts l (Report second) few = omega (arith, report_counts l second)
+call_counts l (Miss count) few = omega (arith, miss_counts l count few)
+
+pub counted : (l : LineLimit) (calls : List LimitCall) → l.left_out + lost l calls < 2 ^ 64 → reported l calls + (after_calls l calls).left_out ≡ l.left_out + lost l calls
+unfolding lost reported after_calls
+counted l [] few = omega arith
+counted l (call ∷ calls) few =
+    let first = call_counts l call (omega (arith, few)) in
+    let others = counted (after_call l call) calls (omega (arith, few, first)) in
+    omega (arith, first, others)

@@ -1,5 +1,5 @@
 -- A tap shows the frames of its stream.
-use Rattle.std.proofs.Common.{◌≡◌, ℕ, ◌+◌, ◌-◌, ◌≤◌, ◌<◌, min, Bool, true, false, List, [], ◌∷◌, ◌++◌, length, take, drop, map, sym, ap, subst, ◌∙◌, append_assoc, arith, inl, inr, refl, if◌then◌else◌}
+use Rattle.std.proofs.Common.{◌≡◌, ℕ, ◌+◌, ◌-◌, ◌≤◌, ◌<◌, min, Bool, true, false, List, [], ◌∷◌, ◌++◌, length, take, drop, map, sym, ap, subst, ◌∙◌, append_assoc, arith, ◌⊎◌, inl, inr, refl, if◌then◌else◌}
 use Rattle.std.proofs.lemmas.Bool.{cases_lt, lt-ltb, le-ltb, eq-eqb, ne_eqb, cond-true, cond-false}
 use Rattle.std.proofs.lemmas.List.{append-nil, take-append-drop, take_all, take_at, take-append-le, length-append, length-take}
 use Rattle.coap_wire.specs.Reading.{declared_of}
@@ -9,7 +9,7 @@ use Rattle.coap_wire.specs.declared.sizes.TheConstants.{LARGEST_MESSAGE}
 use Rattle.coap_wire.specs.declared.declaration.Declared.{Declared}
 use Rattle.coap_wire.specs.declared.declaration.Declared.TheVariants.{Unknown, Size, BadToken}
 use Rattle.coap_wire.proofs.StreamSteps.{begin_unknown, begin_bad_token, begin_too_large, begin_short, begin_whole, whole_itself, whole_more, whole_parts, faulty_more, unfinished_empty, frames_unfinished, frames_faulty, frames_whole}
-use Rattle.coap_log.specs.Taps.{TapValue, new_tap, begun, with_bytes, ended_at, silenced, taken_at, followed_at, declared_after, taken_by, followed_by, taken, tap_after, Glimpse, glimpse, TapOutput, output_then, output_of, counted}
+use Rattle.coap_log.specs.Taps.{TapValue, new_tap, begun, with_bytes, ended_at, silenced, taken_at, followed_at, declared_after, taken_by, followed_by, taken, tap_after, Glimpse, glimpse, TapOutput, output_then, output_of, counted, after_pieces}
 use Rattle.coap_log.proofs.TapLemmas.{filled, cut_twice, declared_kept}
 
 abbrev M : ℕ
@@ -249,3 +249,74 @@ pub new_tap_shows : (room : ℕ) (pieces : List (List ℕ)) → 8 ≤ room → (
 new_tap_shows room pieces long =
     shown room (new_tap room) pieces [] long refl
     (record { room = long; whole = refl; live = refl; kept = sym (take_all room [] (omega arith)); seen = refl; unfinished = unfinished_empty M })
+
+-- ---- each call takes a byte
+
+-- A tap follows the present frame, or shows nothing any more.
+abbrev IsReached : ℕ → TapValue → Type 0
+IsReached room v = ((r : List ℕ) × Follows (begun v) r × ((begun v).room ≡ room)) ⊎ IsDead v
+
+reached_by : (room : ℕ) (v : TapValue) (r p : List ℕ) (n t : ℕ) (a : TapValue) (b : StreamPrefix) → 8 ≤ room → v.room ≡ room → IsStep v r p t a b → IsReached room (record a { bytes = n })
+reached_by room v r p n t a Unfinished long fits s = inl (r ++ p, counted_follows a (r ++ p) n s.1, room_begun (record a { bytes = n }) ∙ s.2 ∙ fits)
+reached_by room v r p n t a (Whole frame rest) long fits s =
+    let is : Shows room a frame = subst (λ (k : ℕ). Shows k a frame) fits s.1 in
+    inl ([], next_follows room a frame n long is, room_begun (record a { bytes = n }) ∙ is.room)
+reached_by room v r p n t a (Faulty fault) long fits s = inr (record { whole = s.1.whole; silent = s.1.silent })
+
+reached_next : (room : ℕ) (v : TapValue) (p : List ℕ) → 8 ≤ room → IsReached room v → IsReached room (tap_after v p)
+reached_next room v p long (inl f) =
+    let a = followed_by (begun v) p in
+    reached_by room (begun v) f.0 p (counted a.bytes (taken v p)) (taken v p) a (prefix_kind M (f.0 ++ p)) long f.2 (step (begun v) f.0 p f.1)
+reached_next room v p long (inr d) = inr (dead_step v p d)
+
+reached : (room : ℕ) (v : TapValue) (pieces : List (List ℕ)) → 8 ≤ room → IsReached room v → IsReached room (after_pieces v pieces)
+unfolding after_pieces
+reached room v [] long is = is
+reached room v (p ∷ ps) long is = reached room (tap_after v p) ps long (reached_next room v p long is)
+
+-- A byte of an unfinished frame is missing, if its size is declared by the next bytes.
+missing : (r piece : List ℕ) (n : ℕ) → prefix_kind M r ≡ Unfinished → declared_of (r ++ piece) ≡ Size n → n ≤ M → length r < n
+missing r piece n u e small =
+    elim (cases_lt (length (r ++ piece)) n) [
+      | inl less ↦ omega (arith, less, length-append r piece)
+      | inr enough ↦ (
+          let w = begin_whole M (r ++ piece) n e small enough in
+          let size : length (take n (r ++ piece)) ≡ n = omega (arith, enough, length-take n (r ++ piece)) in
+          let some = within_frame r piece (take n (r ++ piece)) (drop n (r ++ piece)) u w in
+          elim (cases_lt (length r) n) [
+            | inl less ↦ less
+            | inr all ↦ (
+                let same : take n (r ++ piece) ≡ r = take_at r piece n (omega (arith, some, all, size)) in
+                let bad : ◌≡◌ {A = StreamPrefix} Unfinished (Whole r []) = sym u ∙ ap (prefix_kind M) (sym same) ∙ whole_itself M (r ++ piece) (take n (r ++ piece)) (drop n (r ++ piece)) w ∙ ap (λ (l : List ℕ). Whole l []) same in
+                absurd cc)
+          ])
+    ]
+
+takes_at : (v : TapValue) (r piece : List ℕ) (d : Declared) → Follows v r → declared_of (r ++ piece) ≡ d → 1 ≤ length piece → 1 ≤ taken_at v piece d
+takes_at v r piece Unknown f e some = some
+takes_at v r piece BadToken f e some = some
+takes_at v r piece (Size n) f e some =
+    elim (cases_lt M n) [
+      | inl large ↦
+          let t : taken_at v piece (Size n) ≡ length piece = cond-true _ _ _ (lt-ltb M n large) in
+          omega (arith, t, some)
+      | inr small ↦
+          let t : taken_at v piece (Size n) ≡ min (n - v.seen) (length piece) = cond-false _ _ _ (le-ltb M n small) in
+          omega (arith, t, some, missing r piece n f.unfinished e small, f.seen)
+    ]
+
+takes : (room : ℕ) (v : TapValue) (piece : List ℕ) → IsReached room v → 1 ≤ length piece → 1 ≤ taken v piece
+unfolding taken_by
+takes room v piece (inl f) some =
+    let t : taken v piece ≡ taken_at (begun v) piece (declared_after (begun v) piece) = cond-false (begun v).is_silent _ _ f.1.live in
+    omega (arith, t, takes_at (begun v) f.0 piece (declared_after (begun v) piece) f.1 (sym (declares (begun v) f.0 piece f.1)) some)
+takes room v piece (inr d) some =
+    let is : (begun v).is_silent ≡ true = ap (λ (w : TapValue). w.is_silent) (clean v d.whole) ∙ d.silent in
+    let t : taken v piece ≡ length piece = cond-true (begun v).is_silent _ _ is in
+    omega (arith, t, some)
+
+pub takes_a_byte : (room : ℕ) (pieces : List (List ℕ)) (piece : List ℕ) → 8 ≤ room → 1 ≤ length piece → 1 ≤ taken (after_pieces (new_tap room) pieces) piece
+takes_a_byte room pieces piece long some =
+    takes room (after_pieces (new_tap room) pieces) piece
+    (reached room (new_tap room) pieces long (inl ([], record { room = long; whole = refl; live = refl; kept = sym (take_all room [] (omega arith)); seen = refl; unfinished = unfinished_empty M }, refl)))
+    some

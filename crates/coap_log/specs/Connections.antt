@@ -1,6 +1,13 @@
 -- Defined by this project: the lines of a connection.
-use Rattle.std.specs.Prelude.{ℕ, List, [], ◌++◌, ◌==◌, codes, decimal, if◌then◌else◌}
-use Rattle.coap_log.specs.Taps.{TapValue}
+use Rattle.std.specs.Prelude.{◌≡◌, ℕ, zero, suc, Bool, true, false, List, [], ◌∷◌, ◌++◌, length, take, drop, ◌==◌, codes, decimal, if◌then◌else◌}
+use Rattle.coap_print.specs.Lines.{appended}
+use Rattle.coap_print.specs.declared.line.TheConstants.{LINE_LENGTH}
+use Rattle.coap_print.specs.declared.level.LogLevel.{LogLevel}
+use Rattle.coap_print.specs.declared.level.LogLevel.TheVariants.{Messages}
+use Rattle.coap_log.specs.Glimpses.{head_text}
+use Rattle.coap_log.specs.Logs.{LogTrace, LogsLine}
+use Rattle.coap_log.specs.Taps.{TapValue, taken, tap_after}
+use Rattle.coap_log.specs.declared.tap.TheConstants.{DESCRIBED}
 
 -- The end of the plural, unless there is one thing.
 abbrev pub plural : ℕ → List ℕ
@@ -17,3 +24,47 @@ passed_text tap = count_text tap.messages (codes "message") ++ codes ", " ++ cou
 -- The numbers in both directions, as in 12 messages, 345 bytes in; 1 message, 45 bytes out.
 abbrev pub counts_text : TapValue → TapValue → List ℕ
 counts_text incoming outgoing = passed_text incoming ++ codes " in; " ++ passed_text outgoing ++ codes " out"
+
+-- The last line of a connection, after other text.
+abbrev pub end_line : List ℕ → TapValue → TapValue → List ℕ
+end_line text incoming outgoing = appended LINE_LENGTH [] (text ++ codes ": " ++ counts_text incoming outgoing)
+
+-- A text is logged as a line of a level, at some time.
+abbrev pub LogsAtATime : LogLevel → List ℕ → LogTrace → LogTrace → Type 0
+LogsAtATime level text before after = (nanos : ℕ) × LogsLine level nanos text before after
+
+-- ---- messages
+
+-- The line of the present message of a tap, after other text.
+abbrev pub message_line : List ℕ → TapValue → List ℕ
+message_line front tap = appended LINE_LENGTH [] (front ++ head_text (take DESCRIBED tap.kept) tap.seen)
+
+-- The present message of a tap is logged, if it is whole.
+abbrev pub LogsWhole : ℕ → List ℕ → TapValue → LogTrace → LogTrace → Bool → Type 0
+LogsWhole nanos front tap before after true = LogsLine Messages nanos (message_line front tap) before after
+LogsWhole nanos front tap before after false = after ≡ before
+
+-- The effect of one call of a tap on these bytes, which takes no byte if the last argument is true. Otherwise a whole
+-- message is logged, and `go` gives the effect of the other bytes.
+abbrev pub LogsTaken : (List ℕ → TapValue → LogTrace → Type 0) → ℕ → List ℕ → List ℕ → TapValue → TapValue → LogTrace → LogTrace → Bool → Type 0
+LogsTaken go nanos front bytes tap end before after true = (end ≡ tap_after tap bytes) × (after ≡ before)
+LogsTaken go nanos front bytes tap end before after false =
+    (middle : LogTrace) × LogsWhole nanos front (tap_after tap bytes) before middle (tap_after tap bytes).is_whole
+    × go (drop (taken tap bytes) bytes) (tap_after tap bytes) middle
+
+-- Bytes are passed to a tap, and each message that ends with them is logged. This changes the tap from `tap` to `end`,
+-- and the log from `before` to `after`. The first argument limits the recursion: each turn takes a byte.
+unfoldable pub LogsBytes : ℕ → ℕ → List ℕ → List ℕ → TapValue → TapValue → LogTrace → LogTrace → Type 0
+LogsBytes zero nanos front bytes tap end before after = (end ≡ tap) × (after ≡ before)
+LogsBytes (suc turns) nanos front [] tap end before after = (end ≡ tap) × (after ≡ before)
+LogsBytes (suc turns) nanos front (b ∷ bytes) tap end before after =
+    LogsTaken (λ rest now middle. LogsBytes turns nanos front rest now end middle after) nanos front (b ∷ bytes) tap end before after
+    (taken tap (b ∷ bytes) == 0)
+
+-- Bytes are passed to a tap, and each message that ends with them is logged, at some time.
+abbrev pub LogsPassed : List ℕ → List ℕ → TapValue → TapValue → LogTrace → LogTrace → Type 0
+LogsPassed front bytes tap end before after = (nanos : ℕ) × LogsBytes (length bytes) nanos front bytes tap end before after
+
+-- The front of the lines of a wire, for a direction.
+abbrev pub front : List ℕ → List ℕ
+front direction = appended LINE_LENGTH [] direction

@@ -1,5 +1,5 @@
 -- Defined by this project: a message as text, if only its first bytes are known.
-use Rattle.std.specs.Prelude.{ℕ, ◌+◌, ◌-◌, ◌/◌, ◌%◌, List, [], ◌∷◌, ◌++◌, length, take, drop, Result, Ok, Err, nat_le, codes, decimal, if◌then◌else◌}
+use Rattle.std.specs.Prelude.{ℕ, ◌+◌, ◌-◌, ◌/◌, ◌%◌, List, [], ◌∷◌, ◌++◌, length, take, drop, slice_get, Option, None, Result, Ok, Err, nat_le, codes, decimal, if◌then◌else◌}
 use Rattle.coap_wire.specs.Forms.{extension_of}
 use Rattle.coap_wire.specs.Message.{Message}
 use Rattle.coap_wire.specs.Reading.{declared_of, message_of}
@@ -56,3 +56,8 @@ unfoldable pub head_text : List ℕ → ℕ → List ℕ
 head_text head size =
     if nat_le size (length head) then frame_text head
     else codes "first " ++ decimal (length head) ++ codes " of " ++ decimal size ++ codes " bytes: " ++ long_text head
+
+-- The code of the frame with these first bytes, if it is one of them.
+unfoldable pub head_code : List ℕ → Option ℕ
+head_code [] = None
+head_code (first ∷ after) = slice_get (drop (extension_of (first / 16)) after) 0

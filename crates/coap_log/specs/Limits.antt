@@ -89,3 +89,47 @@ unfoldable pub lines_in : ℕ → LineLimit → List LimitCall → ℕ
 lines_in second l [] = 0
 lines_in second l (call ∷ calls) =
     (if (after_call l call).second == second then lines_of_call l call else 0) + lines_in second (after_call l call) calls
+
+-- The number of lines that a decision leaves out.
+abbrev pub lost_by_admission : Admission → ℕ
+lost_by_admission LeftOut = 1
+lost_by_admission Line = 0
+lost_by_admission (AfterReport count) = 0
+
+-- The number of lines that a call leaves out.
+abbrev pub lost_by_call : LineLimit → LimitCall → ℕ
+lost_by_call l (Admit second) = lost_by_admission (admission l second)
+lost_by_call l (Report second) = 0
+lost_by_call l (Miss count) = count
+
+-- The number of lines left out that a decision reports.
+abbrev pub reported_by_admission : Admission → ℕ
+reported_by_admission LeftOut = 0
+reported_by_admission Line = 0
+reported_by_admission (AfterReport count) = count
+
+-- The number of lines left out that a report has.
+abbrev pub reported_in : Option ℕ → ℕ
+reported_in None = 0
+reported_in (Some count) = count
+
+-- The number of lines left out that a call reports.
+abbrev pub reported_by_call : LineLimit → LimitCall → ℕ
+reported_by_call l (Admit second) = reported_by_admission (admission l second)
+reported_by_call l (Report second) = reported_in (report l second)
+reported_by_call l (Miss count) = 0
+
+-- The number of lines that these calls leave out.
+unfoldable pub lost : LineLimit → List LimitCall → ℕ
+lost l [] = 0
+lost l (call ∷ calls) = lost_by_call l call + lost (after_call l call) calls
+
+-- The number of lines left out that these calls report.
+unfoldable pub reported : LineLimit → List LimitCall → ℕ
+reported l [] = 0
+reported l (call ∷ calls) = reported_by_call l call + reported (after_call l call) calls
+
+-- The limit after these calls.
+unfoldable pub after_calls : LineLimit → List LimitCall → LineLimit
+after_calls l [] = l
+after_calls l (call ∷ calls) = after_calls (after_call l call) calls

@@ -1,11 +1,14 @@
 -- Defined by this project: the lines that a log writes.
-use Rattle.std.specs.Prelude.{◌≡◌, ℕ, Bool, List, [], ◌∷◌, ◌++◌, Option, Some, None, codes, decimal, if◌then◌else◌}
+use Rattle.std.specs.Prelude.{◌≡◌, ℕ, ◌/◌, Bool, true, false, nat_le, List, [], ◌∷◌, ◌++◌, Option, Some, None, codes, decimal, if◌then◌else◌}
 use Rattle.coap_print.specs.Lines.{appended}
 use Rattle.coap_print.specs.declared.line.TheConstants.{LINE_LENGTH}
-use Rattle.coap_log.specs.Limits.{missed}
+use Rattle.coap_print.specs.Levels.{level_number}
+use Rattle.coap_print.specs.declared.level.LogLevel.{LogLevel}
+use Rattle.coap_log.specs.Limits.{missed, admission, after_admission}
 use Rattle.coap_log.specs.Times.{IsTimeText}
-use Rattle.coap_log.specs.Writers.{Offer}
+use Rattle.coap_log.specs.Writers.{Offer, AddsOffers}
 use Rattle.coap_log.specs.declared.limit.LineLimit.{LineLimit}
+use Rattle.coap_log.specs.declared.log.Log.{Log}
 use Rattle.coap_log.specs.declared.limit.Admission.{Admission}
 use Rattle.coap_log.specs.declared.limit.Admission.TheVariants.{LeftOut, Line, AfterReport}
 
@@ -39,3 +42,33 @@ IsReported program nanos None before after offers = (offers ≡ []) × (after �
 IsReported program nanos (Some count) before after offers =
     (report : Offer) × IsDated program nanos (report_text count) report.line
     × (offers ≡ report ∷ []) × (after ≡ limit_after count report.accepted before)
+
+-- ---- the log and the records of its writer
+
+-- A log: its level, the name of the program and its limit. `offers` and `accepted` are the records of its writer: the
+-- lines offered, and the bytes of those accepted.
+pub record LogTrace : Type 0 where
+  pub level : LogLevel
+  pub program : List ℕ
+  pub limit : LineLimit
+  pub offers : Option (List Offer)
+  pub accepted : Option (List ℕ)
+
+-- The trace of a log, by the ghost members of its writer.
+abbrev pub trace_of : {W : Type 0} → (W → Option (List Offer)) → (W → Option (List ℕ)) → Log W → LogTrace
+trace_of offers accepted log = record {
+  level = log.level;
+  program = log.program;
+  limit = log.limit;
+  offers = offers log.writer;
+  accepted = accepted log.writer;
+}
+
+-- A text is logged as a line of a level, at a time in nanoseconds.
+pub record LogsLine (line_level : LogLevel) (nanos : ℕ) (text : List ℕ) (before after : LogTrace) : Type 0 where
+  pub off : nat_le (level_number line_level) (level_number before.level) ≡ false → after ≡ before
+  pub on : nat_le (level_number line_level) (level_number before.level) ≡ true
+      → (offers : List Offer) × IsOffered before.program nanos text (admission before.limit (nanos / 1_000_000_000)) (after_admission before.limit (nanos / 1_000_000_000)) after.limit offers
+      × AddsOffers before.offers after.offers before.accepted after.accepted offers
+  pub level : after.level ≡ before.level
+  pub program : after.program ≡ before.program

@@ -116,3 +116,8 @@ output_then bytes now others = record {
 unfoldable pub output_of : TapValue → List (List ℕ) → TapOutput
 output_of v [] = record { taken = []; frames = [] }
 output_of v (piece ∷ pieces) = output_then (take (taken v piece) piece) (tap_after v piece) (output_of (tap_after v piece) pieces)
+
+-- A tap after a list of pieces, each passed to one call.
+unfoldable pub after_pieces : TapValue → List (List ℕ) → TapValue
+after_pieces v [] = v
+after_pieces v (piece ∷ pieces) = after_pieces (tap_after v piece) pieces

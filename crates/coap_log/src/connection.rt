@@ -1,9 +1,12 @@
 //! Lines of a connection: its messages, and their number.
 
-ghost use Rattle.std.specs.Prelude.{◌≡◌, ◌≤◌, true, length};
+ghost use Rattle.std.specs.Prelude.{◌≡◌, ◌≤◌, true, length, take};
+ghost use Rattle.std.specs.Duration.{as_nanos};
 ghost use Rattle.coap_print.specs.Texts.{is_text};
 ghost use Rattle.coap_print.specs.Lines.{appended};
 ghost use Rattle.coap_print.specs.declared.line.TheConstants.{LINE_LENGTH};
+ghost use Rattle.coap_log.specs.Logs.{trace_of};
+ghost use Rattle.coap_log.specs.Connections.{LogsBytes, LogsWhole};
 ghost use Rattle.coap_log.specs.Connections as spec;
 
 use crate::glimpse::describe_head;
@@ -16,8 +19,6 @@ use std::time::Duration;
 /// Passes bytes of one direction of a connection to its tap. With the level `Messages`, writes a line for each message
 /// that ends with them, at a time which counts from the start of 1970. `front` is the text before the message, such as
 /// `connection 3 in: `.
-///
-/// No clause states which lines are written.
 pub fn log_messages<W: LogWriter>(
     log: &mut Log<W>,
     now: Duration,
@@ -25,8 +26,8 @@ pub fn log_messages<W: LogWriter>(
     front: &Line,
     bytes: &[u8],
 )
-    ensures level { log.new.level ≡ log.old.level }
-    ensures program { log.new.program ≡ log.old.program }
+    ensures { LogsBytes (length bytes.now) (as_nanos now) front.now bytes.now tap.old tap.new
+        (trace_of W.offers W.accepted log.old) (trace_of W.offers W.accepted log.new) }
 {
     let mut left = bytes;
     while !left.is_empty() {
@@ -35,19 +36,41 @@ pub fn log_messages<W: LogWriter>(
             return;
         }
         left = &left[taken..];
-        if tap.is_whole() && log.is_on(LogLevel::Messages) {
-            log.line(LogLevel::Messages, now, &message_line(front, tap));
-        }
+        log_message(log, now, tap, front);
+    }
+}
+
+/// Writes a line for the present message of a tap, if it is whole and the log has lines for messages.
+fn log_message<W: LogWriter>(log: &mut Log<W>, now: Duration, tap: &Tap, front: &Line)
+    ensures { LogsWhole (as_nanos now) front.now tap.now
+        (trace_of W.offers W.accepted log.old) (trace_of W.offers W.accepted log.new) tap.now.is_whole }
+{
+    if tap.is_whole() && log.is_on(LogLevel::Messages) {
+        log.line(LogLevel::Messages, now, &message_line(front, tap));
     }
 }
 
 /// Returns the text of the present message of a tap, after other text.
-fn message_line(front: &Line, tap: &Tap) -> Line {
+#[tactic(auto, using(coap_print::proofs::LineLaws::pieces))]
+fn message_line(front: &Line, tap: &Tap) -> Line
+    ensures { result ≡ spec.message_line front.now tap.now }
+{
     let mut line = Line::new();
     line.line(front);
-    let head = tap.head();
-    describe_head(&mut line, &head[..head.len().min(DESCRIBED)], tap.size());
+    describe_head(&mut line, described(tap.head()), tap.size());
     line
+}
+
+/// Returns the first bytes of a message, at most 2,048.
+fn described(head: &[u8]) -> &[u8]
+    ensures bytes { result.now ≡ take DESCRIBED head.now }
+    ensures few { length result.now ≤ DESCRIBED }
+{
+    if head.len() <= DESCRIBED {
+        head
+    } else {
+        &head[..DESCRIBED]
+    }
 }
 
 /// Appends the numbers of messages and bytes of a connection, as in `12 messages, 345 bytes in; 1 message, 45 bytes out`.

@@ -10,7 +10,7 @@ ghost use Rattle.coap_log.specs.Glimpses as spec;
 use crate::tap::DESCRIBED;
 use arrayvec::ArrayVec;
 use coap_print::{Line, describe};
-use coap_wire::{Declared, declared, parse};
+use coap_wire::{Code, Declared, declared, parse};
 
 /// Maximum number of bytes of a header with a two-byte extension of the length, up to the code.
 const HEADER: usize = 3;
@@ -42,6 +42,16 @@ pub fn describe_head(line: &mut Line, head: &[u8], size: u64)
     line.number(size);
     line.text(" bytes: ");
     append_long(line, head);
+}
+
+/// Returns the code of a message, by its first bytes. The result is `None` if the code is not one of them.
+#[tactic(auto, unfolding(crate::specs::Glimpses::head_code))]
+pub fn head_code(head: &[u8]) -> Option<Code>
+    ensures { result ≡ spec.head_code head.now }
+{
+    let (first, after) = head.split_first()?;
+    let code = from_code(*first / 16, after).first()?;
+    Some(Code::new(*code))
 }
 
 /// Appends a whole frame.

@@ -4,15 +4,22 @@
 //! - `LineLimit` limits the number of lines a second, and counts those left out.
 //! - `LogWriter` is a writer of whole lines that never blocks. `LineWriter` makes one of an outlet that may accept a part
 //!   of a line, and `Stderr` is the outlet for standard error.
-//! - `laws` has the theorems on logs.
+//! - `Tap` follows the messages of one direction of a connection. `log_messages` passes bytes to a tap, and writes a line
+//!   for each message that ends with them. `describe_head` and `head_code` read the first bytes of a message.
+//! - `LoggedWire` is a wire whose messages are logged.
+//! - `laws` has the theorems on logs and taps.
 //!
-//! The contracts name definitions of four files. `specs/Limits.antt` defines the limit, `specs/Times.antt` the time as
-//! text. `specs/Writers.antt` defines lines offered to a writer, `specs/Logs.antt` the lines of a log.
+//! The contracts name definitions of `specs`:
+//!
+//! - `Limits.antt` defines the limit, `Times.antt` the time as text, and `Writers.antt` lines offered to a writer.
+//! - `Logs.antt` defines the lines of a log, and `Connections.antt` those of a connection.
+//! - `Taps.antt` defines taps, and `Glimpses.antt` the text of a message by its first bytes.
 //!
 //! No contract states what the system does with the bytes given to it, so a `Stderr` that writes nothing would meet its
 //! contract.
 //!
-//! This crate opens no file and reads no clock: its callers pass the time. Continue with `log.rt`.
+//! This crate opens no file. Its callers pass the time; only `LoggedWire` reads a clock. Continue with `log.rt` for lines,
+//! and with `tap.rt` for messages.
 #![tactic(auto)]
 
 mod connection;
@@ -27,7 +34,7 @@ mod tap;
 mod writer;
 
 pub use connection::{append_counts, log_messages};
-pub use glimpse::describe_head;
+pub use glimpse::{describe_head, head_code};
 pub use limit::{Admission, LINES_A_SECOND, LineLimit};
 pub use log::Log;
 pub use logged_wire::LoggedWire;

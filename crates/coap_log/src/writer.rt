@@ -1,6 +1,7 @@
 //! Writers of whole lines, which never block.
 
-ghost use Rattle.std.specs.Prelude.{◌≡◌, ◌≤◌, ◌++◌, ℕ, List, [], ◌∷◌, length, take, drop, Option, None, true};
+ghost use Rattle.std.specs.Prelude.{◌≡◌, ◌≤◌, ◌++◌, ℕ, List, [], ◌∷◌, length, take, drop, Bool, Option, None, true};
+ghost use Rattle.std.specs.Prelude.{false};
 ghost use Rattle.coap_io.specs.Prelude.{AddsBytes, TellsMore};
 ghost use Rattle.coap_log.specs.Writers.{Offer, bytes_of, ended, with_rest};
 
@@ -19,18 +20,26 @@ pub trait LogWriter {
     /// Bytes of the lines accepted so far, each followed by a newline, if the writer records them.
     ghost accepted: { Self → Option (List ℕ) } = { λ _. None };
 
+    /// Bytes of the last line accepted that are not written yet, if the writer records them.
+    ghost left: { Self → List ℕ } = { λ _. [] };
+
+    /// `false` if the writer has never failed to write. As long as it is `false`, each line is accepted.
+    ghost is_failed: { Self → Bool } = { λ _. true };
+
     /// Writes a line and a newline, and returns `true`. Returns `false` if the line cannot be written now or fails:
     /// then none of its bytes is written.
     fn write(&mut self, line: &Line) -> bool
         ensures offered { TellsMore (offers self.old) (offers self.new)
             (record { line = line.now; accepted = result } ∷ []) }
         ensures bytes { AddsBytes (accepted self.old) (accepted self.new)
-            (bytes_of (record { line = line.now; accepted = result })) };
+            (bytes_of (record { line = line.now; accepted = result })) }
+        ensures works { is_failed self.new ≡ false → result ≡ true };
 
     /// Writes what is left of the last line that was accepted, as far as it can be written now.
     fn flush(&mut self)
         ensures offered { TellsMore (offers self.old) (offers self.new) [] }
-        ensures bytes { AddsBytes (accepted self.old) (accepted self.new) [] };
+        ensures bytes { AddsBytes (accepted self.old) (accepted self.new) [] }
+        ensures works { is_failed self.new ≡ false → left self.new ≡ [] };
 }
 
 /// Writer of lines to an outlet that may accept only a part of a line.
@@ -57,6 +66,10 @@ impl<O: Outlet> LineWriter<O> {
 
 impl<O: Outlet> LogWriter for LineWriter<O> {
     ghost accepted = { λ writer. with_rest (O.written writer.outlet) writer.rest.items };
+
+    ghost left = { λ writer. writer.rest.items };
+
+    ghost is_failed = { λ writer. O.is_failed writer.outlet };
 
     fn write(&mut self, line: &Line) -> bool {
         self.flush();
@@ -110,6 +123,7 @@ fn rest_after(bytes: &[u8], count: usize) -> ArrayVec<u8, ENDED_LENGTH>
 fn push<O: Outlet>(outlet: &mut O, bytes: &[u8]) -> usize
     ensures within { result ≤ length bytes.now }
     ensures bytes { AddsBytes (O.written outlet.old) (O.written outlet.new) (take result bytes.now) }
+    ensures works { O.is_failed outlet.new ≡ false → result ≡ length bytes.now }
 {
     let mut done = 0;
     while done < bytes.len() {

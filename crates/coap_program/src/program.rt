@@ -93,9 +93,9 @@ impl Program<'_> {
             }
             WordsFault::Memory => self.print_fault(rt, "no memory", FAULT),
             _ => {
-                let _ = self.print_fault(rt, fault, USAGE);
+                let status = self.print_fault(rt, fault, USAGE);
                 self.print_reason(rt, reason);
-                USAGE
+                status
             }
         }
     }

@@ -52,8 +52,8 @@ unfoldable pub use Rattle.coap_model.specs.world.Connections.{settled}
 pub use Rattle.coap_model.specs.world.World.{World, Step}
 unfoldable pub use Rattle.coap_model.specs.world.World.{side_of, step}
 -- ---- coap_serve, declared
-pub use Rattle.coap_serve.specs.declared.door.idle.Activity.{Activity}
-pub use Rattle.coap_serve.specs.declared.door.idle.IdleAction.{IdleAction}
+pub use Rattle.coap_serve.specs.declared.door.silence.Activity.{Activity}
+pub use Rattle.coap_serve.specs.declared.door.silence.SilenceAction.{SilenceAction}
 pub use Rattle.coap_serve.specs.declared.door.next_wakeup.NextWakeup.{NextWakeup}
 pub use Rattle.coap_serve.specs.declared.door.peer.PeerOutcome.{PeerOutcome}
 pub use Rattle.coap_serve.specs.declared.door.peer.PeerOutcome.TheVariants.{Over}
@@ -70,18 +70,18 @@ pub use Rattle.coap_server_engine.specs.declared.server.ChangeStamp.{ChangeStamp
 pub use Rattle.coap_serve.specs.streams.DoorRun.{IsDoorRun, waited_behind, moved_to, EndsWith, HasTurnedSo, IsCutRun}
 pub use Rattle.coap_serve.specs.streams.DoorRun.{NoneYet, OneMore}
 pub use Rattle.coap_serve.specs.streams.Faults.{is_read_fault, is_write_fault, IsMemory, IsMemoryOrTurns}
-pub use Rattle.coap_serve.specs.streams.Idle.{idle_action, quiet_action, action_for, new_activity, activities_after}
-pub use Rattle.coap_serve.specs.streams.Idle.{changed_by, changed_from, moved_by, Sweep, swept_one, swept_both, acted}
-pub use Rattle.coap_serve.specs.streams.Idle.{HasSwept, HasSweptAt, drop_one, release_one}
-unfoldable pub use Rattle.coap_serve.specs.streams.Idle.{swept}
-pub use Rattle.coap_serve.specs.streams.IdleRun.{short_wait, AreEnded, HasEnded, is_sweep_due, IsIdleRun, IdleEndsWith}
-pub use Rattle.coap_serve.specs.streams.IdleRun.{HasIdleTurned, IsCutIdleRun, IsWholeIdleRun, NoneSoFar, OneSoFar}
+pub use Rattle.coap_serve.specs.streams.Silence.{silence_action, quiet_action, action_for, new_activity, activities_after}
+pub use Rattle.coap_serve.specs.streams.Silence.{changed_by, changed_from, moved_by, Sweep, swept_one, swept_both, acted}
+pub use Rattle.coap_serve.specs.streams.Silence.{HasSwept, HasSweptAt, drop_one, release_one}
+unfoldable pub use Rattle.coap_serve.specs.streams.Silence.{swept}
+pub use Rattle.coap_serve.specs.streams.TimedRun.{short_wait, AreEnded, HasEnded, is_sweep_due, IsTimedRun, TimedEndsWith}
+pub use Rattle.coap_serve.specs.streams.TimedRun.{HasTimedTurns, IsCutTimedRun, IsWholeTimedRun, NoneSoFar, OneSoFar}
 pub use Rattle.coap_serve.specs.streams.RecordedInterests.{true_end, recorded, recorded_on, AreNoted, IsNoEarlier, KeepsNotes}
 pub use Rattle.coap_serve.specs.streams.RecordedInterests.{WhilePassedOver, AtFirst}
 pub use Rattle.coap_serve.specs.streams.RecordedInterests.{IsNoted, Served}
 pub use Rattle.coap_serve.specs.streams.Serving.{HasServed, HasTurned, IsAskedOnce, IsTurnOf, HasGoneOn, AreServed}
 pub use Rattle.coap_serve.specs.streams.Serving.{asked_by, HadItsPart, HasOneMore, IsOpening, IsRound, IsServing}
-pub use Rattle.coap_serve.specs.streams.Serving.{NoMore, PassedOver, opening, Unrecorded}
+pub use Rattle.coap_serve.specs.streams.Serving.{NoMore, PassedOver, opening, Unrecorded, flush_calls}
 pub use Rattle.coap_serve.specs.streams.StdioProgress.{IsAtBytes, IsRunningAt, IsTurn, HasRead, IsCut, IsRefused, IsWhole, Says}
 pub use Rattle.coap_serve.specs.streams.StdioRun.{IsStdioRun, AreNotEmpty, EndsRun, GoesOn, IsLastByte, LeavesNothing}
 pub use Rattle.coap_serve.specs.streams.StdioRun.{LeavesNothingWaiting}
@@ -98,7 +98,7 @@ pub use Rattle.coap_server_engine.specs.values.InResults.{InResult, IsPartialIn,
 pub use Rattle.coap_server_engine.specs.values.Calls.{TellsPartlyFed, call_value}
 pub use Rattle.coap_server_engine.specs.values.InResults.{took, where_there}
 unfoldable pub use Rattle.coap_server_engine.specs.values.InResults.{fed_turns, took_turns}
-pub use Rattle.coap_server_engine.specs.values.Flushes.{IsFlushed, IsPartFlushed, waiting_at, more_at}
+pub use Rattle.coap_server_engine.specs.values.Flushes.{IsFlushed, IsFlushedOnce, IsPartFlushed, waiting_at, more_at}
 pub use Rattle.coap_server_engine.specs.values.Flushes.{more_in, waiting_in}
 unfoldable pub use Rattle.coap_server_engine.specs.values.Flushes.{flush_turns}
 pub use Rattle.coap_server_engine.specs.values.ServerAnswers.{stop_on, open_refusal, IsNotTaken}

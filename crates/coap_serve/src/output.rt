@@ -2,11 +2,12 @@
 
 ghost use Rattle.std.specs.Prelude.{◌≡◌, false, IfOk, OnOk, OnErr, is_err};
 ghost use Rattle.coap_serve.specs.Prelude.{AddsBytes, WritesPart, IsFlushed, IsPartFlushed, session_of, stop_on};
+ghost use Rattle.coap_serve.specs.Prelude.{IsFlushedOnce, flush_calls, more_at, TellsMore, waiting_at};
 
 use coap_conn::Reason;
-use coap_io::{Outlet, WriteFailed};
+use coap_io::{Outlet, WriteFailed, write_parts};
 use coap_model::ConnId;
-use coap_server_engine::Server;
+use coap_server_engine::{Call, FlushStep, Monitor, Server};
 
 /// Writes the queued bytes of a connection until none is queued. Returns the reason if the connection processes no
 /// further message.
@@ -21,10 +22,11 @@ use coap_server_engine::Server;
 /// # Preconditions
 ///
 /// The outlet has not failed.
-pub(crate) fn flush<W: Outlet>(
+pub(crate) fn flush<W: Outlet, M: Monitor<()>>(
     writer: &mut W,
     server: &mut Server,
     id: ConnId,
+    monitor: &mut M,
 ) -> Result<Option<Reason>, WriteFailed>
     requires { W.is_failed writer.old ≡ false }
     ensures ok { OnOk result (IsFlushed id server.old server.new
@@ -34,13 +36,96 @@ pub(crate) fn flush<W: Outlet>(
         (WritesPart (W.written writer.old) (W.written writer.new))) }
     ensures failure { W.is_failed writer.new ≡ is_err result }
 {
-    let first = server.flush_once(id, writer)?;
+    let first = flush_once(writer, server, id, monitor)?;
     let mut last = first;
     for _ in 0..first.more {
         if !last.waited {
             return Ok(last.stop);
         }
-        last = server.flush_once(id, writer)?;
+        last = flush_once(writer, server, id, monitor)?;
     }
     Ok(last.stop)
+}
+
+/// Writes all queued bytes of a connection once, as `Server::flush_once` does. The monitor receives the call that removes
+/// them from the queue, if there are some.
+///
+/// # Errors
+///
+/// - `WriteFailed`: a write failed, and only a part of the bytes was written.
+///
+/// # Preconditions
+///
+/// The outlet has not failed.
+fn flush_once<W: Outlet, M: Monitor<()>>(
+    writer: &mut W,
+    server: &mut Server,
+    id: ConnId,
+    monitor: &mut M,
+) -> Result<FlushStep, WriteFailed>
+    requires { W.is_failed writer.old ≡ false }
+    ensures ok { IfOk result (λ f. IsFlushedOnce id server.old server.new
+        (AddsBytes (W.written writer.old) (W.written writer.new)) f.waited) }
+    ensures more { IfOk result (λ f. f.more ≡ more_at id server.old) }
+    ensures stop { IfOk result (λ f. f.stop ≡ stop_on (session_of id server.new.sessions)) }
+    ensures part { OnErr result (WritesPart (W.written writer.old) (W.written writer.new)
+        (waiting_at id server.old)) }
+    ensures failure { W.is_failed writer.new ≡ is_err result }
+    // The monitor receives the number of bytes that were written.
+    ensures told { IfOk result (λ f. TellsMore (M.calls monitor.old) (M.calls monitor.new)
+        (flush_calls id server.old f.waited)) }
+    ensures untold { OnErr result (monitor.new ≡ monitor.old) }
+{
+    let more = server.settle_bound(id);
+    let waited = write_queued(writer, server, id, monitor)?;
+    let stop = stop_in(server, id);
+    Ok(FlushStep { waited, more, stop })
+}
+
+/// Writes all queued bytes of a connection, and removes them from the queue. Returns `false` if there are none.
+///
+/// # Errors
+///
+/// - `WriteFailed`: a write failed, and only a part of the bytes was written.
+///
+/// # Preconditions
+///
+/// The outlet has not failed.
+fn write_queued<W: Outlet, M: Monitor<()>>(
+    writer: &mut W,
+    server: &mut Server,
+    id: ConnId,
+    monitor: &mut M,
+) -> Result<bool, WriteFailed>
+    requires { W.is_failed writer.old ≡ false }
+    ensures ok { IfOk result (λ waited. IsFlushedOnce id server.old server.new
+        (AddsBytes (W.written writer.old) (W.written writer.new)) waited) }
+    ensures part { OnErr result (WritesPart (W.written writer.old) (W.written writer.new)
+        (waiting_at id server.old)) }
+    ensures failure { W.is_failed writer.new ≡ is_err result }
+    ensures told { IfOk result (λ waited. TellsMore (M.calls monitor.old) (M.calls monitor.new)
+        (flush_calls id server.old waited)) }
+    ensures untold { OnErr result (monitor.new ≡ monitor.old) }
+{
+    let Some((first, second)) = server.parts(id) else {
+        return Ok(false);
+    };
+    let count = first.len() + second.len();
+    if count == 0 {
+        return Ok(false);
+    }
+    write_parts(writer, first, second)?;
+    monitor.accepted(Call::Wrote(id, first, second), server);
+    let Ok(()) = server.written(id, count) else {
+        unreachable!()
+    };
+    Ok(true)
+}
+
+/// Returns the reason if the connection processes no further message.
+pub(crate) fn stop_in(server: &Server, id: ConnId) -> Option<Reason>
+    ensures { result ≡ stop_on (session_of id server.now.sessions) }
+{
+    let status = server.status(id)?;
+    status.phase.stop()
 }

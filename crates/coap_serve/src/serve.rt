@@ -6,11 +6,11 @@ ghost use Rattle.coap_serve.specs.Prelude.{count_of, is_cut, HasGiven, AddsBytes
 ghost use Rattle.coap_serve.specs.Prelude.{IsAtBytes, IsRunningAt, IsTurn, IsStdioRun, is_read_fault, is_write_fault};
 ghost use Rattle.coap_serve.specs.streams.StdioProgress.{IsServed};
 
-use crate::output::flush;
+use crate::output::{flush, stop_in};
 use coap_conn::Reason;
 use coap_io::{Outlet, Source};
 use coap_model::{Config, ConnId, Handled};
-use coap_server_engine::Server;
+use coap_server_engine::{Call, Monitor, NoMonitor, Server};
 use std::alloc::Global;
 use thiserror::Error;
 /// Result of a run over one input and one output.
@@ -121,25 +121,61 @@ pub fn serve_one<R: Source, W: Outlet>(
     ensures read { R.is_failed reader.new ≡ is_read_fault result }
     ensures write { W.is_failed writer.new ≡ is_write_fault result }
 {
+    serve_one_with(alloc, reader, writer, config, &mut NoMonitor)
+}
+
+/// Serves one connection over an input and an output, as `serve_one` does. The monitor receives each call that the server
+/// accepts, in order.
+///
+/// # Errors
+///
+/// Those of `serve_one`.
+///
+/// # Preconditions
+///
+/// Those of `serve_one`.
+pub fn serve_one_with<R: Source, W: Outlet, M: Monitor<()>>(
+    alloc: Global,
+    reader: &mut R,
+    writer: &mut W,
+    config: &Config,
+    monitor: &mut M,
+) -> Result<Report, IoFault>
+    requires reader_works { R.is_failed reader.old ≡ false }
+    requires writer_works { W.is_failed writer.old ≡ false }
+    requires id_left { config.now.starts.ids + 1 < 2 ^ 64 }
+    // The bytes read and written match the definition of a run, however the input is split, as far as the devices
+    // record them. No read returns more than 4,096 bytes.
+    ensures run { (pieces : List (List ℕ)) × (output : List ℕ)
+        × HasGiven (R.told reader.old) (R.told reader.new) pieces
+        × AllByRecursion (λ p. length p ≤ 4096) pieces
+        × AddsBytes (W.written writer.old) (W.written writer.new) output
+        × IsStdioRun config.now pieces output result }
+    // The result is `Read` if and only if the reader has failed, and `Write` if and only if the writer has failed.
+    ensures read { R.is_failed reader.new ≡ is_read_fault result }
+    ensures write { W.is_failed writer.new ≡ is_write_fault result }
+{
     let Ok(mut server) = Server::new(alloc, *config) else {
         return Err(IoFault::Memory);
     };
     let Ok(id) = server.open() else {
         return Err(IoFault::Memory);
     };
-    let Ok(_) = flush(writer, &mut server, id) else {
+    monitor.opened(id, &(), &server);
+    let Ok(_) = flush(writer, &mut server, id, monitor) else {
         return Err(IoFault::Write);
     };
-    run(reader, writer, &mut server, id, config)
+    run(reader, writer, &mut server, id, config, monitor)
 }
 
 /// Runs turns until the run ends, at most as many as the configuration allows.
-fn run<R: Source, W: Outlet>(
+fn run<R: Source, W: Outlet, M: Monitor<()>>(
     reader: &mut R,
     writer: &mut W,
     server: &mut Server,
     id: ConnId,
     config: &Config,
+    monitor: &mut M,
 ) -> Result<Report, IoFault>
     requires reader_works { R.is_failed reader.old ≡ false }
     requires writer_works { W.is_failed writer.old ≡ false }
@@ -156,7 +192,7 @@ fn run<R: Source, W: Outlet>(
     let mut read = 0;
     let mut messages = 0;
     for _ in 0..config.turns() {
-        let turn = take_turn(reader, writer, server, id, &mut buffer)?;
+        let turn = take_turn(reader, writer, server, id, &mut buffer, monitor)?;
         read += turn.read as u64;
         messages += turn.messages;
         if let Some(reason) = turn.stop {
@@ -171,12 +207,13 @@ fn run<R: Source, W: Outlet>(
 }
 
 /// Reads once, processes the bytes, and returns the result of this turn.
-fn take_turn<R: Source, W: Outlet>(
+fn take_turn<R: Source, W: Outlet, M: Monitor<()>>(
     reader: &mut R,
     writer: &mut W,
     server: &mut Server,
     id: ConnId,
     buffer: &mut [u8],
+    monitor: &mut M,
 ) -> Result<Turn, IoFault>
     requires reader_works { R.is_failed reader.old ≡ false }
     requires writer_works { W.is_failed writer.old ≡ false }
@@ -197,14 +234,14 @@ fn take_turn<R: Source, W: Outlet>(
         return Ok(Turn {
             read: 0,
             messages: 0,
-            stop: end(server, id),
+            stop: end(server, id, monitor),
         });
     }
-    let messages = serve_piece(writer, server, id, &buffer[..count])?;
+    let messages = serve_piece(writer, server, id, &buffer[..count], monitor)?;
     Ok(Turn {
         read: count,
         messages,
-        stop: stop(server, id),
+        stop: stop_in(server, id),
     })
 }
 
@@ -215,11 +252,12 @@ fn take_turn<R: Source, W: Outlet>(
 ///
 /// - `Write`: a write failed.
 /// - `Memory`: an allocation failed for a representation that a message stores.
-fn serve_piece<W: Outlet>(
+fn serve_piece<W: Outlet, M: Monitor<()>>(
     writer: &mut W,
     server: &mut Server,
     id: ConnId,
     piece: &[u8],
+    monitor: &mut M,
 ) -> Result<u64, IoFault>
     requires works { W.is_failed writer.old ≡ false }
     requires stands { (c : ConfigValues) × (bytes : List ℕ) × IsRunningAt c server.old id bytes }
@@ -234,7 +272,13 @@ fn serve_piece<W: Outlet>(
         let Ok(taken) = server.take(id, rest) else {
             return Err(IoFault::Memory);
         };
-        let Ok(stop) = flush(writer, server, id) else {
+        let took = Call::Took {
+            id,
+            bytes: &rest[..taken.bytes],
+            handled: taken.handled,
+        };
+        monitor.accepted(took, server);
+        let Ok(stop) = flush(writer, server, id, monitor) else {
             return Err(IoFault::Write);
         };
         messages += handled(taken.handled);
@@ -259,16 +303,8 @@ fn handled(what: Handled) -> u64
     }
 }
 
-/// Returns the reason if the connection processes no further message.
-fn stop(server: &Server, id: ConnId) -> Option<Reason>
-    ensures { result ≡ stop_on (session_of id server.now.sessions) }
-{
-    let status = server.status(id)?;
-    status.phase.stop()
-}
-
 /// Reports the end of input to a connection, and returns the reason why it processes no further message.
-fn end(server: &mut Server, id: ConnId) -> Option<Reason>
+fn end<M: Monitor<()>>(server: &mut Server, id: ConnId, monitor: &mut M) -> Option<Reason>
     requires stands { (c : ConfigValues) × (bytes : List ℕ) × IsRunningAt c server.old id bytes }
     ensures { (c : ConfigValues) (bytes : List ℕ) → IsRunningAt c server.old id bytes →
         result ≡ Some (end_reason (is_cut (stream_of c bytes).rest)) }
@@ -276,5 +312,6 @@ fn end(server: &mut Server, id: ConnId) -> Option<Reason>
     let Ok(()) = server.ended(id) else {
         unreachable!()
     };
-    stop(server, id)
+    monitor.accepted(Call::Ended(id), server);
+    stop_in(server, id)
 }

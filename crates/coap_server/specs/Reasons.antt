@@ -1,6 +1,5 @@
 -- Defined by this project: the texts of a server's log.
-use Rattle.std.specs.Prelude.{ℕ, ◌/◌, Bool, List, [], ◌∷◌, Option, None, slice_get, ◌==◌, ◌||◌, codes}
-use Rattle.coap_wire.specs.Forms.{extension_of}
+use Rattle.std.specs.Prelude.{ℕ, Bool, List, ◌==◌, ◌||◌, codes}
 use Rattle.coap_conn.specs.declared.reason.Reason.{Reason}
 use Rattle.coap_conn.specs.declared.reason.Reason.TheVariants as reason
 
@@ -24,8 +23,3 @@ reason_text reason.ReleasedHere = codes "Release by the server"
 -- Large, 5.00 Internal Server Error, 5.03 Service Unavailable.
 abbrev pub is_refusal : ℕ → Bool
 is_refusal code = (code == 141) || (code == 160) || (code == 163)
-
--- RFC 8323 section 3.2: the code of a frame, by its first bytes. It follows the extended length.
-abbrev pub code_in : List ℕ → Option ℕ
-code_in [] = None
-code_in (first ∷ after) = slice_get after (extension_of (first / 16))

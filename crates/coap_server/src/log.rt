@@ -1,14 +1,15 @@
 //! The log of a serving server: warnings, connections and messages, up to a level.
 
 ghost use Rattle.std.specs.Prelude.{◌≡◌, ◌≤◌, length, take};
-ghost use Rattle.coap_server.specs.Reasons.{code_in, is_refusal, reason_text};
+ghost use Rattle.coap_server.specs.Reasons.{is_refusal, reason_text};
 
 use coap_log::{
-    COUNTED, DESCRIBED, LineWriter, Log, Stderr, Tap, append_counts, describe_head,
+    COUNTED, DESCRIBED, LineWriter, Log, Stderr, Tap, append_counts, describe_head, head_code,
 };
 use coap_print::{Line, LogLevel};
 use coap_serve::{Call, ConnId, Handled, Monitor, Reason, Server};
 use coap_sockets::{DoorTroubles, SocketWire};
+use coap_wire::Code;
 use indexmap::IndexMap;
 use std::alloc::{AllocError, Global};
 use std::cell::Cell;
@@ -65,10 +66,12 @@ fn text_of(reason: Reason) -> &'static str
 }
 
 /// Returns `true` if a response with this code refuses a request because of a limit: 4.13, 5.00 or 5.03.
-fn is_refusal(code: u8) -> bool
+fn is_refusal(code: Code) -> bool
     ensures { result ≡ is_refusal code }
 {
-    code == 141 || code == 160 || code == 163
+    code == Code::REQUEST_ENTITY_TOO_LARGE
+        || code == Code::INTERNAL_SERVER_ERROR
+        || code == Code::SERVICE_UNAVAILABLE
 }
 
 /// Returns the first words of the lines of a connection.
@@ -207,6 +210,40 @@ impl<'a, R: time::Clock> ServerLog<'a, R> {
         }
     }
 
+    /// Writes the first line of a connection, and follows it.
+    fn open(&mut self, id: ConnId, peer: &Line, server: &Server) {
+        let mut line = front(id);
+        line.text(" opened by ");
+        line.line(peer);
+        self.write(LogLevel::Connections, &line);
+        if self.follow(id).is_err() {
+            self.warn(id, ": no memory to follow it");
+        }
+        if !server.can_open() {
+            self.warn(id, " is the last of the maximum number of connections");
+        }
+    }
+
+    /// Processes a call that the server accepted.
+    fn process(&mut self, call: Call<'_>, server: &Server) {
+        match call {
+            Call::Took { id, bytes, handled } => self.receive(id, bytes, handled),
+            Call::Wrote(id, first, second) => {
+                self.send(id, first);
+                self.send(id, second);
+            }
+            Call::Ended(id) => self.note_stop(id, server),
+            Call::Released(id) => self.note_stop(id, server),
+            Call::Dropped(id) => self.end(id),
+            _ => {}
+        }
+    }
+
+    /// Ends the log of the only connection of a server over standard input and output.
+    pub(crate) fn finish(&mut self) {
+        self.end(1);
+    }
+
     /// Writes the last line of a connection, and removes it from the log.
     fn end(&mut self, id: ConnId) {
         let Some(followed) = self.connections.shift_remove(&id) else {
@@ -283,7 +320,7 @@ fn log_passed(
 
 /// Writes a line for the whole message of a tap.
 fn log_message(log: &mut Log<LineWriter<Stderr>>, now: Duration, tap: &Tap, front: &Line) {
-    let level = match code_in(tap.head()) {
+    let level = match head_code(tap.head()) {
         Some(code) if is_refusal(code) => LogLevel::Warnings,
         _ => LogLevel::Messages,
     };
@@ -293,20 +330,6 @@ fn log_message(log: &mut Log<LineWriter<Stderr>>, now: Duration, tap: &Tap, fron
         describe_head(&mut line, described(tap.head()), tap.size());
         log.line(level, now, &line);
     }
-}
-
-/// Returns the code of a message by its first bytes, or `None` if they end before it (RFC 8323 section 3.2).
-fn code_in(head: &[u8]) -> Option<u8>
-    ensures { result ≡ code_in head.now }
-{
-    let (first, after) = head.split_first()?;
-    let extension = match *first / 16 {
-        0..=12 => 0,
-        13 => 1,
-        14 => 2,
-        _ => 4,
-    };
-    after.get(extension).copied()
 }
 
 /// Returns the first bytes of a message, at most 2,048.
@@ -323,29 +346,13 @@ fn described(head: &[u8]) -> &[u8]
 
 impl<'a, R: time::Clock> Monitor<SocketWire> for ServerLog<'a, R> {
     fn opened(&mut self, id: ConnId, wire: &SocketWire, server: &Server) {
-        let mut line = front(id);
-        line.text(" opened by ");
-        append_address(self.alloc, &mut line, wire.peer());
-        self.write(LogLevel::Connections, &line);
-        if self.follow(id).is_err() {
-            self.warn(id, ": no memory to follow it");
-        }
-        if !server.can_open() {
-            self.warn(id, " is the last of the maximum number of connections");
-        }
+        let mut peer = Line::new();
+        append_address(self.alloc, &mut peer, wire.peer());
+        self.open(id, &peer, server);
     }
 
     fn accepted(&mut self, call: Call<'_>, server: &Server) {
-        match call {
-            Call::Took { id, bytes, handled } => self.receive(id, bytes, handled),
-            Call::Wrote(id, first, second) => {
-                self.send(id, first);
-                self.send(id, second);
-            }
-            Call::Ended(id) | Call::Released(id) => self.note_stop(id, server),
-            Call::Dropped(id) => self.end(id),
-            _ => {}
-        }
+        self.process(call, server);
     }
 
     fn turn_ended(&mut self) {
@@ -353,4 +360,19 @@ impl<'a, R: time::Clock> Monitor<SocketWire> for ServerLog<'a, R> {
         let now = self.now();
         self.log.tick(now);
     }
+}
+
+// The only connection of a server over standard input and output.
+impl<'a, R: time::Clock> Monitor<()> for ServerLog<'a, R> {
+    fn opened(&mut self, id: ConnId, _wire: &(), server: &Server) {
+        let mut peer = Line::new();
+        peer.text("standard input");
+        self.open(id, &peer, server);
+    }
+
+    fn accepted(&mut self, call: Call<'_>, server: &Server) {
+        self.process(call, server);
+    }
+
+    fn turn_ended(&mut self) {}
 }

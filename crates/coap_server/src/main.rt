@@ -15,9 +15,13 @@ mod log;
 mod script;
 
 use coap_command_line::{server_reason, server_words};
+use coap_print::LogLevel;
 use coap_program::{ENDED, FAULT, Program, USAGE, occupy_standard_descriptors};
 use coap_request::{Mode, ServerPlan};
-use coap_serve::{Config, ReadSource, Starts, WriteOutlet, serve_one};
+use coap_serve::{
+    Config, IoFault, ReadSource, Report, Starts, WriteOutlet, serve_one, serve_one_with,
+};
+use log::ServerLog;
 use std::net::{Net, SocketAddr};
 use std::process::ExitCode;
 use std::rt::{Env, Files};
@@ -58,12 +62,29 @@ pub(crate) fn config_of(plan: &ServerPlan, starts: Starts) -> Option<Config>
 }
 
 /// Serves one connection over standard input and output, and returns the exit status.
-fn serve(rt: &(impl Input + Print + Eprint + AllocGlobal), config: &Config) -> u8
+fn serve(
+    rt: &(impl Input + Print + Eprint + time::Clock + AllocGlobal),
+    config: &Config,
+    level: LogLevel,
+) -> u8
     requires { config.now.starts.ids ≡ 0 }
 {
     let mut input = ReadSource::new(rt.reader());
     let mut output = WriteOutlet::new(io::writer(rt));
-    match serve_one(rt.alloc(), &mut input, &mut output, config) {
+    if level == LogLevel::Nothing {
+        return status_of(rt, serve_one(rt.alloc(), &mut input, &mut output, config));
+    }
+    let Ok(mut log) = ServerLog::new(rt, rt.alloc(), level, 1, None) else {
+        return PROGRAM.print_fault(rt, "no memory", FAULT);
+    };
+    let ended = serve_one_with(rt.alloc(), &mut input, &mut output, config, &mut log);
+    log.finish();
+    status_of(rt, ended)
+}
+
+/// Returns the exit status for the result of a run, and reports an error.
+fn status_of(rt: &impl Eprint, ended: Result<Report, IoFault>) -> u8 {
+    match ended {
         Ok(_) => ENDED,
         Err(fault) => PROGRAM.print_fault(rt, fault, FAULT),
     }
@@ -82,7 +103,7 @@ fn run(
     };
     match &plan.mode {
         Mode::Script(name) => script::run(rt, name.as_str(), &config),
-        _ => serve(rt, &config),
+        _ => serve(rt, &config, plan.log),
     }
 }
 

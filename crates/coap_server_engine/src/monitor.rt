@@ -65,16 +65,13 @@ pub struct NoMonitor;
 impl<W> Monitor<W> for NoMonitor {
     fn opened(&mut self, _id: ConnId, _wire: &W, _server: &Server)
         ensures { TellsMore None None (Opened _id ∷ []) }
-    {
-    }
+    {}
 
     fn accepted(&mut self, _call: Call<'_>, _server: &Server)
         ensures { TellsMore None None (call_value _call.entry ∷ []) }
-    {
-    }
+    {}
 
     fn turn_ended(&mut self)
         ensures { TellsMore {A = AcceptedCall} None None [] }
-    {
-    }
+    {}
 }

@@ -1,5 +1,6 @@
 -- Defined by this project: durations of waits and of attempts to connect, in nanoseconds.
 use Rattle.std.specs.Prelude.{ℕ, suc, ◌+◌, ◌-◌, ◌*◌, ◌/◌, ◌%◌, ◌==◌, min, max, Option, Some, None, if◌then◌else◌}
+use Rattle.std.specs.Prelude.{Bool, false}
 use Rattle.std.specs.Duration.{max_nanos}
 
 -- One second.
@@ -33,6 +34,11 @@ end_of_attempt passed limit index count =
 abbrev pub at_most : (limit : ℕ) → Option ℕ → ℕ
 at_most limit None = limit
 at_most limit (Some time) = min time limit
+
+-- The system's clock can be read, and is in the second of `last`.
+abbrev pub is_in_second_of : (last : ℕ) → (wall : Option ℕ) → Bool
+is_in_second_of last None = false
+is_in_second_of last (Some wall) = wall / second == last / second
 
 -- The time of a clock that returned `last`, after `passed` by the monotonic clock. It is the time of the system's clock,
 -- unless that was set back or cannot be read. The clock then continues from its last time.

@@ -187,6 +187,15 @@ impl<'a, R: Net + time::Clock> ClientWire<'a, R> {
         Err(fault)
     }
 
+    /// Returns the address of the peer, as the system reports it.
+    ///
+    /// # Errors
+    ///
+    /// The error of the system, if it does not report the address.
+    pub fn peer(&self) -> io::Result<SocketAddr> {
+        self.stream.peer_addr()
+    }
+
     /// Returns the clock of the run, which began when the connection was made.
     pub fn clock(&self) -> RunClock<'a, R> {
         self.clock.again()

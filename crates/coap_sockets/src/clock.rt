@@ -5,7 +5,7 @@ ghost use Rattle.std.specs.Duration.{as_nanos};
 ghost use Rattle.coap_io.specs.streams.DeviceTraces.{TellsMore};
 ghost use Rattle.coap_sockets.specs.Durations.{second};
 
-use crate::durations::{Reading, continued, to_next_second};
+use crate::durations::{Reading, continued, is_in_second_of, to_next_second};
 use coap_io::Clock;
 use std::time;
 use std::time::Duration;
@@ -34,14 +34,17 @@ impl<'a, R: time::Clock> SystemClock<'a, R> {
 }
 
 impl<'a, R: time::Clock> Clock for SystemClock<'a, R> {
-    // The monotonic clock is read last, so that a pause between the two calls delays one reading only.
+    // The monotonic clock is read once in each second, which keeps most calls short. It is read last, so that a pause
+    // between the two calls affects one reading only.
     fn now(&mut self) -> u64
         ensures told { TellsMore {A = ℕ} None None (result ∷ []) }
         ensures forward { as_nanos self.old.last.time ≤ as_nanos self.new.last.time }
         ensures seconds { result ≡ as_nanos self.new.last.time / second }
     {
         let wall = self.rt.since_1970().ok();
-        self.last = continued(self.last, wall, monotonic(self.rt));
+        if !is_in_second_of(self.last.time, wall) {
+            self.last = continued(self.last, wall, monotonic(self.rt));
+        }
         self.last.time.as_secs()
     }
 }

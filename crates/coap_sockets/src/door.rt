@@ -374,8 +374,11 @@ impl<'a, R: Net + time::Clock> Door for SocketDoor<'a, R> {
                 wire
             }
             Err(error) => {
-                self.keep(accept_fault(error));
-                self.troubles.set(self.troubles.get().after_accept(error));
+                let refused = accept_fault(error);
+                if refused != AcceptError::NoneThere {
+                    self.troubles.set(self.troubles.get().after_accept(error));
+                }
+                self.keep(refused);
                 None
             }
         }

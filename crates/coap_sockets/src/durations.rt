@@ -82,6 +82,16 @@ pub(crate) struct Reading {
     pub monotonic: Duration,
 }
 
+/// Returns `true` if the system's clock can be read (`Some`) and is in the second of `last`.
+pub(crate) fn is_in_second_of(last: Duration, wall: Option<Duration>) -> bool
+    ensures { result ≡ spec.is_in_second_of (as_nanos last) (option_map as_nanos wall) }
+{
+    match wall {
+        Some(wall) => wall.as_secs() == last.as_secs(),
+        None => false,
+    }
+}
+
 /// Returns the reading after `last`, for the times of the system's clock and of the monotonic clock. If the system's
 /// clock was set back, or cannot be read (`None`), the time continues by the monotonic clock.
 pub(crate) fn continued(last: Reading, wall: Option<Duration>, monotonic: Duration) -> Reading

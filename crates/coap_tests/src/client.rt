@@ -5,7 +5,8 @@ ghost use Rattle.coap_client.specs.ClientRun.{IsClientRun, IsExplainedRun, seen}
 
 use crate::devices::RecordingOutlet;
 use coap_client::{
-    Cause, ClientFault, ClientPlan, Line, Refusal, RequestFault, RunEnd, client_words, explain, run_client, run_to_end,
+    Cause, ClientFault, ClientPlan, Line, Refusal, RequestFault, RunEnd, client_words, explain,
+    run_client, run_to_end,
 };
 use coap_serve::{Clock, Got, Wire};
 use std::alloc::Global;

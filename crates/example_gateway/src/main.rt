@@ -5,7 +5,7 @@
 //!     example_gateway 127.0.0.1:5683 /sys/class/thermal/thermal_zone0/temp
 #![tactic(auto)]
 
-use anyhow::{Context, Result};
+use anyhow::{Context, Result, bail};
 use coap_serve::{Clock, Config, Door, Limits, PathKey, Service, Starts};
 use coap_sockets::{SocketDoor, SystemClock};
 use std::io::Read;
@@ -16,11 +16,15 @@ use std::{env, fs, time};
 /// Returns the measured value: the bytes of a file.
 fn measured(rt: &(impl Files + AllocGlobal), file: &str) -> Result<Vec<u8>> {
     let mut bytes = Vec::new(rt.alloc());
-    fs::open(rt, file)?.read_to_end(&mut bytes)?;
+    fs::open(rt, file)
+        .context("cannot open the sensor's file")?
+        .read_to_end(&mut bytes)
+        .context("cannot read the sensor's file")?;
     Ok(bytes)
 }
 
-/// Serves the contents of a file at an address, as long as the file can be read.
+/// Serves the contents of a file at an address, as long as the file can be read. Each error says what could not be done,
+/// and `main` prints it with its cause.
 fn serve(
     rt: &(impl Eprint + Files + Net + time::Clock + AllocGlobal),
     address: SocketAddr,
@@ -40,8 +44,10 @@ fn serve(
         .starts(Starts::at(clock.now()))
         .build()?;
     let path = PathKey::from_segments(&[b"measured"]).context("no path")?;
-    let mut door = SocketDoor::listen(rt, rt.alloc(), address, config.connections())?;
-    let mut service = Service::new(rt.alloc(), config)?;
+    let mut door = SocketDoor::listen(rt, rt.alloc(), address, config.connections()).context(
+        "cannot listen at the address",
+    )?;
+    let mut service = Service::new(rt.alloc(), config).context("no memory for the server")?;
     eprintln!(rt;
         "example_gateway: listening on {}",
         door.address().unwrap_or(address)
@@ -56,17 +62,24 @@ fn serve(
         if stored.as_ref() != Some(&value) && service.put(&path, Some(0), &value).is_ok() {
             stored = Some(value);
         }
-        let wait = service.turn(&mut door)?;
+        let wait = service
+            .turn(&mut door)
+            .context("no memory to serve the connections")?;
         door.wait(wait.at_most(now.saturating_add(1)), service.can_open());
     }
-    Ok(())
+    bail!("the limit of turns is reached")
 }
 
 fn main(rt: HostRuntime) -> Result<()> {
     let mut words = env::args(&rt)?;
     let _name = words.next();
     match (words.next(), words.next()) {
-        (Some(address), Some(file)) => serve(&rt, address.parse::<SocketAddr>()?, file.as_str()),
+        (Some(address), Some(file)) => {
+            let address = address
+                .parse::<SocketAddr>()
+                .context("the address is not of the form IP:PORT")?;
+            serve(&rt, address, file.as_str())
+        }
         _ => println!(&rt; "usage: example_gateway ADDRESS:PORT FILE").context("cannot write"),
     }
 }

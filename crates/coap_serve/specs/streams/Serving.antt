@@ -6,6 +6,7 @@ use Rattle.coap_io.specs.streams.DeviceTraces.{DoorCall, Asked}
 use Rattle.coap_serve.specs.streams.RecordedInterests.{true_end}
 use Rattle.coap_serve.specs.streams.Turns.{IsServed, IsIdle, IsInTurn, IsAgendaOf, IsWaitAfter, concerns_earlier, end_of}
 use Rattle.coap_io.specs.streams.Wires.{WireTrace}
+use Rattle.coap_server_engine.specs.values.Flushes.{waiting_at}
 use Rattle.coap_server_engine.specs.values.InResults.{ShowsMore}
 use Rattle.coap_server_engine.specs.values.ServerDeadlines.{stamp_of}
 use Rattle.coap_server_engine.specs.values.ServerAnswers.{open_refusal}
@@ -22,6 +23,11 @@ use Rattle.coap_io.specs.declared.wire.Wait.{Wait}
 -- Holds of all events: no monitor receives them.
 abbrev pub Unrecorded : List AcceptedCall → Type 0
 Unrecorded events = Unit {0}
+
+-- The event of one flush, if bytes were queued before.
+abbrev pub flush_calls : ℕ → ServerValue → (waited : Bool) → List AcceptedCall
+flush_calls id v true = Wrote id (length (waiting_at id v)) ∷ []
+flush_calls id v false = []
 
 -- The events of serving connections: bytes are accepted, bytes are written, an input ends, a connection is dropped.
 abbrev pub IsServing : AcceptedCall → Type 0

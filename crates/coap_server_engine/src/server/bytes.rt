@@ -2,8 +2,8 @@
 
 use super::sessions::{find, flush_at, settle_after, what_was_handled, written_at};
 use super::{FlushStep, Server};
-use coap_io::{Outlet, WriteFailed};
 use crate::monitor::{Call, Monitor, NoMonitor};
+use coap_io::{Outlet, WriteFailed};
 use coap_model::{ConnId, Handled, TakeFault, Taken, WrittenFault};
 use std::alloc::AllocError;
 
@@ -178,6 +178,18 @@ impl Server {
             }
         }
         Ok(taken)
+    }
+
+    /// Returns the number of pending entries plus the number of observers of a connection, or 0 if there is none. A
+    /// connection settles in at most this number of steps.
+    #[tactic(auto, using(crate::proofs::values::ServerLemmas::unmarked_at, crate::proofs::values::ServerLemmas::within_unmarked))]
+    pub fn settle_bound(&self, id: ConnId) -> usize
+        ensures { result ≡ more_at id self.now }
+    {
+        let Some(at) = find(&self.sessions, id) else {
+            return 0;
+        };
+        self.sessions[at].settle_bound()
     }
 
     /// Returns all queued bytes of a connection in one slice, or `None` if no connection has this id.

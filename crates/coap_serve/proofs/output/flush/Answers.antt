@@ -9,7 +9,7 @@ returns-in_err-first-clause-part g c =
 
 pub loop-init : goal.loop-init
 loop-init g c = record {
-  flushing = turned c.args.id c.args.server.now 0 c.args.server.now _ _ _ c.flush_once.new.self 1 c.in_ok-first.first.waited (flush_begins _ _ _) (omega arith) refl c.in_ok-first.ensures.ok;
+  flushing = turned c.args.id c.args.server.now 0 c.args.server.now _ _ _ c.flush_once.new.server 1 c.in_ok-first.first.waited (flush_begins _ _ _) (omega arith) refl c.in_ok-first.ensures.ok;
   stop = c.in_ok-first.ensures.stop;
   works = c.in_ok-first.ensures.failure;
 }
@@ -23,7 +23,7 @@ pub loop-preserved : goal.loop-preserved
 loop-preserved g c =
     let so_far = goes_on_so c.args.id c.args.server.now (c.loop.counter + 1) c.loop.server _ _ c.loop.last.waited c.if-not-last.false c.loop.invariant.flushing in
     record {
-      flushing = turned c.args.id c.args.server.now (c.loop.counter + 1) c.loop.server _ _ _ c.flush_once-in-loop.new.self _ c.in_ok-last.last.waited so_far (omega (arith, c.in_ok-first.ensures.more, c.loop-test.true)) (omega arith) c.in_ok-last.ensures.ok;
+      flushing = turned c.args.id c.args.server.now (c.loop.counter + 1) c.loop.server _ _ _ c.flush_once-in-loop.new.server _ c.in_ok-last.last.waited so_far (omega (arith, c.in_ok-first.ensures.more, c.loop-test.true)) (omega arith) c.in_ok-last.ensures.ok;
       stop = c.in_ok-last.ensures.stop;
       works = c.in_ok-last.ensures.failure;
     }

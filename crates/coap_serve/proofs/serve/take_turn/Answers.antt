@@ -13,4 +13,4 @@ returns-in_err-messages-clause-turn g c = λ k bytes goes.
 pub returns-clause-turn : goal.returns-clause-turn
 returns-clause-turn g c = λ k bytes goes.
     let has = has_read _ _ c.read.new.buffer c.in-Some.count (omega (arith, c.read.auto.buffer, c.requires.room)) c.in-Some.ensures.within c.if-count-eq0.false c.in-Some.ensures.given in
-    turn_piece k c.args.server.now c.args.id bytes _ c.serve_piece.new.server _ _ _ goes has (c.in_ok-messages.ensures.served k bytes goes) (sym (length-take-le c.in-Some.count c.read.new.buffer c.in-Some.ensures.within)) c.stop.ensures
+    turn_piece k c.args.server.now c.args.id bytes _ c.serve_piece.new.server _ _ _ goes has (c.in_ok-messages.ensures.served k bytes goes) (sym (length-take-le c.in-Some.count c.read.new.buffer c.in-Some.ensures.within)) c.stop_in.ensures

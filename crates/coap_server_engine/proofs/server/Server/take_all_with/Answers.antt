@@ -39,8 +39,11 @@ returns-then-piece-eq0 g c =
     let told = rw (rest_of c.loop-taken.taken c.args.bytes.now) at c.accepted.ensures in
     let none = sym t.count ∙ c.if-piece-eq0.true in
     rw (fed_and_stopped _ _ _ _ _ c.loop-taken.invariant.0 c.loop-taken-test.true _ none t.ok)
-    (search (rules, stopped_shows _ _ _ _ _ c.loop-taken.invariant.0 c.loop-taken-test.true _ none t.ok (rw ((there_is _ t.there).1, ← t.count) t.shows),
-    stopped_told _ _ _ _ _ c.loop-taken.invariant.0 c.loop-taken-test.true (g.M.Monitor.calls c.args.monitor.now) (g.M.Monitor.calls c.loop-taken.monitor) (g.M.Monitor.calls c.accepted.new.self) _ none t.ok c.loop-taken.invariant.2 (rw ((there_is _ t.there).1, ← t.count) told)))
+    (search (
+      rules,
+      stopped_shows _ _ _ _ _ c.loop-taken.invariant.0 c.loop-taken-test.true _ none t.ok (rw ((there_is _ t.there).1, ← t.count) t.shows),
+      stopped_told _ _ _ _ _ c.loop-taken.invariant.0 c.loop-taken-test.true (g.M.Monitor.calls c.args.monitor.now) (g.M.Monitor.calls c.loop-taken.monitor) (g.M.Monitor.calls c.accepted.new.self) _ none t.ok c.loop-taken.invariant.2 (rw ((there_is _ t.there).1, ← t.count) told),
+    ))
 
 -- No connection has this id.
 pub returns-in-Err-NoSuch : goal.returns-in-Err-NoSuch
@@ -48,8 +51,11 @@ unfolding server_taken count_taken
 returns-in-Err-NoSuch g c =
     let no = rw c.in-Err-NoSuch.field-0-is at c.in-Err-NoSuch.ensures.refused in
     rw (fed_and_stopped _ _ _ _ _ c.loop-taken.invariant.0 c.loop-taken-test.true c.take_at.new.self (rw no.0) (rw no.0 no.1))
-    (search (rules, stopped_shows _ _ _ _ _ c.loop-taken.invariant.0 c.loop-taken-test.true c.take_at.new.self (rw no.0) (rw no.0 no.1) (rw no.0 (shows_same _ _ no.1)),
-    stopped_told _ _ _ _ _ c.loop-taken.invariant.0 c.loop-taken-test.true (g.M.Monitor.calls c.args.monitor.now) (g.M.Monitor.calls c.loop-taken.monitor) (g.M.Monitor.calls c.loop-taken.monitor) c.take_at.new.self (rw no.0) (rw no.0 no.1) c.loop-taken.invariant.2 (rw no.0 (told_none (g.M.Monitor.calls c.loop-taken.monitor)))))
+    (search (
+      rules,
+      stopped_shows _ _ _ _ _ c.loop-taken.invariant.0 c.loop-taken-test.true c.take_at.new.self (rw no.0) (rw no.0 no.1) (rw no.0 (shows_same _ _ no.1)),
+      stopped_told _ _ _ _ _ c.loop-taken.invariant.0 c.loop-taken-test.true (g.M.Monitor.calls c.args.monitor.now) (g.M.Monitor.calls c.loop-taken.monitor) (g.M.Monitor.calls c.loop-taken.monitor) c.take_at.new.self (rw no.0) (rw no.0 no.1) c.loop-taken.invariant.2 (rw no.0 (told_none (g.M.Monitor.calls c.loop-taken.monitor))),
+    ))
 
 pub returns-in-Err-Memory : goal.returns-in-Err-Memory
 returns-in-Err-Memory g c =

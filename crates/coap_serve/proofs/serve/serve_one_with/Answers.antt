@@ -1,5 +1,5 @@
 use Rattle.coap_serve.proofs.streams.RunLemmas.{goes_at_first, cut_at_first, greeted, not_begun}
-use Rattle.coap_serve.proofs.serve.serve_one.Goals as goal
+use Rattle.coap_serve.proofs.serve.serve_one_with.Goals as goal
 
 pub returns-in_default-clause-run : goal.returns-in_default-clause-run
 returns-in_default-clause-run g c = not_begun c.args.config.now _ _
