@@ -14,4 +14,4 @@ pub mod SweepLemmas
 pub mod NextPartLemmas
 pub mod ServiceLemmas
 pub mod DoorLemmas
-pub mod IdleLemmas
+pub mod TimedLemmas

@@ -52,8 +52,8 @@ unfoldable pub use Rattle.coap_model.specs.world.Connections.{settled}
 pub use Rattle.coap_model.specs.world.World.{World, Step}
 unfoldable pub use Rattle.coap_model.specs.world.World.{side_of, step}
 -- ---- coap_serve, declared
-pub use Rattle.coap_serve.specs.declared.door.idle.Activity.{Activity}
-pub use Rattle.coap_serve.specs.declared.door.idle.IdleAction.{IdleAction}
+pub use Rattle.coap_serve.specs.declared.door.silence.Activity.{Activity}
+pub use Rattle.coap_serve.specs.declared.door.silence.SilenceAction.{SilenceAction}
 pub use Rattle.coap_serve.specs.declared.door.next_wakeup.NextWakeup.{NextWakeup}
 pub use Rattle.coap_serve.specs.declared.door.peer.PeerOutcome.{PeerOutcome}
 pub use Rattle.coap_serve.specs.declared.door.peer.PeerOutcome.TheVariants.{Over}
@@ -70,12 +70,12 @@ pub use Rattle.coap_server_engine.specs.declared.server.ChangeStamp.{ChangeStamp
 pub use Rattle.coap_serve.specs.streams.DoorRun.{IsDoorRun, waited_behind, moved_to, EndsWith, HasTurnedSo, IsCutRun}
 pub use Rattle.coap_serve.specs.streams.DoorRun.{NoneYet, OneMore}
 pub use Rattle.coap_serve.specs.streams.Faults.{is_read_fault, is_write_fault, IsMemory, IsMemoryOrTurns}
-pub use Rattle.coap_serve.specs.streams.Idle.{idle_action, quiet_action, action_for, new_activity, activities_after}
-pub use Rattle.coap_serve.specs.streams.Idle.{changed_by, changed_from, moved_by, Sweep, swept_one, swept_both, acted}
-pub use Rattle.coap_serve.specs.streams.Idle.{HasSwept, HasSweptAt, drop_one, release_one}
-unfoldable pub use Rattle.coap_serve.specs.streams.Idle.{swept}
-pub use Rattle.coap_serve.specs.streams.IdleRun.{short_wait, AreEnded, HasEnded, is_sweep_due, IsIdleRun, IdleEndsWith}
-pub use Rattle.coap_serve.specs.streams.IdleRun.{HasIdleTurned, IsCutIdleRun, IsWholeIdleRun, NoneSoFar, OneSoFar}
+pub use Rattle.coap_serve.specs.streams.Silence.{silence_action, quiet_action, action_for, new_activity, activities_after}
+pub use Rattle.coap_serve.specs.streams.Silence.{changed_by, changed_from, moved_by, Sweep, swept_one, swept_both, acted}
+pub use Rattle.coap_serve.specs.streams.Silence.{HasSwept, HasSweptAt, drop_one, release_one}
+unfoldable pub use Rattle.coap_serve.specs.streams.Silence.{swept}
+pub use Rattle.coap_serve.specs.streams.TimedRun.{short_wait, AreEnded, HasEnded, is_sweep_due, IsTimedRun, TimedEndsWith}
+pub use Rattle.coap_serve.specs.streams.TimedRun.{HasTimedTurns, IsCutTimedRun, IsWholeTimedRun, NoneSoFar, OneSoFar}
 pub use Rattle.coap_serve.specs.streams.RecordedInterests.{true_end, recorded, recorded_on, AreNoted, IsNoEarlier, KeepsNotes}
 pub use Rattle.coap_serve.specs.streams.RecordedInterests.{WhilePassedOver, AtFirst}
 pub use Rattle.coap_serve.specs.streams.RecordedInterests.{IsNoted, Served}

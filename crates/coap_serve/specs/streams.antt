@@ -7,5 +7,5 @@ pub mod Turns
 pub mod RecordedInterests
 pub mod Serving
 pub mod DoorRun
-pub mod Idle
-pub mod IdleRun
+pub mod Silence
+pub mod TimedRun

@@ -1,15 +1,15 @@
 //! Runs a server over the connections that a listener (`Door`) accepts.
 
 ghost use Rattle.coap_serve.specs.Prelude.{IsDoorRun, waited_behind, TellsMore, trace_by, IsMemoryOrTurns};
-ghost use Rattle.coap_serve.specs.Prelude.{AreEnded, HasEnded, IsIdleRun, Unrecorded, is_sweep_due};
+ghost use Rattle.coap_serve.specs.Prelude.{AreEnded, HasEnded, IsTimedRun, Unrecorded, is_sweep_due};
 ghost use Rattle.std.specs.Prelude.{◌≡◌, false};
 
-mod idle;
 mod next_wakeup;
 mod peer;
 mod peer_interest;
 mod removal;
 mod service;
+mod silence;
 mod sweep;
 mod turn;
 
@@ -17,8 +17,8 @@ use crate::serve::IoFault;
 use coap_io::{Clock, Door, Ready, Wait, Wire};
 use coap_model::Config;
 use coap_server_engine::{Monitor, NoMonitor};
-pub use idle::IdleWatch;
 pub use service::Service;
+pub use silence::SilenceWatch;
 use std::alloc::Global;
 
 /// Serves the connections that a listener accepts, for as many turns as the configuration allows.
@@ -107,29 +107,29 @@ pub fn serve_door_with<D: Door, C: Clock, M: Monitor<D::Wire>>(
     Err(IoFault::Turns)
 }
 
-/// Serves the connections that a listener accepts, as `serve_door_with` does, and ends those that are idle.
+/// Serves the connections that a listener accepts, as `serve_door_with` does, and ends those that are silent.
 ///
 /// `uptime` is read once in each turn, after the time was set. It must be a clock that never goes back, such as
-/// `RunClock` of `coap_sockets`. If its time differs from that of the last sweep, idle connections are released or
-/// dropped (`Service::end_idle`) before the turn goes on. While a connection exists, the listener waits at most until
+/// `RunClock` of `coap_sockets`. If its time differs from that of the last sweep, silent connections are released or
+/// dropped (`Service::end_silent`) before the turn goes on. While a connection exists, the listener waits at most until
 /// the next second.
 ///
 /// # Errors
 ///
 /// Those of `serve_door`.
-pub fn serve_door_idle<D: Door, C: Clock, U: Clock, M: Monitor<D::Wire>>(
+pub fn serve_door_timed<D: Door, C: Clock, U: Clock, M: Monitor<D::Wire>>(
     alloc: Global,
     door: &mut D,
     clock: &mut C,
     uptime: &mut U,
     config: Config,
     idle: u32,
-    watch: &mut IdleWatch<M>,
+    watch: &mut SilenceWatch<M>,
 ) -> Result<(), IoFault>
     ensures fault { IsMemoryOrTurns result }
     // The run consists of whole turns, as the traces of both clocks and of the listener record them. Before each turn,
-    // idle connections are ended if the time differs from that of the last sweep.
-    ensures run { IsIdleRun D.Wire.readable D.Wire.writable
+    // silent connections are ended if the time differs from that of the last sweep.
+    ensures run { IsTimedRun D.Wire.readable D.Wire.writable
         (trace_by D.Wire.given D.Wire.written D.Wire.answers D.Wire.rooms) config idle
         (TellsMore (C.moments clock.old) (C.moments clock.new)) (TellsMore (U.moments uptime.old) (U.moments uptime.new))
         (TellsMore (D.calls door.old) (D.calls door.new))
@@ -144,7 +144,7 @@ pub fn serve_door_idle<D: Door, C: Clock, U: Clock, M: Monitor<D::Wire>>(
         wait_after_turn(door, turn, wait, service.can_open());
         let _ = service.tick_with(clock.now(), watch);
         let second = uptime.now();
-        end_idle_after(&mut service, last, second, idle, watch);
+        end_silent_after(&mut service, last, second, idle, watch);
         last = second;
         let asked = service.turn_with(door, watch)?;
         wait = service.at_most_a_second(asked);
@@ -153,13 +153,13 @@ pub fn serve_door_idle<D: Door, C: Clock, U: Clock, M: Monitor<D::Wire>>(
     Err(IoFault::Turns)
 }
 
-/// Ends the idle connections of a service, if the time differs from that of the last sweep.
-fn end_idle_after<W: Wire + Ready + Drop, M: Monitor<W>>(
+/// Ends the silent connections of a service, if the time differs from that of the last sweep.
+fn end_silent_after<W: Wire + Ready + Drop, M: Monitor<W>>(
     service: &mut Service<W>,
     last: u64,
     second: u64,
     idle: u32,
-    watch: &mut IdleWatch<M>,
+    watch: &mut SilenceWatch<M>,
 )
     requires { service.old.is_spent ≡ false }
     ensures ended { AreEnded (is_sweep_due last second) idle second service.old.server service.old.peers.entries
@@ -169,7 +169,7 @@ fn end_idle_after<W: Wire + Ready + Drop, M: Monitor<W>>(
     ensures spent { service.new.is_spent ≡ false }
 {
     if second != last {
-        service.end_idle(idle, second, watch);
+        service.end_silent(idle, second, watch);
     }
 }
 

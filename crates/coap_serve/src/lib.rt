@@ -32,5 +32,5 @@ pub use coap_script::{Event, ScriptFault, script, scripts_go_on_behind_whole_lin
 pub use coap_server_engine::{Call, Monitor, NoMonitor, ReplayFault, Server};
 pub use coap_store::{PathKey, StoreFault};
 pub use coap_text::{bytes_in, number_in};
-pub use door::{IdleWatch, Service, serve_door, serve_door_idle, serve_door_with};
+pub use door::{Service, SilenceWatch, serve_door, serve_door_timed, serve_door_with};
 pub use serve::{IoFault, Report, serve_one, serve_one_with};

@@ -11,8 +11,10 @@ use crate::{PROGRAM, config_of};
 use coap_print::LogLevel;
 use coap_program::{FAULT, USAGE};
 use coap_request::ServerPlan;
-use coap_serve::{Clock, Config, IoFault, Starts, serve_door, serve_door_with};
-use coap_sockets::{ListenError, ListenFault, SocketDoor, SystemClock};
+use coap_serve::{
+    Clock, Config, IoFault, Monitor, NoMonitor, SilenceWatch, Starts, serve_door_timed, serve_door_with,
+};
+use coap_sockets::{ListenError, ListenFault, RunClock, SocketDoor, SocketWire, SystemClock};
 use std::net::{Net, SocketAddr};
 use std::time;
 
@@ -83,8 +85,8 @@ pub(crate) fn run(
         door.address().unwrap_or(address)
     );
     let served = match plan.log {
-        LogLevel::Nothing => serve_door(rt.alloc(), &mut door, &mut clock, config),
-        level => serve_logged(rt, &mut door, &mut clock, config, level),
+        LogLevel::Nothing => serve(rt, &mut door, &mut clock, config, plan.idle, NoMonitor),
+        _ => serve_logged(rt, &mut door, &mut clock, config, plan),
     };
     match served {
         Ok(()) => unreachable!(),
@@ -92,20 +94,43 @@ pub(crate) fn run(
     }
 }
 
-/// Serves the connections of a listener with a log of this level.
+/// Serves the connections of a listener with a log of the plan's level.
 fn serve_logged<'a, R: Eprint + Net + time::Clock + AllocGlobal>(
     rt: &'a R,
     door: &mut SocketDoor<'a, R>,
     clock: &mut SystemClock<'a, R>,
     config: Config,
-    level: LogLevel,
+    plan: &ServerPlan,
 ) -> Result<(), IoFault>
     ensures { IsErr result }
 {
     door.wake_each_second();
     let troubles = door.troubles();
-    let Ok(mut log) = ServerLog::new(rt, rt.alloc(), level, &config, troubles) else {
+    let Ok(log) = ServerLog::new(rt, rt.alloc(), plan.log, &config, troubles) else {
         return Err(IoFault::Memory);
     };
-    serve_door_with(rt.alloc(), door, clock, config, &mut log)
+    serve(rt, door, clock, config, plan.idle, log)
+}
+
+/// Serves the connections of a listener. The monitor receives the calls that the server accepts. Connections are ended
+/// after `idle` seconds without a byte, or never if `idle` is zero.
+fn serve<'a, R: Net + time::Clock + AllocGlobal, M: Monitor<SocketWire> + Drop>(
+    rt: &'a R,
+    door: &mut SocketDoor<'a, R>,
+    clock: &mut SystemClock<'a, R>,
+    config: Config,
+    idle: u32,
+    monitor: M,
+) -> Result<(), IoFault>
+    ensures { IsErr result }
+{
+    if idle == 0 {
+        let mut monitor = monitor;
+        return serve_door_with(rt.alloc(), door, clock, config, &mut monitor);
+    }
+    let Ok(mut watch) = SilenceWatch::new(rt.alloc(), config.connections(), monitor) else {
+        return Err(IoFault::Memory);
+    };
+    let mut uptime = RunClock::start(rt);
+    serve_door_timed(rt.alloc(), door, clock, &mut uptime, config, idle, &mut watch)
 }

@@ -1,14 +1,14 @@
 -- The effect of a sweep, connection by connection.
-use Rattle.std.proofs.Common.{◌≡◌, ◌≢◌, ◌⊎◌, ℕ, zero, suc, ◌+◌, ◌-◌, ◌<◌, ◌≤◌, Bool, true, false, List, [], ◌∷◌, ◌++◌, length, map, take, drop, Option, Some, None, refl, sym, ap, ◌∙◌, arith, slice_get, IfSome, remove, nat_eq, append_assoc, add-one, option_map}
+use Rattle.std.proofs.Common.{◌≡◌, ℕ, zero, suc, ◌+◌, ◌<◌, ◌≤◌, List, [], ◌∷◌, ◌++◌, length, take, drop, Option, Some, None, refl, sym, ap, ◌∙◌, arith, slice_get, IfSome, remove, nat_eq, append_assoc, add-one, option_map}
 use Rattle.std.proofs.lemmas.List.{length-take-le, append-nil, append_cancel_left, drop_at, drop_all, take_all, take_more}
 use Rattle.std.proofs.lemmas.Option.{same_Some, slice_get-map, slice_get_within, get_or_from_slice_get}
 use Rattle.std.proofs.lemmas.Map.{NonePasses}
-use Rattle.coap_serve.specs.Prelude.{AllByRecursion, IsDistinct, keys_of, set_value_at, lookup, Peer, Activity, IdleAction}
+use Rattle.coap_serve.specs.Prelude.{AllByRecursion, IsDistinct, keys_of, set_value_at, lookup, Peer, Activity, SilenceAction}
 use Rattle.coap_serve.specs.Prelude.{AcceptedCall, Released, Dropped, ShowsMore, ServerValue, AreSettled, AreNoted, IsNoted}
-use Rattle.coap_serve.specs.Prelude.{server_released, server_dropped, released_refusal, status_of, recorded, recorded_on}
-use Rattle.coap_serve.specs.Prelude.{idle_action, activities_after, acted, drop_one, Sweep, swept, swept_one, HasSwept, HasSweptAt}
+use Rattle.coap_serve.specs.Prelude.{server_released, server_dropped, released_refusal, status_of, recorded}
+use Rattle.coap_serve.specs.Prelude.{silence_action, activities_after, acted, drop_one, Sweep, swept, swept_one, HasSwept, HasSweptAt}
 use Rattle.coap_serve.specs.Prelude.{TellsMore}
-use Rattle.coap_serve.specs.declared.door.idle.IdleAction.TheVariants.{Keep, Release, Drop}
+use Rattle.coap_serve.specs.declared.door.silence.SilenceAction.TheVariants.{Keep, Release}
 use Rattle.coap_io.proofs.streams.DeviceLemmas.{told_none, told_then}
 use Rattle.coap_server_engine.proofs.scripting.ShownLemmas.{shows_same, shows_then}
 use Rattle.coap_serve.proofs.streams.AgendaLemmas.{some_at_index, next_first, front_stays}
@@ -88,12 +88,12 @@ module _ {W : Type 0} (told : List AcceptedCall → Type 0) (now : ℕ) (v after
       rw (at.1, refused_so) (rw at.1 at part)
 
   -- The action is that of the rule.
-  pub acted_here : (idle : ℕ) (action : IdleAction) (next : ℕ) → action ≡ idle_action idle now (status_of v id) (lookup (nat_eq id) all) → IfSome (slice_get es i) (λ e. HasSweptAt told (acted action (released_refusal v e.0) now v all e) v es i after later left next)
+  pub acted_here : (idle : ℕ) (action : SilenceAction) (next : ℕ) → action ≡ silence_action idle now (status_of v id) (lookup (nat_eq id) all) → IfSome (slice_get es i) (λ e. HasSweptAt told (acted action (released_refusal v e.0) now v all e) v es i after later left next)
       → IfSome (slice_get es i) (λ e. HasSweptAt told (swept_one idle now v all e) v es i after later left next)
   acted_here idle action next is part =
       let at = some_at_index es i within in
       let same : at.0.0 ≡ id = number_there es i id at.0 number at.1 in
-      let is_so : action ≡ idle_action idle now (status_of v at.0.0) (lookup (nat_eq at.0.0) all) = rw (← same) at is in
+      let is_so : action ≡ silence_action idle now (status_of v at.0.0) (lookup (nat_eq at.0.0) all) = rw (← same) at is in
       rw (at.1, ← is_so) (rw at.1 at part)
 
 -- The connection stays.

@@ -3,7 +3,7 @@ use Rattle.std.proofs.Common.{◌≡◌, ◌≢◌, ◌⊎◌, ℕ, suc, ◌<◌
 use Rattle.std.proofs.lemmas.Bool.{le-leb}
 use Rattle.std.proofs.lemmas.List.{append-nil}
 use Rattle.coap_serve.specs.Prelude.{Stream, split_on, LimitValues, ConfigValues, SessionValue, ServerValue}
-use Rattle.coap_serve.specs.Prelude.{session_of, server_taken, server_taken_on, stop_on, RefusesPieceOn, waiting_at}
+use Rattle.coap_serve.specs.Prelude.{session_of, server_taken, stop_on, RefusesPieceOn, waiting_at}
 use Rattle.coap_serve.specs.Prelude.{more_at, flush_turns, IsFlushed, IsPartFlushed, Taken, AddsBytes, WritesPart}
 use Rattle.coap_serve.specs.Prelude.{only_id, stream_of, flushed, flushed_after, world_for, Outcome, outcome_on}
 use Rattle.coap_serve.specs.Prelude.{outcome, stdio_output, IsLastByte, IsAtBytes, IsRunningAt, Says, IsWhole, IsCut, Connection}

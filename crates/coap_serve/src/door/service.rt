@@ -3,9 +3,9 @@
 ghost use Rattle.std.specs.Prelude.{◌≡◌, false, All};
 ghost use Rattle.coap_serve.specs.streams.RecordedInterests.{IsNoted};
 
-use super::idle::IdleWatch;
 use super::peer::Peers;
 use super::removal::record_on;
+use super::silence::SilenceWatch;
 use super::sweep::sweep;
 use super::turn::take_turn;
 use crate::serve::IoFault;
@@ -241,7 +241,7 @@ impl<W: Wire + Ready + Drop> Service<W> {
         Ok(())
     }
 
-    /// Releases or drops the connections that are idle at the time `now`, in order of their numbers, by the times that
+    /// Releases or drops the connections that are silent at the time `now`, in order of their numbers, by the times that
     /// `watch` recorded. `now` is in seconds of a clock that never goes back, and the calls that follow have that time.
     ///
     /// - A connection is released if no byte was transferred for more than `idle` seconds, it has no observer, and
@@ -250,7 +250,7 @@ impl<W: Wire + Ready + Drop> Service<W> {
     /// - A released connection is dropped if its queue is not written within 5 seconds.
     ///
     /// After an allocation failed in a turn, nothing happens.
-    pub fn end_idle<M: Monitor<W>>(&mut self, idle: u32, now: u64, watch: &mut IdleWatch<M>)
+    pub fn end_silent<M: Monitor<W>>(&mut self, idle: u32, now: u64, watch: &mut SilenceWatch<M>)
         ensures has { self.old.is_spent ≡ false → HasSwept
             (TellsMore (M.calls watch.old.monitor) (M.calls watch.new.monitor))
             (swept idle now self.old.server watch.old.activities.entries self.old.peers.entries) self.old.server

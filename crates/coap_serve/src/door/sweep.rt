@@ -1,22 +1,22 @@
-//! The sweep, which releases or drops idle connections.
+//! The sweep, which releases or drops silent connections.
 
 ghost use Rattle.std.specs.Prelude.{◌≡◌, ◌<◌, ◌≤◌, ◌+◌, ◌-◌, ◌^◌, Some, length, true, slice_get, IfSome};
 ghost use Rattle.coap_serve.specs.Prelude.{AreNoted, AreSettled, HasSwept, HasSweptAt, TellsMore, acted, drop_one};
 ghost use Rattle.coap_serve.specs.Prelude.{is_there, keys_of, released_refusal, session_of, swept, swept_one};
-ghost use Rattle.coap_serve.specs.declared.door.idle.IdleAction.TheVariants.{Release};
+ghost use Rattle.coap_serve.specs.declared.door.silence.SilenceAction.TheVariants.{Release};
 
-use super::idle::{IdleAction, IdleWatch, idle_action};
 use super::peer::Peers;
 use super::removal::record_at;
+use super::silence::{SilenceAction, SilenceWatch, silence_action};
 use coap_model::ConnId;
 use coap_server_engine::{Call, Monitor, Server};
 
-/// Releases or drops the connections that are idle, in order of their numbers. The monitor receives each call.
+/// Releases or drops the silent connections, in order of their numbers. The monitor receives each call.
 pub(super) fn sweep<W: Drop, M: Monitor<W>>(
     server: &mut Server,
     peers: &mut Peers<W>,
     idle: u32,
-    watch: &mut IdleWatch<M>,
+    watch: &mut SilenceWatch<M>,
 )
     requires { AreNoted server.old peers.old.entries }
     ensures has { HasSwept (TellsMore (M.calls watch.old.monitor) (M.calls watch.new.monitor))
@@ -39,7 +39,7 @@ fn sweep_at<W: Drop, M: Monitor<W>>(
     peers: &mut Peers<W>,
     at: usize,
     idle: u32,
-    watch: &mut IdleWatch<M>,
+    watch: &mut SilenceWatch<M>,
 ) -> usize
     requires there { at < length peers.old.entries }
     requires fits { length peers.old.entries < 2 ^ 64 }
@@ -62,10 +62,10 @@ fn sweep_at<W: Drop, M: Monitor<W>>(
         return at + 1;
     };
     let activity = watch.activities.get(&id).copied();
-    match idle_action(idle, watch.now, Some(status), activity) {
-        IdleAction::Keep => at + 1,
-        IdleAction::Release => release_at(server, peers, at, id, watch),
-        IdleAction::Drop => drop_at(server, peers, at, id, watch),
+    match silence_action(idle, watch.now, Some(status), activity) {
+        SilenceAction::Keep => at + 1,
+        SilenceAction::Release => release_at(server, peers, at, id, watch),
+        SilenceAction::Drop => drop_at(server, peers, at, id, watch),
     }
 }
 
@@ -75,7 +75,7 @@ fn release_at<W: Drop, M: Monitor<W>>(
     peers: &mut Peers<W>,
     at: usize,
     id: ConnId,
-    watch: &mut IdleWatch<M>,
+    watch: &mut SilenceWatch<M>,
 ) -> usize
     requires there { at < length peers.old.entries }
     requires fits { length peers.old.entries < 2 ^ 64 }
@@ -105,7 +105,7 @@ fn drop_at<W: Drop, M: Monitor<W>>(
     peers: &mut Peers<W>,
     at: usize,
     id: ConnId,
-    watch: &mut IdleWatch<M>,
+    watch: &mut SilenceWatch<M>,
 ) -> usize
     requires there { at < length peers.old.entries }
     requires number { slice_get (keys_of peers.old.entries) at ≡ Some id }

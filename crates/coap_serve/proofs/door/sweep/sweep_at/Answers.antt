@@ -1,6 +1,6 @@
 use Rattle.std.proofs.Common.{refl, sym, ◌≡◌, ◌∙◌, nat_eq, ◌+◌}
-use Rattle.coap_serve.specs.Prelude.{TellsMore, idle_action, status_of, lookup}
-use Rattle.coap_serve.specs.declared.door.idle.IdleAction.TheVariants.{Keep, Release, Drop}
+use Rattle.coap_serve.specs.Prelude.{TellsMore, lookup}
+use Rattle.coap_serve.specs.declared.door.silence.SilenceAction.TheVariants.{Keep}
 use Rattle.coap_serve.proofs.streams.SweepLemmas.{acted_here, kept_here, its_number}
 use Rattle.coap_serve.proofs.door.sweep.sweep_at.Goals as goal
 
@@ -21,4 +21,4 @@ returns-in-Keep-clause-part g c =
     let act : c.copied-activity.result ≡ lookup (nat_eq c.in-Some.id.now) c.args.watch.now.activities.entries = c.copied-activity.ensures ∙ c.get.ensures.value in
     acted_here (TellsMore (g.M.Monitor.calls c.args.watch.now.monitor) (g.M.Monitor.calls c.args.watch.now.monitor)) c.args.watch.now.now c.args.server.now c.args.server.now c.args.watch.now.activities.entries c.args.watch.now.activities.entries
     c.args.peers.now.entries c.args.peers.now.entries c.args.at c.in-Some.id.now c.requires.there (its_number c.args.peers.now.entries c.args.at (c.in-Some.id.now, c.in-Some.field-0-1.now) (sym c.in-Some.ensures.entry))
-    c.args.idle Keep (c.args.at + 1) (rw (← c.status.ensures, c.in-Some-status.is, ← act) (sym c.in-Keep.is ∙ c.idle_action.ensures)) (kept_here (g.M.Monitor.calls c.args.watch.now.monitor) c.args.watch.now.now c.args.server.now c.args.watch.now.activities.entries c.args.peers.now.entries c.args.at c.requires.there)
+    c.args.idle Keep (c.args.at + 1) (rw (← c.status.ensures, c.in-Some-status.is, ← act) (sym c.in-Keep.is ∙ c.silence_action.ensures)) (kept_here (g.M.Monitor.calls c.args.watch.now.monitor) c.args.watch.now.now c.args.server.now c.args.watch.now.activities.entries c.args.peers.now.entries c.args.at c.requires.there)

@@ -1,7 +1,7 @@
--- The traces of clocks and listener in a run that ends idle connections, turn by turn.
+-- The traces of clocks and listener in a run that ends silent connections, turn by turn.
 use Rattle.std.proofs.Common.{◌≡◌, ℕ, ◌+◌, ◌<◌, Bool, false, List, [], ◌∷◌, ◌++◌, length, Option, refl, ap, ◌∙◌, arith, inr}
 use Rattle.coap_serve.specs.Prelude.{is_none, ConfigValues, Peer, IoFault, Memory, Wait, open_refusal, ServerValue}
-use Rattle.coap_serve.specs.Prelude.{OneSoFar, HasIdleTurned, IsCutIdleRun, IdleEndsWith, moved_to, waited_behind}
+use Rattle.coap_serve.specs.Prelude.{OneSoFar, HasTimedTurns, IsCutTimedRun, TimedEndsWith, moved_to, waited_behind}
 use Rattle.coap_serve.specs.Prelude.{AreEnded, HasEnded, is_sweep_due, short_wait}
 use Rattle.coap_serve.specs.Prelude.{IsTurnOf, IsAskedOnce, asked_by, TellsMore, DoorCall, IsMemory, WireTrace}
 use Rattle.coap_serve.specs.Prelude.{AcceptedCall, HasTurned}
@@ -15,18 +15,18 @@ shown_ended a b c v w so_far ended = shown_further a b c v w ended.events so_far
 
 module _ {W : Type 0} (readable writable : W → Option Bool) (trace : W → WireTrace) (c : ConfigValues) (idle : ℕ) where
   -- The progress of a run.
-  pub record HasIdledTo (clock uptime : List ℕ → Type 0) (door : List (DoorCall W) → Type 0) (monitor : List AcceptedCall → Type 0) (last : ℕ) (v : ServerValue) (es : List (ℕ × Peer W)) (is_spent : Bool) (wait : Wait) (turns : ℕ) : Type 0 where
-    pub turned : HasIdleTurned readable writable trace c idle clock uptime door monitor last v es wait
+  pub record HasTimedTo (clock uptime : List ℕ → Type 0) (door : List (DoorCall W) → Type 0) (monitor : List AcceptedCall → Type 0) (last : ℕ) (v : ServerValue) (es : List (ℕ × Peer W)) (is_spent : Bool) (wait : Wait) (turns : ℕ) : Type 0 where
+    pub turned : HasTimedTurns readable writable trace c idle clock uptime door monitor last v es wait
     pub counted : length turned.moments ≡ turns
     pub ready : is_spent ≡ false
 
   -- The server shows the calls that the monitor received so far.
-  pub shown_idle : {clock uptime : List ℕ → Type 0} {door : List (DoorCall W) → Type 0} {monitor : List AcceptedCall → Type 0} {last : ℕ} {v : ServerValue} {es : List (ℕ × Peer W)} {is_spent : Bool} {wait : Wait} {turns : ℕ} → HasIdledTo clock uptime door monitor last v es is_spent wait turns → HasShown monitor v
-  shown_idle run = record { events = run.turned.events; shows = run.turned.shows; tells = run.turned.monitor_tells }
+  pub shown_timed : {clock uptime : List ℕ → Type 0} {door : List (DoorCall W) → Type 0} {monitor : List AcceptedCall → Type 0} {last : ℕ} {v : ServerValue} {es : List (ℕ × Peer W)} {is_spent : Bool} {wait : Wait} {turns : ℕ} → HasTimedTo clock uptime door monitor last v es is_spent wait turns → HasShown monitor v
+  shown_timed run = record { events = run.turned.events; shows = run.turned.shows; tells = run.turned.monitor_tells }
 
-  module _ (first before now : Option (List ℕ)) (began till read : Option (List ℕ)) (start came waited asked : Option (List (DoorCall W))) (last : ℕ) (v : ServerValue) (es : List (ℕ × Peer W)) (is_spent : Bool) (wait : Wait) (turns : ℕ) (monitor : List AcceptedCall → Type 0) (so_far : HasIdledTo (TellsMore first before) (TellsMore began till) (TellsMore start came) monitor last v es is_spent wait turns) (opens : Bool) (may_open : opens ≡ is_none (open_refusal v)) (waits : TellsMore came waited (waited_behind turns wait opens)) (moment : ℕ) (tells : TellsMore before now (moment ∷ [])) (second : ℕ) (reads : TellsMore till read (second ∷ [])) (moved : ServerValue) (moves : moved ≡ moved_to v moment) (kept : List (ℕ × Peer W)) (same : kept ≡ es) (between : ServerValue) (rest : List (ℕ × Peer W)) (ended : AreEnded (is_sweep_due last second) idle second moved kept between rest) where
-    idle_calls : (handed : Option W) → TellsMore waited asked (asked_by between handed) → TellsMore start asked ((so_far.turned.calls ++ waited_behind (length so_far.turned.moments) wait (is_none (open_refusal v))) ++ asked_by between handed)
-    idle_calls handed asks =
+  module _ (first before now : Option (List ℕ)) (began till read : Option (List ℕ)) (start came waited asked : Option (List (DoorCall W))) (last : ℕ) (v : ServerValue) (es : List (ℕ × Peer W)) (is_spent : Bool) (wait : Wait) (turns : ℕ) (monitor : List AcceptedCall → Type 0) (so_far : HasTimedTo (TellsMore first before) (TellsMore began till) (TellsMore start came) monitor last v es is_spent wait turns) (opens : Bool) (may_open : opens ≡ is_none (open_refusal v)) (waits : TellsMore came waited (waited_behind turns wait opens)) (moment : ℕ) (tells : TellsMore before now (moment ∷ [])) (second : ℕ) (reads : TellsMore till read (second ∷ [])) (moved : ServerValue) (moves : moved ≡ moved_to v moment) (kept : List (ℕ × Peer W)) (same : kept ≡ es) (between : ServerValue) (rest : List (ℕ × Peer W)) (ended : AreEnded (is_sweep_due last second) idle second moved kept between rest) where
+    timed_calls : (handed : Option W) → TellsMore waited asked (asked_by between handed) → TellsMore start asked ((so_far.turned.calls ++ waited_behind (length so_far.turned.moments) wait (is_none (open_refusal v))) ++ asked_by between handed)
+    timed_calls handed asks =
         let behind : List (DoorCall W) = waited_behind (length so_far.turned.moments) wait (is_none (open_refusal v)) in
         told_then start waited asked (so_far.turned.calls ++ behind) (asked_by between handed)
         (told_then start came waited so_far.turned.calls behind so_far.turned.door_tells (rw (so_far.counted, ← may_open) waits)) asks
@@ -34,9 +34,9 @@ module _ {W : Type 0} (readable writable : W → Option Bool) (trace : W → Wir
     ended_so : AreEnded (is_sweep_due last second) idle second (moved_to v moment) es between rest
     ended_so = rw (moves, same) at ended
 
-    pub idled_once_more : (after : ServerValue) (left : List (ℕ × Peer W)) (is_spent' : Bool) (next limited : Wait) (later : List AcceptedCall → Type 0) → IsTurnOf readable writable trace (TellsMore waited asked) between rest after left next → is_spent' ≡ false → limited ≡ short_wait after.host.now left next → HasShown later after
-        → HasIdledTo (TellsMore first now) (TellsMore began read) (TellsMore start asked) later second after left is_spent' limited (turns + 1)
-    idled_once_more after left is_spent' next limited later t ready' limits shown =
+    pub timed_once_more : (after : ServerValue) (left : List (ℕ × Peer W)) (is_spent' : Bool) (next limited : Wait) (later : List AcceptedCall → Type 0) → IsTurnOf readable writable trace (TellsMore waited asked) between rest after left next → is_spent' ≡ false → limited ≡ short_wait after.host.now left next → HasShown later after
+        → HasTimedTo (TellsMore first now) (TellsMore began read) (TellsMore start asked) later second after left is_spent' limited (turns + 1)
+    timed_once_more after left is_spent' next limited later t ready' limits shown =
         let handed = t.opened.handed in
         record {
           turned = record {
@@ -55,7 +55,7 @@ module _ {W : Type 0} (readable writable : W → Option Bool) (trace : W → Wir
                 }));
             clock_tells = told_then first before now so_far.turned.moments (moment ∷ []) so_far.turned.clock_tells tells;
             uptime_tells = told_then began till read so_far.turned.seconds (second ∷ []) so_far.turned.uptime_tells reads;
-            door_tells = idle_calls handed t.opened.asked;
+            door_tells = timed_calls handed t.opened.asked;
             events = shown.events;
             shows = shown.shows;
             monitor_tells = shown.tells;
@@ -64,9 +64,9 @@ module _ {W : Type 0} (readable writable : W → Option Bool) (trace : W → Wir
           ready = ready';
         }
 
-    pub cut_while_idle : (before_cut : List AcceptedCall → Type 0) (later : List AcceptedCall → Type 0) (final : ServerValue) → IsAskedOnce (TellsMore waited asked) between → turns < c.turns → (shown : HasShown before_cut between) → HasTurned (λ more. later (shown.events ++ more)) between final
-        → IsCutIdleRun readable writable trace c idle (TellsMore first now) (TellsMore began read) (TellsMore start asked) later
-    cut_while_idle before_cut later final asks few shown cut = record {
+    pub cut_in_a_timed_turn : (before_cut : List AcceptedCall → Type 0) (later : List AcceptedCall → Type 0) (final : ServerValue) → IsAskedOnce (TellsMore waited asked) between → turns < c.turns → (shown : HasShown before_cut between) → HasTurned (λ more. later (shown.events ++ more)) between final
+        → IsCutTimedRun readable writable trace c idle (TellsMore first now) (TellsMore began read) (TellsMore start asked) later
+    cut_in_a_timed_turn before_cut later final asks few shown cut = record {
       moments = so_far.turned.moments;
       seconds = so_far.turned.seconds;
       last = last;
@@ -84,13 +84,13 @@ module _ {W : Type 0} (readable writable : W → Option Bool) (trace : W → Wir
       handed = asks.0;
       clock_tells = told_then first before now so_far.turned.moments (moment ∷ []) so_far.turned.clock_tells tells;
       uptime_tells = told_then began till read so_far.turned.seconds (second ∷ []) so_far.turned.uptime_tells reads;
-      door_tells = idle_calls asks.0 asks.1;
+      door_tells = timed_calls asks.0 asks.1;
       before = shown.events;
       shown = shown.shows;
       final = final;
       cut = cut;
     }
 
-  pub idle_ended_by_memory : (clock uptime : List ℕ → Type 0) (door : List (DoorCall W) → Type 0) (monitor : List AcceptedCall → Type 0) (fault : IoFault) → IsMemory fault → IsCutIdleRun readable writable trace c idle clock uptime door monitor → IdleEndsWith readable writable trace c idle clock uptime door monitor fault
-  idle_ended_by_memory clock uptime door monitor Memory is cut = inr cut
-  idle_ended_by_memory clock uptime door monitor fault is cut = absurd is
+  pub timed_ended_by_memory : (clock uptime : List ℕ → Type 0) (door : List (DoorCall W) → Type 0) (monitor : List AcceptedCall → Type 0) (fault : IoFault) → IsMemory fault → IsCutTimedRun readable writable trace c idle clock uptime door monitor → TimedEndsWith readable writable trace c idle clock uptime door monitor fault
+  timed_ended_by_memory clock uptime door monitor Memory is cut = inr cut
+  timed_ended_by_memory clock uptime door monitor fault is cut = absurd is

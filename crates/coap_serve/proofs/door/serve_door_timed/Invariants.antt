@@ -1,11 +1,11 @@
 use Rattle.coap_serve.specs.Prelude.{TellsMore, trace_by}
-use Rattle.coap_serve.proofs.streams.IdleLemmas.{HasIdledTo}
-use Rattle.coap_serve.proofs.door.serve_door_idle.Given as goal
+use Rattle.coap_serve.proofs.streams.TimedLemmas.{HasTimedTo}
+use Rattle.coap_serve.proofs.door.serve_door_timed.Given as goal
 
 -- The progress of the run.
 abbrev pub invariant-loop-turn : goal.invariant-loop-turn
 invariant-loop-turn g l =
-    HasIdledTo g.D.Wire.Ready.readable g.D.Wire.Ready.writable
+    HasTimedTo g.D.Wire.Ready.readable g.D.Wire.Ready.writable
     (trace_by g.D.Wire.Wire.given g.D.Wire.Wire.written g.D.Wire.Wire.answers g.D.Wire.Wire.rooms) l.fn.config l.fn.idle
     (TellsMore (g.C.Clock.moments l.fn.clock) (g.C.Clock.moments l.clock)) (TellsMore (g.U.Clock.moments l.fn.uptime) (g.U.Clock.moments l.uptime))
     (TellsMore (g.D.Door.calls l.fn.door) (g.D.Door.calls l.door))

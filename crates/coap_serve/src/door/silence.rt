@@ -1,8 +1,8 @@
-//! The rule that ends idle connections, and the times that it needs.
+//! The rule that ends silent connections, and the times that it needs.
 
 ghost use Rattle.std.specs.Prelude.{◌≡◌, ◌∷◌, ◌⊎◌, [], IfOk, nat_eq};
 ghost use Rattle.coap_serve.specs.Prelude.{TellsMore, Opened, AcceptedCall, call_value, activities_after, changed_by};
-ghost use Rattle.coap_serve.specs.Prelude.{idle_action as action_of, quiet_action as quiet, moved_by};
+ghost use Rattle.coap_serve.specs.Prelude.{silence_action as action_of, quiet_action as quiet, moved_by};
 
 use coap_conn::Phase;
 use coap_model::{ConnId, Status};
@@ -33,7 +33,7 @@ pub(super) type Activities = IndexMap<u64, Activity>;
 
 /// Action of a sweep for one connection.
 #[derive(Clone, Copy)]
-pub(super) enum IdleAction {
+pub(super) enum SilenceAction {
     /// Connection that stays.
     Keep,
     /// Connection to be released, or dropped if it cannot be released.
@@ -43,39 +43,39 @@ pub(super) enum IdleAction {
 }
 
 /// Returns the action for a connection with this status and activity at the time `now`, in seconds.
-pub(super) fn idle_action(
+pub(super) fn silence_action(
     idle: u32,
     now: u64,
     status: Option<Status>,
     activity: Option<Activity>,
-) -> IdleAction
+) -> SilenceAction
     ensures { result ≡ action_of idle now status activity }
 {
     let Some(status) = status else {
-        return IdleAction::Keep;
+        return SilenceAction::Keep;
     };
     let Some(activity) = activity else {
-        return IdleAction::Drop;
+        return SilenceAction::Drop;
     };
     match activity.released {
-        Some(since) if now.saturating_sub(since) >= RELEASE_SECONDS => IdleAction::Drop,
-        Some(_) => IdleAction::Keep,
+        Some(since) if now.saturating_sub(since) >= RELEASE_SECONDS => SilenceAction::Drop,
+        Some(_) => SilenceAction::Keep,
         None => quiet_action(idle, now, status, activity),
     }
 }
 
 /// Returns the action for a connection that the server has not released.
-fn quiet_action(idle: u32, now: u64, status: Status, activity: Activity) -> IdleAction
+fn quiet_action(idle: u32, now: u64, status: Status, activity: Activity) -> SilenceAction
     ensures { result ≡ quiet idle now status activity }
 {
     if status.phase == Phase::Waiting && now.saturating_sub(activity.opened) > CSM_SECONDS {
-        return IdleAction::Drop;
+        return SilenceAction::Drop;
     }
-    let is_idle = now.saturating_sub(activity.moved) > u64::from(idle);
-    if status.observers == 0 && status.pending == 0 && is_idle {
-        return IdleAction::Release;
+    let is_silent = now.saturating_sub(activity.moved) > u64::from(idle);
+    if status.observers == 0 && status.pending == 0 && is_silent {
+        return SilenceAction::Release;
     }
-    IdleAction::Keep
+    SilenceAction::Keep
 }
 
 /// Records in the activities that a connection was opened at the time `now`. If an allocation fails, nothing is recorded.
@@ -141,26 +141,26 @@ pub(super) fn record_call(activities: &mut Activities, now: u64, call: &Call<'_>
 }
 
 /// Monitor that records when each connection was last active, and passes each call on to another monitor.
-/// `serve_door_idle` uses the times to end idle connections.
+/// `serve_door_timed` uses the times to end silent connections.
 #[derive(Drop)]
-pub struct IdleWatch<M> {
+pub struct SilenceWatch<M> {
     /// Time, in seconds, of the calls that follow.
     pub(super) now: u64,
     pub(super) activities: Activities,
     pub(super) monitor: M,
 }
 
-impl<M: Drop> IdleWatch<M> {
+impl<M: Drop> SilenceWatch<M> {
     /// Returns a monitor that passes the calls on to `monitor`. It has memory for this number of connections.
     ///
     /// # Errors
     ///
     /// - `AllocError`: an allocation failed.
-    pub fn new(alloc: Global, connections: usize, monitor: M) -> Result<IdleWatch<M>, AllocError>
+    pub fn new(alloc: Global, connections: usize, monitor: M) -> Result<SilenceWatch<M>, AllocError>
         ensures passes { IfOk result (λ watch. watch.monitor ≡ monitor) }
         ensures none { IfOk result (λ watch. watch.activities.entries ≡ []) }
     {
-        Ok(IdleWatch {
+        Ok(SilenceWatch {
             now: 0,
             activities: IndexMap::with_capacity(alloc, connections)?,
             monitor,
@@ -168,7 +168,7 @@ impl<M: Drop> IdleWatch<M> {
     }
 }
 
-impl<W, M: Monitor<W>> Monitor<W> for IdleWatch<M> {
+impl<W, M: Monitor<W>> Monitor<W> for SilenceWatch<M> {
     ghost calls = { λ watch. M.calls watch.monitor };
 
     fn opened(&mut self, id: ConnId, wire: &W, server: &Server)

@@ -1,4 +1,4 @@
--- Defined by this project: a run over the connections of a listener that ends idle connections.
+-- Defined by this project: a run over the connections of a listener that ends silent connections.
 use Rattle.std.specs.Prelude.{◌≡◌, ◌≤◌, ◌⊎◌, ℕ, ◌+◌, ◌-◌, ◌^◌, ◌==◌, min, not, Bool, true, false, List, [], ◌∷◌, ◌++◌, length, Option, Result, Ok, Err, is_none}
 use Rattle.coap_model.specs.Configs.{ConfigValues}
 use Rattle.coap_model.specs.world.Events.{AcceptedCall}
@@ -16,9 +16,9 @@ use Rattle.coap_serve.specs.streams.Serving.{asked_by, HasTurned, IsTurnOf}
 use Rattle.coap_io.specs.declared.wire.Wait.{Wait}
 use Rattle.coap_io.specs.streams.Wires.{wait_at_most}
 use Rattle.coap_server_engine.specs.values.Servers.{ServerValue}
-use Rattle.coap_serve.specs.declared.door.idle.Activity.{Activity}
+use Rattle.coap_serve.specs.declared.door.silence.Activity.{Activity}
 use Rattle.coap_serve.specs.declared.door.peer.Peer.{Peer}
-use Rattle.coap_serve.specs.streams.Idle.{swept}
+use Rattle.coap_serve.specs.streams.Silence.{swept}
 
 -- The wait of a listener, if the server has this time: with a connection, at most until the next second.
 abbrev pub short_wait : {W : Type 0} (moment : ℕ) → List (ℕ × Peer W) → Wait → Wait
@@ -40,24 +40,24 @@ pub record HasEnded (told : List AcceptedCall → Type 0) (v after : ServerValue
 abbrev pub is_sweep_due : (last second : ℕ) → Bool
 is_sweep_due last second = not (second == last)
 
--- Whole turns on a new server, as `AreTurns` defines them, with a sweep in each one whose time differs from that of the
--- last sweep. The indices are the times of the clock and of `uptime`, the time of the last sweep, the calls of the
--- listener, the resulting server and connections, and the wait that follows.
-pub data AreIdleTurns {W : Type 0} (readable writable : W → Option Bool) (trace : W → WireTrace) (c : ConfigValues) (idle : ℕ) : List ℕ → List ℕ → ℕ → List (DoorCall W) → ServerValue → List (ℕ × Peer W) → Wait → Type 0 where
-  NoneSoFar : AreIdleTurns readable writable trace c idle [] [] 0 [] (new_server c) [] No
+-- Whole turns on a new server, as `AreTurns` defines them, with a sweep in each one in which it is due. The indices are
+-- the times of the clock and of `uptime`, the time of the last sweep, and the calls of the listener. They are followed
+-- by the resulting server and connections, and the wait that follows.
+pub data AreTimedTurns {W : Type 0} (readable writable : W → Option Bool) (trace : W → WireTrace) (c : ConfigValues) (idle : ℕ) : List ℕ → List ℕ → ℕ → List (DoorCall W) → ServerValue → List (ℕ × Peer W) → Wait → Type 0 where
+  NoneSoFar : AreTimedTurns readable writable trace c idle [] [] 0 [] (new_server c) [] No
   OneSoFar : (moments seconds : List ℕ) (last : ℕ) (calls : List (DoorCall W)) (v : ServerValue) (es : List (ℕ × Peer W)) (wait : Wait) (moment second : ℕ) (between : ServerValue) (kept : List (ℕ × Peer W)) (asked : List (DoorCall W)) (after : ServerValue) (left : List (ℕ × Peer W)) (next : Wait)
-      → AreIdleTurns readable writable trace c idle moments seconds last calls v es wait
+      → AreTimedTurns readable writable trace c idle moments seconds last calls v es wait
       → AreEnded (is_sweep_due last second) idle second (moved_to v moment) es between kept
       → IsTurnOf readable writable trace (λ calls. asked ≡ calls) between kept after left next
-      → AreIdleTurns readable writable trace c idle (moments ++ moment ∷ []) (seconds ++ second ∷ []) second ((calls ++ waited_behind (length moments) wait (is_none (open_refusal v))) ++ asked) after left (short_wait after.host.now left next)
+      → AreTimedTurns readable writable trace c idle (moments ++ moment ∷ []) (seconds ++ second ∷ []) second ((calls ++ waited_behind (length moments) wait (is_none (open_refusal v))) ++ asked) after left (short_wait after.host.now left next)
 
 -- Whole turns that match the traces of the clocks and the listener. The server shows the calls that the monitor
 -- received.
-pub record HasIdleTurned {W : Type 0} (readable writable : W → Option Bool) (trace : W → WireTrace) (c : ConfigValues) (idle : ℕ) (clock uptime : List ℕ → Type 0) (door : List (DoorCall W) → Type 0) (monitor : List AcceptedCall → Type 0) (last : ℕ) (v : ServerValue) (es : List (ℕ × Peer W)) (wait : Wait) : Type 0 where
+pub record HasTimedTurns {W : Type 0} (readable writable : W → Option Bool) (trace : W → WireTrace) (c : ConfigValues) (idle : ℕ) (clock uptime : List ℕ → Type 0) (door : List (DoorCall W) → Type 0) (monitor : List AcceptedCall → Type 0) (last : ℕ) (v : ServerValue) (es : List (ℕ × Peer W)) (wait : Wait) : Type 0 where
   pub moments : List ℕ
   pub seconds : List ℕ
   pub calls : List (DoorCall W)
-  pub turns : AreIdleTurns readable writable trace c idle moments seconds last calls v es wait
+  pub turns : AreTimedTurns readable writable trace c idle moments seconds last calls v es wait
   pub clock_tells : clock moments
   pub uptime_tells : uptime seconds
   pub door_tells : door calls
@@ -66,17 +66,17 @@ pub record HasIdleTurned {W : Type 0} (readable writable : W → Option Bool) (t
   pub monitor_tells : monitor events
 
 -- A run that made every turn.
-pub record IsWholeIdleRun {W : Type 0} (readable writable : W → Option Bool) (trace : W → WireTrace) (c : ConfigValues) (idle : ℕ) (clock uptime : List ℕ → Type 0) (door : List (DoorCall W) → Type 0) (monitor : List AcceptedCall → Type 0) : Type 0 where
+pub record IsWholeTimedRun {W : Type 0} (readable writable : W → Option Bool) (trace : W → WireTrace) (c : ConfigValues) (idle : ℕ) (clock uptime : List ℕ → Type 0) (door : List (DoorCall W) → Type 0) (monitor : List AcceptedCall → Type 0) : Type 0 where
   pub last : ℕ
   pub server : ServerValue
   pub entries : List (ℕ × Peer W)
   pub wait : Wait
-  pub turned : HasIdleTurned readable writable trace c idle clock uptime door monitor last server entries wait
+  pub turned : HasTimedTurns readable writable trace c idle clock uptime door monitor last server entries wait
   pub all : length turned.moments ≡ c.turns
 
 -- A run in which an allocation failed in a turn, after some whole turns and the sweep of this turn. The monitor received
 -- the calls of the whole turns, of the sweep, and of the turn that was cut. The server after it, `final`, shows them.
-pub record IsCutIdleRun {W : Type 0} (readable writable : W → Option Bool) (trace : W → WireTrace) (c : ConfigValues) (idle : ℕ) (clock uptime : List ℕ → Type 0) (door : List (DoorCall W) → Type 0) (monitor : List AcceptedCall → Type 0) : Type 0 where
+pub record IsCutTimedRun {W : Type 0} (readable writable : W → Option Bool) (trace : W → WireTrace) (c : ConfigValues) (idle : ℕ) (clock uptime : List ℕ → Type 0) (door : List (DoorCall W) → Type 0) (monitor : List AcceptedCall → Type 0) : Type 0 where
   pub moments : List ℕ
   pub seconds : List ℕ
   pub last : ℕ
@@ -84,7 +84,7 @@ pub record IsCutIdleRun {W : Type 0} (readable writable : W → Option Bool) (tr
   pub server : ServerValue
   pub entries : List (ℕ × Peer W)
   pub wait : Wait
-  pub turns : AreIdleTurns readable writable trace c idle moments seconds last calls server entries wait
+  pub turns : AreTimedTurns readable writable trace c idle moments seconds last calls server entries wait
   pub few : length moments + 1 ≤ c.turns
   pub moment : ℕ
   pub second : ℕ
@@ -102,13 +102,13 @@ pub record IsCutIdleRun {W : Type 0} (readable writable : W → Option Bool) (tr
 
 -- The error that ends a run with these traces. It is `Turns` if every turn was made. It is `Memory` if an allocation
 -- failed, before the first turn or in one of them.
-abbrev pub IdleEndsWith : {W : Type 0} (readable writable : W → Option Bool) (trace : W → WireTrace) → ConfigValues → (idle : ℕ) (clock uptime : List ℕ → Type 0) (door : List (DoorCall W) → Type 0) (monitor : List AcceptedCall → Type 0) → IoFault → Type 0
-IdleEndsWith readable writable trace c idle clock uptime door monitor Read = ⊥
-IdleEndsWith readable writable trace c idle clock uptime door monitor Write = ⊥
-IdleEndsWith readable writable trace c idle clock uptime door monitor Memory = (clock [] × uptime [] × door [] × monitor []) ⊎ IsCutIdleRun readable writable trace c idle clock uptime door monitor
-IdleEndsWith readable writable trace c idle clock uptime door monitor Turns = IsWholeIdleRun readable writable trace c idle clock uptime door monitor
+abbrev pub TimedEndsWith : {W : Type 0} (readable writable : W → Option Bool) (trace : W → WireTrace) → ConfigValues → (idle : ℕ) (clock uptime : List ℕ → Type 0) (door : List (DoorCall W) → Type 0) (monitor : List AcceptedCall → Type 0) → IoFault → Type 0
+TimedEndsWith readable writable trace c idle clock uptime door monitor Read = ⊥
+TimedEndsWith readable writable trace c idle clock uptime door monitor Write = ⊥
+TimedEndsWith readable writable trace c idle clock uptime door monitor Memory = (clock [] × uptime [] × door [] × monitor []) ⊎ IsCutTimedRun readable writable trace c idle clock uptime door monitor
+TimedEndsWith readable writable trace c idle clock uptime door monitor Turns = IsWholeTimedRun readable writable trace c idle clock uptime door monitor
 
--- A run over the connections of a listener that ends idle connections. It always ends with an error.
-abbrev pub IsIdleRun : {T W : Type 0} (readable writable : W → Option Bool) (trace : W → WireTrace) → ConfigValues → (idle : ℕ) (clock uptime : List ℕ → Type 0) (door : List (DoorCall W) → Type 0) (monitor : List AcceptedCall → Type 0) → Result T IoFault → Type 0
-IsIdleRun readable writable trace c idle clock uptime door monitor (Ok x) = ⊥
-IsIdleRun readable writable trace c idle clock uptime door monitor (Err fault) = IdleEndsWith readable writable trace c idle clock uptime door monitor fault
+-- A run over the connections of a listener that ends silent connections. It always ends with an error.
+abbrev pub IsTimedRun : {T W : Type 0} (readable writable : W → Option Bool) (trace : W → WireTrace) → ConfigValues → (idle : ℕ) (clock uptime : List ℕ → Type 0) (door : List (DoorCall W) → Type 0) (monitor : List AcceptedCall → Type 0) → Result T IoFault → Type 0
+IsTimedRun readable writable trace c idle clock uptime door monitor (Ok x) = ⊥
+IsTimedRun readable writable trace c idle clock uptime door monitor (Err fault) = TimedEndsWith readable writable trace c idle clock uptime door monitor fault

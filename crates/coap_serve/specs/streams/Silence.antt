@@ -9,9 +9,9 @@ use Rattle.coap_model.specs.world.Events.{AcceptedCall, Opened, Took, Wrote, Tic
 use Rattle.coap_server_engine.specs.values.InResults.{ShowsMore}
 use Rattle.coap_server_engine.specs.values.ServerAnswers.{released_refusal, status_of}
 use Rattle.coap_server_engine.specs.values.Servers.{ServerValue, server_released, server_dropped}
-use Rattle.coap_serve.specs.declared.door.idle.Activity.{Activity}
-use Rattle.coap_serve.specs.declared.door.idle.IdleAction.{IdleAction}
-use Rattle.coap_serve.specs.declared.door.idle.IdleAction.TheVariants.{Keep, Release, Drop}
+use Rattle.coap_serve.specs.declared.door.silence.Activity.{Activity}
+use Rattle.coap_serve.specs.declared.door.silence.SilenceAction.{SilenceAction}
+use Rattle.coap_serve.specs.declared.door.silence.SilenceAction.TheVariants.{Keep, Release, Drop}
 use Rattle.coap_serve.specs.declared.door.peer.Peer.{Peer}
 use Rattle.coap_serve.specs.streams.RecordedInterests.{recorded}
 
@@ -20,22 +20,22 @@ use Rattle.coap_serve.specs.streams.RecordedInterests.{recorded}
 -- The action for a connection that the server has not released. The connection is dropped if its peer has sent no CSM
 -- for more than 10 seconds after it was opened. It is released if no byte was transferred for more than `idle` seconds,
 -- it has no observer, and nothing is pending on it.
-abbrev pub quiet_action : (idle now : ℕ) → Status → Activity → IdleAction
+abbrev pub quiet_action : (idle now : ℕ) → Status → Activity → SilenceAction
 quiet_action idle now s a =
     if is_waiting s.phase && nat_lt 10 (now - a.opened) then Drop
     else (if (s.observers == 0) && (s.pending == 0) && nat_lt idle (now - a.moved) then Release else Keep)
 
 -- The action for a connection, by the time at which the server released it, if it did. A released connection is dropped
 -- in the fourth second after that second.
-abbrev pub action_for : (idle now : ℕ) → Status → Activity → Option ℕ → IdleAction
+abbrev pub action_for : (idle now : ℕ) → Status → Activity → Option ℕ → SilenceAction
 action_for idle now s a None = quiet_action idle now s a
 action_for idle now s a (Some since) = if nat_le 4 (now - since) then Drop else Keep
 
 -- The action for a connection with this status and this activity. A connection without a recorded activity is dropped.
-abbrev pub idle_action : (idle now : ℕ) → Option Status → Option Activity → IdleAction
-idle_action idle now None activity = Keep
-idle_action idle now (Some s) None = Drop
-idle_action idle now (Some s) (Some a) = action_for idle now s a a.released
+abbrev pub silence_action : (idle now : ℕ) → Option Status → Option Activity → SilenceAction
+silence_action idle now None activity = Keep
+silence_action idle now (Some s) None = Drop
+silence_action idle now (Some s) (Some a) = action_for idle now s a a.released
 
 -- ---- activities
 
@@ -91,7 +91,7 @@ release_one now v all e = record {
 }
 
 -- The effect of an action. If `release` is refused, the connection is dropped.
-abbrev pub acted : {W : Type 0} → IdleAction → Option ReleaseFault → (now : ℕ) → ServerValue → List (ℕ × Activity) → ℕ × Peer W → Sweep W
+abbrev pub acted : {W : Type 0} → SilenceAction → Option ReleaseFault → (now : ℕ) → ServerValue → List (ℕ × Activity) → ℕ × Peer W → Sweep W
 acted Keep refusal now v all e = record { server = v; activities = all; entries = e ∷ []; events = [] }
 acted Release None now v all e = release_one now v all e
 acted Release (Some fault) now v all e = drop_one now v all e
@@ -99,7 +99,7 @@ acted Drop refusal now v all e = drop_one now v all e
 
 -- The effect of a sweep on one connection.
 abbrev pub swept_one : {W : Type 0} (idle now : ℕ) → ServerValue → List (ℕ × Activity) → ℕ × Peer W → Sweep W
-swept_one idle now v all e = acted (idle_action idle now (status_of v e.0) (lookup (nat_eq e.0) all)) (released_refusal v e.0) now v all e
+swept_one idle now v all e = acted (silence_action idle now (status_of v e.0) (lookup (nat_eq e.0) all)) (released_refusal v e.0) now v all e
 
 -- One effect after another.
 abbrev pub swept_both : {W : Type 0} → Sweep W → Sweep W → Sweep W
