@@ -12,7 +12,8 @@ use coap_print::LogLevel;
 use coap_program::{FAULT, USAGE};
 use coap_request::ServerPlan;
 use coap_serve::{
-    Clock, Config, IoFault, Monitor, NoMonitor, SilenceWatch, Starts, serve_door_timed, serve_door_with,
+    Clock, Config, IoFault, Monitor, NoMonitor, SilenceWatch, Starts, serve_door_timed,
+    serve_door_with,
 };
 use coap_sockets::{ListenError, ListenFault, RunClock, SocketDoor, SocketWire, SystemClock};
 use std::net::{Net, SocketAddr};
@@ -132,5 +133,13 @@ fn serve<'a, R: Net + time::Clock + AllocGlobal, M: Monitor<SocketWire> + Drop>(
         return Err(IoFault::Memory);
     };
     let mut uptime = RunClock::start(rt);
-    serve_door_timed(rt.alloc(), door, clock, &mut uptime, config, idle, &mut watch)
+    serve_door_timed(
+        rt.alloc(),
+        door,
+        clock,
+        &mut uptime,
+        config,
+        idle,
+        &mut watch,
+    )
 }

@@ -69,8 +69,8 @@ fn text_of(reason: Reason) -> &'static str
     }
 }
 
-/// Returns `true` if a response with this code refuses a request because of a limit: 4.13, 5.00 or 5.03, and 4.06 if the
-/// server has its maximum number of resources (`is_full`).
+/// Returns `true` if a response with this code refuses a request because of a limit. Its code is 4.13, 5.00 or 5.03, or it
+/// is 4.06 and the server has its maximum number of resources (`is_full`).
 fn is_refusal(code: Code, is_full: bool) -> bool
     ensures { result ≡ is_refusal code is_full }
 {
