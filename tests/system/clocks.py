@@ -186,7 +186,7 @@ def check_client(checks, programs):
                     clock.ahead(seconds)
                     said, status = process.stderr.read(), process.wait(LIMIT)
             passed = time.monotonic() - began
-            checks.same("a client whose clock is set by %d s, after %.2f s" % (seconds, passed), (status, said, 2 <= passed < 3), (4, b"", True))
+            checks.same("a client whose clock is set by %d s, after %.2f s" % (seconds, passed), (status, said, 2 <= passed < 3), (4, b"coap-client: the server sent no CSM within 2 seconds\n", True))
 
 
 class Programs:

@@ -171,7 +171,8 @@ def check_rate(checks, count):
         checks.same("lines of all seconds", len(lines) <= MOST_LINES * (took + 4), True)
         left_out = sum(int(it.rpartition(" ")[2]) for it in texts_in(name) if it.startswith("lines left out: "))
         written = sum(not it.startswith("lines left out: ") for it in texts_in(name))
-        checks.same("no line is lost without a report", left_out + written, 2 * (count + 1))
+        # A connection that the peer reset has a line more.
+        checks.same("no line is lost without a report", 2 * (count + 1) <= left_out + written <= 3 * (count + 1), True)
         checks.same("the server still serves", ask(port, GET_ROOT), GREETING)
         checks.same("the server still runs", process.poll(), None)
 
