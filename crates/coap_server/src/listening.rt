@@ -107,7 +107,7 @@ fn serve_logged<'a, R: Eprint + Net + time::Clock + AllocGlobal>(
 {
     door.wake_each_second();
     let troubles = door.troubles();
-    let Ok(log) = ServerLog::new(rt, rt.alloc(), plan.log, &config, troubles) else {
+    let Ok(log) = ServerLog::new(rt, rt.alloc(), plan.log, &config, plan.idle > 0, troubles) else {
         return Err(IoFault::Memory);
     };
     serve(rt, door, clock, config, plan.idle, log)

@@ -44,6 +44,8 @@ pub(crate) struct ServerLog<'a, R> {
     connections: IndexMap<u64, Followed>,
     /// Maximum number of resources that clients may create.
     dynamic_max: usize,
+    /// `true` if silent connections are dropped.
+    drops_silent: bool,
     troubles: Option<Rc<Cell<DoorTroubles>>>,
     reported: DoorTroubles,
 }
@@ -104,7 +106,8 @@ fn append_address(alloc: Global, line: &mut Line, address: SocketAddr) {
 }
 
 impl<'a, R: time::Clock> ServerLog<'a, R> {
-    /// Returns the log of a server with this configuration. `troubles` counts the failed system calls of
+    /// Returns the log of a server with this configuration. `drops_silent` is `true` if silent connections are dropped: then
+    /// the log cannot tell them from those that failed. `troubles` counts the failed system calls of
     /// its listener.
     ///
     /// # Errors
@@ -115,6 +118,7 @@ impl<'a, R: time::Clock> ServerLog<'a, R> {
         alloc: Global,
         level: LogLevel,
         config: &Config,
+        drops_silent: bool,
         troubles: Option<Rc<Cell<DoorTroubles>>>,
     ) -> Result<ServerLog<'a, R>, AllocError> {
         let mut program = Line::new();
@@ -125,6 +129,7 @@ impl<'a, R: time::Clock> ServerLog<'a, R> {
             log: Log::new(level, program, LineWriter::new(Stderr::new())),
             connections: IndexMap::with_capacity(alloc, config.connections())?,
             dynamic_max: config.dynamic_max(),
+            drops_silent,
             troubles,
             reported: DoorTroubles {
                 full: 0,
@@ -264,6 +269,7 @@ impl<'a, R: time::Clock> ServerLog<'a, R> {
         line.text(" ended: ");
         match followed.stop {
             Some(reason) => line.escaped(text_of(reason).as_bytes()),
+            None if self.drops_silent => line.text("failed or silent connection"),
             None => {
                 self.warn(id, " failed");
                 line.text("failed connection");

@@ -74,7 +74,7 @@ fn serve(
     if level == LogLevel::Nothing {
         return status_of(rt, serve_one(rt.alloc(), &mut input, &mut output, config));
     }
-    let Ok(mut log) = ServerLog::new(rt, rt.alloc(), level, config, None) else {
+    let Ok(mut log) = ServerLog::new(rt, rt.alloc(), level, config, false, None) else {
         return PROGRAM.print_fault(rt, "no memory", FAULT);
     };
     let ended = serve_one_with(rt.alloc(), &mut input, &mut output, config, &mut log);
