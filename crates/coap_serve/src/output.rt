@@ -76,6 +76,9 @@ fn flush_once<W: Outlet, M: Monitor<()>>(
         (flush_calls id server.old f.waited)) }
     ensures untold { OnErr result (monitor.new ≡ monitor.old) }
 {
+    if !monitor.listens() {
+        return server.flush_once(id, writer);
+    }
     let more = server.settle_bound(id);
     let waited = write_queued(writer, server, id, monitor)?;
     let stop = stop_in(server, id);

@@ -1,6 +1,6 @@
 //! The interface through which a program follows the calls that a server accepts, for a log or a record.
 
-ghost use Rattle.std.specs.Prelude.{◌≡◌, List, [], ◌∷◌, Option, None};
+ghost use Rattle.std.specs.Prelude.{◌≡◌, false, List, [], ◌∷◌, Option, None};
 ghost use Rattle.coap_server_engine.specs.Prelude.{AcceptedCall, Opened, TellsMore, call_value};
 
 use crate::server::Server;
@@ -53,6 +53,13 @@ pub trait Monitor<W> {
     fn accepted(&mut self, call: Call<'_>, server: &Server)
         ensures { TellsMore (calls self.old) (calls self.new) (call_value call.entry ∷ []) };
 
+    /// Returns `false` if the monitor ignores all calls. A caller may then do without reporting them.
+    fn listens(&self) -> bool
+        ensures { result ≡ false → calls self.now ≡ None }
+    {
+        true
+    }
+
     /// Receives the end of a turn of the event loop: the listener waits next.
     fn turn_ended(&mut self)
         ensures { TellsMore (calls self.old) (calls self.new) [] };
@@ -70,6 +77,12 @@ impl<W> Monitor<W> for NoMonitor {
     fn accepted(&mut self, _call: Call<'_>, _server: &Server)
         ensures { TellsMore None None (call_value _call.entry ∷ []) }
     {}
+
+    fn listens(&self) -> bool
+        ensures { result ≡ false → (λ (c : Option (List AcceptedCall)). c ≡ None) None }
+    {
+        false
+    }
 
     fn turn_ended(&mut self)
         ensures { TellsMore {A = AcceptedCall} None None [] }

@@ -128,6 +128,7 @@ impl<'a> MessageRef<'a> {
 /// }
 /// assert!(&rt; message.payload().is_empty());
 /// ```
+#[inline(always)]
 pub fn parse(frame: &[u8]) -> Result<MessageRef<'_>, FormatFault>
     // The result is a message if and only if the bytes encode that message.
     ensures found { IfOk result (λ m. Spells frame.now m) }
