@@ -275,6 +275,17 @@ def check_causes(checks, manual):
         checks.same("%s: %r" % (manual.name, words), words.strip() in text, words not in UNREACHED)
 
 
+def check_log(checks, manual):
+    """Checks that the manual has each text of the server's log."""
+    text = " ".join(manual.rendered()[1].split())
+    source = source_of(["coap_server/src/log.rt"])
+    texts = re.findall(r'Reason::\w+(?:\(_\))? => "([^"]+)"', source) + re.findall(r'warn\(id, "([^"]+)"', source)
+    texts += re.findall(r'"(connections not accepted[^"]*|failed waits)"', source) + re.findall(r'line\.text\("([^"]*connection)"', source)
+    checks.same("%s: number of texts of the log" % manual.name, len(texts) >= 22, True)
+    for words in texts:
+        checks.same("%s: %r" % (manual.name, words), words.strip(" :") in text, True)
+
+
 def check_faults(checks, manual, program, faults):
     """Checks that each error is reported with the line and the status of the manual."""
     statuses = manual.lines_told()
@@ -360,6 +371,7 @@ def check(server, client):
         check_formats(checks, Manual("coap-client"), client, [URI % port])
         check_hindrances(checks, Manual("coap-client"))
         check_causes(checks, Manual("coap-client"))
+        check_log(checks, Manual("coap-server"))
         check_answered(checks, Manual("coap-client"), server, programs)
     print("manuals: %d passed, %d failed" % (checks.passed, checks.failed))
     return 1 if checks.failed else 0
