@@ -94,6 +94,7 @@ pub(crate) fn read_token_length(nibble: u8, bytes: &[u8]) -> Option<(u32, &[u8])
 
 /// Returns the token, the body and the code of bytes that are exactly one frame. The body is the options, the marker
 /// and the payload.
+#[inline(always)]
 #[tactic(auto, unfolding(crate::specs::Reading::head_at))]
 pub(crate) fn head_of(frame: &[u8]) -> Result<(TokenRef<'_>, &[u8], Code), FormatFault>
     ensures { Gives (λ x. record { code = x.2; token = x.0; body = x.1.now }) result (head_at frame.now) }

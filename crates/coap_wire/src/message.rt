@@ -142,6 +142,7 @@ pub fn parse(frame: &[u8]) -> Result<MessageRef<'_>, FormatFault>
 }
 
 /// Returns the message of a frame, or its first error.
+#[inline(always)]
 #[tactic(auto, unfolding(crate::specs::Reading::message_of))]
 fn message_in(frame: &[u8]) -> Result<MessageRef<'_>, FormatFault>
     ensures { result ≡ message_of frame.now }
