@@ -235,6 +235,20 @@ def check_standard_error(checks):
         checks.same("a closed standard error: the server still serves", [ask(port, GET_ROOT) for _ in range(3)], [GREETING] * 3)
 
 
+def check_stdio(checks):
+    """The log of a server over standard input and output has its connection and its messages, and leaves its output as it is."""
+    said = {}
+    for level in ("0", "2", "3"):
+        ran = subprocess.run([SERVER, "--stdio", "--log", level], input=SETTINGS + GET_ROOT, capture_output=True, timeout=LIMIT)
+        said[level] = ran.stdout
+        texts = [found[3].decode() for it in ran.stderr.splitlines(keepends=True) if (found := LINE.fullmatch(it))]
+        checks.same(f"stdio at level {level}: only lines of a log", len(texts), len(ran.stderr.splitlines()))
+        checks.same(f"stdio at level {level}: first line", texts[:1] == ["connection 1 opened by standard input"], level != "0")
+        checks.same(f"stdio at level {level}: last line", any(it.startswith("connection 1 ended: end of input; 2 messages, ") for it in texts[-1:]), level != "0")
+        checks.same(f"stdio at level {level}: messages", any(" in: 0.01 GET" in it for it in texts) and any(" out: 2.05 Content" in it for it in texts), level == "3")
+    checks.same("stdio: the same output", said["3"] == said["2"] == said["0"] != b"", True)
+
+
 def check_client(checks):
     """The log of a client has its connection and its messages, and leaves its output as it is."""
     with Server(SERVER) as server:
@@ -253,6 +267,7 @@ def main():
     check_lines(checks)
     check_warnings(checks)
     check_standard_error(checks)
+    check_stdio(checks)
     check_client(checks)
     check_rate(checks, number_after("--connections", 100_000))
     check_printable(checks, number_after("--messages", 100_000))
