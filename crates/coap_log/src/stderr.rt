@@ -86,7 +86,7 @@ fn write_if_ready(bytes: &[u8]) -> usize
     if !is_ready() {
         return 0;
     }
-    let count = os::write_no_sigpipe(STDERR_FILENO, bytes);
+    let count = libc::write(STDERR_FILENO, bytes);
     if count < 0 {
         return 0;
     }
