@@ -11,6 +11,7 @@ import contextlib
 import errno
 import itertools
 import os
+import random
 import resource
 import select
 import signal
@@ -655,6 +656,49 @@ def check_urgent(checks, programs):
         checks.same("no busy waiting", server.processor_time() - before < 0.2, True)
 
 
+def ask_each(checks, name, peers):
+    """Checks that each of these connections has a response to a request before the next one makes a request."""
+    request, answered = HELLO[2:], GREETED[len(CSM) // 2 :]
+    late = []
+    for place, peer in peers:
+        peer.sendall(request)
+        if read_bytes(peer, len(answered)) != answered:
+            late.append(place)
+            break
+    checks.same(name, late, [])
+
+
+def check_sleepers(checks, programs):
+    """Checks that each of 250 connections is answered after a pause, alone and beside 70 active ones, also after others have ended.
+
+    While no other peer makes a request, nothing but the event of its own socket wakes a connection.
+    """
+    order = random.Random(5)
+    with Server(programs.server, ["--connections", "256"]) as server, contextlib.ExitStack() as stack:
+        peers = {place: stack.enter_context(server.connect()) for place in range(250)}
+        for peer in peers.values():
+            peer.sendall(HELLO)
+        checks.same("all are answered", {read_bytes(it, len(GREETED)) for it in peers.values()}, {GREETED})
+        shuffled = order.sample(sorted(peers.items()), len(peers))
+        ask_each(checks, "each in turn", shuffled)
+        active = dict(shuffled[:70])
+        idle = shuffled[70:]
+        for waking in idle[:40]:
+            for peer in active.values():
+                peer.sendall(HELLO[2:] * 3)
+            ask_each(checks, "a connection that wakes beside 70", [waking])
+            answers = {read_bytes(it, 3 * (len(GREETED) - len(CSM) // 2)) for it in active.values()}
+            checks.same("the 70", answers, {GREETED[len(CSM) // 2 :] * 3})
+        for place in (0, 100, 249):
+            peers.pop(place).close()
+            ask_each(checks, "each after connection %d has ended" % place, order.sample(sorted(peers.items()), len(peers)))
+        peers.update((place, stack.enter_context(server.connect())) for place in (300, 301, 302))
+        for place in (300, 301, 302):
+            peers[place].sendall(HELLO)
+            checks.same("a connection in a free place", read_bytes(peers[place], len(GREETED)), GREETED)
+        ask_each(checks, "each beside three new ones", order.sample(sorted(peers.items()), len(peers)))
+
+
 def check_flooded_client(checks, programs):
     """Checks a client whose peer sends Pings and never reads: the client waits for space, and still ends in time."""
     with socket.create_server((LOCAL, 0)) as listener:
@@ -680,7 +724,7 @@ class Programs:
 CHECKS = [
     check_requests, check_tokens, check_observers, check_bodies, check_connecting, check_ended, check_causes, check_silent, check_address, check_reserved,
     check_files, check_close, check_flooded_client, check_addresses, check_closed, check_urgent, check_timeouts, check_connections, check_versions, check_room,
-    check_alive,
+    check_alive, check_sleepers,
 ]
 
 

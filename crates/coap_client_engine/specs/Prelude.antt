@@ -19,7 +19,7 @@ pub use Rattle.coap_wire.specs.Stream.{split_on}
 pub use Rattle.coap_wire.specs.declared.fault.FormatFault.{FormatFault}
 pub use Rattle.coap_wire.specs.declared.fault.FrameFault.{FrameFault}
 -- ---- coap_frame
-pub use Rattle.coap_frame.specs.FramedViews.{finding_read}
+pub use Rattle.coap_frame.specs.FramedViews.{finding_laid_out}
 pub use Rattle.coap_frame.specs.Framing.{IsFramer, framing_of, framer_after, frame_back, AFault, AFrame, FrameEventValue}
 pub use Rattle.coap_frame.specs.Framing.{FramerValue, Framing, Nothing, framing_at, split_frame}
 unfoldable pub use Rattle.coap_frame.specs.Framing.{framing}

@@ -337,11 +337,11 @@ fn take_in(framer: &mut Framer, link: &mut Link, piece: &[u8]) -> (usize, Receiv
         ≡ (taking_framed framer.old link.old piece.now).event }
     ensures link { link.new ≡ (taking_framed framer.old link.old piece.now).client.link }
 {
-    let framed = framer.next(piece);
-    let heard = match framed.what.frame() {
+    let framed = framer.next_frame(piece);
+    let heard = match framed.what.laid_out() {
         Ok(None) => Received::Nothing,
         Err(fault) => reject(link, Reject::from(fault)),
-        Ok(Some(frame)) => match parse(frame) {
+        Ok(Some(frame)) => match frame.parse() {
             Err(_) => reject(link, Reject::Format),
             Ok(message) => handle_message(link, &message),
         },

@@ -9,7 +9,7 @@ ghost use Rattle.coap_conn.specs.Prelude.{BASE_MESSAGE_SIZE, LARGEST_QUEUE};
 use crate::ring::contiguous;
 use arrayvec::ArrayVec;
 use circular_buffer::HeapCircularBuffer;
-use coap_wire::{CompactBuilder, MessageBuilder, SHORT_OPTIONS, Sink};
+use coap_wire::{CompactBuilder, MessageBuilder, SHORT_OPTIONS, ShortBuilder, Sink};
 use std::alloc::{AllocError, Global};
 use std::marker::Model;
 
@@ -129,7 +129,7 @@ impl OutQueue {
 
     /// Queues the encoding of a message and returns `true`, if the encoding has at most `limit` bytes. Otherwise queues
     /// nothing and returns `false`. There must be room for `limit` bytes.
-    #[inline]
+    #[inline(always)]
     pub(crate) fn offer<const N: usize>(
         &mut self,
         message: &CompactBuilder<N>,
@@ -162,7 +162,19 @@ impl OutQueue {
         true
     }
 
+    /// Does the same as `offer` for a short message, and is never inlined.
+    #[inline(never)]
+    pub(crate) fn offer_short(&mut self, message: &ShortBuilder, limit: usize) -> bool
+        requires { limit ≤ free_of self.old }
+        ensures fits { result ≡ message_fits limit message.now }
+        ensures queued { self.new ≡ (if message_fits limit message.now
+            then record self.old { waiting = self.old.waiting ++ spelling message.now } else self.old) }
+    {
+        self.offer(message, limit)
+    }
+
     /// Does the same as `offer`, for a message whose options may not fit the array.
+    #[inline(never)]
     fn offer_long<const N: usize>(&mut self, message: &CompactBuilder<N>, limit: usize) -> bool
         requires { limit ≤ free_of self.old }
         ensures fits { result ≡ message_fits limit message.now }

@@ -6,6 +6,9 @@ use Rattle.coap_frame.specs.Prelude.{declared_of, Declared, Unknown, Size, BadTo
 use Rattle.coap_frame.specs.Prelude.{TooLarge, StreamPrefix, Unfinished, Whole, Faulty, prefix_kind, fault_bytes}
 use Rattle.coap_frame.specs.Prelude.{size_bytes, IsTakenTo, IsFilled}
 use Rattle.coap_wire.proofs.StreamSteps.{begin_unknown, begin_bad_token, begin_too_large, begin_short, begin_whole, size_has_bytes, size_at_last, declared_more, faulty_more, fault_bytes_more, fault_at_last, fault_has_bytes}
+use Rattle.coap_frame.specs.Prelude.{FrameLayout, outline_of}
+use Rattle.coap_wire.specs.declared.layout.Outline.TheVariants.{Known}
+use Rattle.coap_wire.proofs.LayoutLaws.{outline_more, outline_front}
 use Rattle.coap_frame.specs.declared.filling.FrameStatus.TheVariants as standing
 use Rattle.std.proofs.Math.Seq.{take-append-add}
 
@@ -98,8 +101,8 @@ module _ (M : ℕ) (old piece new : List ℕ) (taken : ℕ) (size : Declared) (u
         stands = (begin_short M (old ++ piece) n (size_of_all n is) fits (omega (arith, length_all)), refl, e ∙ sym all_bytes);
       }
 
-  pub filled_whole : (n : ℕ) (after : List ℕ) → size ≡ Size n → n ≤ M → n - length new ≤ length behind → after ≡ new ++ take (n - length new) behind → IsFilled M old piece after (taken + (n - length new)) standing.Whole
-  filled_whole n after is fits long e =
+  pub filled_whole : (n : ℕ) (layout : FrameLayout) (after : List ℕ) → size ≡ Size n → outline_of new ≡ Known n layout → n ≤ M → n - length new ≤ length behind → after ≡ new ++ take (n - length new) behind → IsFilled M old piece after (taken + (n - length new)) (standing.Whole layout)
+  filled_whole n layout after is laid fits long e =
       let more : length new < n = size_above_filled n is in
       let size_now : length new + (n - length new) ≡ n = omega arith in
       let enough : n ≤ length (old ++ piece) = omega (arith, length_all) in
@@ -107,9 +110,15 @@ module _ (M : ℕ) (old piece new : List ℕ) (taken : ℕ) (size : Declared) (u
       ap (take n) all_bytes ∙ ap (λ (k : ℕ). take k (new ++ behind)) (sym size_now) ∙ take-append-add new behind (n - length new) ∙ sym e in
       let rest = drop n (old ++ piece) in
       let left : length rest ≡ length (old ++ piece) - n = length-drop n (old ++ piece) in
+      let size_is : n ≡ length after = omega (arith, ap (λ (s : List ℕ). length s) e, length-append new (take (n - length new) behind), length-take (n - length new) behind, long, size_now) in
       record {
         within = omega (arith, length_all, length_new, length-append old piece);
-        stands = (rest, begin_whole M (old ++ piece) n (size_of_all n is) fits enough ∙ ap (λ (f : List ℕ). Whole f rest) frame, omega (arith, length_all, length_new, length-append old piece));
+        stands = (
+          rest,
+          begin_whole M (old ++ piece) n (size_of_all n is) fits enough ∙ ap (λ (f : List ℕ). Whole f rest) frame,
+          omega (arith, length_all, length_new, length-append old piece),
+          ap outline_of e ∙ outline_more new (take (n - length new) behind) n layout laid ∙ ap (λ (k : ℕ). Known k layout) size_is,
+        );
       }
 
 -- ---- a chunk by itself
@@ -137,8 +146,8 @@ module _ (M : ℕ) (piece : List ℕ) where
   pub stands_too_large : (n : ℕ) → declared_of piece ≡ Size n → M < n → IsFilled M [] piece (take (size_bytes piece) piece) (size_bytes piece) (standing.Fault TooLarge)
   stands_too_large n is large = stands_fault TooLarge (begin_too_large M piece n is large)
 
-  pub stands_whole : (n : ℕ) → declared_of piece ≡ Size n → n ≤ M → n ≤ length piece → IsFilled M [] piece (take n piece) n standing.Whole
-  stands_whole n is fits long = record {
+  pub stands_whole : (n : ℕ) (layout : FrameLayout) → declared_of piece ≡ Size n → outline_of piece ≡ Known n layout → n ≤ M → n ≤ length piece → IsFilled M [] piece (take n piece) n (standing.Whole layout)
+  stands_whole n layout is laid fits long = record {
     within = long;
-    stands = (drop n piece, begin_whole M piece n is fits long, omega (arith, length-drop n piece, long));
+    stands = (drop n piece, begin_whole M piece n is fits long, omega (arith, length-drop n piece, long), outline_front piece n layout laid long);
   }

@@ -5,7 +5,7 @@ use Rattle.std.proofs.lemmas.List.{length-append, length-drop, take-append-drop}
 use Rattle.coap_frame.specs.Prelude.{StreamPrefix, Unfinished, Whole, Faulty, prefix_kind, fault_bytes, FramerValue}
 use Rattle.coap_frame.specs.Prelude.{IsFramer, FrameEventValue, Nothing, AFrame, AFault, Framing, split_frame, framing_at}
 use Rattle.coap_frame.specs.Prelude.{framing, count_after, copied_of, framed, framer_after, without_last, frame_back}
-use Rattle.coap_frame.specs.Prelude.{with_frame_back, MayUnread, framer_of, spent_in, IsFilled, FrameFault, BufferContent}
+use Rattle.coap_frame.specs.Prelude.{with_frame_back, MayUnread, framer_of, spent_in, IsFilled, FrameFault, BufferContent, FrameLayout}
 use Rattle.coap_wire.proofs.StreamSteps.{unfinished_empty, unfinished_below, whole_parts, whole_itself, whole_more, faulty_more}
 use Rattle.coap_frame.specs.declared.framer.BufferContent.TheVariants as held
 use Rattle.coap_frame.specs.declared.filling.FrameStatus.TheVariants as standing
@@ -20,10 +20,10 @@ module _ (max : ℕ) (kept piece new : List ℕ) (taken : ℕ) where
       ∙ ap (λ (n : ℕ). record { taken = n; finding = Nothing; kept = kept ++ piece; spent = [] }) (sym s.1)
       ∙ ap (λ (k : List ℕ). record { taken = taken; finding = Nothing; kept = k; spent = [] }) (sym s.2)
 
-  pub framing_whole : IsFilled max kept piece new taken standing.Whole
+  pub framing_whole : (layout : FrameLayout) → IsFilled max kept piece new taken (standing.Whole layout)
       → framing max kept piece ≡ record { taken = taken; finding = AFrame new; kept = []; spent = split_frame kept new }
   unfolding framing
-  framing_whole filled =
+  framing_whole layout filled =
       let s = filled.stands in
       let count : length piece - length s.0 ≡ taken = omega (arith, s.2) in
       ap (framing_at kept piece) s.1
@@ -61,8 +61,8 @@ module _ (max c taken : ℕ) (piece : List ℕ) where
       ∙ ap (λ (s : List ℕ). record { max = max; kept = f.kept; spent = s; copied = count_after c (copied_of [] f) }) (sym spent)
       ∙ sym (ap (framed bare) is)
 
-  pub alone_frame : c ≤ 18446744073709551615 → IsFilled max [] piece (take taken piece) taken standing.Whole → bare ≡ framer_after bare piece
-  alone_frame count filled = alone_found _ count (framing_whole max [] piece (take taken piece) taken filled) refl refl refl
+  pub alone_frame : (layout : FrameLayout) → c ≤ 18446744073709551615 → IsFilled max [] piece (take taken piece) taken (standing.Whole layout) → bare ≡ framer_after bare piece
+  alone_frame layout count filled = alone_found _ count (framing_whole max [] piece (take taken piece) taken layout filled) refl refl refl
 
   pub alone_fault : (fault : FrameFault) → c ≤ 18446744073709551615 → IsFilled max [] piece (take taken piece) taken (standing.Fault fault) → bare ≡ framer_after bare piece
   alone_fault fault count filled = alone_found _ count (framing_fault max [] piece (take taken piece) taken fault filled) refl refl refl
@@ -91,10 +91,10 @@ module _ (max c : ℕ) (kept piece new : List ℕ) (taken copied : ℕ) (some : 
   pub behind_more : IsFilled max kept piece new taken standing.Unfinished → framer_of max held.Prefix new copied ≡ framer_after keeping piece
   behind_more filled = behind_found _ (framing_unfinished max kept piece new taken filled) refl
 
-  pub behind_frame : IsFilled max kept piece new taken standing.Whole → framer_of max held.Split new copied ≡ framer_after keeping piece
-  behind_frame filled =
+  pub behind_frame : (layout : FrameLayout) → IsFilled max kept piece new taken (standing.Whole layout) → framer_of max held.Split new copied ≡ framer_after keeping piece
+  behind_frame layout filled =
       ap (λ (s : List ℕ). record { max = max; kept = []; spent = s; copied = copied }) (sym (split_behind kept new some))
-      ∙ behind_found _ (framing_whole max kept piece new taken filled) refl
+      ∙ behind_found _ (framing_whole max kept piece new taken layout filled) refl
 
   pub behind_fault : (fault : FrameFault) → IsFilled max kept piece new taken (standing.Fault fault) → framer_of max held.Prefix [] copied ≡ framer_after keeping piece
   behind_fault fault filled = behind_found _ (framing_fault max kept piece new taken fault filled) refl

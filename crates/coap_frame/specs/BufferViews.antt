@@ -1,5 +1,6 @@
 -- Defined by this project: the content of a framer's buffer as values of the model.
 use Rattle.std.specs.Prelude.{ℕ, List, []}
+use Rattle.coap_wire.specs.Layout.{IsLaidOut}
 use Rattle.coap_frame.specs.Framing.{FramerValue, FrameEventValue, Nothing, AFrame, AFault}
 use Rattle.coap_frame.specs.declared.framer.BufferContent.{BufferContent}
 use Rattle.coap_frame.specs.declared.framer.BufferContent.TheVariants.{Prefix, Split}
@@ -28,5 +29,11 @@ frame_in Split bytes taken = bytes
 -- The finding for a status, if these are the bytes of the frame.
 abbrev pub finding_in : List ℕ → FrameStatus → FrameEventValue
 finding_in bytes standing.Unfinished = Nothing
-finding_in bytes standing.Whole = AFrame bytes
+finding_in bytes (standing.Whole layout) = AFrame bytes
 finding_in bytes (standing.Fault fault) = AFault fault
+
+-- If the status is a whole frame, these bytes have its layout.
+abbrev pub HasLayoutIn : List ℕ → FrameStatus → Type 0
+HasLayoutIn bytes standing.Unfinished = Unit {0}
+HasLayoutIn bytes (standing.Whole layout) = IsLaidOut bytes layout
+HasLayoutIn bytes (standing.Fault fault) = Unit {0}

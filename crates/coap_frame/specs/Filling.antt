@@ -1,6 +1,7 @@
 -- Defined by this project: the effect of filling a buffer with bytes of a chunk.
 use Rattle.std.specs.Prelude.{◌≡◌, ℕ, ◌+◌, ◌≤◌, List, ◌++◌, length, take, ◌⊎◌}
 use Rattle.coap_wire.specs.Reading.{declared_of}
+use Rattle.coap_wire.specs.Layout.{IsLaidOut}
 use Rattle.coap_wire.specs.StreamPrefix.{Unfinished, Whole, Faulty, prefix_kind, fault_bytes}
 use Rattle.coap_wire.specs.declared.declaration.Declared.{Declared}
 use Rattle.coap_wire.specs.declared.declaration.Declared.TheVariants.{Unknown}
@@ -22,12 +23,12 @@ pub record IsHead (old piece new : List ℕ) (taken : ℕ) (size : Declared) : T
 -- The status describes the old bytes followed by the chunk, as one stream of frames of at most `M` bytes.
 abbrev pub HasStatus : ℕ → List ℕ → List ℕ → List ℕ → ℕ → FrameStatus → Type 0
 HasStatus M old piece new taken standing.Unfinished = (prefix_kind M (old ++ piece) ≡ Unfinished) × (taken ≡ length piece) × (new ≡ old ++ piece)
-HasStatus M old piece new taken standing.Whole = (rest : List ℕ) × (prefix_kind M (old ++ piece) ≡ Whole new rest) × (taken + length rest ≡ length piece)
+HasStatus M old piece new taken (standing.Whole layout) =
+    (rest : List ℕ) × (prefix_kind M (old ++ piece) ≡ Whole new rest) × (taken + length rest ≡ length piece) × IsLaidOut new layout
 HasStatus M old piece new taken (standing.Fault fault) =
     (prefix_kind M (old ++ piece) ≡ Faulty fault) × (length old + taken ≡ length (fault_bytes (old ++ piece)))
 
 -- The buffer is filled: these bytes of the chunk are taken, and the status describes the buffer.
-
 pub record IsFilled (M : ℕ) (old piece new : List ℕ) (taken : ℕ) (s : FrameStatus) : Type 0 where
   pub within : taken ≤ length piece
   pub stands : HasStatus M old piece new taken s

@@ -10,6 +10,8 @@ unfoldable pub use Rattle.coap_wire.specs.StreamPrefix.{prefix_kind}
 pub use Rattle.coap_wire.specs.Forms.{extension_of}
 pub use Rattle.coap_wire.specs.Frames.{Frames, Sizes, constant_size, size_for, sizes_behind, sizes_first, with_frame}
 unfoldable pub use Rattle.coap_wire.specs.Frames.{frames_within, sized_frames}
+pub use Rattle.coap_wire.specs.Layout.{declared_in, IsLaidOut}
+unfoldable pub use Rattle.coap_wire.specs.Layout.{outline_of}
 pub use Rattle.coap_wire.specs.Reading.{message_of}
 unfoldable pub use Rattle.coap_wire.specs.Reading.{declared_of, length_at, one_byte_at, option_number_at}
 unfoldable pub use Rattle.coap_wire.specs.Reading.{two_bytes_at}
@@ -19,14 +21,17 @@ pub use Rattle.coap_wire.specs.declared.fault.FrameFault.{FrameFault}
 pub use Rattle.coap_wire.specs.declared.fault.FrameFault.TheVariants.{TokenLength, TooLarge}
 pub use Rattle.coap_wire.specs.declared.declaration.Declared.{Declared}
 pub use Rattle.coap_wire.specs.declared.declaration.Declared.TheVariants.{BadToken, Size, Unknown}
+pub use Rattle.coap_wire.specs.declared.layout.FrameLayout.{FrameLayout}
+pub use Rattle.coap_wire.specs.declared.layout.Outline.{Outline}
 pub use Rattle.coap_wire.specs.declared.sizes.TheConstants.{BASE_MESSAGE_SIZE, LARGEST_MESSAGE}
 -- ---- coap_frame
-pub use Rattle.coap_frame.specs.BufferViews.{framer_of, kept_in, frame_in, finding_in, spent_in}
+pub use Rattle.coap_frame.specs.BufferViews.{framer_of, kept_in, frame_in, finding_in, spent_in, HasLayoutIn}
 pub use Rattle.coap_frame.specs.Copying.{FramerCall, Clear, IsCounted, IsCountedNext, IsCountedUnread, MayCall, Next}
 pub use Rattle.coap_frame.specs.Copying.{Raise, Unread, after_call}
 unfoldable pub use Rattle.coap_frame.specs.Copying.{AreCounted}
 pub use Rattle.coap_frame.specs.Filling.{IsHead, IsFilled, IsTakenTo}
 pub use Rattle.coap_frame.specs.FramedViews.{finding_of, finding_read, IsFramed, lent_of}
+pub use Rattle.coap_frame.specs.FramedViews.{finding_of_ref, finding_laid_out, IsFramedRef, lent_of_ref}
 pub use Rattle.coap_frame.specs.FramerViews.{framer_value, is_framer}
 pub use Rattle.coap_frame.specs.Framing.{framing_of, framer_after, IsFramer, MayUnread, with_frame_back, FramerValue}
 pub use Rattle.coap_frame.specs.Framing.{Nothing, AFrame, AFault, without_last, FrameEventValue, Framing, copied_alone}
@@ -41,5 +46,6 @@ pub use Rattle.coap_frame.specs.declared.fault.RaiseFault.{RaiseFault}
 pub use Rattle.coap_frame.specs.declared.fault.RaiseFault.TheVariants.{Lower}
 pub use Rattle.coap_frame.specs.declared.filling.FrameStatus.{FrameStatus}
 pub use Rattle.coap_frame.specs.declared.framer.FrameEvent.{FrameEvent}
+pub use Rattle.coap_frame.specs.declared.frame_ref_event.FrameRefEvent.{FrameRefEvent}
 pub use Rattle.coap_frame.specs.declared.framer.Framer.TheInside.{Inside}
 pub use Rattle.coap_frame.specs.declared.framer.BufferContent.{BufferContent}

@@ -4,9 +4,10 @@
 
 ghost use Rattle.std.specs.Prelude.{◌≡◌, ◌+◌, ◌≤◌, ◌<◌, ◌++◌, [], length, take, vec_len, vec_capacity};
 ghost use Rattle.coap_frame.specs.Prelude.{Unfinished, prefix_kind, token_bytes, size_bytes as size_bytes_of};
-ghost use Rattle.coap_frame.specs.Prelude.{extension_of, IsHead, IsFilled, BASE_MESSAGE_SIZE};
+ghost use Rattle.coap_frame.specs.Prelude.{extension_of, IsHead, IsFilled, BASE_MESSAGE_SIZE, declared_in};
+ghost use Rattle.coap_frame.specs.Prelude.{declared_of, outline_of};
 
-use coap_wire::{Declared, FrameFault, declared};
+use coap_wire::{FrameFault, FrameLayout, Outline, outline};
 
 /// Reserved nibble of the token length (RFC 8974 section 2.1).
 const NO_TOKEN_LENGTH: u8 = 15;
@@ -16,8 +17,8 @@ const NO_TOKEN_LENGTH: u8 = 15;
 pub(crate) enum FrameStatus {
     /// Beginning of a frame, or no byte: more bytes are needed.
     Unfinished,
-    /// Exactly one whole frame.
-    Whole,
+    /// Exactly one whole frame, with this layout.
+    Whole(FrameLayout),
     /// Malformed or oversized frame.
     Fault(FrameFault),
 }
@@ -26,20 +27,20 @@ pub(crate) enum FrameStatus {
 pub(crate) fn classify(piece: &[u8], max: usize) -> (usize, FrameStatus)
     ensures { IsFilled max [] piece.now (take result.0 piece.now) result.0 result.1 }
 {
-    match declared(piece) {
-        Declared::Unknown => (piece.len(), FrameStatus::Unfinished),
-        Declared::BadToken => (
+    match outline(piece) {
+        Outline::Unknown => (piece.len(), FrameStatus::Unfinished),
+        Outline::BadToken => (
             size_bytes(piece),
             FrameStatus::Fault(FrameFault::TokenLength),
         ),
-        Declared::Size(size) => {
+        Outline::Known { size, layout } => {
             if size > max as u64 {
                 return (size_bytes(piece), FrameStatus::Fault(FrameFault::TooLarge));
             }
             if size > piece.len() as u64 {
                 return (piece.len(), FrameStatus::Unfinished);
             }
-            (size as usize, FrameStatus::Whole)
+            (size as usize, FrameStatus::Whole(layout))
         }
     }
 }
@@ -93,21 +94,32 @@ pub(crate) fn append(buffer: &mut Vec<u8>, bytes: &[u8])
     };
 }
 
+/// Returns the outline of the frame in a buffer. This is a function of its own so that `outline` is not inlined twice
+/// more, for split frames alone.
+#[inline(never)]
+fn outline_in(buffer: &[u8]) -> Outline
+    ensures exact { result ≡ outline_of buffer.now }
+    ensures declared { declared_in result ≡ declared_of buffer.now }
+{
+    outline(buffer)
+}
+
 /// Appends bytes of the chunk until the buffer declares its size or an invalid token length, or the chunk ends. At most
 /// 8 bytes are appended. Returns their number.
-fn fill_head(buffer: &mut Vec<u8>, piece: &[u8]) -> (usize, Declared)
+fn fill_head(buffer: &mut Vec<u8>, piece: &[u8]) -> (usize, Outline)
     requires { 8 ≤ vec_capacity buffer.old }
-    ensures head { IsHead buffer.old.items piece.now buffer.new.items result.0 result.1 }
+    ensures head { IsHead buffer.old.items piece.now buffer.new.items result.0 (declared_in result.1) }
+    ensures outline { result.1 ≡ outline_of buffer.new.items }
     ensures capacity { vec_capacity buffer.old ≤ vec_capacity buffer.new }
 {
     let mut taken = 0;
-    let mut size = declared(buffer);
-    while size == Declared::Unknown && taken < piece.len() {
+    let mut known = outline_in(buffer);
+    while known == Outline::Unknown && taken < piece.len() {
         buffer.push_reserved(piece[taken]);
         taken += 1;
-        size = declared(buffer);
+        known = outline_in(buffer);
     }
-    (taken, size)
+    (taken, known)
 }
 
 /// Appends bytes of the chunk until the buffer has a whole frame of at most `max` bytes or an error, or the chunk ends.
@@ -119,11 +131,11 @@ pub(crate) fn fill(buffer: &mut Vec<u8>, max: usize, piece: &[u8]) -> (usize, Fr
     ensures filled { IsFilled max buffer.old.items piece.now buffer.new.items result.0 result.1 }
     ensures capacity { vec_capacity buffer.old ≤ vec_capacity buffer.new }
 {
-    let (taken, size) = fill_head(buffer, piece);
-    match size {
-        Declared::Unknown => (taken, FrameStatus::Unfinished),
-        Declared::BadToken => (taken, FrameStatus::Fault(FrameFault::TokenLength)),
-        Declared::Size(size) => {
+    let (taken, known) = fill_head(buffer, piece);
+    match known {
+        Outline::Unknown => (taken, FrameStatus::Unfinished),
+        Outline::BadToken => (taken, FrameStatus::Fault(FrameFault::TokenLength)),
+        Outline::Known { size, layout } => {
             if size > max as u64 {
                 return (taken, FrameStatus::Fault(FrameFault::TooLarge));
             }
@@ -134,7 +146,7 @@ pub(crate) fn fill(buffer: &mut Vec<u8>, max: usize, piece: &[u8]) -> (usize, Fr
                 return (piece.len(), FrameStatus::Unfinished);
             }
             append(buffer, &rest[..missing]);
-            (taken + missing, FrameStatus::Whole)
+            (taken + missing, FrameStatus::Whole(layout))
         }
     }
 }

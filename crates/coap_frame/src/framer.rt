@@ -4,13 +4,14 @@ ghost use Rattle.std.specs.Prelude.{◌≡◌, ◌≤◌, ◌<◌, [], OnOk, OnE
 ghost use Rattle.coap_frame.specs.Prelude.{Unfinished, prefix_kind, framing, framing_of, framer_after, framer_of};
 ghost use Rattle.coap_frame.specs.Prelude.{kept_in, frame_in, finding_in, finding_of, finding_read, sem, follows_so};
 ghost use Rattle.coap_frame.specs.Prelude.{none, IsFramer, MayUnread, with_frame_back, IsFramed, raised, IsRaiseAnswer};
-ghost use Rattle.coap_frame.specs.Prelude.{BASE_MESSAGE_SIZE, LARGEST_MESSAGE};
+ghost use Rattle.coap_frame.specs.Prelude.{BASE_MESSAGE_SIZE, LARGEST_MESSAGE, HasLayoutIn, IsFramedRef};
 ghost use Rattle.coap_frame.specs.declared.framer.BufferContent.TheVariants as held_as;
 ghost use Rattle.coap_frame.specs.contracts.framer.Framer.{the_row};
 
 use crate::fault::RaiseFault;
 use crate::filling::{FrameStatus, append, classify, fill};
-use coap_wire::{FrameFault, LARGEST_MESSAGE};
+use crate::frame_ref_event::{FrameRefEvent, FramedRef};
+use coap_wire::{FrameFault, FrameRef, LARGEST_MESSAGE};
 use std::alloc::{AllocError, Global};
 use std::marker::Model;
 
@@ -136,6 +137,28 @@ impl Framer {
         ensures framed { IsFramed result (framing_of self.old piece.now) }
         ensures within { result.taken ≤ length piece.now }
     {
+        let framed = self.next_frame(piece);
+        let what = match framed.what {
+            FrameRefEvent::More => FrameEvent::More,
+            FrameRefEvent::Frame(frame) => FrameEvent::Frame(frame.bytes),
+            FrameRefEvent::Whole(frame) => FrameEvent::Whole(frame.bytes),
+            FrameRefEvent::Fault(fault) => FrameEvent::Fault(fault),
+        };
+        Framed {
+            taken: framed.taken,
+            what,
+        }
+    }
+
+    /// Does the same as `next`, and returns the frame with its layout.
+    ///
+    /// The caller need not read the head of the frame again: `FrameRef::parse` uses the layout.
+    pub fn next_frame<'a, 'p>(&'a mut self, piece: &'p [u8]) -> FramedRef<'a, 'p>
+        ensures* writes_back { sem 𝓛 (follows_so the_row the_row self.entry.ghost_name none (λ _ _. ⊤)
+            (λ f. f ≡ framer_after self.old piece.now)) }
+        ensures framed { IsFramedRef result (framing_of self.old piece.now) }
+        ensures within { result.taken ≤ length piece.now }
+    {
         let (taken, standing) = advance(
             &mut self.buffer,
             &mut self.held,
@@ -144,14 +167,20 @@ impl Framer {
             piece,
         );
         let what = match standing {
-            FrameStatus::Unfinished => FrameEvent::More,
-            FrameStatus::Fault(fault) => FrameEvent::Fault(fault),
-            FrameStatus::Whole => match self.held {
-                BufferContent::Prefix => FrameEvent::Whole(&piece[..taken]),
-                BufferContent::Split => FrameEvent::Frame(&self.buffer),
+            FrameStatus::Unfinished => FrameRefEvent::More,
+            FrameStatus::Fault(fault) => FrameRefEvent::Fault(fault),
+            FrameStatus::Whole(layout) => match self.held {
+                BufferContent::Prefix => FrameRefEvent::Whole(FrameRef {
+                    bytes: &piece[..taken],
+                    layout,
+                }),
+                BufferContent::Split => FrameRefEvent::Frame(FrameRef {
+                    bytes: &self.buffer,
+                    layout,
+                }),
             },
         };
-        Framed { taken, what }
+        FramedRef { taken, what }
     }
 
     /// Begins a new stream: discards the kept bytes and the split frame.
@@ -310,6 +339,7 @@ fn advance(
         ≡ framer_after (framer_of max held.old buffer.old.items copied.old) piece.now }
     ensures taken { result.0 ≡ (framing max (kept_in held.old buffer.old.items) piece.now).taken }
     ensures within { result.0 ≤ length piece.now }
+    ensures layout { HasLayoutIn (frame_in held.new buffer.new.items (take result.0 piece.now)) result.1 }
     ensures found { finding_in (frame_in held.new buffer.new.items (take result.0 piece.now)) result.1
         ≡ (framing max (kept_in held.old buffer.old.items) piece.now).finding }
     ensures capacity { max ≤ vec_capacity buffer.new }
@@ -337,6 +367,7 @@ fn advance_in_piece(
         ≡ framer_after (framer_of max held_as.Prefix [] copied.old) piece.now }
     ensures taken { result.0 ≡ (framing max [] piece.now).taken }
     ensures within { result.0 ≤ length piece.now }
+    ensures layout { HasLayoutIn (take result.0 piece.now) result.1 }
     ensures found { finding_in (take result.0 piece.now) result.1 ≡ (framing max [] piece.now).finding }
     ensures capacity { max ≤ vec_capacity buffer.new }
 {
@@ -346,7 +377,7 @@ fn advance_in_piece(
             append(buffer, piece);
             *copied = copied.saturating_add(taken as u64);
         }
-        FrameStatus::Whole => {}
+        FrameStatus::Whole(_) => {}
         FrameStatus::Fault(_) => {}
     }
     (taken, standing)
@@ -368,6 +399,7 @@ fn advance_in_buffer(
         ≡ framer_after (framer_of max held_as.Prefix buffer.old.items copied.old) piece.now }
     ensures taken { result.0 ≡ (framing max buffer.old.items piece.now).taken }
     ensures within { result.0 ≤ length piece.now }
+    ensures layout { HasLayoutIn (frame_in held.new buffer.new.items (take result.0 piece.now)) result.1 }
     ensures found { finding_in (frame_in held.new buffer.new.items (take result.0 piece.now)) result.1
         ≡ (framing max buffer.old.items piece.now).finding }
     ensures capacity { max ≤ vec_capacity buffer.new }
@@ -376,7 +408,7 @@ fn advance_in_buffer(
     *copied = copied.saturating_add(taken as u64);
     *held = match standing {
         FrameStatus::Unfinished => BufferContent::Prefix,
-        FrameStatus::Whole => BufferContent::Split,
+        FrameStatus::Whole(_) => BufferContent::Split,
         FrameStatus::Fault(_) => {
             buffer.clear();
             BufferContent::Prefix

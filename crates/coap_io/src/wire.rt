@@ -66,6 +66,12 @@ pub trait Ready {
     /// Returns `true` if a write may return something other than `Later`. Otherwise no write is tried.
     fn may_write(&self) -> bool
         ensures { MatchesTrace (writable self.now) result };
+
+    /// Returns the place of the wire, by which `Door::woken` names it. No two wires of a door have the same place at the
+    /// same time. The default is `None`: no call names the wire.
+    fn place(&self) -> Option<usize> {
+        None
+    }
 }
 
 /// Longest time that a door may wait.
@@ -110,6 +116,13 @@ pub trait Door {
     /// already.
     fn wait(&mut self, wait: Wait, opens: bool)
         ensures { TellsMore (calls self.old) (calls self.new) (Waited wait opens ∷ []) };
+
+    /// Returns the places of the wires that may have become ready since the last call, and perhaps others. The default
+    /// is `None`: any wire may have become ready. While no call names a wire with a place and nobody uses the wire, its
+    /// readiness does not change.
+    fn woken(&self) -> Option<&[usize]> {
+        None
+    }
 }
 
 /// Clock that gives the time in seconds.

@@ -53,6 +53,12 @@ pub use Rattle.coap_conn.specs.declared.phase.Reply.TheVariants.{Bare, Stopped, 
 pub use Rattle.coap_conn.specs.declared.phase.Role.TheVariants.{Server}
 pub use Rattle.coap_conn.specs.declared.reason.Reason.{Reason}
 pub use Rattle.coap_conn.specs.declared.reason.Reason.TheVariants.{PeerTooSmall, ReleasedHere}
+-- ---- coap_path
+pub use Rattle.coap_path.specs.Paths.{Path, same_bytes}
+unfoldable pub use Rattle.coap_path.specs.Paths.{is_path}
+pub use Rattle.coap_path.specs.ResourceKinds.{is_dynamic, is_observable}
+unfoldable pub use Rattle.coap_path.specs.ResourceKinds.{kind_of_path}
+pub use Rattle.coap_path.specs.declared.resource_kind.ResourceKind.TheVariants.{Dynamic, Time}
 -- ---- coap_store
 pub use Rattle.coap_store.specs.Answer.{changed, Change, Delete, Nothing, Put, Response, content, deletion, etag_at}
 pub use Rattle.coap_store.specs.Answer.{with_observe_rule, delayed_response, is_among, only, read_answer, removes_watch}
@@ -63,16 +69,13 @@ pub use Rattle.coap_store.specs.Invariant.{AreDistinct}
 unfoldable pub use Rattle.coap_store.specs.Listing.{encoded_byte, entry_bytes, listing, path_bytes}
 pub use Rattle.coap_store.specs.Messages.{response_with_observe, each_at}
 unfoldable pub use Rattle.coap_store.specs.Notifications.{notification_at}
-pub use Rattle.coap_store.specs.Paths.{Path, same_bytes}
-unfoldable pub use Rattle.coap_store.specs.Paths.{is_path}
 unfoldable pub use Rattle.coap_store.specs.Refusals.{put_refusal, remove_refusal}
 pub use Rattle.coap_store.specs.Requests.{path_of}
 unfoldable pub use Rattle.coap_store.specs.Requests.{has_option, is_seconds, match_holds, number_of, value_of}
-pub use Rattle.coap_store.specs.State.{RequestTarget, built, is_dynamic, is_observable, state_of, target_of, text_plain}
-unfoldable pub use Rattle.coap_store.specs.State.{key_for, kind_of_path, state_at}
+pub use Rattle.coap_store.specs.State.{RequestTarget, built, state_of, target_of, text_plain}
+unfoldable pub use Rattle.coap_store.specs.State.{key_for, state_at}
 pub use Rattle.coap_store.specs.Store.{StoreValue, Representation, put_in, removed_in}
 unfoldable pub use Rattle.coap_store.specs.Store.{found_in, put_at, removed_at}
-pub use Rattle.coap_store.specs.declared.resource_kind.ResourceKind.TheVariants.{Dynamic, Time}
 pub use Rattle.coap_store.specs.declared.plan.Watch.{Watch}
 -- ---- coap_model
 pub use Rattle.coap_model.specs.Configs.{config_of, config_refusal, ConfigValues, default_config}

@@ -7,10 +7,11 @@ unfoldable pub use Rattle.percent_encoding.specs.Percent.{percent_decode}
 pub use Rattle.std.specs.Cow.{cow_slice_items}
 pub use Rattle.std.specs.List.{list_all, onto_first}
 pub use Rattle.std.specs.Result.{result_ok}
+-- ---- coap_path
+pub use Rattle.coap_path.specs.PathViews.{segment_list}
+pub use Rattle.coap_path.specs.Paths.{Path}
+unfoldable pub use Rattle.coap_path.specs.Paths.{is_path}
 -- ---- coap_store
-pub use Rattle.coap_store.specs.PathViews.{segment_list}
-pub use Rattle.coap_store.specs.Paths.{Path}
-unfoldable pub use Rattle.coap_store.specs.Paths.{is_path}
 unfoldable pub use Rattle.coap_store.specs.State.{key_for}
 -- ---- coap_text
 pub use Rattle.coap_text.specs.Words.{is_hyphen, parts}

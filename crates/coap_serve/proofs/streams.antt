@@ -1,5 +1,7 @@
 -- Lemmas on runs: on flushes, chunks and turns, on recorded interests, and on a service.
 pub mod NothingLeft
+pub mod CallLemmas
+pub mod FlushLemmas
 pub mod FlushShown
 pub mod TakeLemmas
 pub mod PieceLemmas
@@ -15,3 +17,5 @@ pub mod NextPartLemmas
 pub mod ServiceLemmas
 pub mod DoorLemmas
 pub mod TimedLemmas
+pub mod IndexSetLemmas
+pub mod SleepLemmas

@@ -24,9 +24,10 @@ pub use Rattle.coap_io.specs.declared.wire.Wait.TheVariants.{No}
 pub use Rattle.coap_io.specs.streams.Device.{DeviceTrace, HasGiven, pieces_read, AddsBytes, WritesPart}
 pub use Rattle.coap_io.specs.streams.DeviceTraces.{TellsMore, DoorCall}
 pub use Rattle.coap_io.specs.streams.Wires.{IsWithin, IsOneWrite, bytes_passed, Answered, WireTrace, trace_by}
+-- ---- coap_path
+pub use Rattle.coap_path.specs.Paths.{Path}
 -- ---- coap_store
 pub use Rattle.coap_store.specs.Answer.{Change, Delete, Nothing, Put}
-pub use Rattle.coap_store.specs.Paths.{Path}
 pub use Rattle.coap_store.specs.Refusals.{RefusedOrMemory}
 unfoldable pub use Rattle.coap_store.specs.Refusals.{put_refusal, remove_refusal}
 pub use Rattle.coap_store.specs.Store.{Resource}
@@ -36,12 +37,12 @@ pub use Rattle.coap_model.specs.Configs.{ConfigValues}
 pub use Rattle.coap_model.specs.declared.answers.TakeFault.{TakeFault}
 pub use Rattle.coap_model.specs.declared.answers.Taken.{Taken}
 pub use Rattle.coap_model.specs.declared.answers.WrittenFault.{WrittenFault}
-pub use Rattle.coap_model.specs.streams.Output.{only_id, stream_of, stdio_output, Outcome, more_of, outcome_on}
+pub use Rattle.coap_model.specs.streams.Output.{only_id, stream_of, stdio_output, Outcome, more_of, waiting_of, outcome_on}
 unfoldable pub use Rattle.coap_model.specs.streams.Output.{flushed, flushed_after, outcome, world_for, written_times}
 pub use Rattle.coap_model.specs.world.Events.{AcceptedCall, Ticked, Stored, Removed, Opened, Ended, Took, stream_on}
 pub use Rattle.coap_model.specs.world.Events.{Wrote, Dropped, Released}
-pub use Rattle.coap_model.specs.world.Events.{beyond, spelled_on}
-unfoldable pub use Rattle.coap_model.specs.world.Events.{size_on, world_after, takes}
+pub use Rattle.coap_model.specs.world.Events.{beyond, spelled_on, taken_in}
+unfoldable pub use Rattle.coap_model.specs.world.Events.{size_on, world_after, takes, taken_on}
 unfoldable pub use Rattle.coap_model.specs.world.Events.{steps_by}
 pub use Rattle.coap_model.specs.world.Handling.{count_of, handled_in}
 pub use Rattle.coap_model.specs.world.Connections.{Connection, waiting_on, handles}
@@ -82,7 +83,13 @@ pub use Rattle.coap_serve.specs.streams.RecordedInterests.{IsNoted, Served}
 pub use Rattle.coap_serve.specs.streams.Serving.{HasServed, HasTurned, IsAskedOnce, IsTurnOf, HasGoneOn, AreServed}
 pub use Rattle.coap_serve.specs.streams.Serving.{asked_by, HadItsPart, HasOneMore, IsOpening, IsRound, IsServing}
 pub use Rattle.coap_serve.specs.streams.Serving.{NoMore, PassedOver, opening, Unrecorded, flush_calls}
+pub use Rattle.coap_serve.specs.streams.StdioCalls.{IsReportedFlush, IsCutFlush, AreTransfers, IsTransfer, HasReported}
+pub use Rattle.coap_serve.specs.streams.StdioCalls.{HasReportedEnd, HasReportedStop, HasReportedCut}
+pub use Rattle.coap_serve.specs.streams.StdioCalls.{EndsReport, IsReportedRun, IsAfterOutput, written_in}
+unfoldable pub use Rattle.coap_serve.specs.streams.StdioCalls.{calls_of_flush, written_on, AreAfterOutput}
+pub use Rattle.coap_serve.specs.streams.Sleepers.{AreAsleep, IsOutside, MaySleep, bit_of, is_known_ready, known}
 pub use Rattle.coap_serve.specs.streams.StdioProgress.{IsAtBytes, IsRunningAt, IsTurn, HasRead, IsCut, IsRefused, IsWhole, Says}
+pub use Rattle.coap_serve.specs.streams.StdioProgress.{AreTransfersOf}
 pub use Rattle.coap_serve.specs.streams.StdioRun.{IsStdioRun, AreNotEmpty, EndsRun, GoesOn, IsLastByte, LeavesNothing}
 pub use Rattle.coap_serve.specs.streams.StdioRun.{LeavesNothingWaiting}
 pub use Rattle.coap_serve.specs.streams.Turns.{end_of, agenda_past, IsIdle, IsInTurn, agenda_with, wait_of}
@@ -98,7 +105,7 @@ pub use Rattle.coap_server_engine.specs.values.InResults.{InResult, IsPartialIn,
 pub use Rattle.coap_server_engine.specs.values.Calls.{TellsPartlyFed, call_value}
 pub use Rattle.coap_server_engine.specs.values.InResults.{took, where_there}
 unfoldable pub use Rattle.coap_server_engine.specs.values.InResults.{fed_turns, took_turns}
-pub use Rattle.coap_server_engine.specs.values.Flushes.{IsFlushed, IsFlushedOnce, IsPartFlushed, waiting_at, more_at}
+pub use Rattle.coap_server_engine.specs.values.Flushes.{IsFlushed, IsFlushedOnce, waiting_at, more_at}
 pub use Rattle.coap_server_engine.specs.values.Flushes.{more_in, waiting_in}
 unfoldable pub use Rattle.coap_server_engine.specs.values.Flushes.{flush_turns}
 pub use Rattle.coap_server_engine.specs.values.ServerAnswers.{stop_on, open_refusal, IsNotTaken}
@@ -121,4 +128,4 @@ unfoldable pub use Rattle.coap_server_session.specs.values.Sessions.{taking}
 -- ---- coap_serve, views
 pub use Rattle.coap_server_session.specs.views.SessionShows.{session_shown}
 -- ---- coap_serve, world
-pub use Rattle.coap_server_engine.specs.world.Shows.{Shows}
+pub use Rattle.coap_server_engine.specs.world.Shows.{Shows, ShowsRefused}

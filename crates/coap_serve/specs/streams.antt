@@ -1,10 +1,12 @@
 -- Runs of `serve_one` and `serve_door`: their errors, progress, turns and recorded interests, and the definition of
 -- each run.
 pub mod StdioRun
+pub mod StdioCalls
 pub mod StdioProgress
 pub mod Faults
 pub mod Turns
 pub mod RecordedInterests
+pub mod Sleepers
 pub mod Serving
 pub mod DoorRun
 pub mod Silence

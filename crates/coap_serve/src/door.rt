@@ -4,6 +4,8 @@ ghost use Rattle.coap_serve.specs.Prelude.{IsDoorRun, waited_behind, TellsMore, 
 ghost use Rattle.coap_serve.specs.Prelude.{AreEnded, HasEnded, IsTimedRun, Unrecorded, is_sweep_due};
 ghost use Rattle.std.specs.Prelude.{◌≡◌, false};
 
+mod awake;
+mod index_set;
 mod next_wakeup;
 mod peer;
 mod peer_interest;

@@ -1,7 +1,7 @@
 //! Writes all queued bytes of a connection to an outlet.
 
 ghost use Rattle.std.specs.Prelude.{◌≡◌, false, IfOk, OnOk, OnErr, is_err};
-ghost use Rattle.coap_serve.specs.Prelude.{AddsBytes, WritesPart, IsFlushed, IsPartFlushed, session_of, stop_on};
+ghost use Rattle.coap_serve.specs.Prelude.{AddsBytes, WritesPart, IsReportedFlush, IsCutFlush, session_of, stop_on};
 ghost use Rattle.coap_serve.specs.Prelude.{IsFlushedOnce, flush_calls, more_at, TellsMore, waiting_at};
 
 use coap_conn::Reason;
@@ -29,11 +29,14 @@ pub(crate) fn flush<W: Outlet, M: Monitor<()>>(
     monitor: &mut M,
 ) -> Result<Option<Reason>, WriteFailed>
     requires { W.is_failed writer.old ≡ false }
-    ensures ok { OnOk result (IsFlushed id server.old server.new
-        (AddsBytes (W.written writer.old) (W.written writer.new))) }
+    // The monitor receives the calls that remove the written bytes from the queue.
+    ensures ok { OnOk result (IsReportedFlush id server.old server.new
+        (AddsBytes (W.written writer.old) (W.written writer.new))
+        (TellsMore (M.calls monitor.old) (M.calls monitor.new))) }
     ensures stop { IfOk result (λ stop. stop ≡ stop_on (session_of id server.new.sessions)) }
-    ensures part { OnErr result (IsPartFlushed id server.old
-        (WritesPart (W.written writer.old) (W.written writer.new))) }
+    ensures part { OnErr result (IsCutFlush id server.old
+        (AddsBytes (W.written writer.old) (W.written writer.new))
+        (TellsMore (M.calls monitor.old) (M.calls monitor.new))) }
     ensures failure { W.is_failed writer.new ≡ is_err result }
 {
     let first = flush_once(writer, server, id, monitor)?;

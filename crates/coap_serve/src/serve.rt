@@ -1,15 +1,16 @@
 //! Serves one connection over one input and one output.
 
-ghost use Rattle.std.specs.Prelude.{◌≡◌, ◌+◌, ◌<◌, ◌≤◌, ◌^◌, ℕ, false, List, [], ◌++◌, length, Some, IfOk};
+ghost use Rattle.std.specs.Prelude.{◌≡◌, ◌+◌, ◌<◌, ◌≤◌, ◌^◌, ℕ, false, List, [], ◌++◌, length, Option, Some, IfOk};
 ghost use Rattle.coap_serve.specs.Prelude.{AllByRecursion, end_reason, AreInRange, ConfigValues, session_of, stop_on};
 ghost use Rattle.coap_serve.specs.Prelude.{count_of, is_cut, HasGiven, AddsBytes, only_id, stream_of, stdio_output};
-ghost use Rattle.coap_serve.specs.Prelude.{IsAtBytes, IsRunningAt, IsTurn, IsStdioRun, is_read_fault, is_write_fault};
+ghost use Rattle.coap_serve.specs.Prelude.{IsRunningAt, IsTurn, IsStdioRun, is_read_fault, is_write_fault};
+ghost use Rattle.coap_serve.specs.Prelude.{AcceptedCall, TellsMore, IsReportedRun, HasReportedEnd};
 ghost use Rattle.coap_serve.specs.streams.StdioProgress.{IsServed};
 
 use crate::output::{flush, stop_in};
 use coap_conn::Reason;
 use coap_io::{Outlet, Source};
-use coap_model::{Config, ConnId, Handled};
+use coap_model::{Config, ConnId, Handled, TakeFault};
 use coap_server_engine::{Call, Monitor, NoMonitor, Server};
 use std::alloc::Global;
 use thiserror::Error;
@@ -74,7 +75,7 @@ struct Turn {
 /// The run ends at the end of input, or with the first message or malformed input that stops the connection. Every read
 /// is a turn, including the read that finds the end. Bytes after a stop in the same chunk are read but not processed.
 /// When the run ends, responses that are delayed by one second or more are discarded. Only at time 2^64 - 1 are they
-/// sent at once. No clause states the order of the writes within one read.
+/// sent at once. Only `serve_one_with` states the order of the writes within one read, by the calls of its monitor.
 ///
 /// # Errors
 ///
@@ -127,9 +128,13 @@ pub fn serve_one<R: Source, W: Outlet>(
 /// Serves one connection over an input and an output, as `serve_one` does. The monitor receives each call that the server
 /// accepts, in order.
 ///
+/// The first call opens the connection. Each `take` is a call, also one for which allocation fails: the bytes before the
+/// last one of its message are accepted. Each successful write of all queued bytes is a call, and before each `take` no
+/// byte is queued. If the end of input ends the run, that is the last call.
+///
 /// # Errors
 ///
-/// Those of `serve_one`.
+/// Those of `serve_one`. A write that fails is not reported to the monitor.
 ///
 /// # Preconditions
 ///
@@ -151,6 +156,13 @@ pub fn serve_one_with<R: Source, W: Outlet, M: Monitor<()>>(
         × AllByRecursion (λ p. length p ≤ 4096) pieces
         × AddsBytes (W.written writer.old) (W.written writer.new) output
         × IsStdioRun config.now pieces output result }
+    // The monitor received exactly the calls of such a run: those that its server shows.
+    ensures told { (pieces : List (List ℕ)) × (output : List ℕ)
+        × HasGiven (R.told reader.old) (R.told reader.new) pieces
+        × AllByRecursion (λ p. length p ≤ 4096) pieces
+        × AddsBytes (W.written writer.old) (W.written writer.new) output
+        × IsStdioRun config.now pieces output result
+        × IsReportedRun config.now pieces output (TellsMore (M.calls monitor.old) (M.calls monitor.new)) result }
     // The result is `Read` if and only if the reader has failed, and `Write` if and only if the writer has failed.
     ensures read { R.is_failed reader.new ≡ is_read_fault result }
     ensures write { W.is_failed writer.new ≡ is_write_fault result }
@@ -179,12 +191,17 @@ fn run<R: Source, W: Outlet, M: Monitor<()>>(
 ) -> Result<Report, IoFault>
     requires reader_works { R.is_failed reader.old ≡ false }
     requires writer_works { W.is_failed writer.old ≡ false }
-    requires stands { IsRunningAt config.now server.old id [] }
-    ensures run { (pieces : List (List ℕ)) × (output : List ℕ)
+    requires stands { (first : Option (List AcceptedCall))
+        × IsRunningAt config.now server.old id [] (TellsMore first (M.calls monitor.old)) }
+    ensures run { (first : Option (List AcceptedCall)) →
+        IsRunningAt config.now server.old id [] (TellsMore first (M.calls monitor.old)) →
+        (pieces : List (List ℕ)) × (output : List ℕ)
         × HasGiven (R.told reader.old) (R.told reader.new) pieces
         × AllByRecursion (λ p. length p ≤ 4096) pieces
         × AddsBytes (W.written writer.old) (W.written writer.new) output
-        × IsStdioRun config.now pieces (stdio_output config.now [] ++ output) result }
+        × IsStdioRun config.now pieces (stdio_output config.now [] ++ output) result
+        × IsReportedRun config.now pieces (stdio_output config.now [] ++ output)
+        (TellsMore first (M.calls monitor.new)) result }
     ensures read { R.is_failed reader.new ≡ is_read_fault result }
     ensures write { W.is_failed writer.new ≡ is_write_fault result }
 {
@@ -217,11 +234,13 @@ fn take_turn<R: Source, W: Outlet, M: Monitor<()>>(
 ) -> Result<Turn, IoFault>
     requires reader_works { R.is_failed reader.old ≡ false }
     requires writer_works { W.is_failed writer.old ≡ false }
-    requires stands { (c : ConfigValues) × (bytes : List ℕ) × IsRunningAt c server.old id bytes }
+    requires stands { (first : Option (List AcceptedCall)) × (c : ConfigValues) × (bytes : List ℕ)
+        × IsRunningAt c server.old id bytes (TellsMore first (M.calls monitor.old)) }
     requires room { length buffer.old ≡ 4096 }
-    ensures turn { (c : ConfigValues) (bytes : List ℕ) → IsRunningAt c server.old id bytes → IsTurn c bytes server.new
+    ensures turn { (first : Option (List AcceptedCall)) (c : ConfigValues) (bytes : List ℕ) →
+        IsRunningAt c server.old id bytes (TellsMore first (M.calls monitor.old)) → IsTurn c bytes server.new
         (HasGiven (R.told reader.old) (R.told reader.new))
-        (AddsBytes (W.written writer.old) (W.written writer.new)) result }
+        (AddsBytes (W.written writer.old) (W.written writer.new)) (TellsMore first (M.calls monitor.new)) result }
     ensures few { IfOk result (λ t. t.read ≤ 4096) }
     ensures few_messages { IfOk result (λ t. t.messages ≤ t.read) }
     ensures read { R.is_failed reader.new ≡ is_read_fault result }
@@ -260,17 +279,30 @@ fn serve_piece<W: Outlet, M: Monitor<()>>(
     monitor: &mut M,
 ) -> Result<u64, IoFault>
     requires works { W.is_failed writer.old ≡ false }
-    requires stands { (c : ConfigValues) × (bytes : List ℕ) × IsRunningAt c server.old id bytes }
-    ensures served { (c : ConfigValues) (bytes : List ℕ) → IsRunningAt c server.old id bytes →
-        IsServed c bytes piece.now server.new (AddsBytes (W.written writer.old) (W.written writer.new)) result }
+    requires stands { (first : Option (List AcceptedCall)) × (c : ConfigValues) × (bytes : List ℕ)
+        × IsRunningAt c server.old id bytes (TellsMore first (M.calls monitor.old)) }
+    ensures served { (first : Option (List AcceptedCall)) (c : ConfigValues) (bytes : List ℕ) →
+        IsRunningAt c server.old id bytes (TellsMore first (M.calls monitor.old)) →
+        IsServed c bytes piece.now server.new (AddsBytes (W.written writer.old) (W.written writer.new))
+        (TellsMore first (M.calls monitor.new)) result }
     ensures few { IfOk result (λ messages. messages ≤ length piece.now) }
     ensures failure { W.is_failed writer.new ≡ is_write_fault result }
 {
     let mut messages = 0;
     let mut rest = piece;
     while !rest.is_empty() {
-        let Ok(taken) = server.take(id, rest) else {
-            return Err(IoFault::Memory);
+        let taken = match server.take(id, rest) {
+            Ok(taken) => taken,
+            Err(TakeFault::NoSuch) => unreachable!(),
+            Err(TakeFault::Memory { bytes }) => {
+                let took = Call::Took {
+                    id,
+                    bytes: &rest[..bytes],
+                    handled: Handled::Nothing,
+                };
+                monitor.accepted(took, server);
+                return Err(IoFault::Memory);
+            }
         };
         let took = Call::Took {
             id,
@@ -305,9 +337,14 @@ fn handled(what: Handled) -> u64
 
 /// Reports the end of input to a connection, and returns the reason why it processes no further message.
 fn end<M: Monitor<()>>(server: &mut Server, id: ConnId, monitor: &mut M) -> Option<Reason>
-    requires stands { (c : ConfigValues) × (bytes : List ℕ) × IsRunningAt c server.old id bytes }
-    ensures { (c : ConfigValues) (bytes : List ℕ) → IsRunningAt c server.old id bytes →
+    requires stands { (first : Option (List AcceptedCall)) × (c : ConfigValues) × (bytes : List ℕ)
+        × IsRunningAt c server.old id bytes (TellsMore first (M.calls monitor.old)) }
+    ensures reason { (first : Option (List AcceptedCall)) (c : ConfigValues) (bytes : List ℕ) →
+        IsRunningAt c server.old id bytes (TellsMore first (M.calls monitor.old)) →
         result ≡ Some (end_reason (is_cut (stream_of c bytes).rest)) }
+    ensures told { (first : Option (List AcceptedCall)) (c : ConfigValues) (bytes : List ℕ) →
+        IsRunningAt c server.old id bytes (TellsMore first (M.calls monitor.old)) →
+        HasReportedEnd c (TellsMore first (M.calls monitor.new)) bytes (length (stdio_output c bytes)) }
 {
     let Ok(()) = server.ended(id) else {
         unreachable!()

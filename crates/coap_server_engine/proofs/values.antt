@@ -1,6 +1,5 @@
 -- Lemmas on the effect of each function of the server on the values that the server holds.
 pub mod ServerLemmas
-pub mod FlushLemmas
 pub mod TurnLemmas
 pub mod ServerDueLemmas
 pub mod ServerCauseLemmas

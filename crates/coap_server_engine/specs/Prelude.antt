@@ -40,11 +40,12 @@ pub use Rattle.coap_conn.specs.declared.reason.Reason.{Reason}
 -- ---- coap_io
 pub use Rattle.coap_io.specs.streams.Device.{AddsBytes, WritesPart}
 pub use Rattle.coap_io.specs.streams.DeviceTraces.{TellsMore}
+-- ---- coap_path
+pub use Rattle.coap_path.specs.Paths.{Path}
 -- ---- coap_store
 pub use Rattle.coap_store.specs.Answer.{changed, Change, Delete, Nothing, Put}
 pub use Rattle.coap_store.specs.Changes.{IsPut, changes}
 pub use Rattle.coap_store.specs.Invariant.{IsStore}
-pub use Rattle.coap_store.specs.Paths.{Path}
 pub use Rattle.coap_store.specs.Refusals.{RefusedOrMemory, refusal_in}
 unfoldable pub use Rattle.coap_store.specs.Refusals.{put_refusal, remove_refusal}
 pub use Rattle.coap_store.specs.Store.{StoreValue, put_in, removed_in}
@@ -108,7 +109,7 @@ pub use Rattle.coap_server_session.specs.values.Entries.{settled_held}
 pub use Rattle.coap_server_engine.specs.values.InResults.{InResult, IsPartialIn, ShowsMore, ShowsPartlyFed, in_result, fed_more, fed_once}
 pub use Rattle.coap_server_engine.specs.values.InResults.{took, unfed, where_there}
 unfoldable pub use Rattle.coap_server_engine.specs.values.InResults.{fed_turns, took_turns}
-pub use Rattle.coap_server_engine.specs.values.Flushes.{IsFlushed, IsPartFlushed, waiting_at, more_at, IsFlushedOnce}
+pub use Rattle.coap_server_engine.specs.values.Flushes.{IsFlushed, waiting_at, more_at, IsFlushedOnce}
 pub use Rattle.coap_server_engine.specs.values.Flushes.{IsFlushedAt, flush_once}
 unfoldable pub use Rattle.coap_server_engine.specs.values.Flushes.{flush_turns}
 pub use Rattle.coap_server_engine.specs.values.ServerAnswers.{stop_on, open_refusal, IsNotTaken, open_refusal_in}

@@ -22,7 +22,7 @@ pub use Rattle.coap_wire.specs.CompactViews.{encoded_size}
 pub use Rattle.coap_wire.specs.declared.fault.FormatFault.{FormatFault}
 pub use Rattle.coap_wire.specs.declared.sizes.TheConstants.{LARGEST_MESSAGE, MAX_EXTENDED_LENGTH}
 -- ---- coap_frame
-pub use Rattle.coap_frame.specs.FramedViews.{finding_read}
+pub use Rattle.coap_frame.specs.FramedViews.{finding_laid_out}
 pub use Rattle.coap_frame.specs.Framing.{AFault, AFrame, FrameEventValue, FramerValue, Framing, IsFramer, framer_after}
 pub use Rattle.coap_frame.specs.Framing.{framing_at, framing_of, without_last}
 unfoldable pub use Rattle.coap_frame.specs.Framing.{framing}
@@ -45,6 +45,12 @@ pub use Rattle.coap_conn.specs.Release.{release_refusal}
 pub use Rattle.coap_conn.specs.Verdicts.{is_request}
 pub use Rattle.coap_conn.specs.declared.phase.Reply.{Reply}
 pub use Rattle.coap_conn.specs.declared.phase.Verdict.{Verdict}
+-- ---- coap_path
+pub use Rattle.coap_path.specs.Paths.{Path, same_bytes, written_length}
+unfoldable pub use Rattle.coap_path.specs.Paths.{is_path}
+pub use Rattle.coap_path.specs.ResourceKinds.{is_dynamic}
+unfoldable pub use Rattle.coap_path.specs.ResourceKinds.{kind_of_path}
+pub use Rattle.coap_path.specs.declared.resource_kind.ResourceKind.TheVariants.{Async, Dynamic, Listing, Root, Time}
 -- ---- coap_store
 pub use Rattle.coap_store.specs.Answer.{changed, without_hold, Change, Delete, Nothing, Put, Response, says}
 unfoldable pub use Rattle.coap_store.specs.Answer.{answer_of, immediate_answer}
@@ -53,16 +59,13 @@ pub use Rattle.coap_store.specs.Invariant.{IsStore}
 pub use Rattle.coap_store.specs.Messages.{response_message, response_with_observe, option_at, empty_at, number_at}
 pub use Rattle.coap_store.specs.Messages.{each_at}
 pub use Rattle.coap_store.specs.Notifications.{notification_of}
-pub use Rattle.coap_store.specs.Paths.{Path, same_bytes, written_length}
-unfoldable pub use Rattle.coap_store.specs.Paths.{is_path}
 pub use Rattle.coap_store.specs.PlanViews.{change_value, path_or_root}
 pub use Rattle.coap_store.specs.Requests.{path_of}
-pub use Rattle.coap_store.specs.State.{is_dynamic, state_of, stored_at}
-unfoldable pub use Rattle.coap_store.specs.State.{key_for, kind_of_path, state_at}
+pub use Rattle.coap_store.specs.State.{state_of, stored_at}
+unfoldable pub use Rattle.coap_store.specs.State.{key_for, state_at}
 pub use Rattle.coap_store.specs.Store.{StoreValue, Representation}
 unfoldable pub use Rattle.coap_store.specs.Store.{found_in}
 pub use Rattle.coap_store.specs.Observing.{MayObserve}
-pub use Rattle.coap_store.specs.declared.resource_kind.ResourceKind.TheVariants.{Async, Dynamic, Listing, Root, Time}
 -- ---- coap_model
 pub use Rattle.coap_model.specs.world.Observers.{asks_entry, is_whole, Observer, entry_for, format_of, goes_on}
 pub use Rattle.coap_model.specs.world.Observers.{has_place, left_of, notification, notification_message, same_state}

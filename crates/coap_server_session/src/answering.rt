@@ -19,7 +19,9 @@ use crate::path_hash::hash_of;
 use crate::response::respond;
 use crate::server_state::{ServerState, mark_at};
 use coap_conn::{Due, Link, Reply};
-use coap_store::{Change, Plan, State, Store, Watch, delayed_response, request_path};
+use coap_store::{
+    Change, Plan, State, Store, Watch, delayed_response, refused_delay, request_path,
+};
 use coap_wire::{Code, MessageRef, TokenRef};
 use std::alloc::AllocError;
 
@@ -63,10 +65,11 @@ pub(crate) fn answer(
     ensures silent { OnErr result (link.new ≡ link.old) }
     ensures kept { OnErr result (observers.new ≡ observers.old) }
 {
-    let plan = host.store.answer(request, host.now);
+    let mut plan = Plan::new();
+    host.store.fill_plan(request, host.now, &mut plan);
     if let Some(seconds) = plan.hold() {
         let moment = host.now.saturating_add(u64::from(seconds));
-        delay_answer(link, observers, request, plan, moment);
+        delay_answer(link, observers, request, &plan, moment);
         return Ok(None);
     }
     if plan.changes() {
@@ -131,20 +134,21 @@ fn hash_of_change(change: &Change) -> Option<u8>
 }
 
 /// Delays the response to a request until `moment`, in seconds. Sends 5.03 if the pending list is full. In both cases
-/// the observer with the request's token is removed.
+/// the observer with the request's token is removed. The plan must have a delay.
+#[inline(never)]
 fn delay_answer(
     link: &mut Link,
     observers: &mut Observers,
     request: &MessageRef,
-    plan: Plan,
+    _plan: &Plan,
     moment: u64,
 )
     requires ready { IsReady link.old }
     requires open { is_open link.old.phase ≡ true }
-    requires short { length plan.response.payload ≤ LARGEST_MESSAGE }
+    requires held { is_some _plan.now.hold ≡ true }
     ensures link { link.new
         ≡ (if can_hold link.old then link_after link.old (call.Hold request.now.token moment) else link_after link.old
-        (call.Reply (response_message request.now.token (without_hold plan.entry).response))) }
+        (call.Reply (response_message request.now.token (without_hold _plan.now).response))) }
     ensures entries { observers.new.entries ≡ without_entry request.now.token observers.old.entries }
     ensures marks { (mark : ObserverValue → Option ℕ) → observers.old.marks ≡ map mark observers.old.entries →
         observers.new.marks ≡ map mark observers.new.entries }
@@ -152,7 +156,7 @@ fn delay_answer(
 {
     observers.remove_token(request.token());
     if link.hold(request.token().to_token(), moment).is_err() {
-        respond(link, request.token(), &plan.without_hold(), false);
+        respond(link, request.token(), &refused_delay(), false);
     }
 }
 
@@ -198,6 +202,8 @@ fn is_whole(reply: Reply) -> bool
 }
 
 /// Adds the observer that a request asks for. The list must not be full.
+// Never inlined, since a function clears all its locals.
+#[inline(never)]
 fn add_observer(observers: &mut Observers, host: &ServerState, request: &MessageRef)
     requires room { length observers.old.entries < observers.old.room }
     requires watched { MayObserve host.now.store host.now.now (path_of request.now) (answer_on host.now request.now) }

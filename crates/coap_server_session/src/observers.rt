@@ -152,6 +152,7 @@ impl Observers {
     }
 
     /// Removes the observer with this token, if there is one. The others keep their changed marks.
+    #[inline(always)]
     #[tactic(auto, unfolding(crate::specs::values::Sessions::without_entry))]
     pub(crate) fn remove_token(&mut self, token: &TokenRef)
         ensures entries { self.new.entries ≡ without_entry token.now self.old.entries }
@@ -159,9 +160,21 @@ impl Observers {
             self.new.marks ≡ map mark self.new.entries }
         ensures room { self.new.room ≡ self.old.room }
     {
-        if self.entries.is_empty() {
-            return;
+        if !self.entries.is_empty() {
+            self.remove_present(token);
         }
+    }
+
+    /// Removes the observer with this token, as `remove_token` does.
+    // A separate function: most connections have no observer, and this one is too large to be inlined.
+    #[inline(never)]
+    #[tactic(auto, unfolding(crate::specs::values::Sessions::without_entry))]
+    fn remove_present(&mut self, token: &TokenRef)
+        ensures entries { self.new.entries ≡ without_entry token.now self.old.entries }
+        ensures marks { (mark : ObserverValue → Option ℕ) → self.old.marks ≡ map mark self.old.entries →
+            self.new.marks ≡ map mark self.new.entries }
+        ensures room { self.new.room ≡ self.old.room }
+    {
         if keep_others(&mut self.entries, token) {
             find_anew(&mut self.entries, &mut self.chains, &mut self.marked);
         }

@@ -1,6 +1,6 @@
 //! Encodes and sends the responses to requests.
 
-ghost use Rattle.std.specs.Prelude.{◌≡◌, ◌≤◌, ◌<◌, ◌+◌, ◌++◌, true, [], length, option_map, IfSome};
+ghost use Rattle.std.specs.Prelude.{◌≡◌, ◌≤◌, ◌<◌, ◌+◌, ◌++◌, true, [], length, option_map, Some, IfSome};
 ghost use Rattle.coap_server_session.specs.Prelude.{last_number, encoded_size, path_size, with_option, IsAnswering};
 ghost use Rattle.coap_server_session.specs.Prelude.{IsReady, limit_in, link_after, fit, bare_response, is_path};
 ghost use Rattle.coap_server_session.specs.Prelude.{path_or_root, response_with_observe, option_at, empty_at};
@@ -38,11 +38,35 @@ pub(crate) fn respond(link: &mut Link, token: &TokenRef, plan: &Plan, observes: 
 {
     match plan.location() {
         None => respond_from::<SHORT_OPTIONS>(link, token, plan, observes, None),
-        Some(path) => respond_from::<LOCATION_OPTIONS>(link, token, plan, observes, Some(path)),
+        Some(path) => respond_at(link, token, plan, observes, path),
     }
 }
 
+/// Sends a response with this Location-Path as `respond` does. (A separate function: a function clears all its locals,
+/// so these would slow down `respond`.)
+#[inline(never)]
+fn respond_at<'a>(
+    link: &mut Link,
+    token: &TokenRef,
+    plan: &'a Plan,
+    observes: bool,
+    path: UriPath<'a>,
+) -> Reply
+    requires ready { IsReady link.old }
+    requires answering { IsAnswering link.old.phase }
+    requires short { length plan.now.response.payload ≤ LARGEST_MESSAGE }
+    requires path { is_path path ≡ true }
+    requires told { path_or_root (Some path) ≡ plan.now.response.location }
+    ensures reply { let response = response_with_observe token.now observes plan.now.response in result
+        ≡ fit (limit_in link.old) response (bare_response response) }
+    ensures after { link.new
+        ≡ link_after link.old (call.Reply (response_with_observe token.now observes plan.now.response)) }
+{
+    respond_from::<LOCATION_OPTIONS>(link, token, plan, observes, Some(path))
+}
+
 /// Sends a response as `respond` does, with at most `N` bytes of options. `path` is its Location-Path.
+#[inline(always)]
 fn respond_from<'a, const N: usize>(
     link: &mut Link,
     token: &TokenRef,
@@ -74,6 +98,7 @@ fn respond_from<'a, const N: usize>(
 }
 
 /// Returns the same number in 32 bits.
+#[inline(always)]
 fn wide(number: Option<u16>) -> Option<u32>
     ensures { result ≡ number }
 {
@@ -82,6 +107,7 @@ fn wide(number: Option<u16>) -> Option<u32>
 
 /// Adds an option. The builder must have space for it.
 #[tactic(auto, using(crate::proofs::values::ResponseLemmas::last_added))]
+#[inline(always)]
 fn add<const N: usize>(response: &mut CompactBuilder<N>, number: u16, value: &[u8])
     requires order { last_number 0 response.old.options ≤ number }
     requires room { encoded_size response.old + 5 + length value.now ≤ N }
@@ -93,6 +119,7 @@ fn add<const N: usize>(response: &mut CompactBuilder<N>, number: u16, value: &[u
 }
 
 /// Adds ETag as the first option, if there is one (RFC 7252 section 5.10.6).
+#[inline(always)]
 fn add_etag<const N: usize>(response: &mut CompactBuilder<N>, etag: Option<&[u8]>)
     requires first { response.old.options ≡ [] }
     requires room { 13 ≤ N }
@@ -111,6 +138,7 @@ fn add_etag<const N: usize>(response: &mut CompactBuilder<N>, etag: Option<&[u8]
 }
 
 /// Adds an empty Observe, if `observes` is `true` (RFC 8323 section 7.1).
+#[inline(always)]
 fn add_observe<const N: usize>(response: &mut CompactBuilder<N>, observes: bool)
     requires order { last_number 0 response.old.options ≤ 4 }
     requires room { encoded_size response.old + 5 ≤ N }
@@ -125,6 +153,7 @@ fn add_observe<const N: usize>(response: &mut CompactBuilder<N>, observes: bool)
 }
 
 /// Adds the path of a created resource as Location-Path, if there is one (RFC 7252 section 5.10.7).
+#[inline(always)]
 fn add_location<const N: usize>(response: &mut CompactBuilder<N>, path: Option<UriPath>)
     requires path { IfSome path (λ path. is_path path ≡ true) }
     requires order { last_number 0 response.old.options ≤ 8 }
@@ -144,6 +173,7 @@ fn add_location<const N: usize>(response: &mut CompactBuilder<N>, path: Option<U
 
 /// Adds an option of format uint, if there is a number (RFC 7252 section 3.2).
 #[tactic(auto, using(crate::proofs::values::ResponseLemmas::last_added))]
+#[inline(always)]
 fn add_number<const N: usize>(response: &mut CompactBuilder<N>, number: u16, value: Option<u32>)
     requires order { last_number 0 response.old.options ≤ number }
     requires room { encoded_size response.old + 9 ≤ N }

@@ -23,7 +23,7 @@ use crate::server_state::ServerState;
 use coap_conn::{Limits, Link, Phase, Reject, Role, SendFault, Verdict};
 use coap_frame::Framer;
 use coap_model::AnnounceFault;
-use coap_wire::{LARGEST_MESSAGE, MessageRef, parse};
+use coap_wire::{LARGEST_MESSAGE, MessageRef};
 pub use due::sooner;
 use std::alloc::{AllocError, Global};
 use std::marker::Model;
@@ -135,16 +135,16 @@ impl Session {
         if !self.takes() {
             return Ok(TakeOutcome::without_message(0));
         }
-        let framed = self.framer.next(piece);
+        let framed = self.framer.next_frame(piece);
         let count = framed.taken;
-        match framed.what.frame() {
+        match framed.what.laid_out() {
             Ok(None) => Ok(TakeOutcome::without_message(count)),
             Err(fault) => {
                 self.link.reject(Reject::from(fault));
                 discard_if_closed(&mut self.framer, &self.link, &mut self.observers);
                 Ok(TakeOutcome::without_message(count))
             }
-            Ok(Some(frame)) => match parse(frame) {
+            Ok(Some(frame)) => match frame.parse() {
                 Err(_) => {
                     self.link.reject(Reject::Format);
                     discard_if_closed(&mut self.framer, &self.link, &mut self.observers);
@@ -369,7 +369,20 @@ fn handle(
 
 /// Removes the observers if the connection is not open, and the bytes of an unfinished frame if the connection no
 /// longer accepts messages.
+#[inline(always)]
 fn discard_if_closed(framer: &mut Framer, link: &Link, observers: &mut Observers)
+    ensures framer { framer.new ≡ framer_on link.now framer.old }
+    ensures observers { observers.new ≡ observers_left link.now observers.old }
+{
+    match link.phase() {
+        Phase::Open => {}
+        _ => discard(framer, link, observers),
+    }
+}
+
+/// Does the same as `discard_if_closed`. This is a function of its own so that an open connection only tests the phase.
+#[inline(never)]
+fn discard(framer: &mut Framer, link: &Link, observers: &mut Observers)
     ensures framer { framer.new ≡ framer_on link.now framer.old }
     ensures observers { observers.new ≡ observers_left link.now observers.old }
 {

@@ -3,3 +3,4 @@ pub mod Ready
 pub mod Durations
 pub mod ListenFaults
 pub mod Troubles
+pub mod Woken

@@ -11,6 +11,7 @@ ghost use Rattle.coap_sockets.specs.declared.io_results.AcceptError.TheVariants 
 ghost use Rattle.coap_sockets.specs.declared.door.ListenFault.TheVariants as fault;
 ghost use Rattle.coap_sockets.specs.IoResults.{listen_error_of};
 ghost use Rattle.coap_sockets.specs.ListenFaults.{listen_fault_number};
+ghost use Rattle.coap_sockets.specs.Woken.{named};
 
 use crate::clock::monotonic;
 use crate::durations::{at_most, left_of, left_until, second};
@@ -18,6 +19,7 @@ use crate::io_results::{AcceptError, ListenError, accept_fault, listen_error_of}
 use crate::keepalive::keep_alive;
 use crate::readiness::Readiness;
 use crate::troubles::DoorTroubles;
+use crate::woken::Woken;
 use coap_io::{Door, Got, READ_SIZE, Ready, Wait, Wire};
 use mio::net::{TcpListener, TcpStream};
 use mio::{Events, Interest, Poll, Token};
@@ -89,6 +91,7 @@ pub struct SocketWire {
     stream: TcpStream,
     readiness: Shared,
     peer: SocketAddr,
+    place: usize,
 }
 
 impl SocketWire {
@@ -108,6 +111,7 @@ impl Drop for SocketWire {
             mut stream,
             readiness: _,
             peer: _,
+            place: _,
         } = self;
         let _ = stream.shutdown(Shutdown::Write);
         give_up(&mut stream);
@@ -160,6 +164,12 @@ impl Ready for SocketWire {
     fn may_write(&self) -> bool {
         self.readiness.get().writable
     }
+
+    fn place(&self) -> Option<usize>
+        ensures { result ≡ Some self.now.place }
+    {
+        Some(self.place)
+    }
 }
 
 /// Listener of a server at one address.
@@ -174,6 +184,8 @@ pub struct SocketDoor<'a, R> {
     poll: Poll,
     events: Events,
     slots: Vec<Shared>,
+    /// Places of the wires that had events.
+    woken: Woken,
     /// `true` if a client may be waiting at the listening socket.
     may_accept: bool,
     /// `true` if each wait lasts at most one second.
@@ -203,6 +215,7 @@ impl<'a, R: Net + time::Clock> SocketDoor<'a, R> {
         ensures sleeps { IfOk result (λ door. door.wakes ≡ false) }
     {
         let slots = slots(alloc, wires)?;
+        let woken = Woken::new(alloc, wires)?;
         let events = Events::with_capacity(alloc, wires.saturating_add(1))?;
         let troubles = no_troubles(alloc)?;
         let poll = Poll::new(rt)?;
@@ -217,6 +230,7 @@ impl<'a, R: Net + time::Clock> SocketDoor<'a, R> {
             poll,
             events,
             slots,
+            woken,
             may_accept: true,
             full_since: None,
             troubles,
@@ -269,7 +283,8 @@ impl<'a, R: Net + time::Clock> SocketDoor<'a, R> {
     /// Returns the wire of a new connection to a peer, for a place. If its socket cannot be set up, the connection is
     /// closed and the result is `None`.
     fn wire(&self, mut stream: TcpStream, peer: SocketAddr, place: usize) -> Option<SocketWire>
-        ensures { IfSome result (λ wire. wire.peer ≡ peer) }
+        ensures peer { IfSome result (λ wire. wire.peer ≡ peer) }
+        ensures place { IfSome result (λ wire. wire.place ≡ place) }
     {
         stream.set_nodelay(true).ok()?;
         let readiness = self.slots.get(place)?.clone().ok()?;
@@ -286,6 +301,7 @@ impl<'a, R: Net + time::Clock> SocketDoor<'a, R> {
             stream,
             readiness,
             peer,
+            place,
         })
     }
 
@@ -342,15 +358,17 @@ impl<'a, R: Net + time::Clock> SocketDoor<'a, R> {
         }
     }
 
-    /// Passes the events of a wait to the wires and to the listener.
+    /// Passes the events of a wait to the wires and to the listener, and records the places of the wires.
     fn tell(&mut self) {
+        self.woken.begin();
         for (before, event) in self.events.iter().enumerate() {
-            match self.slots.get(event.token().0) {
-                Some(place) => place.set(
-                    place
-                        .get()
-                        .after_event(event, before >= WRITES_BEFORE_READS),
-                ),
+            let place = event.token().0;
+            match self.slots.get(place) {
+                Some(slot) => {
+                    let behind_many = before >= WRITES_BEFORE_READS;
+                    slot.set(slot.get().after_event(event, behind_many));
+                    self.woken.add(place);
+                }
                 None => self.may_accept = true,
             }
         }
@@ -414,5 +432,11 @@ impl<'a, R: Net + time::Clock> Door for SocketDoor<'a, R> {
         } else {
             self.troubles.set(self.troubles.get().after_wait());
         }
+    }
+
+    fn woken(&self) -> Option<&[usize]>
+        ensures { option_map (λ places. places.now) result ≡ named self.now.woken }
+    {
+        self.woken.places()
     }
 }

@@ -24,6 +24,7 @@ mod io_results;
 mod keepalive;
 mod readiness;
 mod troubles;
+mod woken;
 
 pub use client_wire::{ClientWire, ConnectFault};
 pub use clock::{RunClock, SystemClock};

@@ -10,7 +10,7 @@ use lib.Pointwise.{pointwise_decides, bytes_decides}
 use Rattle.coap_wire.specs.Codes as code
 use Rattle.coap_store.specs.Store.{Resource}
 use Rattle.coap_store.proofs.AnswerLaws.{is_error, OfErrors, get_cases, store_cases, answer_cases, state_dynamic, change_finally, change_unheld, unheld_finally}
-use Rattle.coap_store.proofs.PathLemmas.{same_path_sound}
+use Rattle.coap_path.proofs.PathLemmas.{same_path_sound}
 
 -- ---- equal paths
 

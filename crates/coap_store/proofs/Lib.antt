@@ -1,12 +1,7 @@
 mod Worked
-pub mod PathLemmas
-mod FillLemmas
-mod PlaceLemmas
-mod TrailLemmas
 mod TargetLemmas
 mod GetLemmas
 pub mod RequestLemmas
-pub mod UriPathLemmas
 pub mod CheckedLemmas
 pub mod OptionScanLemmas
 pub mod CatalogueLemmas

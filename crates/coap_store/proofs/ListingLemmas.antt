@@ -1,16 +1,19 @@
 -- The listing, and the texts of the resources, after a change.
-use Rattle.std.proofs.Common.{◌≡◌, ℕ, ◌+◌, ◌*◌, ◌<◌, ◌≤◌, Bool, true, false, List, [], ◌∷◌, ◌++◌, length, Option, Some, None, refl, sym, ap, subst, ◌∙◌, append_assoc, arith}
+use Rattle.std.proofs.Common.{◌≡◌, ℕ, zero, suc, ◌+◌, ◌-◌, ◌*◌, ◌<◌, ◌≤◌, Bool, true, false, List, [], ◌∷◌, ◌++◌, length, take, map, get_or, set, Option, Some, None, refl, sym, ap, ◌∙◌, append_assoc, arith}
+use Rattle.std.specs.Prelude.{slice_get, position}
+use Rattle.std.specs.List.{remove}
 use Rattle.coap_store.specs.Prelude.{IfSome, option_map, if◌then◌else◌, codes, ◌/◌, ◌%◌, AllByRecursion, flat_map}
-use Rattle.coap_store.specs.Prelude.{decimal, lookup, set_value, string_bytes, insert_entry, shift_remove_entry}
+use Rattle.coap_store.specs.Prelude.{decimal, lookup, insert_entry, set_value_at, joined}
 use Rattle.coap_store.specs.Prelude.{Path, same_path, written_length, is_path, Representation, found_in, put_at}
 use Rattle.coap_store.specs.Prelude.{removed_at, is_unreserved, hex_digit, encoded_byte, path_bytes, format_bytes}
 use Rattle.coap_store.specs.Prelude.{entry_bytes, built_in_bytes, listing, representation, resource_at, resources_in}
-use Rattle.coap_store.specs.Prelude.{AreListed, Resource}
-use Rattle.std.specs.Map.{values_of}
+use Rattle.coap_store.specs.Prelude.{Resource, texts_of, end_bytes, with_end}
+use Rattle.std.specs.Map.{keys_of}
 use Rattle.std.proofs.lemmas.Fmt.{length-decimal-le}
-use Rattle.std.proofs.lemmas.List.{append-nil, length-append}
+use Rattle.std.proofs.lemmas.List.{length-append, length-map, take_at, set-get_or}
+use Rattle.std.proofs.lemmas.List.Quantifiers.{position-Some}
 use Rattle.coap_store.specs.Store as store
-use Rattle.coap_store.proofs.PathLemmas.{path_fits, same_path_sound}
+use Rattle.coap_path.proofs.PathLemmas.{path_fits}
 
 -- The text of a resource in the listing.
 abbrev line : store.Resource → List ℕ
@@ -21,62 +24,52 @@ lines rs = flat_map line rs
 
 -- ---- the text after a change
 
-lines_created : (rs : List store.Resource) (path : Path) (now : Representation) → found_in rs path ≡ None → lines (put_at rs path now) ≡ lines rs ++ entry_bytes path now.format
+lines_created : (rs : List store.Resource) (path : Path) (now : Representation) → found_in rs path ≡ None → map line (put_at rs path now) ≡ map line rs ++ entry_bytes path now.format ∷ []
 unfolding found_in put_at
-lines_created [] path now none = append-nil (entry_bytes path now.format)
+lines_created [] path now none = refl
 lines_created (r ∷ rs) path now none =
-    elim (same_path path r.path) as (λ b. (if b then Some r.now else found_in rs path) ≡ None → lines (if b then (record r { now = now } ∷ rs) else (r ∷ put_at rs path now)) ≡ lines (r ∷ rs) ++ entry_bytes path now.format) [
+    elim (same_path path r.path) as (λ b. (if b then Some r.now else found_in rs path) ≡ None → map line (if b then (record r { now = now } ∷ rs) else (r ∷ put_at rs path now)) ≡ map line (r ∷ rs) ++ entry_bytes path now.format ∷ []) [
       | true ↦ λ e. absurd cc
-      | false ↦ λ e. ap (λ (t : List ℕ). line r ++ t) (lines_created rs path now e) ∙ sym (append_assoc (line r) (lines rs) (entry_bytes path now.format))
+      | false ↦ λ e. ap (λ (ts : List (List ℕ)). line r ∷ ts) (lines_created rs path now e)
     ] none
 
-lines_replaced : (rs : List store.Resource) (path : Path) (old now : Representation) → found_in rs path ≡ Some old → old.format ≡ now.format → lines (put_at rs path now) ≡ lines rs
-unfolding found_in put_at
-lines_replaced [] path old now some same = absurd cc
-lines_replaced (r ∷ rs) path old now some same =
-    elim (same_path path r.path) as (λ b. (if b then Some r.now else found_in rs path) ≡ Some old → lines (if b then (record r { now = now } ∷ rs) else (r ∷ put_at rs path now)) ≡ lines (r ∷ rs)) [
-      | true ↦ λ e. (let is : r.now ≡ old = cc in let format : now.format ≡ r.now.format = sym (ap (λ (v : Representation). v.format) is ∙ same) in ap (λ (f : Option ℕ). entry_bytes r.path f ++ lines rs) format)
-      | false ↦ λ e. ap (λ (t : List ℕ). line r ++ t) (lines_replaced rs path old now e same)
-    ] some
-
-lines_grow : (rs : List store.Resource) (path : Path) (now : Representation) → length (lines (put_at rs path now)) ≤ length (lines rs) + length (entry_bytes path now.format)
-unfolding put_at
-lines_grow [] path now = omega (arith, length-append (entry_bytes path now.format) [])
-lines_grow (r ∷ rs) path now =
-    elim (same_path path r.path) as (λ b. same_path path r.path ≡ b → length (lines (if b then (record r { now = now } ∷ rs) else (r ∷ put_at rs path now))) ≤ length (lines (r ∷ rs)) + length (entry_bytes path now.format)) [
-      | true ↦ λ e. (let is = ap (λ (p : Path). length (entry_bytes p now.format)) (same_path_sound path r.path e) in omega (arith, is, length-append (entry_bytes r.path now.format) (lines rs), length-append (line r) (lines rs)))
-      | false ↦ λ e. omega (arith, lines_grow rs path now, length-append (line r) (lines (put_at rs path now)), length-append (line r) (lines rs))
-    ] refl
-
-lines_shrink : (rs : List store.Resource) (path : Path) → length (lines (removed_at rs path)) ≤ length (lines rs)
-unfolding removed_at
-lines_shrink [] path = omega arith
-lines_shrink (r ∷ rs) path =
-    elim (same_path path r.path) as (λ b. length (lines (if b then rs else (r ∷ removed_at rs path))) ≤ length (lines (r ∷ rs))) [
-      | true ↦ omega (arith, length-append (line r) (lines rs))
-      | false ↦ omega (arith, lines_shrink rs path, length-append (line r) (lines (removed_at rs path)), length-append (line r) (lines rs))
-    ]
-
 -- A new resource is last in the listing.
-pub listing_created : (rs : List store.Resource) (path : Path) (now : Representation) → found_in rs path ≡ None → listing (put_at rs path now) ≡ listing rs ++ entry_bytes path now.format
-unfolding listing
-listing_created rs path now none =
-    ap (λ (t : List ℕ). built_in_bytes ++ t) (lines_created rs path now none) ∙ sym (append_assoc built_in_bytes (lines rs) (entry_bytes path now.format))
+pub texts_created : (rs : List store.Resource) (path : Path) (now : Representation) → found_in rs path ≡ None → texts_of (put_at rs path now) ≡ texts_of rs ++ entry_bytes path now.format ∷ []
+unfolding texts_of
+texts_created rs path now none = ap (λ (ts : List (List ℕ)). built_in_bytes ∷ ts) (lines_created rs path now none)
 
--- A resource that keeps its Content-Format keeps its text.
-pub listing_replaced : (rs : List store.Resource) (path : Path) (old now : Representation) → found_in rs path ≡ Some old → old.format ≡ now.format → listing (put_at rs path now) ≡ listing rs
-unfolding listing
-listing_replaced rs path old now some same = ap (λ (t : List ℕ). built_in_bytes ++ t) (lines_replaced rs path old now some same)
+lines_joined : (rs : List store.Resource) → joined (map line rs) ≡ lines rs
+unfolding joined
+lines_joined [] = refl
+lines_joined (r ∷ rs) = ap (λ (t : List ℕ). line r ++ t) (lines_joined rs)
 
-pub listing_grows : (rs : List store.Resource) (path : Path) (now : Representation) → length (listing (put_at rs path now)) ≤ length (listing rs) + length (entry_bytes path now.format)
-unfolding listing
-listing_grows rs path now =
-    omega (arith, lines_grow rs path now, length-append built_in_bytes (lines (put_at rs path now)), length-append built_in_bytes (lines rs))
+pub texts_joined : (rs : List store.Resource) → joined (texts_of rs) ≡ listing rs
+unfolding joined texts_of listing
+texts_joined rs = ap (λ (t : List ℕ). built_in_bytes ++ t) (lines_joined rs)
 
-pub listing_shrinks : (rs : List store.Resource) (path : Path) → length (listing (removed_at rs path)) ≤ length (listing rs)
-unfolding listing
-listing_shrinks rs path =
-    omega (arith, lines_shrink rs path, length-append built_in_bytes (lines (removed_at rs path)), length-append built_in_bytes (lines rs))
+-- ---- the end of the text of a resource
+
+front_bytes : Path → List ℕ
+front_bytes path = codes ",<" ++ (path_bytes path ++ codes ">")
+
+entry_parts : (path : Path) (format : Option ℕ) → entry_bytes path format ≡ front_bytes path ++ end_bytes format
+unfolding entry_bytes front_bytes
+entry_parts path format =
+    ap (λ (t : List ℕ). codes ",<" ++ t) (sym (append_assoc (path_bytes path) (codes ">") (end_bytes format)))
+    ∙ sym (append_assoc (codes ",<") (path_bytes path ++ codes ">") (end_bytes format))
+
+-- The text of a resource whose Content-Format changes.
+pub entry_changed : (path : Path) (old new : Option ℕ) → with_end (entry_bytes path old) (length (end_bytes old)) (end_bytes new) ≡ entry_bytes path new
+entry_changed path old new =
+    let front = front_bytes path in
+    let parts = entry_parts path old in
+    let size : length front ≡ length (entry_bytes path old) - length (end_bytes old) = omega (arith, ap length parts, length-append front (end_bytes old)) in
+    ap (λ (t : List ℕ). take (length (entry_bytes path old) - length (end_bytes old)) t ++ end_bytes new) parts
+    ∙ ap (λ (t : List ℕ). t ++ end_bytes new) (take_at front (end_bytes old) _ size)
+    ∙ sym (entry_parts path new)
+
+pub end_within : (path : Path) (format : Option ℕ) → length (end_bytes format) ≤ length (entry_bytes path format)
+end_within path format = omega (arith, ap length (entry_parts path format), length-append (front_bytes path) (end_bytes format))
 
 -- ---- the length of the text
 
@@ -128,32 +121,97 @@ pub listing_bound : (rs : List store.Resource) → AllByRecursion CanBeListed rs
 unfolding listing
 listing_bound rs each few = omega (arith, lines_bound rs each, length-append built_in_bytes (lines rs))
 
--- ---- a property of all entries of the map
+-- ---- the map and the list of the resources
 
-module _ {K V : Type 0} (P : K × V → Type 0) where
-  -- A property of each entry, and of the new one, holds for each entry afterwards.
-  pub put_listed : (eq : K → K → Bool) → ((p q : K) → eq p q ≡ true → p ≡ q) → (entries : List (K × V)) (k : K) (v : V)
-      → AllByRecursion P entries → P (k, v) → AllByRecursion P (insert_entry eq entries k v)
-  put_listed eq same [] k v all here = (here, tt)
-  put_listed eq same (e ∷ es) k v all here =
-      elim (eq k e.0) as (λ b. eq k e.0 ≡ b → AllByRecursion P (if b then (e.0, v) ∷ es else (e ∷ insert_entry eq es k v))) [
-        | true ↦ λ is. (subst (λ (q : K). P (q, v)) (same k e.0 is) here, all.1)
-        | false ↦ λ is. (all.0, put_listed eq same es k v all.1 here)
-      ] refl
+-- The key at an index is the first that passes the test.
+abbrev pub IsFirstAt : (Path → Bool) → List (Path × Resource) → ℕ → Type 0
+IsFirstAt test [] i = ⊥
+IsFirstAt test (e ∷ es) zero = test e.0 ≡ true
+IsFirstAt test (e ∷ es) (suc i) = (test e.0 ≡ false) × IsFirstAt test es i
 
-  pub removed_listed : (test : K → Bool) (entries : List (K × V)) → AllByRecursion P entries → AllByRecursion P (shift_remove_entry test entries)
-  removed_listed test [] all = all
-  removed_listed test (e ∷ es) all =
-      elim (test e.0) as (λ b. AllByRecursion P (if b then es else (e ∷ shift_remove_entry test es))) [ true ↦ all.1 | false ↦ (all.0, removed_listed test es all.1) ]
+first_from : (test : Path → Bool) (es : List (Path × Resource)) (i : ℕ) → i < length (keys_of es) → test (get_or (keys_of es) i []) ≡ true → ((k : ℕ) → k < i → test (get_or (keys_of es) k []) ≡ false) → IsFirstAt test es i
+first_from test [] i within is before = absurd (omega arith)
+first_from test (e ∷ es) zero within is before = is
+first_from test (e ∷ es) (suc i) within is before =
+    (before 0 (omega arith), first_from test es i (omega arith) is (λ k less. before (suc k) (omega arith)))
 
-  -- The same for a new value in place of another, if the property holds for it with every key.
-  pub written_listed : (test : K → Bool) (entries : List (K × V)) (old new : V) → lookup test entries ≡ Some old → ((k : K) → P (k, old) → P (k, new)) → AllByRecursion P entries → AllByRecursion P (set_value test entries new)
-  written_listed test [] old new found stands all = tt
-  written_listed test (e ∷ es) old new found stands all =
-      elim (test e.0) as (λ b. (if b then Some e.1 else lookup test es) ≡ Some old → AllByRecursion P (if b then (e.0, new) ∷ es else (e ∷ set_value test es new))) [
-        | true ↦ λ is. (let here : e.1 ≡ old = cc in (stands e.0 (subst (λ (v : V). P (e.0, v)) here all.0), all.1))
-        | false ↦ λ is. (all.0, written_listed test es old new is stands all.1)
-      ] found
+pub first_at : (test : Path → Bool) (es : List (Path × Resource)) (i : ℕ) → position test (keys_of es) ≡ Some i → IsFirstAt test es i
+first_at test es i at = let found = position-Some test (keys_of es) i [] at in first_from test es i found.0 found.1 found.2
+
+pub first_within : (test : Path → Bool) (es : List (Path × Resource)) (i : ℕ) → IsFirstAt test es i → i < length es
+first_within test [] i first = absurd first
+first_within test (e ∷ es) zero first = omega arith
+first_within test (e ∷ es) (suc i) first = omega (arith, first_within test es i first.1)
+
+-- The texts of the entries of the map.
+abbrev entry_lines : List (Path × Resource) → List (List ℕ)
+entry_lines es = map line (resources_in es)
+
+line_at : (es : List (Path × Resource)) (i : ℕ) (e : Path × Resource) → slice_get es i ≡ Some e → get_or (entry_lines es) i [] ≡ entry_bytes e.0 e.1.format
+unfolding resources_in
+line_at [] i e at = absurd cc
+line_at (f ∷ es) zero e at = let is : f ≡ e = cc in ap (λ (g : Path × Resource). entry_bytes g.0 g.1.format) is
+line_at (f ∷ es) (suc i) e at = line_at es i e at
+
+lines_set : (es : List (Path × Resource)) (i : ℕ) (e : Path × Resource) (r : Resource) → slice_get es i ≡ Some e → entry_lines (set_value_at es i r) ≡ set (entry_lines es) i (entry_bytes e.0 r.format)
+unfolding resources_in
+lines_set [] i e r at = absurd cc
+lines_set (f ∷ es) zero e r at = let is : f ≡ e = cc in ap (λ (g : Path × Resource). entry_bytes g.0 r.format ∷ entry_lines es) is
+lines_set (f ∷ es) (suc i) e r at = ap (λ (ts : List (List ℕ)). line (resource_at f) ∷ ts) (lines_set es i e r at)
+
+lines_removed : (es : List (Path × Resource)) (i : ℕ) → i < length es → entry_lines (remove es i) ≡ remove (entry_lines es) i
+unfolding resources_in
+lines_removed [] i within = absurd (omega arith)
+lines_removed (e ∷ es) zero within = refl
+lines_removed (e ∷ es) (suc i) within = ap (λ (ts : List (List ℕ)). line (resource_at e) ∷ ts) (lines_removed es i (omega arith))
+
+pub text_at : (es : List (Path × Resource)) (i : ℕ) (e : Path × Resource) → slice_get es i ≡ Some e → get_or (texts_of (resources_in es)) (i + 1) [] ≡ entry_bytes e.0 e.1.format
+unfolding texts_of
+text_at es i e at = let next : i + 1 ≡ suc i = omega arith in ap (λ k. get_or (built_in_bytes ∷ entry_lines es) k []) next ∙ line_at es i e at
+
+-- The text of a resource is replaced if it is.
+pub texts_set : (es : List (Path × Resource)) (i : ℕ) (e : Path × Resource) (r : Resource) → slice_get es i ≡ Some e
+    → texts_of (resources_in (set_value_at es i r)) ≡ set (texts_of (resources_in es)) (i + 1) (entry_bytes e.0 r.format)
+unfolding texts_of
+texts_set es i e r at =
+    let next : suc i ≡ i + 1 = omega arith in
+    ap (λ (ts : List (List ℕ)). built_in_bytes ∷ ts) (lines_set es i e r at) ∙ ap (λ k. set (built_in_bytes ∷ entry_lines es) k (entry_bytes e.0 r.format)) next
+
+-- A resource that keeps its Content-Format keeps its text.
+pub texts_kept : (es : List (Path × Resource)) (i : ℕ) (e : Path × Resource) (r : Resource) → slice_get es i ≡ Some e → e.1.format ≡ r.format → texts_of (resources_in (set_value_at es i r)) ≡ texts_of (resources_in es)
+texts_kept es i e r at same =
+    texts_set es i e r at
+    ∙ ap (λ t. set (texts_of (resources_in es)) (i + 1) t) (ap (λ f. entry_bytes e.0 f) (sym same) ∙ sym (text_at es i e at))
+    ∙ set-get_or (texts_of (resources_in es)) (i + 1) []
+
+-- The entry at an index, which has this Content-Format.
+pub entry_of : (es : List (Path × Resource)) (i : ℕ) (format : Option ℕ) → Some format ≡ option_map (λ e. e.1.format) (slice_get es i)
+    → (e : Path × Resource) × (slice_get es i ≡ Some e) × (format ≡ e.1.format)
+entry_of es i format is = by (slice_get es i) refl is
+  where
+    by : (found : Option (Path × Resource)) → slice_get es i ≡ found → Some format ≡ option_map (λ e. e.1.format) found → (e : Path × Resource) × (slice_get es i ≡ Some e) × (format ≡ e.1.format)
+    by None at same = absurd cc
+    by (Some e) at same = (e, at, cc)
+
+-- The listing, in which the end of the text of a resource is replaced.
+pub texts_changed : (es : List (Path × Resource)) (i : ℕ) (e : Path × Resource) (r : Resource) (ts : List (List ℕ)) (at n : ℕ) (end : List ℕ) → slice_get es i ≡ Some e
+    → ts ≡ texts_of (resources_in es) → at ≡ i + 1 → n ≡ length (end_bytes e.1.format) → end ≡ end_bytes r.format
+    → set ts at (with_end (get_or ts at []) n end) ≡ texts_of (resources_in (set_value_at es i r))
+texts_changed es i e r ts at n end found listed place count ends =
+    (λ k. set (listed k) (place k) (with_end (get_or (listed k) (place k) []) (count k) (ends k)))
+    ∙ ap (λ t. set (texts_of (resources_in es)) (i + 1) (with_end t (length (end_bytes e.1.format)) (end_bytes r.format))) (text_at es i e found)
+    ∙ ap (λ t. set (texts_of (resources_in es)) (i + 1) t) (entry_changed e.0 e.1.format r.format)
+    ∙ sym (texts_set es i e r found)
+
+pub texts_removed : (es : List (Path × Resource)) (i : ℕ) → i < length es → texts_of (resources_in (remove es i)) ≡ remove (texts_of (resources_in es)) (i + 1)
+unfolding texts_of
+texts_removed es i within =
+    let next : suc i ≡ i + 1 = omega arith in
+    ap (λ (ts : List (List ℕ)). built_in_bytes ∷ ts) (lines_removed es i within) ∙ ap (λ k. remove (built_in_bytes ∷ entry_lines es) k) next
+
+pub texts_count : (es : List (Path × Resource)) → length (texts_of (resources_in es)) ≡ length es + 1
+unfolding texts_of resources_in
+texts_count es = omega (arith, length-map (resources_in es) line, length-map es resource_at)
 
 module _ (eq : Path → Path → Bool) (same : (p q : Path) → eq p q ≡ same_path p q) where
   pub resources_put : (entries : List (Path × Resource)) (path : Path) (r : Resource) → resources_in (insert_entry eq entries path r) ≡ put_at (resources_in entries) path (representation r)
@@ -165,23 +223,21 @@ module _ (eq : Path → Path → Bool) (same : (p q : Path) → eq p q ≡ same_
         | false ↦ ap (λ (rs : List store.Resource). resource_at e ∷ rs) (resources_put es path r)
       ])
 
-  pub resources_written : (entries : List (Path × Resource)) (path : Path) (old new : Resource) → lookup (eq path) entries ≡ Some old → resources_in (set_value (eq path) entries new) ≡ put_at (resources_in entries) path (representation new)
+  pub resources_set : (entries : List (Path × Resource)) (path : Path) (i : ℕ) (r : Resource) → IsFirstAt (eq path) entries i → resources_in (set_value_at entries i r) ≡ put_at (resources_in entries) path (representation r)
   unfolding resources_in put_at
-  resources_written [] path old new = λ found. absurd cc
-  resources_written (e ∷ es) path old new =
-      rw (same path e.0) (elim (same_path path e.0) as (λ b. (if b then Some e.1 else lookup (eq path) es) ≡ Some old → resources_in (if b then (e.0, new) ∷ es else (e ∷ set_value (eq path) es new)) ≡ (if b then (record { path = e.0; now = representation new } ∷ resources_in es) else (resource_at e ∷ put_at (resources_in es) path (representation new)))) [
-        | true ↦ λ is. refl
-        | false ↦ λ is. ap (λ (rs : List store.Resource). resource_at e ∷ rs) (resources_written es path old new is)
-      ])
+  resources_set [] path i r first = absurd first
+  resources_set (e ∷ es) path zero r first = let is = sym (same path e.0) ∙ first in rw is refl
+  resources_set (e ∷ es) path (suc i) r first =
+      let other = sym (same path e.0) ∙ first.0 in
+      rw other (ap (λ (rs : List store.Resource). resource_at e ∷ rs) (resources_set es path i r first.1))
 
-  pub resources_removed : (entries : List (Path × Resource)) (path : Path) → resources_in (shift_remove_entry (eq path) entries) ≡ removed_at (resources_in entries) path
+  pub resources_removed : (entries : List (Path × Resource)) (path : Path) (i : ℕ) → IsFirstAt (eq path) entries i → resources_in (remove entries i) ≡ removed_at (resources_in entries) path
   unfolding resources_in removed_at
-  resources_removed [] path = refl
-  resources_removed (e ∷ es) path =
-      rw (same path e.0) (elim (same_path path e.0) as (λ b. resources_in (if b then es else (e ∷ shift_remove_entry (eq path) es)) ≡ (if b then resources_in es else (resource_at e ∷ removed_at (resources_in es) path))) [
-        | true ↦ refl
-        | false ↦ ap (λ (rs : List store.Resource). resource_at e ∷ rs) (resources_removed es path)
-      ])
+  resources_removed [] path i first = absurd first
+  resources_removed (e ∷ es) path zero first = let is = sym (same path e.0) ∙ first in rw is refl
+  resources_removed (e ∷ es) path (suc i) first =
+      let other = sym (same path e.0) ∙ first.0 in
+      rw other (ap (λ (rs : List store.Resource). resource_at e ∷ rs) (resources_removed es path i first.1))
 
   pub resources_found : (entries : List (Path × Resource)) (path : Path) → found_in (resources_in entries) path ≡ option_map representation (lookup (eq path) entries)
   unfolding resources_in found_in
@@ -191,22 +247,3 @@ module _ (eq : Path → Path → Bool) (same : (p q : Path) → eq p q ≡ same_
         | true ↦ refl
         | false ↦ resources_found es path
       ])
-
--- ---- the listing as it is written
-
-abbrev pub listed_bytes : List Resource → List ℕ
-listed_bytes rs = flat_map (λ r. string_bytes r.listed) rs
-
-lines_listed : (entries : List (Path × Resource)) → AreListed entries → lines (resources_in entries) ≡ listed_bytes (values_of entries)
-unfolding resources_in
-lines_listed [] all = refl
-lines_listed (e ∷ es) all = ap (λ (t : List ℕ). t ++ lines (resources_in es)) (sym all.0) ∙ ap (λ (t : List ℕ). string_bytes e.1.listed ++ t) (lines_listed es all.1)
-
--- The listing is the text of the built-in resources, followed by the texts of the entries.
-pub listing_listed : (entries : List (Path × Resource)) → AreListed entries → listing (resources_in entries) ≡ built_in_bytes ++ listed_bytes (values_of entries)
-unfolding listing
-listing_listed entries all = ap (λ (t : List ℕ). built_in_bytes ++ t) (lines_listed entries all)
-
-pub listing_front : (rs : List store.Resource) → length built_in_bytes ≤ length (listing rs)
-unfolding listing
-listing_front rs = omega (arith, length-append built_in_bytes (lines rs))

@@ -5,7 +5,7 @@ use Rattle.coap_store.specs.Prelude.{is_given, first_or_none, trail_behind, plac
 use Rattle.coap_store.specs.Prelude.{match_after, options_after, all_noted, AreNotesOf, PathMatch}
 use Rattle.coap_wire.specs.OptionNumbers as numbers
 use Rattle.coap_store.proofs.RequestLemmas.{has_number, values_in, given_at}
-use Rattle.coap_store.proofs.TrailLemmas.{place_by_trail}
+use Rattle.coap_path.proofs.TrailLemmas.{place_by_trail}
 
 or_false : (b : Bool) → b ≡ (b || false)
 or_false true = refl

@@ -12,7 +12,7 @@ use Rattle.coap_store.specs.Prelude.{content_of, put_by, each_at, ResourceKind, 
 use Rattle.std.proofs.lemmas.Bool.{leb-true, le-leb, cond-true}
 use Rattle.coap_wire.specs.Codes as code
 use Rattle.coap_wire.specs.OptionNumbers as numbers
-use Rattle.coap_store.proofs.PathLemmas.{path_fits}
+use Rattle.coap_path.proofs.PathLemmas.{path_fits}
 use Rattle.coap_store.proofs.AnswerLaws.{is_error, OfErrors, get_cases, store_cases, answer_cases, state_dynamic, key_is, place_dynamic, change_finally}
 use Rattle.coap_store.proofs.ChangeLaws.{other_is_kept_on_put, other_is_kept_on_delete, put_is_stored}
 

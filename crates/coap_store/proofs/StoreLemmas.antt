@@ -8,7 +8,7 @@ use Rattle.std.specs.Option.{is_some}
 use Rattle.std.proofs.lemmas.Bool.{ltb-true}
 use Rattle.coap_store.specs.Store.{Resource}
 use Rattle.coap_store.specs.declared.resource.Resource as lent
-use Rattle.coap_store.proofs.PathLemmas.{same_path_sound}
+use Rattle.coap_path.proofs.PathLemmas.{same_path_sound}
 use Rattle.coap_store.proofs.ListingLemmas.{CanBeListed, listing_bound}
 use Rattle.coap_store.proofs.ChangeLaws.{put_distinct, removed_distinct}
 

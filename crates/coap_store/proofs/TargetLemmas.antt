@@ -6,7 +6,7 @@ use Rattle.coap_store.specs.Prelude.{unwrap_or, if◌then◌else◌, Path, same_
 use Rattle.coap_store.specs.Prelude.{found_in, key_for, kind_of_path, root_path, time_path, async_path, listing_path}
 use Rattle.coap_store.specs.Prelude.{is_dynamic, state_at, state_of, RequestTarget, target_of, ResourceKind, Root, Time, Async}
 use Rattle.coap_store.specs.Prelude.{Listing, Dynamic}
-use Rattle.coap_store.proofs.PathLemmas.{same_path_sound}
+use Rattle.coap_path.proofs.PathLemmas.{same_path_sound}
 use Rattle.coap_store.proofs.StateLemmas.{own_key}
 
 pub key_is_path : (path p : Path) → Some p ≡ key_for path → p ≡ path

@@ -4,7 +4,7 @@ use Rattle.coap_wire.proofs.UintLaws.{bytes_are_one}
 use Rattle.coap_store.specs.Prelude.{Path, same_path, Representation, StoreValue, found_in, etag_of, Change, Nothing}
 use Rattle.coap_store.specs.Prelude.{Put, Delete, changed, TakesChange, changed_by, TakesChanges, AreDistinct}
 use Rattle.coap_store.specs.Prelude.{IsStore}
-use Rattle.coap_store.proofs.PathLemmas.{same_path_sound}
+use Rattle.coap_path.proofs.PathLemmas.{same_path_sound}
 use Rattle.coap_store.proofs.StoreLemmas.{one_version, found_kept}
 use Rattle.coap_store.proofs.ChangeLaws.{put_is_stored, other_is_kept_on_put, other_is_kept_on_delete, deleted_is_gone, distinct_stays, apart_from}
 

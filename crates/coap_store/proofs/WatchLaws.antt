@@ -9,7 +9,7 @@ use Rattle.std.proofs.lemmas.Bool.{cond-true}
 use Rattle.coap_wire.specs.Codes as code
 use Rattle.coap_wire.specs.OptionNumbers as numbers
 use Rattle.coap_store.specs.declared.plan.Watch.TheVariants as watch
-use Rattle.coap_store.proofs.PathLemmas.{same_path_sound}
+use Rattle.coap_path.proofs.PathLemmas.{same_path_sound}
 use Rattle.coap_store.proofs.AnswerLaws.{answer_cases, get_cases, store_cases, key_is}
 use Rattle.coap_store.proofs.TargetLemmas.{is_time}
 

@@ -6,10 +6,11 @@ use Rattle.coap_wire.specs.Message.{Message}
 use Rattle.coap_wire.specs.Codes as code
 use Rattle.coap_wire.specs.OptionNumbers as numbers
 use Rattle.coap_wire.specs.Recognition.{first_critical}
-use Rattle.coap_store.specs.Paths.{Path, same_bytes}
+use Rattle.coap_path.specs.Paths.{Path, same_bytes}
 use Rattle.coap_store.specs.Store.{Representation, StoreValue, put_in, removed_in}
-use Rattle.coap_store.specs.State.{is_dynamic, is_time, is_async, is_observable, kind_of_path, text_plain, RequestTarget, target_of}
-use Rattle.coap_store.specs.declared.resource_kind.ResourceKind.{ResourceKind}
+use Rattle.coap_path.specs.ResourceKinds.{is_dynamic, is_time, is_async, is_observable, kind_of_path}
+use Rattle.coap_store.specs.State.{text_plain, RequestTarget, target_of}
+use Rattle.coap_path.specs.declared.resource_kind.ResourceKind.{ResourceKind}
 use Rattle.coap_store.specs.declared.plan.Watch.{Watch}
 use Rattle.coap_store.specs.declared.plan.Watch.TheVariants as watch
 use Rattle.coap_store.specs.Requests.{values_of, value_of, has_option, path_of, number_of, is_get, is_post, is_put, is_delete, is_method, etag_of, preconditions_hold, is_good_query, seconds_of}
@@ -46,6 +47,10 @@ only c = record { code = c; etag = None; format = None; max_age = None; location
 -- The answer with this response and no other effect.
 abbrev pub says : Response → Answer
 says r = record { response = r; change = Nothing; watch = watch.Nothing; hold = None }
+
+-- The answer of a plan that answers no request yet: code 0.00 and nothing else.
+abbrev pub no_answer : Answer
+no_answer = says (only code.empty)
 
 -- ---- checks, one after the other
 

@@ -1,11 +1,11 @@
 -- Defined by this project: the changes that a store accepts.
 use Rattle.std.specs.Prelude.{◌≡◌, ℕ, ◌+◌, ◌<◌, ◌≤◌, ◌^◌, Bool, true, false, ◌&&◌, ◌||◌, List, [], ◌∷◌, length, Option, is_some, nat_lt, IfSome, ◌==◌}
 use Rattle.coap_wire.specs.Codes as code
-use Rattle.coap_store.specs.Paths.{Path, is_path}
+use Rattle.coap_path.specs.Paths.{Path, is_path}
 use Rattle.coap_store.specs.Store.{Representation, StoreValue, found_in}
-use Rattle.coap_store.specs.State.{kind_of_path}
+use Rattle.coap_path.specs.ResourceKinds.{kind_of_path}
 use Rattle.coap_store.specs.Answer.{Response, Change, Nothing, Put, Delete, changed}
-use Rattle.coap_store.specs.declared.resource_kind.ResourceKind.TheVariants.{Dynamic}
+use Rattle.coap_path.specs.declared.resource_kind.ResourceKind.TheVariants.{Dynamic}
 
 -- The store accepts a representation. It is not too large, its path is that of a created resource that exists or may be
 -- created, and a version is left.

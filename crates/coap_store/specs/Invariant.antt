@@ -1,10 +1,10 @@
 -- Defined by this project: the invariant of a store.
 use Rattle.std.specs.Prelude.{◌≡◌, ◌≢◌, ℕ, ◌<◌, ◌≤◌, ◌^◌, true, List, [], ◌∷◌, length, None, IfSome}
 use Rattle.std.specs.List.{AllByRecursion}
-use Rattle.coap_store.specs.Paths.{is_path}
+use Rattle.coap_path.specs.Paths.{is_path}
 use Rattle.coap_store.specs.Store.{Resource, StoreValue, found_in}
-use Rattle.coap_store.specs.State.{kind_of_path}
-use Rattle.coap_store.specs.declared.resource_kind.ResourceKind.TheVariants.{Dynamic}
+use Rattle.coap_path.specs.ResourceKinds.{kind_of_path}
+use Rattle.coap_path.specs.declared.resource_kind.ResourceKind.TheVariants.{Dynamic}
 use Rattle.coap_wire.specs.declared.sizes.TheConstants.{LARGEST_MESSAGE}
 
 -- No path occurs twice.

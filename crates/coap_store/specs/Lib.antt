@@ -1,11 +1,7 @@
-pub mod Paths
-pub mod PathViews
 pub mod Store
 pub mod Listing
 pub mod ResourceViews
 pub mod State
-pub mod PathMatches
-pub mod UriPaths
 pub mod Requests
 pub mod Answer
 pub mod Invariant

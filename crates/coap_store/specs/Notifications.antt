@@ -2,11 +2,12 @@
 use Rattle.std.specs.Prelude.{ℕ, Option, Some, None, nat_eq, if◌then◌else◌}
 use Rattle.std.specs.Option.{option_eq}
 use Rattle.coap_wire.specs.Codes as code
-use Rattle.coap_store.specs.Paths.{Path}
+use Rattle.coap_path.specs.Paths.{Path}
 use Rattle.coap_store.specs.Store.{Representation, StoreValue}
-use Rattle.coap_store.specs.State.{kind_of_path, state_of}
+use Rattle.coap_path.specs.ResourceKinds.{kind_of_path}
+use Rattle.coap_store.specs.State.{state_of}
 use Rattle.coap_store.specs.Answer.{Response, only, content}
-use Rattle.coap_store.specs.declared.resource_kind.ResourceKind.{ResourceKind}
+use Rattle.coap_path.specs.declared.resource_kind.ResourceKind.{ResourceKind}
 
 -- The notification: 4.04 if the path is absent, 4.06 if the representation has another Content-Format, otherwise 2.05.
 -- No Content-Format differs from Content-Format 0.

@@ -2,11 +2,11 @@
 use Rattle.std.specs.Prelude.{◌≡◌, ℕ, Bool, true, false, ◌||◌, List, [], ◌∷◌, Option, Some, None, ◌==◌, if◌then◌else◌, option_copied}
 use Rattle.coap_wire.specs.Message.{CoapOption, Message}
 use Rattle.coap_wire.specs.OptionNumbers as numbers
-use Rattle.coap_store.specs.State.{kind_of_path}
-use Rattle.coap_store.specs.PathMatches.{trail_with, place_at}
+use Rattle.coap_path.specs.ResourceKinds.{kind_of_path}
+use Rattle.coap_path.specs.PathMatches.{trail_with, place_at}
 use Rattle.coap_store.specs.Requests.{value_of, has_option, path_of}
-use Rattle.coap_store.specs.declared.path_match.PathMatch.{PathMatch}
-use Rattle.coap_store.specs.declared.path_match.PathMatch.TheVariants.{Root}
+use Rattle.coap_path.specs.declared.path_match.PathMatch.{PathMatch}
+use Rattle.coap_path.specs.declared.path_match.PathMatch.TheVariants.{Root}
 use Rattle.coap_store.specs.declared.request_options.RequestOptions as kept
 
 -- The options of a request: which are present, the first value of those whose value matters, and the state of matching

@@ -9,5 +9,5 @@ abbrev pub message_of : Inside → Message
 message_of a = a.request.now
 
 pub record IsAsked (a : Inside) : Type 0 where
-  pub notes : AreNotesOf a.request.now (notes_value a.notes)
+  pub notes : AreNotesOf a.request.now (notes_value a.notes.now)
   pub bad : a.has_bad_option ≡ is_some (first_critical a.request.now.options)

@@ -1,7 +1,7 @@
 -- Defined by this project: the model value and the invariant of the type `Plan`, which contracts see as an answer.
 use Rattle.std.specs.Prelude.{option_map}
 use Rattle.coap_store.specs.Answer.{Answer}
-use Rattle.coap_store.specs.PlanViews.{bytes_in, effect_value, IsAtPath, IsToldNamed, location_in}
+use Rattle.coap_store.specs.PlanViews.{bytes_in, IsTextOf, effect_value, IsAtPath, IsToldNamed, location_in}
 use Rattle.coap_store.specs.declared.plan.Plan.TheInside.{Inside}
 
 abbrev pub plan_answer : Inside → Answer
@@ -20,6 +20,7 @@ plan_answer p = record {
   hold = p.hold;
 }
 
--- The invariant of a plan. A resource can have the path of its change, and a path in its response has a segment.
+-- The invariant of a plan. A resource can have the path of its change, and a path in its response has a segment. The
+-- text is that of the payload.
 abbrev pub is_plan : Inside → Type 0
-is_plan p = IsAtPath p.effect × IsToldNamed p.tells_location p.effect
+is_plan p = IsAtPath p.effect × IsToldNamed p.tells_location p.effect × IsTextOf p.payload p.text.items

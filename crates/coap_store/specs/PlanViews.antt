@@ -1,7 +1,7 @@
 -- Defined by this project: the types of plans as values of the model.
-use Rattle.std.specs.Prelude.{◌≡◌, ◌≢◌, ℕ, Bool, true, false, List, [], Option, Some, None}
-use Rattle.coap_store.specs.Paths.{Path, is_path}
-use Rattle.coap_store.specs.UriPaths.{path_told}
+use Rattle.std.specs.Prelude.{decimal, ◌≡◌, ◌≢◌, ℕ, Bool, true, false, List, [], Option, Some, None}
+use Rattle.coap_path.specs.Paths.{Path, is_path}
+use Rattle.coap_path.specs.UriPaths.{path_told}
 use Rattle.coap_store.specs.Answer as answer
 use Rattle.coap_store.specs.declared.found.Payload.{Payload}
 use Rattle.coap_store.specs.declared.found.Payload.TheVariants.{Stored, Decimal}
@@ -13,7 +13,12 @@ use Rattle.coap_store.specs.declared.plan.PlannedChange.TheVariants as effects
 -- The bytes, which are borrowed or computed.
 abbrev pub bytes_in : Payload → List ℕ
 bytes_in (Stored bytes) = bytes.now
-bytes_in (Decimal text) = text.items
+bytes_in (Decimal number) = decimal number
+
+-- The bytes are the text of the payload, if it is a number.
+abbrev pub IsTextOf : Payload → List ℕ → Type 0
+IsTextOf (Stored bytes) text = Unit {0}
+IsTextOf (Decimal number) text = text ≡ decimal number
 
 -- The model value of a change.
 abbrev pub change_value : Change → answer.Change

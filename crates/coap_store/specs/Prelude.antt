@@ -2,21 +2,21 @@
 
 -- ---- std and other crates
 pub use Rattle.arrayvec.specs.declared.array_vec.ArrayVec.{ArrayVec}
-pub use Rattle.indexmap.specs.IndexMap.{insert_entry, shift_remove_entry}
+unfoldable pub use Rattle.coap_listing.specs.Texts.{joined}
+pub use Rattle.coap_listing.specs.Texts.{with_end}
+pub use Rattle.indexmap.specs.IndexMap.{insert_entry, set_value_at}
 unfoldable pub use Rattle.percent_encoding.specs.AsciiSet.{should_percent_encode}
 pub use Rattle.percent_encoding.specs.Percent.{encode_byte}
 unfoldable pub use Rattle.percent_encoding.specs.Percent.{percent_encode, percent_encode_byte}
 pub use Rattle.std.specs.Bool.{then_some}
 pub use Rattle.std.specs.Borrow.{Bor}
 pub use Rattle.std.specs.Fmt.{decimal}
-pub use Rattle.std.specs.Iterator.{YieldsFirstBy, item_count}
 pub use Rattle.std.specs.List.{list_any, AllByRecursion, flat_map, list_all}
-pub use Rattle.std.specs.Map.{lookup, set_value}
+pub use Rattle.std.specs.Map.{lookup}
 pub use Rattle.std.specs.Option.{option_eq}
 pub use Rattle.std.specs.Prelude.{IfSome, codes, if◌then◌else◌, is_none, is_some, nat_eq, nat_le, nat_lt, not}
 pub use Rattle.std.specs.Prelude.{option_copied, option_map, unwrap_or, ◌%◌, ◌/◌, ◌==◌, ◌⊎◌}
 pub use Rattle.std.specs.String.{string_bytes}
-pub use Rattle.std.specs.Vec.{vec_capacity}
 -- ---- coap_wire
 pub use Rattle.coap_wire.specs.Message.{Message, CoapOption}
 pub use Rattle.coap_wire.specs.Recognition.{known_options, first_critical, Placed, has_kind, once, placed}
@@ -30,10 +30,20 @@ unfoldable pub use Rattle.coap_wire.specs.Uint.{bytes_of_uint}
 pub use Rattle.coap_wire.specs.Views.{coap_option}
 pub use Rattle.coap_wire.specs.declared.option_table.OptionKind.{OptionKind}
 pub use Rattle.coap_wire.specs.declared.sizes.TheConstants.{LARGEST_MESSAGE}
+-- ---- coap_path
+pub use Rattle.coap_path.specs.PathMatches.{place_at, trail_behind}
+pub use Rattle.coap_path.specs.Paths.{Path, written_length, same_bytes, same_path}
+unfoldable pub use Rattle.coap_path.specs.Paths.{is_path}
+pub use Rattle.coap_path.specs.ResourceKinds.{is_dynamic, is_async, is_observable, async_path, listing_path, root_path, time_path}
+unfoldable pub use Rattle.coap_path.specs.ResourceKinds.{kind_of_path}
+pub use Rattle.coap_path.specs.UriPaths.{path_told}
+pub use Rattle.coap_path.specs.declared.path_match.PathMatch.{PathMatch}
+pub use Rattle.coap_path.specs.declared.resource_kind.ResourceKind.TheVariants.{Async, Dynamic, Listing, Root, Time}
+pub use Rattle.coap_path.specs.declared.resource_kind.ResourceKind.{ResourceKind}
 -- ---- coap_store
 pub use Rattle.coap_store.specs.Answer.{read_answer, etag_at, max_age_at, is_accepted, is_among, watch_of}
 pub use Rattle.coap_store.specs.Answer.{removes_watch, stored, delete_answer, needs_resource, says, delayed_response}
-pub use Rattle.coap_store.specs.Answer.{Change, Nothing, Put, Delete, only, is_delayed, changed, without_hold}
+pub use Rattle.coap_store.specs.Answer.{Change, Nothing, Put, Delete, only, no_answer, is_delayed, changed, without_hold}
 pub use Rattle.coap_store.specs.Answer.{greatest_version, Answer, Response, content, deletion, with_observe_rule, first_of}
 pub use Rattle.coap_store.specs.Answer.{is_number, late, put_of, refuse, stored_under, too_large, unheld_by, valid}
 pub use Rattle.coap_store.specs.Answer.{watched, when}
@@ -49,11 +59,7 @@ pub use Rattle.coap_store.specs.Notifications.{notification_of}
 unfoldable pub use Rattle.coap_store.specs.Notifications.{notification_at}
 pub use Rattle.coap_store.specs.OptionScan.{first_given, nothing, notes_value, all_noted, AreNotesOf, RequestOptions, match_after}
 unfoldable pub use Rattle.coap_store.specs.OptionScan.{options_after}
-pub use Rattle.coap_store.specs.PathViews.{segment_list, IsWritten}
-unfoldable pub use Rattle.coap_store.specs.PathViews.{written, segments_at, segments_by}
-pub use Rattle.coap_store.specs.Paths.{Path, is_dots, is_one_empty, written_length, same_bytes, same_path}
-unfoldable pub use Rattle.coap_store.specs.Paths.{is_path}
-pub use Rattle.coap_store.specs.PlanViews.{bytes_in, change_value, effect_value, IsAtPath, IsToldNamed, path_or_root}
+pub use Rattle.coap_store.specs.PlanViews.{bytes_in, IsTextOf, change_value, effect_value, IsAtPath, IsToldNamed, path_or_root}
 pub use Rattle.coap_store.specs.PlanViews.{location_in}
 pub use Rattle.coap_store.specs.Refusals.{RefusedOrMemory, first_fault, refusal_in}
 unfoldable pub use Rattle.coap_store.specs.Refusals.{put_refusal, remove_refusal}
@@ -62,29 +68,23 @@ pub use Rattle.coap_store.specs.Requests.{path_of, is_method, preconditions_hold
 pub use Rattle.coap_store.specs.Requests.{first_or_none, is_delete, is_digit, is_given, is_good_query, seconds_of}
 unfoldable pub use Rattle.coap_store.specs.Requests.{values_of, has_option, is_seconds, match_holds, number_of}
 unfoldable pub use Rattle.coap_store.specs.Requests.{value_of}
-pub use Rattle.coap_store.specs.ResourceViews.{has_format, AreListed, IsListed, representation, resource_at}
-unfoldable pub use Rattle.coap_store.specs.ResourceViews.{resources_in}
+pub use Rattle.coap_store.specs.ResourceViews.{representation, resource_at, end_bytes}
+unfoldable pub use Rattle.coap_store.specs.ResourceViews.{resources_in, texts_of}
 pub use Rattle.coap_store.specs.StateReports.{plain_get, IsStoredCode, ReportsState, ReportsEtag, IsElsewhere, content_of}
 pub use Rattle.coap_store.specs.StateReports.{put_by}
-pub use Rattle.coap_store.specs.State.{target_of, state_of, is_dynamic, is_async, is_observable, built, RequestTarget}
-pub use Rattle.coap_store.specs.State.{async_path, listing_path, root_path, stored_at, time_path}
-unfoldable pub use Rattle.coap_store.specs.State.{kind_of_path, state_at, key_for}
+pub use Rattle.coap_store.specs.State.{target_of, state_of, built, RequestTarget}
+pub use Rattle.coap_store.specs.State.{stored_at}
+unfoldable pub use Rattle.coap_store.specs.State.{state_at, key_for}
 pub use Rattle.coap_store.specs.StateViews.{state_value}
 pub use Rattle.coap_store.specs.Store.{Representation, StoreValue, put_in, removed_in}
 unfoldable pub use Rattle.coap_store.specs.Store.{found_in, put_at, removed_at}
 pub use Rattle.coap_store.specs.StoreViews.{store_value}
 pub use Rattle.coap_store.specs.RequestTargetViews.{found_value, target_value}
-pub use Rattle.coap_store.specs.PathMatches.{first_trail, trail_with, place_at, trail_behind}
-pub use Rattle.coap_store.specs.UriPaths.{segments_told, path_told}
 pub use Rattle.coap_store.specs.Observing.{MayObserve}
 -- ---- coap_store, declared
 pub use Rattle.coap_store.specs.declared.fault.StoreFault.{StoreFault}
 pub use Rattle.coap_store.specs.declared.fault.StoreFault.TheVariants.{BadPath, Limit, NoSuch, TooLarge}
 pub use Rattle.coap_store.specs.declared.fault.StoreFault.TheVariants.{VersionsSpent}
-pub use Rattle.coap_store.specs.declared.resource_kind.ResourceKind.{ResourceKind}
-pub use Rattle.coap_store.specs.declared.resource_kind.ResourceKind.TheVariants.{Async, Dynamic, Listing, Root, Time}
 pub use Rattle.coap_store.specs.declared.plan.Watch.TheVariants.{Add, Drop}
 pub use Rattle.coap_store.specs.declared.resource.Resource.{Resource}
 pub use Rattle.coap_store.specs.declared.resource.TheConstants.{ESCAPED}
-pub use Rattle.coap_store.specs.declared.path_match.PathMatch.{PathMatch}
-pub use Rattle.coap_store.specs.declared.path_match.PathMatch.TheVariants.{Elsewhere, WellKnown}

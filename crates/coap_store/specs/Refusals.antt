@@ -1,8 +1,8 @@
 -- Defined by this project: the errors of changes by the embedding program.
 use Rattle.std.specs.Prelude.{◌≡◌, ℕ, Bool, not, ◌&&◌, List, [], ◌∷◌, length, Option, Some, None, Result, Ok, Err, is_none, nat_le, nat_lt, ◌==◌, if◌then◌else◌}
-use Rattle.coap_store.specs.Paths.{Path}
+use Rattle.coap_path.specs.Paths.{Path}
 use Rattle.coap_store.specs.Store.{StoreValue, found_in}
-use Rattle.coap_store.specs.State.{kind_of_path, is_dynamic}
+use Rattle.coap_path.specs.ResourceKinds.{kind_of_path, is_dynamic}
 use Rattle.coap_store.specs.Answer.{greatest_version}
 use Rattle.coap_store.specs.declared.fault.StoreFault.{StoreFault}
 use Rattle.coap_store.specs.declared.fault.StoreFault.TheVariants.{NoSuch, TooLarge, Limit, BadPath, VersionsSpent, Memory}

@@ -6,7 +6,7 @@ use Rattle.coap_wire.specs.Uint.{uint_of, bytes_of_uint}
 use Rattle.coap_wire.specs.Codes as code
 use Rattle.coap_wire.specs.OptionNumbers as numbers
 use Rattle.coap_wire.specs.Recognition.{known_options}
-use Rattle.coap_store.specs.Paths.{Path, same_bytes}
+use Rattle.coap_path.specs.Paths.{Path, same_bytes}
 use Rattle.coap_store.specs.Store.{Representation}
 
 -- The values of the recognised options with this number, in order.

@@ -3,12 +3,12 @@ use Rattle.std.specs.Prelude.{◌≡◌, ◌≢◌, ◌⊎◌, ℕ, List, [], Op
 use Rattle.coap_wire.specs.Message.{Message}
 use Rattle.coap_wire.specs.Codes as code
 use Rattle.coap_wire.specs.OptionNumbers as numbers
-use Rattle.coap_store.specs.Paths.{Path}
+use Rattle.coap_path.specs.Paths.{Path}
 use Rattle.coap_store.specs.Store.{Representation}
 use Rattle.coap_store.specs.Requests.{etag_of, number_of}
 use Rattle.coap_store.specs.Answer.{Response, only, Change, Nothing, Put, Delete, etag_at}
 use Rattle.coap_store.specs.Messages.{each_at}
-use Rattle.coap_store.specs.declared.resource_kind.ResourceKind.{ResourceKind}
+use Rattle.coap_path.specs.declared.resource_kind.ResourceKind.{ResourceKind}
 
 -- The GET with no option but Uri-Path.
 abbrev pub plain_get : List ℕ → Path → Message

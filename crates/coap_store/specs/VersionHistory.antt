@@ -1,6 +1,6 @@
 -- Defined by this project: representations that were stored, identified by their versions.
 use Rattle.std.specs.Prelude.{◌≡◌, ◌≤◌, Some}
-use Rattle.coap_store.specs.Paths.{Path}
+use Rattle.coap_path.specs.Paths.{Path}
 use Rattle.coap_store.specs.Store.{Representation, StoreValue, found_in}
 
 -- A representation was stored at a path, and may still be stored. Its version was given to it, and a stored

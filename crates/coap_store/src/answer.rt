@@ -7,18 +7,19 @@ ghost use Rattle.coap_store.specs.Prelude.{get_answer, read_answer, etag_at, max
 ghost use Rattle.coap_store.specs.Prelude.{is_among as is_one_of, watch_of, removes_watch as asks_removal};
 ghost use Rattle.coap_store.specs.Prelude.{stored as stored_there, delete_answer, found_value, target_value, found_in};
 ghost use Rattle.coap_store.specs.Prelude.{kind_of_path, target_of, state_at, answer_of, answer_at, resource_answer};
-ghost use Rattle.coap_store.specs.Prelude.{store_answer, needs_resource as needs, TakesChange, changes, IsStore};
+ghost use Rattle.coap_store.specs.Prelude.{store_answer, no_answer, needs_resource as needs, TakesChange, changes};
+ghost use Rattle.coap_store.specs.Prelude.{IsStore};
 ghost use Rattle.coap_wire.specs.OptionNumbers as numbers;
-ghost use Rattle.coap_store.specs.declared.resource_kind.ResourceKind.TheVariants.{Dynamic};
+ghost use Rattle.coap_path.specs.declared.resource_kind.ResourceKind.TheVariants.{Dynamic};
 
 use crate::found::{Payload, RepresentationRef};
-use crate::path::PathKey;
 use crate::plan::{Plan, PlannedChange, Watch};
 use crate::request::ParsedRequest;
-use crate::resource_kind::ResourceKind;
+use crate::request_options::RequestOptions;
 use crate::store::Store;
 use crate::target::{LINK_FORMAT, RequestTarget, TEXT_PLAIN};
 use arrayvec::ArrayVec;
+use coap_path::{PathKey, ResourceKind};
 use coap_wire::{Code, MessageRef, uint_bytes};
 
 impl Store {
@@ -35,30 +36,50 @@ impl Store {
         ensures short { length result.response.payload ≤ LARGEST_MESSAGE }
         ensures store { IsStore self.now }
     {
-        self.is_kept();
-        let asked = ParsedRequest::by(request);
-        let mut plan = self.checked(&asked, now);
-        if removes_watch(&asked) {
-            plan.set_watch(Watch::Drop);
-        }
+        let mut plan = Plan::new();
+        self.fill_plan(request, now, &mut plan);
         plan
     }
 
-    /// Checks the request itself and then its resource, and returns the plan.
+    /// Fills a new plan with that for a request at the time `now`, in seconds. Does the same as `answer`. A plan is large
+    /// and costly to move, so this fills it in place.
+    ///
+    /// # Preconditions
+    ///
+    /// - The plan is new (`Plan::new`).
+    pub fn fill_plan<'s, 'r>(&'s self, request: &MessageRef<'r>, now: u64, plan: &mut Plan<'s, 'r>)
+        requires { plan.old ≡ no_answer }
+        ensures answer { plan.new ≡ answer_of self.now now request.now }
+        ensures taken { TakesChange self.now plan.new.change }
+        ensures bare { changes plan.new.change ≡ true → plan.new.response.payload ≡ [] }
+        ensures short { length plan.new.response.payload ≤ LARGEST_MESSAGE }
+        ensures store { IsStore self.now }
+    {
+        self.is_kept();
+        let mut notes = RequestOptions::nothing();
+        let asked = ParsedRequest::by(request, &mut notes);
+        self.check(&asked, now, plan);
+        if removes_watch(&asked) {
+            plan.set_watch(Watch::Drop);
+        }
+    }
+
+    /// Fills a new plan, after checking the request itself and then its resource.
     #[tactic(auto, unfolding(crate::specs::Answer::answer_at))]
-    fn checked<'s, 'r>(&'s self, asked: &ParsedRequest<'_, 'r>, now: u64) -> Plan<'s, 'r>
-        ensures { result ≡ answer_at self.now (target_of self.now now (path_of asked.now)) asked.now }
+    fn check<'s, 'r>(&'s self, asked: &ParsedRequest<'_, 'r>, now: u64, plan: &mut Plan<'s, 'r>)
+        requires { plan.old ≡ no_answer }
+        ensures { plan.new ≡ answer_at self.now (target_of self.now now (path_of asked.now)) asked.now }
     {
         if asked.has_bad_option() {
-            return Plan::only(Code::BAD_OPTION);
+            return plan.only(Code::BAD_OPTION);
         }
         if asked.asks_proxy() {
-            return Plan::only(Code::PROXYING_NOT_SUPPORTED);
+            return plan.only(Code::PROXYING_NOT_SUPPORTED);
         }
         if !is_method(asked.code()) {
-            return Plan::only(Code::METHOD_NOT_ALLOWED);
+            return plan.only(Code::METHOD_NOT_ALLOWED);
         }
-        self.at_target(asked, self.target(asked, now))
+        self.at_target(asked, self.target(asked, now), plan);
     }
 
     /// Returns the target of a request, with the state of its path at the time `now`.
@@ -79,6 +100,8 @@ impl Store {
     }
 
     /// Returns the target of a request whose path is not that of a built-in resource.
+    // Never inlined: a function clears all its locals, and the key is large.
+    #[inline(never)]
     fn dynamic_target(&self, asked: &ParsedRequest) -> RequestTarget<'_>
         requires { kind_of_path (path_of asked.now) ≡ Dynamic }
         ensures value { (now : ℕ) → target_value asked.now result ≡ target_of self.now now (path_of asked.now) }
@@ -140,34 +163,36 @@ impl Store {
         })
     }
 
-    /// Checks the resource and then the method, and returns the plan.
+    /// Fills a new plan, after checking the resource and then the method.
     #[tactic(auto, unfolding(crate::specs::Answer::resource_answer, crate::specs::Answer::method_answer))]
     fn at_target<'s, 'r>(
         &'s self,
         asked: &ParsedRequest<'_, 'r>,
         target: RequestTarget<'s>,
-    ) -> Plan<'s, 'r>
+        plan: &mut Plan<'s, 'r>,
+    )
         requires path { target.is_path ≡ is_path (path_of asked.now) }
         requires place { target.place ≡ kind_of_path (path_of asked.now) }
-        ensures { result ≡ resource_answer self.now (target_value asked.now target.entry) asked.now }
+        requires fresh { plan.old ≡ no_answer }
+        ensures { plan.new ≡ resource_answer self.now (target_value asked.now target.entry) asked.now }
     {
         let code = asked.code();
         if target.state.is_none() && self.needs_resource(code) {
-            return Plan::only(Code::NOT_FOUND);
+            return plan.only(Code::NOT_FOUND);
         }
         if !target.place.is_dynamic() && code != Code::GET {
-            return Plan::only(Code::METHOD_NOT_ALLOWED);
+            return plan.only(Code::METHOD_NOT_ALLOWED);
         }
         if !preconditions_hold(asked, target.state.as_ref()) {
-            return Plan::only(Code::PRECONDITION_FAILED);
+            return plan.only(Code::PRECONDITION_FAILED);
         }
         if code == Code::GET {
-            return read(asked, target);
+            return read(asked, target, plan);
         }
         if code == Code::DELETE {
-            return delete(asked, target);
+            return delete(asked, target, plan);
         }
-        self.put_or_post(asked, target)
+        self.put_or_post(asked, target, plan);
     }
 
     /// Returns `true` if a request with this code needs a resource that exists.
@@ -177,35 +202,37 @@ impl Store {
         code == Code::GET || (code == Code::PUT || code == Code::POST) && !self.takes_resources()
     }
 
-    /// Returns the plan for PUT or POST (RFC 7252 sections 5.8.2, 5.8.3).
+    /// Fills a new plan with that for PUT or POST (RFC 7252 sections 5.8.2, 5.8.3).
     #[tactic(auto, using(crate::proofs::TargetLemmas::dynamic_is_named), unfolding(crate::specs::Answer::store_answer))]
     fn put_or_post<'s, 'r>(
         &'s self,
         asked: &ParsedRequest<'_, 'r>,
         target: RequestTarget<'s>,
-    ) -> Plan<'s, 'r>
+        plan: &mut Plan<'s, 'r>,
+    )
         requires path { target.is_path ≡ is_path (path_of asked.now) }
         requires place { kind_of_path (path_of asked.now) ≡ Dynamic }
-        ensures { result ≡ store_answer self.now (target_value asked.now target.entry) asked.now }
+        requires fresh { plan.old ≡ no_answer }
+        ensures { plan.new ≡ store_answer self.now (target_value asked.now target.entry) asked.now }
     {
         let is_new = target.state.is_none();
         let greatest = self.rep_max();
         if asked.payload().len() > greatest {
-            return Plan::too_large(greatest as u32);
+            return plan.too_large(greatest as u32);
         }
         if is_new && !target.is_path {
-            return Plan::only(Code::BAD_REQUEST);
+            return plan.only(Code::BAD_REQUEST);
         }
         if is_new && self.is_full() {
-            return Plan::only(Code::NOT_ACCEPTABLE);
+            return plan.only(Code::NOT_ACCEPTABLE);
         }
         if !self.has_version() {
-            return Plan::only(Code::SERVICE_UNAVAILABLE);
+            return plan.only(Code::SERVICE_UNAVAILABLE);
         }
         if !target.is_path {
-            return Plan::only(Code::BAD_REQUEST);
+            return plan.only(Code::BAD_REQUEST);
         }
-        stored(asked, is_new)
+        stored(asked, is_new, plan);
     }
 }
 
@@ -224,41 +251,45 @@ fn preconditions_hold(asked: &ParsedRequest, state: Option<&RepresentationRef>) 
     asked.match_holds(version) && asked.none_match_holds(version.is_some())
 }
 
-/// Returns the plan for GET (RFC 7252 section 5.8.1).
-fn read<'s, 'r>(asked: &ParsedRequest<'_, 'r>, target: RequestTarget<'s>) -> Plan<'s, 'r>
-    ensures { result ≡ read_answer target.entry.place (option_map found_value target.entry.state) asked.now }
+/// Fills a new plan with that for GET (RFC 7252 section 5.8.1).
+fn read<'s, 'r>(asked: &ParsedRequest<'_, 'r>, target: RequestTarget<'s>, plan: &mut Plan<'s, 'r>)
+    requires { plan.old ≡ no_answer }
+    ensures { plan.new ≡ read_answer target.entry.place (option_map found_value target.entry.state) asked.now }
 {
     let RequestTarget { place, state, .. } = target;
     match state {
-        Some(found) => get(asked, place, found),
-        None => Plan::only(Code::NOT_FOUND),
+        Some(found) => get(asked, place, found, plan),
+        None => plan.only(Code::NOT_FOUND),
     }
 }
 
-/// Returns the plan for GET of a resource that exists. For `/async`, the first Uri-Query has the delay of the response
+/// Fills a new plan with that for GET of a resource that exists. For `/async`, the first Uri-Query has the delay of the response
 /// in seconds, and the default is 5.
 #[tactic(auto, unfolding(crate::specs::Answer::get_answer))]
 fn get<'s, 'r>(
     asked: &ParsedRequest<'_, 'r>,
     place: ResourceKind,
     found: RepresentationRef<'s>,
-) -> Plan<'s, 'r>
-    ensures { result ≡ get_answer place (found_value found.entry) asked.now }
+    plan: &mut Plan<'s, 'r>,
+)
+    requires { plan.old ≡ no_answer }
+    ensures { plan.new ≡ get_answer place (found_value found.entry) asked.now }
 {
     if !is_accepted(asked.accept(), found.format) {
-        return Plan::only(Code::NOT_ACCEPTABLE);
+        return plan.only(Code::NOT_ACCEPTABLE);
     }
     let etag = etag_for(place, found.version);
     if is_valid(asked, etag.as_ref()) {
-        return Plan::valid(etag, watch_for(asked, place));
+        return plan.valid(etag, watch_for(asked, place));
     }
     if place.is_async() && !asked.has_good_query() {
-        return Plan::only(Code::BAD_REQUEST);
+        return plan.only(Code::BAD_REQUEST);
     }
     if place.is_async() {
-        return Plan::content(etag, found, max_age_of(place), Watch::Nothing).held(asked.seconds());
+        plan.content(etag, found, max_age_of(place), Watch::Nothing);
+        return plan.delay(asked.seconds());
     }
-    Plan::content(etag, found, max_age_of(place), watch_for(asked, place))
+    plan.content(etag, found, max_age_of(place), watch_for(asked, place));
 }
 
 /// Returns `true` if the representation has the format in Accept, or there is no Accept (RFC 7252 section 5.10.4).
@@ -318,12 +349,13 @@ pub(crate) fn max_age_of(place: ResourceKind) -> Option<u32>
     }
 }
 
-/// Returns the plan that stores the payload of a request at its path.
-fn stored<'s, 'r>(asked: &ParsedRequest<'_, 'r>, is_new: bool) -> Plan<'s, 'r>
+/// Fills a new plan with that to store the payload of a request at its path.
+fn stored<'s, 'r>(asked: &ParsedRequest<'_, 'r>, is_new: bool, plan: &mut Plan<'s, 'r>)
     requires path { is_path (path_asked asked.now) ≡ true }
     requires named { path_asked asked.now ≢ [] }
+    requires fresh { plan.old ≡ no_answer }
     ensures { (state : Option Representation) → is_none state ≡ is_new →
-        result ≡ stored_there (path_asked asked.now) state asked.now }
+        plan.new ≡ stored_there (path_asked asked.now) state asked.now }
 {
     let tells_location = is_new && asked.code() == Code::POST;
     let code = if is_new { Code::CREATED } else { Code::CHANGED };
@@ -331,17 +363,18 @@ fn stored<'s, 'r>(asked: &ParsedRequest<'_, 'r>, is_new: bool) -> Plan<'s, 'r>
         body: asked.body(),
         format: asked.content_format(),
     };
-    Plan::changing(code, tells_location, effect)
+    plan.change_by(code, tells_location, effect);
 }
 
-/// Returns the plan for DELETE (RFC 7252 section 5.8.4).
-fn delete<'s, 'r>(asked: &ParsedRequest<'_, 'r>, target: RequestTarget) -> Plan<'s, 'r>
-    requires { target.is_path ≡ is_path (path_asked asked.now) }
-    ensures { result ≡ delete_answer (target_value asked.now target.entry) }
+/// Fills a new plan with that for DELETE (RFC 7252 section 5.8.4).
+fn delete<'s, 'r>(asked: &ParsedRequest<'_, 'r>, target: RequestTarget, plan: &mut Plan<'s, 'r>)
+    requires path { target.is_path ≡ is_path (path_asked asked.now) }
+    requires fresh { plan.old ≡ no_answer }
+    ensures { plan.new ≡ delete_answer (target_value asked.now target.entry) }
 {
     if !target.is_path || target.state.is_none() {
-        return Plan::only(Code::DELETED);
+        return plan.only(Code::DELETED);
     }
     let effect = PlannedChange::Delete { body: asked.body() };
-    Plan::changing(Code::DELETED, false, effect)
+    plan.change_by(Code::DELETED, false, effect);
 }

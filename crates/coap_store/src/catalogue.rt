@@ -1,12 +1,13 @@
 //! The created resources of a store, with the listing.
 
-ghost use Rattle.std.specs.Prelude.{◌≡◌, OnOk, OnErr, IfNone, IfSome, true, false, is_some, is_none, [], IfOk, length};
+ghost use Rattle.std.specs.Prelude.{◌≡◌, ◌+◌, ◌≤◌, ◌<◌, OnOk, OnErr, Some, None, [], IfOk, length, slice_get};
 ghost use Rattle.std.specs.Prelude.{option_map};
-ghost use Rattle.coap_store.specs.Prelude.{found_in, put_at, listing as listing_of, resources_in, has_format};
-ghost use Rattle.coap_store.specs.Prelude.{AreListed, IsListed, representation, removed_at};
+ghost use Rattle.coap_store.specs.Prelude.{found_in, put_at, listing as listing_of, resources_in, LARGEST_MESSAGE};
+ghost use Rattle.coap_store.specs.Prelude.{representation, removed_at, texts_of, entry_bytes, set_value_at};
 
-use crate::path::PathKey;
-use crate::resource::{BUILT_IN_TEXT, Resource, Resources, entry_text, write_listing};
+use crate::resource::{BUILT_IN_TEXT, Resource, Resources, entry_end, entry_text};
+use coap_listing::Listing;
+use coap_path::PathKey;
 use indexmap::IndexMap;
 use std::alloc::{AllocError, Global};
 use std::marker::Model;
@@ -17,7 +18,8 @@ use std::marker::Model;
 pub(crate) struct Catalogue {
     alloc: Global,
     resources: Resources,
-    listing: Vec<u8>,
+    /// Text of the built-in resources, and that of each created one in the order of `resources`.
+    listing: Listing,
 }
 
 impl Model for Catalogue {
@@ -38,10 +40,12 @@ impl Catalogue {
     pub(crate) fn new(alloc: Global) -> Result<Catalogue, AllocError>
         ensures { IfOk result (λ c. c ≡ []) }
     {
+        let mut listing = Listing::new(alloc);
+        listing.append(BUILT_IN_TEXT)?;
         Ok(Catalogue {
             alloc,
             resources: IndexMap::new(alloc),
-            listing: Vec::from_slice(alloc, BUILT_IN_TEXT)?,
+            listing,
         })
     }
 
@@ -62,7 +66,7 @@ impl Catalogue {
     pub(crate) fn listing(&self) -> &[u8]
         ensures { result.now ≡ listing_of self.now }
     {
-        &self.listing
+        self.listing.text()
     }
 
     /// Stores a representation. A new resource goes last, and a present one keeps its place. If allocation fails, the
@@ -74,113 +78,117 @@ impl Catalogue {
         format: Option<u16>,
         bytes: &[u8],
     ) -> Result<(), AllocError>
+        requires short { length (listing_of self.old) ≤ LARGEST_MESSAGE }
+        requires entry { length (entry_bytes path format) ≤ LARGEST_MESSAGE }
         ensures ok { OnOk result (self.new ≡ put_at self.old path
             (record { version = version; format = format; bytes = bytes.now })) }
         ensures err { OnErr result (self.new ≡ self.old) }
     {
-        let bytes = Vec::from_slice(self.alloc, bytes)?;
-        let Some(bytes) = replace_same_format(&mut self.resources, &path, version, format, bytes)
-        else {
-            return Ok(());
-        };
         let resource = Resource {
             version,
             format,
-            bytes,
-            listed: entry_text(self.alloc, &path, format)?,
+            bytes: Vec::from_slice(self.alloc, bytes)?,
         };
-        if self.resources.contains_key(&path) {
-            replace(&mut self.resources, &mut self.listing, path, resource)
-        } else {
-            create(&mut self.resources, &mut self.listing, path, resource)
-        }
+        let Some(index) = self.resources.get_index_of(&path) else {
+            let text = entry_text(self.alloc, &path, format)?;
+            let text = text.as_bytes();
+            return create(&mut self.resources, &mut self.listing, path, resource, text);
+        };
+        replace(&mut self.resources, &mut self.listing, index, resource)
     }
 
-    /// Removes a resource; the others keep their order. Rewrites the listing, at a cost of the listing's length.
+    /// Removes a resource; the others keep their order. Moves the later part of the listing once.
     pub(crate) fn remove(&mut self, path: &PathKey)
         ensures { self.new ≡ removed_at self.old path.now }
     {
-        self.resources.shift_remove(path);
-        write_listing(&mut self.listing, &self.resources);
+        let Some(index) = self.resources.get_index_of(path) else {
+            return;
+        };
+        self.listing.remove(text_index(&self.resources, index));
+        self.resources.shift_remove_index(index);
     }
 }
 
-/// Adds a resource that is absent, with its text. Memory is reserved first, so the insertion cannot fail.
+/// Adds a resource that is absent, and its text. Memory is reserved first, so the insertion cannot fail.
 fn create(
     resources: &mut Resources,
-    listing: &mut Vec<u8>,
+    listing: &mut Listing,
     path: PathKey,
     resource: Resource,
+    text: &[u8],
 ) -> Result<(), AllocError>
-    requires new { is_some (found_in (resources_in resources.old.entries) path) ≡ false }
-    requires listed { IsListed (path, resource) }
-    requires all_listed { AreListed resources.old.entries }
-    requires ready { listing.old.items ≡ listing_of (resources_in resources.old.entries) }
+    requires new { found_in (resources_in resources.old.entries) path ≡ None }
+    requires text { text.now ≡ entry_bytes path resource.format }
+    requires listed { listing.old ≡ texts_of (resources_in resources.old.entries) }
+    requires short { length (listing_of (resources_in resources.old.entries)) ≤ LARGEST_MESSAGE }
+    requires entry { length text.now ≤ LARGEST_MESSAGE }
     ensures stored { OnOk result (resources_in resources.new.entries ≡ put_at (resources_in resources.old.entries) path
         (representation resource)) }
     ensures unchanged { OnErr result (resources_in resources.new.entries ≡ resources_in resources.old.entries) }
-    ensures all_listed { AreListed resources.new.entries }
-    ensures ready { listing.new.items ≡ listing_of (resources_in resources.new.entries) }
+    ensures listed { listing.new ≡ texts_of (resources_in resources.new.entries) }
 {
     resources.reserve(1)?;
-    listing.extend_from_slice(resource.listed.as_bytes())?;
+    listing.append(text)?;
     let Ok(_) = resources.insert(path, resource) else {
         unreachable!()
     };
     Ok(())
 }
 
-/// Replaces the version and the bytes of a resource with this format, and so keeps its text. Returns the bytes if there
-/// is no such resource.
-fn replace_same_format(
-    resources: &mut Resources,
-    path: &PathKey,
-    version: u64,
-    format: Option<u16>,
-    bytes: Vec<u8>,
-) -> Option<Vec<u8>>
-    requires { AreListed resources.old.entries }
-    ensures alike { is_none result ≡ has_format format (found_in (resources_in resources.old.entries) path.now) }
-    ensures stored { IfNone result (resources_in resources.new.entries ≡ put_at (resources_in resources.old.entries)
-        path.now (record { version = version; format = format; bytes = bytes.items })) }
-    ensures ready { IfNone result (listing_of (resources_in resources.new.entries) ≡ listing_of
-        (resources_in resources.old.entries)) }
-    ensures all_listed { AreListed resources.new.entries }
-    ensures unchanged { IfSome result (λ back. resources.new.entries ≡ resources.old.entries) }
-    ensures back { IfSome result (λ back. back.items ≡ bytes.items) }
-{
-    let Some(resource) = resources.get_mut(path) else {
-        return Some(bytes);
-    };
-    if resource.format != format {
-        return Some(bytes);
-    }
-    resource.version = version;
-    resource.bytes = bytes;
-    None
-}
-
-/// Replaces a resource that is present and has another format. Rewrites the listing, at a cost of its length.
+/// Replaces the resource at an index. Replaces the end of its text if the Content-Format changes.
 fn replace(
     resources: &mut Resources,
-    listing: &mut Vec<u8>,
-    path: PathKey,
+    listing: &mut Listing,
+    index: usize,
     resource: Resource,
 ) -> Result<(), AllocError>
-    requires present { is_some (found_in (resources_in resources.old.entries) path) ≡ true }
-    requires listed { IsListed (path, resource) }
-    requires all_listed { AreListed resources.old.entries }
-    requires ready { listing.old.items ≡ listing_of (resources_in resources.old.entries) }
-    ensures stored { OnOk result (resources_in resources.new.entries ≡ put_at (resources_in resources.old.entries) path
-        (representation resource)) }
-    ensures unchanged { OnErr result (resources_in resources.new.entries ≡ resources_in resources.old.entries) }
-    ensures all_listed { AreListed resources.new.entries }
-    ensures ready { listing.new.items ≡ listing_of (resources_in resources.new.entries) }
+    requires within { index < length resources.old.entries }
+    requires listed { listing.old ≡ texts_of (resources_in resources.old.entries) }
+    requires short { length (listing_of (resources_in resources.old.entries)) ≤ LARGEST_MESSAGE }
+    ensures stored { OnOk result (resources.new.entries ≡ set_value_at resources.old.entries index resource) }
+    ensures unchanged { OnErr result (resources.new.entries ≡ resources.old.entries) }
+    ensures listed { listing.new ≡ texts_of (resources_in resources.new.entries) }
 {
-    listing.reserve(resource.listed.len())?;
-    let Ok(_) = resources.insert(path, resource) else {
+    let old = format_at(resources, index);
+    if old == resource.format {
+        write_at(resources, index, resource);
+        return Ok(());
+    }
+    let end = entry_end(resource.format);
+    let text = text_index(resources, index);
+    listing.replace_end(text, entry_end(old).len(), end.as_str().as_bytes())?;
+    write_at(resources, index, resource);
+    Ok(())
+}
+
+/// Returns the index in the listing of the text of a resource, which follows that of the built-in resources.
+fn text_index(resources: &Resources, index: usize) -> usize
+    requires { index < length resources.now.entries }
+    ensures { result ≡ index + 1 }
+{
+    // The number of resources bounds the index.
+    let _count = resources.len();
+    index + 1
+}
+
+/// Returns the Content-Format of the resource at an index.
+fn format_at(resources: &Resources, index: usize) -> Option<u16>
+    requires { index < length resources.now.entries }
+    ensures { Some result ≡ option_map (λ e. e.1.format) (slice_get resources.now.entries index) }
+{
+    let Some((_, resource)) = resources.get_index(index) else {
         unreachable!()
     };
-    write_listing(listing, resources);
-    Ok(())
+    resource.format
+}
+
+/// Replaces the resource at an index.
+fn write_at(resources: &mut Resources, index: usize, resource: Resource)
+    requires { index < length resources.old.entries }
+    ensures { resources.new.entries ≡ set_value_at resources.old.entries index resource }
+{
+    let Some(present) = resources.get_index_mut(index) else {
+        unreachable!()
+    };
+    *present = resource;
 }

@@ -1,11 +1,13 @@
 //! The response that is sent after a delay.
 
 ghost use Rattle.std.specs.Prelude.{◌≡◌};
-ghost use Rattle.coap_store.specs.Prelude.{says, delayed_response as response_held};
+ghost use Rattle.coap_store.specs.Prelude.{says, only, delayed_response as response_held};
+ghost use Rattle.coap_wire.specs.Codes as code;
 
 use crate::found::{Payload, RepresentationRef};
 use crate::plan::{Plan, Watch};
 use crate::target::TEXT_PLAIN;
+use coap_wire::Code;
 
 /// Returns the plan with the response that is sent after every delay: 2.05 with the payload `done` (RFC 7252 sections
 /// 5.2.2, 5.9.1.5).
@@ -13,5 +15,15 @@ pub fn delayed_response() -> Plan<'static, 'static>
     ensures { result ≡ says response_held }
 {
     let found = RepresentationRef::built(TEXT_PLAIN, Payload::Stored(b"done"));
-    Plan::content(None, found, None, Watch::Nothing)
+    let mut plan = Plan::new();
+    plan.content(None, found, None, Watch::Nothing);
+    plan
+}
+
+/// Returns the plan for a request whose response cannot be delayed, because too many are: 5.03 (RFC 7252 section 5.9.3.4).
+/// It is what `Plan::without_hold` makes of a plan with a delay, apart from the change and the effect on observers.
+pub fn refused_delay() -> Plan<'static, 'static>
+    ensures { result ≡ says (only code.service_unavailable) }
+{
+    Plan::of_code(Code::SERVICE_UNAVAILABLE)
 }

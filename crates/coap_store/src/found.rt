@@ -1,32 +1,48 @@
 //! Representations, which are stored or computed.
 
 ghost use Rattle.std.specs.Prelude.{◌≡◌, Some};
-ghost use Rattle.coap_store.specs.Prelude.{bytes_in, built as built_in, found_value};
+ghost use Rattle.coap_store.specs.Prelude.{bytes_in, IsTextOf, built as built_in, found_value};
 
 use arrayvec::ArrayVec;
+use coap_text::decimal_digits;
 
 /// Bytes of a representation.
-#[derive(Drop)]
+#[derive(Clone, Copy)]
 pub enum Payload<'s> {
     /// Bytes of the store or of a constant.
     Stored(&'s [u8]),
-    /// Text of a decimal number.
-    Decimal(ArrayVec<u8, 20>),
+    /// Number, whose decimal text is the payload. It is formatted only where the bytes are needed.
+    Decimal(u64),
 }
 
+/// Text of a `Payload::Decimal`. It is empty for other payloads.
+pub(crate) type PayloadText = ArrayVec<u8, 20>;
+
 impl<'s> Payload<'s> {
-    pub(crate) fn as_slice(&self) -> &[u8]
+    /// Returns the text of the number, if the payload is one.
+    pub(crate) fn text(self) -> PayloadText
+        ensures { IsTextOf self.entry result.items }
+    {
+        match self {
+            Payload::Stored(_) => ArrayVec::new(),
+            Payload::Decimal(number) => decimal_digits(number),
+        }
+    }
+
+    /// Returns the bytes. `text` must be the text of the payload.
+    pub(crate) fn bytes<'a>(&'a self, text: &'a PayloadText) -> &'a [u8]
+        requires { IsTextOf self.now text.now.items }
         ensures { result.now ≡ bytes_in self.now }
     {
         match self {
             Payload::Stored(bytes) => bytes,
-            Payload::Decimal(text) => text.as_slice(),
+            Payload::Decimal(_) => text.as_slice(),
         }
     }
 }
 
 /// Representation of a resource at a certain time.
-#[derive(Drop)]
+#[derive(Clone, Copy)]
 pub(crate) struct RepresentationRef<'s> {
     /// Version, which is 0 for a built-in resource.
     pub version: u64,

@@ -10,10 +10,10 @@ ghost use Rattle.coap_store.specs.Prelude.{HasSmallFormat, changed_by, TakesChan
 ghost use Rattle.coap_store.specs.Prelude.{WasStored, notification_of, MayObserve, plain_get, IsStoredCode};
 ghost use Rattle.coap_store.specs.Prelude.{ReportsState, ReportsEtag, IsElsewhere, content_of, put_by};
 ghost use Rattle.coap_wire.specs.Codes as code;
-ghost use Rattle.coap_store.specs.declared.resource_kind.ResourceKind.TheVariants.{Listing, Dynamic};
+ghost use Rattle.coap_path.specs.declared.resource_kind.ResourceKind.TheVariants.{Listing, Dynamic};
 ghost use Rattle.coap_store.specs.declared.plan.Watch.TheVariants.{Add};
 
-use crate::path::PathKey;
+use coap_path::PathKey;
 
 /// States that a store changes if and only if the response is 2.01, 2.04, or 2.02 for a resource that existed (RFC 7252
 /// section 5.9.1).

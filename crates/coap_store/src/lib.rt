@@ -3,7 +3,7 @@
 //! - `Store` has the built-in and the created resources. `Store::answer` returns the `Plan` for a request: the
 //!   response, the `Change`, and the effect on the observers (`Watch`). `Store::apply` makes the change.
 //! - `Store::put` and `Store::remove` change resources on behalf of the embedding program (`StoreFault`).
-//! - `PathKey` is the path of a resource. `laws` has the theorems on plans and changes.
+//! - `PathKey` is the path of a resource (see `coap_path`). `laws` has the theorems on plans and changes.
 //!
 //! This crate has no connections and no list of observers: `coap_server_session` does. Continue with `store.rt`, then
 //! `answer.rt`, whose contracts name the definitions of `specs/Answer.antt`.
@@ -17,25 +17,19 @@ mod found;
 pub mod laws;
 mod local_changes;
 mod notifications;
-mod path;
-mod path_match;
 mod plan;
 mod request;
 mod request_options;
 mod resource;
-mod resource_kind;
 mod states;
 mod store;
 mod target;
-mod uri_path;
 
-pub use delayed::delayed_response;
+pub use coap_path::{PathKey, ResourceKind, Segments, UriPath};
+pub use delayed::{delayed_response, refused_delay};
 pub use fault::StoreFault;
 pub use found::Payload;
-pub use path::{PathKey, Segments};
 pub use plan::{Change, Plan, Watch};
-pub use resource_kind::ResourceKind;
 pub use states::{Present, State};
 pub use store::Store;
 pub use target::request_path;
-pub use uri_path::UriPath;

@@ -1,8 +1,8 @@
 //! Changes of resources by the program that embeds the server.
 
 use crate::fault::StoreFault;
-use crate::path::PathKey;
 use crate::store::Store;
+use coap_path::PathKey;
 
 impl Store {
     ghost use Rattle.std.specs.Prelude.{◌≡◌, ◌+◌, is_none, IfOk, OnOk, OnErr};

@@ -1,9 +1,9 @@
 //! The notifications of observers (RFC 7641).
 
 use crate::answer::{etag_for, max_age_of};
-use crate::path::PathKey;
 use crate::plan::{Plan, Watch};
 use crate::store::Store;
+use coap_path::PathKey;
 use coap_wire::Code;
 
 impl Store {
@@ -30,12 +30,14 @@ impl Store {
         path.is_kept();
         let place = path.kind();
         let Some(found) = self.found_at(Some(path), place, now) else {
-            return Plan::only(Code::NOT_FOUND);
+            return Plan::of_code(Code::NOT_FOUND);
         };
         if found.format != format {
-            return Plan::only(Code::NOT_ACCEPTABLE);
+            return Plan::of_code(Code::NOT_ACCEPTABLE);
         }
         let etag = etag_for(place, found.version);
-        Plan::content(etag, found, max_age_of(place), Watch::Nothing)
+        let mut plan = Plan::new();
+        plan.content(etag, found, max_age_of(place), Watch::Nothing);
+        plan
     }
 }

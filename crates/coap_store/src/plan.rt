@@ -1,15 +1,15 @@
 //! The plan for a request.
 
 ghost use Rattle.std.specs.Prelude.{◌≡◌, ◌≢◌, ◌≤◌, true, [], Some, IfSome, length, option_map};
-ghost use Rattle.coap_store.specs.Prelude.{bytes_in, change_value, says, only, without_hold, changes as is_change};
-ghost use Rattle.coap_store.specs.Prelude.{is_path, effect_value, IsAtPath, IsToldNamed, path_or_root, location_in};
+ghost use Rattle.coap_store.specs.Prelude.{bytes_in, change_value, says, only, no_answer, without_hold};
+ghost use Rattle.coap_store.specs.Prelude.{changes as is_change, is_path, effect_value, IsAtPath, IsToldNamed};
+ghost use Rattle.coap_store.specs.Prelude.{path_or_root, location_in};
 ghost use Rattle.coap_wire.specs.Codes as code;
 
-use crate::found::{Payload, RepresentationRef};
-use crate::path::PathKey;
+use crate::found::{Payload, PayloadText, RepresentationRef};
 use crate::request::path_in;
-use crate::uri_path::UriPath;
 use arrayvec::ArrayVec;
+use coap_path::{PathKey, UriPath};
 use coap_wire::{Body, Code};
 use std::marker::Model;
 
@@ -93,6 +93,8 @@ pub enum Watch {
 pub struct Plan<'s, 'r> {
     etag: Option<ArrayVec<u8, 8>>,
     payload: Payload<'s>,
+    /// Text of the payload, if that is a number.
+    text: PayloadText,
     effect: PlannedChange<'r>,
     max_age: Option<u32>,
     size1: Option<u32>,
@@ -118,44 +120,63 @@ impl<'s, 'r> Model for Plan<'s, 'r> {
 }
 
 impl<'s, 'r> Plan<'s, 'r> {
-    /// Creates a plan with this code and nothing else.
-    pub(crate) fn only(code: Code) -> Plan<'s, 'r>
-        ensures { result ≡ says (only code) }
+    /// Creates a plan that answers no request yet: code 0.00 and nothing else.
+    pub fn new() -> Plan<'s, 'r>
+        ensures { result ≡ no_answer }
     {
         Plan {
-            code,
+            code: Code::EMPTY,
             etag: None,
             format: None,
             max_age: None,
             tells_location: false,
             size1: None,
             payload: Payload::Stored(&[]),
+            text: ArrayVec::new(),
             effect: PlannedChange::Nothing,
             watch: Watch::Nothing,
             hold: None,
         }
     }
 
-    /// Creates a plan with 2.03 and an ETag, and without a change (RFC 7252 section 5.9.1.3).
-    pub(crate) fn valid(etag: Option<ArrayVec<u8, 8>>, watch: Watch) -> Plan<'s, 'r>
-        ensures { result
-            ≡ record (says (record (only code.valid) { etag = option_map (λ e. e.items) etag })) { watch = watch } }
+    /// Creates a plan with this code and nothing else.
+    pub(crate) fn of_code(code: Code) -> Plan<'s, 'r>
+        ensures { result ≡ says (only code) }
     {
-        Plan {
-            etag,
-            watch,
-            ..Plan::only(Code::VALID)
-        }
+        let mut plan = Plan::new();
+        plan.only(code);
+        plan
     }
 
-    /// Creates a plan with 2.05 and a representation, and without a change (RFC 7252 section 5.9.1.5).
+    /// Sets the code of a new plan, and nothing else.
+    pub(crate) fn only(&mut self, code: Code)
+        requires { self.old ≡ no_answer }
+        ensures { self.new ≡ says (only code) }
+    {
+        self.code = code;
+    }
+
+    /// Sets 2.03 and an ETag in a new plan, without a change (RFC 7252 section 5.9.1.3).
+    pub(crate) fn valid(&mut self, etag: Option<ArrayVec<u8, 8>>, watch: Watch)
+        requires { self.old ≡ no_answer }
+        ensures { self.new
+            ≡ record (says (record (only code.valid) { etag = option_map (λ e. e.items) etag })) { watch = watch } }
+    {
+        self.code = Code::VALID;
+        self.etag = etag;
+        self.watch = watch;
+    }
+
+    /// Sets 2.05 and a representation in a new plan, without a change (RFC 7252 section 5.9.1.5).
     pub(crate) fn content(
+        &mut self,
         etag: Option<ArrayVec<u8, 8>>,
         found: RepresentationRef<'s>,
         max_age: Option<u32>,
         watch: Watch,
-    ) -> Plan<'s, 'r>
-        ensures { result
+    )
+        requires { self.old ≡ no_answer }
+        ensures { self.new
             ≡ record (says (record (only code.content) {
               etag = option_map (λ e. e.items) etag;
               format = found.entry.format;
@@ -164,44 +185,39 @@ impl<'s, 'r> Plan<'s, 'r> {
                   found.entry.bytes;
             })) { watch = watch } }
     {
-        Plan {
-            etag,
-            format: found.format,
-            max_age,
-            payload: found.bytes,
-            watch,
-            ..Plan::only(Code::CONTENT)
+        self.code = Code::CONTENT;
+        self.etag = etag;
+        self.format = found.format;
+        self.max_age = max_age;
+        self.payload = found.bytes;
+        if let Payload::Decimal(_) = found.bytes {
+            self.text = found.bytes.text();
         }
+        self.watch = watch;
     }
 
-    /// Creates a plan with 4.13 and Size1, the maximum size of a representation in bytes (RFC 7252 section 5.9.2.9).
-    pub(crate) fn too_large(greatest: u32) -> Plan<'s, 'r>
-        ensures { result ≡ says (record (only code.request_entity_too_large) { size1 = Some greatest }) }
+    /// Sets 4.13 and Size1 in a new plan, the maximum size of a representation in bytes (RFC 7252 section 5.9.2.9).
+    pub(crate) fn too_large(&mut self, greatest: u32)
+        requires { self.old ≡ no_answer }
+        ensures { self.new ≡ says (record (only code.request_entity_too_large) { size1 = Some greatest }) }
     {
-        Plan {
-            size1: Some(greatest),
-            ..Plan::only(Code::REQUEST_ENTITY_TOO_LARGE)
-        }
+        self.code = Code::REQUEST_ENTITY_TOO_LARGE;
+        self.size1 = Some(greatest);
     }
 
-    /// Creates a plan with a change. If `tells_location` is `true`, the response has the path of a stored
+    /// Sets a code and a change in a new plan. If `tells_location` is `true`, the response has the path of a stored
     /// representation.
-    pub(crate) fn changing(
-        code: Code,
-        tells_location: bool,
-        effect: PlannedChange<'r>,
-    ) -> Plan<'s, 'r>
+    pub(crate) fn change_by(&mut self, code: Code, tells_location: bool, effect: PlannedChange<'r>)
         requires path { IsAtPath effect }
         requires named { IsToldNamed tells_location effect }
-        ensures { result
+        requires fresh { self.old ≡ no_answer }
+        ensures { self.new
             ≡ record (says (record (only code) { location = location_in tells_location (effect_value effect.entry) }))
             { change = effect_value effect.entry } }
     {
-        Plan {
-            tells_location,
-            effect,
-            ..Plan::only(code)
-        }
+        self.code = code;
+        self.tells_location = tells_location;
+        self.effect = effect;
     }
 
     /// Sets the effect on the observers.
@@ -211,14 +227,11 @@ impl<'s, 'r> Plan<'s, 'r> {
         self.watch = watch;
     }
 
-    /// Returns the plan with a response that is delayed by this number of seconds.
-    pub(crate) fn held(self, seconds: u32) -> Plan<'s, 'r>
-        ensures { result ≡ record self.entry { hold = Some seconds } }
+    /// Delays the response by this number of seconds.
+    pub(crate) fn delay(&mut self, seconds: u32)
+        ensures { self.new ≡ record self.old { hold = Some seconds } }
     {
-        Plan {
-            hold: Some(seconds),
-            ..self
-        }
+        self.hold = Some(seconds);
     }
 
     /// Returns the code of the response.
@@ -277,7 +290,7 @@ impl<'s, 'r> Plan<'s, 'r> {
     pub fn payload(&self) -> &[u8]
         ensures { result.now ≡ self.now.response.payload }
     {
-        self.payload.as_slice()
+        self.payload.bytes(&self.text)
     }
 
     /// Returns the change that the request makes. Its key is made by this call, not with the plan.
@@ -329,7 +342,7 @@ impl<'s, 'r> Plan<'s, 'r> {
                 tells_location: false,
                 effect: self.effect,
                 watch: self.watch,
-                ..Plan::only(Code::SERVICE_UNAVAILABLE)
+                ..Plan::of_code(Code::SERVICE_UNAVAILABLE)
             },
         }
     }
@@ -346,6 +359,7 @@ impl<'s, 'r> Plan<'s, 'r> {
             tells_location: self.tells_location,
             size1: self.size1,
             payload: Payload::Stored(&[]),
+            text: ArrayVec::new(),
             effect: self.effect,
             watch: self.watch,
             hold: self.hold,

@@ -8,10 +8,8 @@ ghost use Rattle.coap_store.specs.Prelude.{same_bytes, Representation, kind_of_p
 ghost use Rattle.coap_store.specs.Requests as spec;
 ghost use Rattle.coap_wire.specs.OptionNumbers as numbers;
 
-use crate::path::PathKey;
 use crate::request_options::RequestOptions;
-use crate::resource_kind::ResourceKind;
-use crate::uri_path::UriPath;
+use coap_path::{PathKey, ResourceKind, UriPath};
 use coap_wire::option_numbers::{ETAG, IF_MATCH};
 use coap_wire::{Body, Code, MessageRef, uint_bytes, uint_value};
 use std::marker::Model;
@@ -20,7 +18,7 @@ use std::marker::Model;
 #[derive(Drop)]
 pub(crate) struct ParsedRequest<'q, 'r> {
     request: &'q MessageRef<'r>,
-    notes: RequestOptions<'r>,
+    notes: &'q RequestOptions<'r>,
     /// `true` if an option is critical and not recognised.
     has_bad_option: bool,
 }
@@ -37,12 +35,15 @@ impl<'q, 'r> Model for ParsedRequest<'q, 'r> {
     ghost invariant = { IsAsked };
 }
 
-/// Returns the recognised options of a request, and `true` if an option is critical and not recognised, after one pass.
-fn scan_options<'r>(request: &MessageRef<'r>) -> (RequestOptions<'r>, bool)
-    ensures notes { notes_value result.0 ≡ all_noted nothing (known_options request.now.options) }
-    ensures bad { result.1 ≡ is_some (first_critical request.now.options) }
+/// Adds the recognised options of a request to `notes`, which has none yet, in one pass. Returns `true` if an option is
+/// critical and not recognised.
+// Never inlined, so that the fields of `notes` stay in memory: an inlined loop would keep each in a register or reload it.
+#[inline(never)]
+fn scan_options<'r>(request: &MessageRef<'r>, notes: &mut RequestOptions<'r>) -> bool
+    requires { notes_value notes.old ≡ nothing }
+    ensures notes { notes_value notes.new ≡ all_noted nothing (known_options request.now.options) }
+    ensures bad { result ≡ is_some (first_critical request.now.options) }
 {
-    let mut notes = RequestOptions::nothing();
     let mut has_bad_option = false;
     for checked in request.checked_options() {
         if checked.is_recognised {
@@ -51,7 +52,7 @@ fn scan_options<'r>(request: &MessageRef<'r>) -> (RequestOptions<'r>, bool)
             has_bad_option = true;
         }
     }
-    (notes, has_bad_option)
+    has_bad_option
 }
 
 /// Returns the path in a request's options. It must be the path of a resource.
@@ -78,11 +79,15 @@ fn small_value(bytes: &[u8]) -> u16
 }
 
 impl<'q, 'r> ParsedRequest<'q, 'r> {
-    /// Reads the recognised options of a request.
-    pub(crate) fn by(request: &'q MessageRef<'r>) -> ParsedRequest<'q, 'r>
+    /// Reads the recognised options of a request into `notes`, which has none yet.
+    pub(crate) fn by(
+        request: &'q MessageRef<'r>,
+        notes: &'q mut RequestOptions<'r>,
+    ) -> ParsedRequest<'q, 'r>
+        requires { notes_value notes.old ≡ nothing }
         ensures { result ≡ request.now }
     {
-        let (notes, has_bad_option) = scan_options(request);
+        let has_bad_option = scan_options(request, notes);
         ParsedRequest {
             request,
             notes,

@@ -3,7 +3,7 @@
 ghost use Rattle.std.specs.Prelude.{◌≡◌, true, option_copied};
 ghost use Rattle.coap_store.specs.Prelude.{first_given, coap_option, nothing, options_after, notes_value};
 
-use crate::path_match::PathMatch;
+use coap_path::PathMatch;
 use coap_wire::OptionRef;
 use coap_wire::option_numbers::{
     ACCEPT, CONTENT_FORMAT, ETAG, IF_MATCH, IF_NONE_MATCH, OBSERVE, PROXY_SCHEME, PROXY_URI,

@@ -1,10 +1,10 @@
 //! A created resource, and the listing of all resources.
 
-ghost use Rattle.std.specs.Prelude.{◌≡◌, ◌≤◌, ◌∷◌, ◌++◌, length, IfOk, OnOk, flat_map, vec_capacity, string_bytes};
-ghost use Rattle.coap_store.specs.Prelude.{listing as listing_of, entry_bytes, slash, encoded_byte, path_bytes};
-ghost use Rattle.coap_store.specs.Prelude.{format_bytes, resources_in, AreListed};
+ghost use Rattle.std.specs.Prelude.{◌≡◌, ◌≤◌, ◌∷◌, ◌++◌, [], length, IfOk, OnOk, flat_map, string_bytes};
+ghost use Rattle.coap_store.specs.Prelude.{entry_bytes, end_bytes, slash, encoded_byte, path_bytes, format_bytes};
 
-use crate::path::PathKey;
+use arrayvec::ArrayString;
+use coap_path::PathKey;
 use indexmap::IndexMap;
 use itoa::Buffer;
 use percent_encoding::{AsciiSet, NON_ALPHANUMERIC, ascii_set, percent_encode};
@@ -13,7 +13,7 @@ use std::alloc::{AllocError, Global};
 /// Created resources, in order of creation.
 pub(crate) type Resources = IndexMap<PathKey, Resource>;
 
-/// Resource at a path. A replacement with the same format changes only `version` and `bytes`.
+/// Resource at a path.
 #[derive(Drop)]
 pub(crate) struct Resource {
     /// Version of the representation.
@@ -21,9 +21,10 @@ pub(crate) struct Resource {
     /// Content-Format, if there is one.
     pub format: Option<u16>,
     pub bytes: Vec<u8>,
-    /// Text of the resource in the listing, stored so that the listing is rewritten without formatting.
-    pub listed: String,
 }
+
+/// Maximum number of bytes after the path in the text of a resource, as in `;ct=65535;obs`.
+pub(crate) const MAX_END: usize = 13;
 
 /// Text of the built-in resources in the listing (RFC 6690 section 2).
 pub(crate) const BUILT_IN_TEXT: &[u8] = b"</>;ct=0,</time>;ct=0;obs,</async>;ct=0";
@@ -57,16 +58,28 @@ fn push_path(text: &mut String, path: &PathKey) -> Result<(), AllocError>
     Ok(())
 }
 
-/// Appends the Content-Format, if there is one (RFC 7252 section 7.2.1).
-fn push_format(text: &mut String, format: Option<u16>) -> Result<(), AllocError>
-    ensures { OnOk result (string_bytes text.new ≡ string_bytes text.old ++ format_bytes format) }
+/// Writes the Content-Format, if there is one (RFC 7252 section 7.2.1).
+fn push_format(text: &mut ArrayString<MAX_END>, format: Option<u16>)
+    requires { text.old.bytes ≡ [] }
+    ensures value { text.new.bytes ≡ format_bytes format }
+    ensures short { length text.new.bytes ≤ 9 }
 {
     let Some(format) = format else {
-        return Ok(());
+        return;
     };
     let mut digits = Buffer::new();
-    text.push_str(";ct=")?;
-    text.push_str(digits.format(format))
+    text.push_str(";ct=");
+    text.push_str(digits.format(format));
+}
+
+/// Returns the end of the text of a resource in the listing, which alone depends on its Content-Format.
+pub(crate) fn entry_end(format: Option<u16>) -> ArrayString<MAX_END>
+    ensures { result.bytes ≡ end_bytes format }
+{
+    let mut end = ArrayString::new();
+    push_format(&mut end, format);
+    end.push_str(";obs");
+    end
 }
 
 /// Returns the text of a resource in the listing.
@@ -82,24 +95,6 @@ pub(crate) fn entry_text(
     text.push_str(",<")?;
     push_path(&mut text, path)?;
     text.push_str(">")?;
-    push_format(&mut text, format)?;
-    text.push_str(";obs")?;
+    text.push_str(entry_end(format).as_str())?;
     Ok(text)
-}
-
-/// Rewrites the listing, which must have room for it.
-pub(crate) fn write_listing(listing: &mut Vec<u8>, resources: &Resources)
-    requires listed { AreListed resources.now.entries }
-    requires room { length (listing_of (resources_in resources.now.entries)) ≤ vec_capacity listing.old }
-    ensures { listing.new.items ≡ listing_of (resources_in resources.now.entries) }
-{
-    listing.clear();
-    let Ok(()) = listing.extend_from_slice(BUILT_IN_TEXT) else {
-        unreachable!()
-    };
-    for resource in resources.values() {
-        let Ok(()) = listing.extend_from_slice(resource.listed.as_bytes()) else {
-            unreachable!()
-        };
-    }
 }

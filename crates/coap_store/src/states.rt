@@ -3,9 +3,9 @@
 ghost use Rattle.std.specs.Prelude.{◌≡◌};
 ghost use Rattle.coap_store.specs.Prelude.{state_of, state_value};
 
-use crate::found::RepresentationRef;
-use crate::path::PathKey;
+use crate::found::{PayloadText, RepresentationRef};
 use crate::store::Store;
+use coap_path::PathKey;
 use std::marker::Model;
 
 /// State of a path at a certain time. It borrows bytes of the store.
@@ -21,6 +21,8 @@ pub enum State<'s> {
 #[derive(Drop)]
 pub struct Present<'s> {
     found: RepresentationRef<'s>,
+    /// Text of the bytes, if these are a number.
+    text: PayloadText,
 }
 
 impl<'s> Model for Present<'s> {
@@ -28,9 +30,11 @@ impl<'s> Model for Present<'s> {
 
     ghost Value = { Representation };
 
-    ghost use Rattle.coap_store.specs.PresentViews.{present_value};
+    ghost use Rattle.coap_store.specs.PresentViews.{present_value, is_present};
 
     ghost view = { present_value };
+
+    ghost invariant = { is_present };
 }
 
 impl<'s> Present<'s> {
@@ -52,7 +56,7 @@ impl<'s> Present<'s> {
     pub fn bytes(&self) -> &[u8]
         ensures { result.now ≡ self.now.bytes }
     {
-        self.found.bytes.as_slice()
+        self.found.bytes.bytes(&self.text)
     }
 }
 
@@ -63,7 +67,10 @@ impl Store {
     {
         path.is_kept();
         match self.found_at(Some(path), path.kind(), now) {
-            Some(found) => State::Present(Present { found }),
+            Some(found) => State::Present(Present {
+                found,
+                text: found.bytes.text(),
+            }),
             None => State::Absent,
         }
     }

@@ -8,10 +8,10 @@ ghost use Rattle.coap_store.specs.Prelude.{IsStore, change_value, bytes_in};
 
 use crate::catalogue::Catalogue;
 use crate::found::Payload;
-use crate::path::PathKey;
 use crate::plan::Change;
 use crate::resource::Resource;
-use coap_text::{Decimal, decimal_digits};
+use coap_path::PathKey;
+use coap_text::Decimal;
 use std::alloc::{AllocError, Global};
 use std::marker::Model;
 
@@ -109,7 +109,7 @@ impl Store {
     {
         match self.moment.text_of(now) {
             Some(text) => Payload::Stored(text),
-            None => Payload::Decimal(decimal_digits(now)),
+            None => Payload::Decimal(now),
         }
     }
 

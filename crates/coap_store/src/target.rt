@@ -4,9 +4,7 @@ ghost use Rattle.std.specs.Prelude.{◌≡◌};
 ghost use Rattle.coap_store.specs.Prelude.{path_of as path_asked, key_for};
 
 use crate::found::RepresentationRef;
-use crate::path::PathKey;
-use crate::resource_kind::ResourceKind;
-use crate::uri_path::UriPath;
+use coap_path::{PathKey, ResourceKind, UriPath};
 use coap_wire::MessageRef;
 
 /// Content-Format text/plain (RFC 7252 section 12.3).

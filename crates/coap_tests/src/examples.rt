@@ -60,6 +60,18 @@ fn splits_a_stream(rt: HostRuntime) -> Result<(), Fail> {
 }
 
 #[test]
+fn parses_a_frame_of_a_stream(rt: HostRuntime) -> Result<(), Fail> {
+    let mut framer = Framer::new(rt.alloc(), 1_152)?;
+    let framed = framer.next_frame(b"\x51\x01\x2a\xb4time");
+    if let Some(frame) = framed.what.laid_out()? {
+        assert!(&rt; frame.layout.token_at == 2 && frame.layout.token_length == 1);
+        let message = frame.parse()?;
+        assert!(&rt; message.token().bytes() == b"\x2a".as_slice());
+    }
+    Ok(())
+}
+
+#[test]
 fn sets_limits(rt: HostRuntime) -> Result<(), Fail> {
     let limits = Limits::builder().max_message(1_152).pending(64).build()?;
     assert!(&rt; limits.max_message() == 1_152);

@@ -273,11 +273,11 @@ declared_only s BadToken fits p = sym (bad_token_declared s p)
 
 -- ---- the head
 
-head_nothing : head_at [] ≡ Err NotOneFrame
+pub head_nothing : head_at [] ≡ Err NotOneFrame
 unfolding head_at
 head_nothing = refl
 
-head_no_length : (b : ℕ) (s : List ℕ) → b % 16 ≡ 15 → head_at (b ∷ s) ≡ Err TokenLength
+pub head_no_length : (b : ℕ) (s : List ℕ) → b % 16 ≡ 15 → head_at (b ∷ s) ≡ Err TokenLength
 unfolding head_at
 head_no_length b s h = rw (eq-eqb (b % 16) 15 h) refl
 
@@ -289,7 +289,7 @@ cut_behind : (x n : ℕ) (s : List ℕ) → option_number_at x (drop 1 s) ≡ No
 cut_behind x n [] none = refl
 cut_behind x n (c ∷ s) none = ap (head_with c n) none
 
-head_cut : (b : ℕ) (s : List ℕ) → IsCutHead b s → head_at (b ∷ s) ≡ Err NotOneFrame
+pub head_cut : (b : ℕ) (s : List ℕ) → IsCutHead b s → head_at (b ∷ s) ≡ Err NotOneFrame
 head_cut b s c =
     elim (c.cut) [
       | inl none ↦ head_by b s c.nibble ∙ ap (head_from (b % 16)) none
@@ -301,17 +301,21 @@ head_read : (b : ℕ) (s : List ℕ) (t n : ℕ) (at_code at_token : List ℕ) (
 head_read b s t n at_code at_token code nibble body token =
     head_by b s nibble ∙ ap (head_from (b % 16)) body ∙ ap (head_with code n) token
 
-head_made : ℕ → ℕ → List ℕ → Head
+pub head_made : ℕ → ℕ → List ℕ → Head
 head_made code t s = record { code = code; token = take t s; body = drop t s }
 
-head_long : (code t n : ℕ) (s : List ℕ) → greatest_token < t → head_with code n (Some (t, s)) ≡ Err TokenLength
+pub head_long : (code t n : ℕ) (s : List ℕ) → greatest_token < t → head_with code n (Some (t, s)) ≡ Err TokenLength
 head_long code t n s long = rw (lt-ltb greatest_token t long) refl
 
-head_whole : (code t n : ℕ) (s : List ℕ) → t ≤ greatest_token → length s ≡ t + n → head_with code n (Some (t, s)) ≡ Ok (head_made code t s)
+pub head_made_is : (code t : ℕ) (s : List ℕ) → head_made code t s ≡ record { code = code; token = take t s; body = drop t s }
+unfolding head_made
+head_made_is code t s = refl
+
+pub head_whole : (code t n : ℕ) (s : List ℕ) → t ≤ greatest_token → length s ≡ t + n → head_with code n (Some (t, s)) ≡ Ok (head_made code t s)
 unfolding head_made
 head_whole code t n s short h = rw (le-ltb greatest_token t short, eq-eqb (length s) (t + n) h) refl
 
-head_not_whole : (code t n : ℕ) (s : List ℕ) → t ≤ greatest_token → length s ≢ t + n → head_with code n (Some (t, s)) ≡ Err NotOneFrame
+pub head_not_whole : (code t n : ℕ) (s : List ℕ) → t ≤ greatest_token → length s ≢ t + n → head_with code n (Some (t, s)) ≡ Err NotOneFrame
 head_not_whole code t n s short h = rw (le-ltb greatest_token t short, ne_eqb (length s) (t + n) h) refl
 
 -- If no byte follows the length, the token length has no extension.
@@ -323,7 +327,7 @@ few_token x t behind e =
     ]
 
 -- The result for a head whose lengths are decoded: no code, or the parts after the code.
-abbrev HeadParts : ℕ → List ℕ → ℕ → ℕ → List ℕ → List ℕ → Type 0
+abbrev pub HeadParts : ℕ → List ℕ → ℕ → ℕ → List ℕ → List ℕ → Type 0
 HeadParts b s t n at_code at_token =
     ((at_code ≡ []) × (head_at (b ∷ s) ≡ Err NotOneFrame) × (t ≤ greatest_token))
     ⊎ ((code : ℕ) × (behind : List ℕ) × (at_code ≡ code ∷ behind) × (head_at (b ∷ s) ≡ head_with code n (Some (t, at_token))))
@@ -334,7 +338,7 @@ parts_by b s t n [] at_token nibble body token =
     inl (refl, head_by b s nibble ∙ ap (head_from (b % 16)) body, few_token (b % 16) t at_token token)
 parts_by b s t n (code ∷ behind) at_token nibble body token = inr (code, behind, refl, head_read b s t n behind at_token code nibble body token)
 
-head_parts : (b : ℕ) (s : List ℕ) (t n : ℕ) → (r : ReadsLengths b s t n) → HeadParts b s t n r.at_code r.at_token
+pub head_parts : (b : ℕ) (s : List ℕ) (t n : ℕ) → (r : ReadsLengths b s t n) → HeadParts b s t n r.at_code r.at_token
 head_parts b s t n r = parts_by b s t n r.at_code r.at_token r.nibble r.body r.token
 
 -- The bytes of a decoded head encode it, and its body has bytes only.

@@ -16,6 +16,7 @@ pub mod FaultLaws
 pub mod ReadingLaws
 pub mod ParseLemmas
 pub mod StreamSteps
+pub mod LayoutLaws
 pub mod SizesLaws
 pub mod StreamLaws
 pub mod FramesLaws

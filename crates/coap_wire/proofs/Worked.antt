@@ -4,7 +4,8 @@ use Rattle.coap_wire.specs.Prelude.{length_form, spelling, option_spelling, byte
 use Rattle.coap_wire.specs.Prelude.{one_byte_at, two_bytes_at, four_bytes_at, length_at, option_number_at, head_at}
 use Rattle.coap_wire.specs.Prelude.{option_head_at, option_at, body_within, body_at, Unknown, Size, BadToken}
 use Rattle.coap_wire.specs.Prelude.{TokenLength, OptionDelta, OptionLength, OptionCut, OptionNumber, EmptyPayload}
-use Rattle.coap_wire.specs.Prelude.{NotOneFrame}
+use Rattle.coap_wire.specs.Prelude.{NotOneFrame, outline_of}
+use Rattle.coap_wire.specs.declared.layout.Outline.TheVariants.{Known}
 use Rattle.coap_wire.specs.Prelude.{BASE_MESSAGE_SIZE, MAX_EXTENDED_LENGTH, LARGEST_MESSAGE, LARGEST_SENT_MESSAGE}
 use Rattle.coap_wire.specs.Prelude.{LARGEST_QUEUE, DEFAULT_QUEUE}
 
@@ -53,6 +54,19 @@ uint_65536 = refl
 uint_0 : bytes_of_uint 0 ≡ []
 unfolding bytes_of_uint
 uint_0 = refl
+
+-- The layout of three frames: GET /time with a token of one byte, a length of 23, and a token of 64 bytes.
+layout_time : outline_of (0x51 ∷ 0x01 ∷ 0x01 ∷ 0xb4 ∷ []) ≡ Known 8 (record { code_at = 1; token_at = 2; token_length = 1 })
+unfolding outline_of length_at option_number_at
+layout_time = refl
+
+layout_23 : outline_of (0xd1 ∷ 0x0a ∷ 0x01 ∷ []) ≡ Known 27 (record { code_at = 2; token_at = 3; token_length = 1 })
+unfolding outline_of length_at one_byte_at option_number_at
+layout_23 = refl
+
+layout_token_64 : outline_of (0x0d ∷ 0x01 ∷ 0x33 ∷ []) ≡ Known 67 (record { code_at = 1; token_at = 3; token_length = 64 })
+unfolding outline_of length_at one_byte_at option_number_at
+layout_token_64 = refl
 
 -- The largest size without a token.
 size_greatest : declared_of (0xf0 ∷ 0xff ∷ 0xff ∷ 0xff ∷ 0xff ∷ []) ≡ Size 4295033106

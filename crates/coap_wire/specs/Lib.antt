@@ -4,6 +4,7 @@ pub mod Spelling
 pub mod Size
 pub mod Faults
 pub mod Reading
+pub mod Layout
 pub mod Uint
 pub mod Refusal
 pub mod Views

@@ -23,6 +23,8 @@ pub use Rattle.coap_wire.specs.Frames.{Frames, Sizes, FramedAs, constant_size, s
 pub use Rattle.coap_wire.specs.Frames.{frames_on, AreAtMost, AreFrames, FramesEndWith, StandsBehind, frames_gone_on}
 pub use Rattle.coap_wire.specs.Frames.{frames_then, size_behind, sizes_first, with_frame}
 unfoldable pub use Rattle.coap_wire.specs.Frames.{sized_frames, frames_within}
+pub use Rattle.coap_wire.specs.Layout.{declared_in, outline_with, outline_from, IsLaidOut}
+unfoldable pub use Rattle.coap_wire.specs.Layout.{outline_of}
 pub use Rattle.coap_wire.specs.Message.{last_number, Message, CoapOption, AreBytes, AreOrdered, IsByte}
 pub use Rattle.coap_wire.specs.Message.{BodyValue, body_of}
 pub use Rattle.coap_wire.specs.Reading.{options_in, token_length_at, Head, both_at, head_behind, head_from, head_with}
@@ -64,3 +66,5 @@ pub use Rattle.coap_wire.specs.declared.declaration.Declared.{Declared}
 pub use Rattle.coap_wire.specs.declared.declaration.Declared.TheVariants.{BadToken, Size, Unknown}
 pub use Rattle.coap_wire.specs.declared.option_table.OptionKind.{OptionKind}
 pub use Rattle.coap_wire.specs.declared.option.OptionRef.{OptionRef}
+pub use Rattle.coap_wire.specs.declared.layout.FrameLayout.{FrameLayout}
+pub use Rattle.coap_wire.specs.declared.layout.Outline.{Outline}

@@ -71,7 +71,7 @@ impl<'t, 'p, const N: usize> CompactBuilder<'t, 'p, N> {
     ///
     /// - The number is not below that of the last option.
     /// - The encoded options have at most `N` bytes, counting 5 bytes and the value for the new one.
-    #[inline]
+    #[inline(always)]
     pub fn option(&mut self, number: u16, value: &[u8])
         requires order { last_number 0 self.old.options ≤ number }
         requires room { encoded_size self.old + 5 + length value.now ≤ N }
@@ -88,7 +88,7 @@ impl<'t, 'p, const N: usize> CompactBuilder<'t, 'p, N> {
     ///
     /// - The number is not below that of the last option.
     /// - The encoded options have at most `N` bytes, counting 9 bytes for the new one.
-    #[inline]
+    #[inline(always)]
     pub fn uint_option(&mut self, number: u16, value: u32)
         requires order { last_number 0 self.old.options ≤ number }
         requires room { encoded_size self.old + 9 ≤ N }
@@ -101,6 +101,17 @@ impl<'t, 'p, const N: usize> CompactBuilder<'t, 'p, N> {
         if value < 256 {
             return self.option(number, &[value as u8]);
         }
+        self.long_uint_option(number, value);
+    }
+
+    /// Does the same as `uint_option`, and is never inlined. (Most numbers have at most one byte.)
+    #[inline(never)]
+    fn long_uint_option(&mut self, number: u16, value: u32)
+        requires order { last_number 0 self.old.options ≤ number }
+        requires room { encoded_size self.old + 9 ≤ N }
+        ensures added { self.new ≡ with_option self.old number (bytes_of_uint value) }
+        ensures size { encoded_size self.new ≤ encoded_size self.old + 9 }
+    {
         self.option(number, significant_bytes(&value.to_be_bytes()));
     }
 

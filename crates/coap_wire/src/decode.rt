@@ -1,14 +1,16 @@
 //! Functions that decode the parts of a frame, from left to right.
 
-ghost use Rattle.std.specs.Prelude.{◌≡◌, ◌≤◌, length, option_map, IfSome, IfOk};
+ghost use Rattle.std.specs.Prelude.{◌≡◌, ◌≤◌, length, option_map, IfSome, IfOk, Ok};
 ghost use Rattle.coap_wire.specs.Prelude.{greatest_length, MAX_EXTENDED_LENGTH, one_byte_at, two_bytes_at};
 ghost use Rattle.coap_wire.specs.Prelude.{four_bytes_at, length_at, option_number_at, token_length_at, head_at};
 ghost use Rattle.coap_wire.specs.Prelude.{option_head_at, option_at, body_at, Gives, GivesPayload, coap_option};
+ghost use Rattle.coap_wire.specs.Prelude.{IsLaidOut};
 
 use crate::code::Code;
 use crate::fault::FormatFault;
+use crate::layout::FrameLayout;
 use crate::option::{OptionRef, PAYLOAD_MARKER};
-use crate::token::{MAX_TOKEN, TokenRef};
+use crate::token::TokenRef;
 
 /// Nibble that encodes no token length (RFC 8974 section 2.1).
 pub(crate) const NO_TOKEN_LENGTH: u8 = 15;
@@ -92,45 +94,32 @@ pub(crate) fn read_token_length(nibble: u8, bytes: &[u8]) -> Option<(u32, &[u8])
     read_option_number(nibble, bytes)
 }
 
-/// Returns the token, the body and the code of bytes that are exactly one frame. The body is the options, the marker
-/// and the payload.
+/// Returns the token, the body and the code of a frame with this layout. The body is the options, the marker and the
+/// payload.
 #[inline(always)]
-#[tactic(auto, unfolding(crate::specs::Reading::head_at))]
-pub(crate) fn head_of(frame: &[u8]) -> Result<(TokenRef<'_>, &[u8], Code), FormatFault>
-    ensures { Gives (λ x. record { code = x.2; token = x.0; body = x.1.now }) result (head_at frame.now) }
+pub(crate) fn head_laid_out(frame: &[u8], layout: FrameLayout) -> (TokenRef<'_>, &[u8], Code)
+    requires { IsLaidOut frame.now layout }
+    ensures { head_at frame.now ≡ Ok (record { code = result.2; token = result.0; body = result.1.now }) }
 {
-    let Some((first, rest)) = frame.split_first() else {
-        return Err(FormatFault::NotOneFrame);
-    };
-    if *first % 16 == NO_TOKEN_LENGTH {
-        return Err(FormatFault::TokenLength);
-    }
-    let Some((length, rest)) = read_length(*first / 16, rest) else {
-        return Err(FormatFault::NotOneFrame);
-    };
-    let Some((code, rest)) = rest.split_first() else {
-        return Err(FormatFault::NotOneFrame);
-    };
-    let Some((token_length, rest)) = read_token_length(*first % 16, rest) else {
-        return Err(FormatFault::NotOneFrame);
-    };
-    let token_length = token_length as usize;
-    if token_length > MAX_TOKEN {
-        return Err(FormatFault::TokenLength);
-    }
-    if rest.len() as u64 != token_length as u64 + length {
-        return Err(FormatFault::NotOneFrame);
-    }
-    let (token, body) = rest.split_at(token_length);
-    Ok((TokenRef::of_bytes(token), body, Code::new(*code)))
+    let (_, behind) = frame.split_at(layout.token_at);
+    let (token, body) = behind.split_at(layout.token_length);
+    (
+        TokenRef::of_bytes(token),
+        body,
+        Code::new(frame[layout.code_at]),
+    )
 }
 
 /// Returns the delta and the length of an option with this first byte, and the bytes after both extensions.
-#[tactic(auto, unfolding(crate::specs::Reading::option_head_at))]
+// An option without extensions is common, and is therefore tested first.
+#[tactic(auto, unfolding(crate::specs::Reading::option_head_at, crate::specs::Reading::option_number_at))]
 fn option_head(first: u8, after: &[u8]) -> Result<(u32, u32, &[u8]), FormatFault>
     ensures value { Gives (λ x. (x.0, x.1, x.2.now)) result (option_head_at first after.now) }
     ensures bound { IfOk result (λ x. x.0 ≤ MAX_EXTENDED_LENGTH) }
 {
+    if first / 16 < 13 && first % 16 < 13 {
+        return Ok((u32::from(first / 16), u32::from(first % 16), after));
+    }
     if first / 16 == 15 {
         return Err(FormatFault::OptionDelta);
     }
@@ -168,6 +157,7 @@ pub(crate) fn read_option(
 }
 
 /// Returns the payload of a body, after reading all options, or the first error of the body.
+#[inline(always)]
 pub(crate) fn payload_of(body: &[u8]) -> Result<&[u8], FormatFault>
     ensures { GivesPayload result (body_at 0 body.now) }
 {

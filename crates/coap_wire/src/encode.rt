@@ -1,9 +1,9 @@
 //! Functions that encode the parts of a frame, and functions that return the length of an encoding.
 
-ghost use Rattle.std.specs.Prelude.{◌≡◌, ℕ, ◌+◌, ◌-◌, ◌≤◌, ◌<◌, List, ◌++◌, length};
+ghost use Rattle.std.specs.Prelude.{◌≡◌, ℕ, ◌+◌, ◌-◌, ◌*◌, ◌≤◌, ◌<◌, List, ◌∷◌, ◌++◌, length};
 ghost use Rattle.coap_wire.specs.Prelude.{AllByRecursion, AreOrdered, greatest_token, greatest_length};
 ghost use Rattle.coap_wire.specs.Prelude.{MAX_EXTENDED_LENGTH, HasOptionForm, option_spelling, options_spelling};
-ghost use Rattle.coap_wire.specs.Prelude.{payload_marker, head_spelling, coap_option, coap_options};
+ghost use Rattle.coap_wire.specs.Prelude.{payload_marker, head_spelling, length_form, coap_option, coap_options};
 
 use crate::code::Code;
 use crate::form::{
@@ -38,7 +38,7 @@ pub(crate) fn head_size(token: usize, body: u64) -> u64
 
 /// Writes a head: the first byte, the extension of the length, the code, the extension of the token length, and the
 /// token. `body` is the length of the options, the marker and the payload.
-#[inline]
+#[inline(always)]
 pub(crate) fn write_head<S: Sink>(out: &mut S, code: Code, token: &[u8], body: u64)
     requires token { length token.now ≤ greatest_token }
     requires body { body ≤ greatest_length }
@@ -46,16 +46,40 @@ pub(crate) fn write_head<S: Sink>(out: &mut S, code: Code, token: &[u8], body: u
     ensures appended { S.contents out.new ≡ S.contents out.old ++ head_spelling code token.now body }
     ensures less_room { S.space out.new + length (head_spelling code token.now body) ≡ S.space out.old }
 {
-    let token_length = token.len() as u32;
-    out.push(length_nibble(body) * 16 + option_nibble(token_length));
-    write_length_extension(out, body);
+    // A token has at most 64 bytes, so its length has at most one byte of extension, and then the nibble 13.
+    let token_length = token.len();
+    write_length(out, body, token_length.min(13) as u8);
     out.push(code.byte());
-    write_option_extension(out, token_length);
+    if token_length >= 13 {
+        out.push((token_length - 13) as u8);
+    }
     out.append(token);
 }
 
+/// Writes the first byte of a head, with this nibble of the token length, and the extension of the body's length.
+#[inline(always)]
+fn write_length<S: Sink>(out: &mut S, body: u64, nibble: u8)
+    requires body { body ≤ greatest_length }
+    requires nibble { nibble ≤ 14 }
+    requires room { 1 + length (length_form body).1 ≤ S.space out.old }
+    ensures appended { S.contents out.new
+        ≡ S.contents out.old ++ (16 * (length_form body).0 + nibble) ∷ (length_form body).1 }
+    ensures less_room { S.space out.new + (1 + length (length_form body).1) ≡ S.space out.old }
+{
+    // Most bodies are short.
+    if body < 13 {
+        return out.push(body as u8 * 16 + nibble);
+    }
+    if body < 269 {
+        out.push(13 * 16 + nibble);
+        return out.push((body - 13) as u8);
+    }
+    out.push(length_nibble(body) * 16 + nibble);
+    write_length_extension(out, body);
+}
+
 /// Writes an option. The delta is the difference of its number and `base`.
-#[inline]
+#[inline(always)]
 pub(crate) fn write_option<S: Sink>(out: &mut S, base: u16, number: u16, value: &[u8])
     requires ordered { base ≤ number }
     requires short { length value.now ≤ MAX_EXTENDED_LENGTH }
@@ -67,6 +91,11 @@ pub(crate) fn write_option<S: Sink>(out: &mut S, base: u16, number: u16, value: 
 {
     let delta = u32::from(number - base);
     let count = value.len() as u32;
+    // Most options have no extensions.
+    if delta < 13 && count < 13 {
+        out.push(delta as u8 * 16 + count as u8);
+        return out.append(value);
+    }
     out.push(option_nibble(delta) * 16 + option_nibble(count));
     write_option_extension(out, delta);
     write_option_extension(out, count);

@@ -3,8 +3,10 @@
 //!
 //! - `parse` decodes a frame into a `MessageRef`, which borrows the frame's bytes. `Options`, `RecognisedOptions` and
 //!   `CheckedOptions` iterate over its options.
+//! - `FrameRef` is a frame with its layout, as `coap_frame` returns it. Its `parse` does not read the head again.
 //! - `Builder` and `CompactBuilder` encode a message into a `Sink`.
-//! - `declared` returns the size that the first bytes of a frame declare, or reports an invalid token length.
+//! - `declared` returns the size that the first bytes of a frame declare, or reports an invalid token length. `outline`
+//!   also returns the layout of the frame.
 //! - `Token`, `Code`, `kind` (the table of options), `uint_value` and `uint_bytes` are the parts of messages. Sizes
 //!   that several crates use are constants here, such as `LARGEST_MESSAGE`.
 //! - `laws` has the theorems on encodings, streams and options.
@@ -26,7 +28,9 @@ mod decode;
 mod encode;
 mod fault;
 mod form;
+mod frame;
 pub mod laws;
+mod layout;
 mod message;
 mod option;
 pub mod option_numbers;
@@ -45,13 +49,15 @@ pub use code::Code;
 pub use compact::{CompactBuilder, SHORT_OPTIONS, ShortBuilder};
 pub use declaration::Declared;
 pub use fault::{BuildFault, FormatFault, FrameFault};
+pub use frame::FrameRef;
+pub use layout::{FrameLayout, Outline};
 pub use message::{MessageRef, parse};
 pub use option::OptionRef;
 pub use option_table::{OptionKind, kind};
 pub use options::Options;
 pub use recognition::{CheckedOption, CheckedOptions, RecognisedOptions};
 pub use sink::{Sink, SliceSink};
-pub use size::declared;
+pub use size::{declared, outline};
 pub use sizes::{
     BASE_MESSAGE_SIZE, DEFAULT_QUEUE, LARGEST_MESSAGE, LARGEST_QUEUE, LARGEST_SENT_MESSAGE,
     MAX_EXTENDED_LENGTH,

@@ -2,12 +2,13 @@
 
 ghost use Rattle.std.specs.Prelude.{◌≡◌, Ok, IfOk, IfErr};
 ghost use Rattle.coap_wire.specs.Prelude.{Message, body_of, Spells, IsFirstFault, message_of, AreOrdered};
-ghost use Rattle.coap_wire.specs.Prelude.{known_options, checked_options, first_critical};
+ghost use Rattle.coap_wire.specs.Prelude.{body_at, options_in, known_options, checked_options, first_critical};
 
 use crate::body::Body;
 use crate::code::Code;
-use crate::decode::{head_of, payload_of};
+use crate::decode::{head_laid_out, payload_of};
 use crate::fault::FormatFault;
+use crate::frame::FrameRef;
 use crate::options::Options;
 use crate::recognition::{CheckedOptions, RecognisedOptions, first_unrecognised_critical};
 use crate::token::TokenRef;
@@ -36,6 +37,25 @@ impl<'a> Model for MessageRef<'a> {
 }
 
 impl<'a> MessageRef<'a> {
+    /// Returns the message with these parts. The body must have this payload.
+    #[inline(always)]
+    pub(crate) fn of_parts(
+        code: Code,
+        token: TokenRef<'a>,
+        body: &'a [u8],
+        payload: &'a [u8],
+    ) -> MessageRef<'a>
+        requires { body_at 0 body.now ≡ Ok (options_in 0 body.now, payload.now) }
+        ensures { result ≡ record { code = code; token = token.entry; options = options_in 0 body.now; payload = payload.now } }
+    {
+        MessageRef {
+            token,
+            body,
+            payload,
+            code,
+        }
+    }
+
     /// Returns the options and the payload. They borrow the bytes of the frame, not `self`.
     pub fn body(&self) -> Body<'a>
         ensures { result ≡ body_of self.now }
@@ -98,6 +118,24 @@ impl<'a> MessageRef<'a> {
     }
 }
 
+impl<'a> FrameRef<'a> {
+    /// Returns the message that the frame encodes. The head of the frame is not read again.
+    ///
+    /// # Errors
+    ///
+    /// Those of `parse`, in the same order. `TokenLength` and `NotOneFrame` are never returned.
+    #[inline(always)]
+    #[tactic(auto, unfolding(crate::specs::Reading::message_of))]
+    pub fn parse(self) -> Result<MessageRef<'a>, FormatFault>
+        // The result is that of `parse`.
+        ensures { result ≡ message_of self.entry.bytes.now }
+    {
+        let (token, body, code) = head_laid_out(self.bytes, self.layout);
+        let payload = payload_of(body)?;
+        Ok(MessageRef::of_parts(code, token, body, payload))
+    }
+}
+
 /// Returns the message that the bytes encode (RFC 8323 section 3.2, RFC 7252 section 3.1).
 ///
 /// # Errors
@@ -147,12 +185,5 @@ pub fn parse(frame: &[u8]) -> Result<MessageRef<'_>, FormatFault>
 fn message_in(frame: &[u8]) -> Result<MessageRef<'_>, FormatFault>
     ensures { result ≡ message_of frame.now }
 {
-    let (token, body, code) = head_of(frame)?;
-    let payload = payload_of(body)?;
-    Ok(MessageRef {
-        code,
-        token,
-        body,
-        payload,
-    })
+    FrameRef::of(frame)?.parse()
 }

@@ -6,14 +6,31 @@ ghost use Rattle.coap_wire.specs.Prelude.{AreOrdered, is_recognised, option_befo
 ghost use Rattle.coap_wire.specs.Prelude.{known_options, checked_option, checked_options, YieldsFirstBy, item_count};
 
 use crate::option::OptionRef;
+use crate::option_numbers::URI_PATH;
 use crate::option_table::kind;
 use crate::options::Options;
 use std::marker::Model;
 
+/// Maximum length of a path segment in bytes (RFC 7252 section 5.10).
+const MAX_SEGMENT: usize = 255;
+
 /// Returns `true` if an option is recognised. `before` is the number of the option before it in the message, if there
 /// is one.
-#[tactic(auto, unfolding(crate::specs::Recognition::is_recognised))]
+// Uri-Path, which most requests have, needs no look at the table.
+#[inline(always)]
+#[tactic(auto, unfolding(crate::specs::Recognition::is_recognised, crate::specs::Recognition::kind_of))]
 fn recognises(before: Option<u16>, option: &OptionRef) -> bool
+    ensures { result ≡ is_recognised (option_before before) (coap_option option.now) }
+{
+    if option.number == URI_PATH {
+        return option.value.len() <= MAX_SEGMENT;
+    }
+    recognises_by_table(before, option)
+}
+
+/// Returns `true` if an option is recognised, as `recognises` does.
+#[tactic(auto, unfolding(crate::specs::Recognition::is_recognised))]
+fn recognises_by_table(before: Option<u16>, option: &OptionRef) -> bool
     ensures { result ≡ is_recognised (option_before before) (coap_option option.now) }
 {
     let Some(kind) = kind(option.number) else {

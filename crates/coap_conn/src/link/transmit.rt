@@ -50,7 +50,7 @@ impl Link {
     /// # Preconditions
     ///
     /// As `reply`.
-    #[inline]
+    #[inline(always)]
     pub fn reply_compact<const N: usize>(&mut self, response: &CompactBuilder<N>) -> Reply
         requires ready { IsReady self.old }
         requires answering { IsAnswering self.old.phase }
@@ -128,10 +128,10 @@ impl Link {
             ≡ record self.old { waiting = self.old.waiting ++ bytes_of (fitted whole.now less.now result) } }
     {
         let limit = self.limit();
-        if self.queue.offer(whole, limit) {
+        if self.queue.offer_short(whole, limit) {
             return Reply::Whole;
         }
-        if self.queue.offer(less, limit) {
+        if self.queue.offer_short(less, limit) {
             return Reply::Bare;
         }
         Reply::Stopped
@@ -157,6 +157,7 @@ impl Link {
     /// Queues the bare response with this code and token in place of one that does not fit the peer's limit. If the
     /// bare response does not fit either, stops the connection. (A separate function: a function clears all its locals,
     /// so these would slow down `reply`.)
+    #[inline(never)]
     fn reply_bare(&mut self, code: Code, token: &TokenRef) -> Reply
         requires { IsReady self.old }
         ensures reply { (response : Message) → response.code ≡ code → response.token ≡ token.now →
@@ -168,7 +169,7 @@ impl Link {
     {
         let bare = bare_of(code, token);
         let limit = self.limit();
-        if self.queue.offer(&bare, limit) {
+        if self.queue.offer_short(&bare, limit) {
             return Reply::Bare;
         }
         self.stop(Reason::PeerTooSmall);

@@ -4,7 +4,7 @@ use Rattle.coap_model.specs.Prelude.{Message, class_of, bare_code, Path, Represe
 use Rattle.coap_model.specs.Prelude.{target_of, path_of, get_answer, stored_under, store_answer, read_answer}
 use Rattle.coap_model.specs.Prelude.{method_answer, resource_answer, answer_at, answer_of, immediate_answer}
 use Rattle.coap_store.specs.Answer.{Answer}
-use Rattle.coap_store.specs.declared.resource_kind.ResourceKind.{ResourceKind}
+use Rattle.coap_path.specs.declared.resource_kind.ResourceKind.{ResourceKind}
 
 abbrev pub coded : ℕ → Bool
 coded c = class_of c == 2 || (class_of c == 4 || class_of c == 5)

@@ -12,7 +12,7 @@ use Rattle.coap_model.specs.Prelude.{response_with_observe, responds, etag_of_st
 use Rattle.std.proofs.lemmas.Bool.{not-false, eqb-true, eq-eqb, and_parts, cond_both}
 use lib.Pointwise.{bytes_decides}
 use Rattle.coap_store.specs.Answer.{Answer}
-use Rattle.coap_store.specs.declared.resource_kind.ResourceKind.{ResourceKind}
+use Rattle.coap_path.specs.declared.resource_kind.ResourceKind.{ResourceKind}
 use Rattle.coap_store.proofs.CatalogueLemmas.{same_format}
 use Rattle.coap_store.proofs.ChangeLaws.{put_is_stored, other_is_kept_on_put, other_is_kept_on_delete, deleted_is_gone, distinct_stays}
 use Rattle.coap_store.proofs.VersionLaws.{by_path}

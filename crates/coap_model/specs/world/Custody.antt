@@ -8,7 +8,7 @@ use Rattle.coap_conn.specs.declared.reason.Reason.{Reason}
 use Rattle.coap_conn.specs.declared.phase.Phase.TheVariants.{Stopped}
 use Rattle.coap_conn.specs.PendingEntries.{PendingEntryValue, Answer, Pong}
 use Rattle.coap_conn.specs.Reaction.{asks_custody, is_custody_pong}
-use Rattle.coap_store.specs.Paths.{same_bytes}
+use Rattle.coap_path.specs.Paths.{same_bytes}
 use Rattle.coap_store.specs.Answer.{is_delayed}
 use Rattle.coap_model.specs.world.Connections.{Connection}
 

@@ -5,7 +5,7 @@ use Rattle.coap_wire.specs.Stream.{StreamFault, Stream, sized_split}
 use Rattle.coap_frame.specs.Framing.{framing}
 use Rattle.coap_conn.specs.History.{link_of}
 use Rattle.coap_conn.specs.Release.{release_refusal}
-use Rattle.coap_store.specs.Paths.{Path}
+use Rattle.coap_path.specs.Paths.{Path}
 use Rattle.coap_store.specs.Refusals.{put_refusal, remove_refusal}
 use Rattle.coap_model.specs.Configs.{ConfigValues}
 use Rattle.coap_model.specs.world.Connections.{Connection, handles, waiting_on, is_cut, may_raise}

@@ -5,9 +5,9 @@ use Rattle.std.specs.List.{AllByRecursion, list_any}
 use Rattle.coap_wire.specs.Message.{Message}
 use Rattle.coap_wire.specs.Codes as code
 use Rattle.coap_conn.specs.Reaction.{is_response}
-use Rattle.coap_store.specs.Paths.{same_bytes}
+use Rattle.coap_path.specs.Paths.{same_bytes}
 use Rattle.coap_store.specs.Store.{Representation}
-use Rattle.coap_store.specs.State.{kind_of_path, is_dynamic}
+use Rattle.coap_path.specs.ResourceKinds.{kind_of_path, is_dynamic}
 use Rattle.coap_store.specs.Requests.{etag_of}
 use Rattle.coap_store.specs.Answer.{Response, only, content, is_delayed}
 use Rattle.coap_store.specs.Messages.{response_with_observe}

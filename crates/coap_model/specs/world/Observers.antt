@@ -5,7 +5,7 @@ use Rattle.coap_wire.specs.Message.{Message}
 use Rattle.coap_wire.specs.Codes as code
 use Rattle.coap_conn.specs.declared.phase.Reply.{Reply}
 use Rattle.coap_conn.specs.declared.phase.Reply.TheVariants.{Whole, Bare, Stopped}
-use Rattle.coap_store.specs.Paths.{Path, same_bytes}
+use Rattle.coap_path.specs.Paths.{Path, same_bytes}
 use Rattle.coap_store.specs.Store.{Representation, StoreValue}
 use Rattle.coap_store.specs.State.{state_of}
 use Rattle.coap_store.specs.Requests.{path_of}

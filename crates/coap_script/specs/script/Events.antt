@@ -1,6 +1,6 @@
 -- Defined by this project: the events that the lines of a script name.
 use Rattle.std.specs.Prelude.{ℕ, Bool, List, [], ◌∷◌, Option, Some, None, if◌then◌else◌, codes}
-use Rattle.coap_store.specs.Paths.{Path, same_bytes}
+use Rattle.coap_path.specs.Paths.{Path, same_bytes}
 use Rattle.coap_text.specs.Words.{decimal_value, hex_value}
 use Rattle.coap_script.specs.script.Words.{payload_value, format_value, path_value}
 

@@ -2,7 +2,7 @@
 use Rattle.std.specs.Prelude.{ℕ, ◌==◌, List, [], ◌∷◌, map, nat_le, Option, Some, None, if◌then◌else◌}
 use Rattle.percent_encoding.specs.Percent.{percent_decode}
 use Rattle.coap_text.specs.Words.{parts, is_hyphen, decimal_value, hex_value}
-use Rattle.coap_store.specs.Paths.{Path}
+use Rattle.coap_path.specs.Paths.{Path}
 use Rattle.coap_store.specs.State.{key_for}
 
 abbrev pub newline : ℕ

@@ -72,7 +72,7 @@ pub same_length : {P : Type 0} (es fs : List (ℕ × P)) → keys_of es ≡ keys
 same_length es fs same = simp length-map at (ap length same)
 
 -- A value at an index is that of the entry at this index.
-value_at : {P : Type 0} (es : List (ℕ × P)) (i : ℕ) (p : P) → slice_get (values_of es) i ≡ Some p → (e : ℕ × P) × (slice_get es i ≡ Some e) × (e.1 ≡ p)
+pub value_at : {P : Type 0} (es : List (ℕ × P)) (i : ℕ) (p : P) → slice_get (values_of es) i ≡ Some p → (e : ℕ × P) × (slice_get es i ≡ Some e) × (e.1 ≡ p)
 value_at es i p at = one_made (λ e. e.1) (slice_get es i) p (sym (slice_get-map (λ e. e.1) es i) ∙ at)
 
 pub some_at_index : {X : Type 0} (xs : List X) (i : ℕ) → i < length xs → (x : X) × (slice_get xs i ≡ Some x)

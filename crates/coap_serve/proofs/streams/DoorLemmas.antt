@@ -2,7 +2,7 @@
 use Rattle.std.proofs.Common.{◌≡◌, ℕ, ◌+◌, ◌<◌, Bool, false, List, [], ◌∷◌, ◌++◌, length, Option, Result, Ok, Err, OnOk, OnErr, refl, ap, ◌∙◌, arith, inr}
 use Rattle.coap_serve.specs.Prelude.{is_none, ConfigValues, Peer, IoFault, Memory, Wait, open_refusal, ServerValue}
 use Rattle.coap_serve.specs.Prelude.{OneMore, HasTurnedSo, IsCutRun, EndsWith, moved_to, waited_behind}
-use Rattle.coap_serve.specs.Prelude.{IsTurnOf, IsAskedOnce, asked_by, TellsMore, DoorCall, IsMemory, WireTrace}
+use Rattle.coap_serve.specs.Prelude.{IsTurnOf, IsAskedOnce, asked_by, TellsMore, DoorCall, IsMemory, IsMemoryOrTurns, WireTrace}
 use Rattle.coap_serve.specs.Prelude.{AcceptedCall, Ticked, HasTurned, ShowsMore, Shows, opening}
 use Rattle.std.proofs.lemmas.List.{append-nil, length-append}
 use Rattle.coap_io.proofs.streams.DeviceLemmas.{told_then}
@@ -120,3 +120,10 @@ module _ {W : Type 0} (readable writable : W → Option Bool) (trace : W → Wir
   pub ended_by_memory : (clock : List ℕ → Type 0) (door : List (DoorCall W) → Type 0) (monitor : List AcceptedCall → Type 0) (fault : IoFault) → IsMemory fault → IsCutRun readable writable trace c clock door monitor → EndsWith readable writable trace c clock door monitor fault
   ended_by_memory clock door monitor Memory is cut = inr cut
   ended_by_memory clock door monitor fault is cut = absurd is
+
+-- ---- the error of a run
+
+-- A failed allocation is one of the two errors that end a run over a listener.
+pub memory_ends : (T : Type 0) (fault : IoFault) → IsMemory fault → IsMemoryOrTurns {T = T} (Err fault)
+memory_ends T Memory is = tt
+memory_ends T fault is = absurd is

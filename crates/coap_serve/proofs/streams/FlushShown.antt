@@ -1,15 +1,18 @@
 -- A flush of a server that shows a world is the flush of that world, and no byte is queued after it. If it ends in the
 -- world for some bytes, the whole output for them was written.
-use Rattle.std.proofs.Common.{◌≡◌, ◌⊎◌, ℕ, zero, suc, ◌+◌, ◌≤◌, ◌==◌, List, [], ◌∷◌, ◌++◌, length, map, Option, Some, None, refl, sym, ap, ◌∙◌, append_assoc, arith, inl, inr}
+use Rattle.std.proofs.Common.{◌≡◌, ◌⊎◌, ℕ, zero, suc, ◌+◌, ◌≤◌, ◌==◌, List, [], ◌∷◌, ◌++◌, length, map, Option, Some, None, refl, sym, ap, subst, ◌∙◌, append_assoc, arith, inl, inr}
 use Rattle.std.proofs.lemmas.Bool.{cond_both}
 use Rattle.std.proofs.lemmas.Bool.Decides.{nat_tests}
-use Rattle.std.proofs.lemmas.List.{append-nil, length-map}
+use Rattle.std.proofs.lemmas.List.{append-nil, length-append, length-map}
 use Rattle.coap_serve.specs.Prelude.{ConfigValues, ServerValue, SessionValue, session_of, session_written, session_becomes}
 use Rattle.coap_serve.specs.Prelude.{settled_entry, server_written, waiting_in, waiting_at}
 use Rattle.coap_serve.specs.Prelude.{more_in, more_at, flush_turns, IsFlushed, Connection, waiting_on, side_written}
 use Rattle.coap_serve.specs.Prelude.{settled, World, side_of, AcceptedCall, Wrote, stream_on, steps_by, world_after}
 use Rattle.coap_serve.specs.Prelude.{spelled_on, Shows, session_shown, only_id, stream_of, more_of, written_times}
-use Rattle.coap_serve.specs.Prelude.{flushed, world_for, Outcome, stdio_output, IsAtBytes}
+use Rattle.coap_serve.specs.Prelude.{flushed, world_for, Outcome, stdio_output, IsAtBytes, AreTransfers, HasReported}
+use Rattle.coap_serve.specs.Prelude.{IsReportedFlush, TellsMore, calls_of_flush}
+use Rattle.coap_io.proofs.streams.DeviceLemmas.{told_then}
+use Rattle.coap_serve.proofs.streams.CallLemmas.{transfers_written, all_transferred}
 use Rattle.coap_model.specs.world.World as world
 use Rattle.coap_model.proofs.world.StepLaws.{world_step, spelled_same}
 use Rattle.coap_model.proofs.world.HearingLaws.{world_hears}
@@ -21,8 +24,9 @@ use Rattle.coap_model.proofs.world.GrowLaws.{front_written, same_front, none_wai
 use Rattle.coap_model.proofs.world.WalkLaws.{written_between}
 use Rattle.coap_model.proofs.world.AcrossLaws.{written_there}
 
--- The server after some iterations of a flush shows this world, and these bytes were written.
-pub record FlushShown (c : ConfigValues) (es : List AcceptedCall) (id : ℕ) (s : Connection) (turns : ℕ) (after : ServerValue) (text : List ℕ) : Type 0 where
+-- The server after some iterations of a flush shows this world, and these bytes were written. `more` are the calls of
+-- these iterations.
+pub record FlushShown (c : ConfigValues) (es : List AcceptedCall) (id : ℕ) (s : Connection) (turns : ℕ) (after : ServerValue) (text : List ℕ) (more : List AcceptedCall) : Type 0 where
   pub config : after.config ≡ c
   pub events : List AcceptedCall
   pub shows : Shows after events
@@ -31,6 +35,8 @@ pub record FlushShown (c : ConfigValues) (es : List AcceptedCall) (id : ℕ) (s 
   pub side : Connection
   pub there : side_of id (world_after c events).sides ≡ Some side
   pub said : front_written side ≡ front_written s ++ text
+  pub made : events ≡ es ++ more
+  pub transfers : (taken : List ℕ) (written : ℕ) → AreTransfers c id taken written es → AreTransfers c id taken (written + length text) events
 
 -- A server of this configuration shows a world in which the connection with this number is this one.
 pub record ShowsSide (c : ConfigValues) (v : ServerValue) (id : ℕ) (s : Connection) : Type 0 where
@@ -40,18 +46,20 @@ pub record ShowsSide (c : ConfigValues) (v : ServerValue) (id : ℕ) (s : Connec
   pub there : side_of id (world_after c events).sides ≡ Some s
 
 -- The same for the only connection. A flush leads from this world to the world for these bytes, and the connection
--- received the stream that they encode.
-pub record LeadsTo (c : ConfigValues) (v : ServerValue) (s : Connection) (bytes : List ℕ) : Type 0 where
+-- received the stream that they encode. The monitor received the calls that led to this world.
+pub record LeadsTo (c : ConfigValues) (v : ServerValue) (s : Connection) (bytes : List ℕ) (monitor : List AcceptedCall → Type 0) : Type 0 where
   pub config : v.config ≡ c
   pub events : List AcceptedCall
   pub shows : Shows v events
   pub there : side_of (only_id c) (world_after c events).sides ≡ Some s
   pub flushes : flushed c.limits (only_id c) (world_after c events) ≡ world_for c bytes
   pub spelled : spelled_on c.limits.max_message (only_id c) events ≡ (stream_of c bytes, c.limits.max_message)
+  pub transfers : AreTransfers c (only_id c) bytes (length (front_written s)) events
+  pub tells : monitor events
 
 -- The server has accepted these bytes. After the prefix `front` of their output, the whole rest of it was written.
-pub record StandsBehind (c : ConfigValues) (bytes front : List ℕ) (after : ServerValue) (wrote : List ℕ → Type 0) : Type 0 where
-  pub stands : IsAtBytes c after bytes
+pub record StandsBehind (c : ConfigValues) (bytes front : List ℕ) (after : ServerValue) (wrote : List ℕ → Type 0) (monitor : List AcceptedCall → Type 0) : Type 0 where
+  pub stands : IsAtBytes c after bytes monitor
   pub text : List ℕ
   pub says : stdio_output c bytes ≡ front ++ text
   pub written : wrote text
@@ -61,14 +69,14 @@ module _ (c : ConfigValues) (v : ServerValue) (id : ℕ) (s : Connection) (from 
   es = from.events
 
   -- One more iteration.
-  module _ (turns : ℕ) (now : ServerValue) (text : List ℕ) (so_far : FlushShown c es id s turns now text) where
+  module _ (turns : ℕ) (now : ServerValue) (text : List ℕ) (more : List AcceptedCall) (so_far : FlushShown c es id s turns now text more) where
     session_is : session_of id now.sessions ≡ Some (session_shown (stream_on now.config.limits.max_message id so_far.events).rest so_far.side)
     session_is = side_there now so_far.events id so_far.side so_far.shows (ap (λ (k : ConfigValues). side_of id (world_after k so_far.events).sides) so_far.config ∙ so_far.there)
 
     waits_shown : waiting_at id now ≡ waiting_on so_far.side
     waits_shown = ap waiting_in session_is
 
-    turn_shown : FlushShown c es id s (suc turns) (server_written now id (length (waiting_at id now))) (text ++ waiting_at id now)
+    turn_shown : FlushShown c es id s (suc turns) (server_written now id (length (waiting_at id now))) (text ++ waiting_at id now) (more ++ Wrote id (length (waiting_at id now)) ∷ [])
     unfolding written_times steps_by
     turn_shown =
         let fs : List AcceptedCall = so_far.events in
@@ -89,13 +97,28 @@ module _ (c : ConfigValues) (v : ServerValue) (id : ℕ) (s : Connection) (from 
           said =
               same_front wrote next ((written_between GoesOn as_before written_goes_on t count).history (side_is c fs id t so_far.there).is_history) (settled_grows w.store w.now wrote)
               ∙ rw (waits_shown, written_all, so_far.said) (append_assoc (front_written s) text (waiting_on t));
+          made = ap (λ (gs : List AcceptedCall). gs ++ Wrote id count ∷ []) so_far.made ∙ append_assoc es more (Wrote id count ∷ []);
+          transfers = λ taken written before.
+              subst (λ (n : ℕ). AreTransfers c id taken n (fs ++ Wrote id count ∷ [])) (omega (arith, length-append text (waiting_at id now)))
+              (transfers_written c id taken (written + length text) count fs (so_far.transfers taken written before));
         }
 
   -- All iterations.
-  flushing : (turns : ℕ) → FlushShown c es id s turns (flush_turns turns id v).server (flush_turns turns id v).text
-  unfolding flush_turns written_times
-  flushing zero = record { config = from.config; events = es; shows = from.shows; world = refl; spelled = refl; side = s; there = from.there; said = sym (append-nil (front_written s)) }
-  flushing (suc turns) = turn_shown turns (flush_turns turns id v).server (flush_turns turns id v).text (flushing turns)
+  flushing : (turns : ℕ) → FlushShown c es id s turns (flush_turns turns id v).server (flush_turns turns id v).text (calls_of_flush turns id v)
+  unfolding flush_turns written_times calls_of_flush
+  flushing zero = record {
+    config = from.config;
+    events = es;
+    shows = from.shows;
+    world = refl;
+    spelled = refl;
+    side = s;
+    there = from.there;
+    said = sym (append-nil (front_written s));
+    made = sym (append-nil es);
+    transfers = λ taken written before. subst (λ (n : ℕ). AreTransfers c id taken n es) (omega arith) before;
+  }
+  flushing (suc turns) = turn_shown turns (flush_turns turns id v).server (flush_turns turns id v).text (calls_of_flush turns id v) (flushing turns)
 
   more_there : more_at id v ≡ more_of (Some s)
   more_there =
@@ -110,7 +133,7 @@ module _ (c : ConfigValues) (v : ServerValue) (id : ℕ) (s : Connection) (from 
       elim done [
         | inl none ↦
             times_further c.limits id turns (suc (more_of (Some s))) w f.side (world_hears c es) (rw (← f.world) f.there)
-            (sym (waits_shown turns (flush_turns turns id v).server (flush_turns turns id v).text f) ∙ none) (omega (arith, within, more_there))
+            (sym (waits_shown turns (flush_turns turns id v).server (flush_turns turns id v).text (calls_of_flush turns id v) f) ∙ none) (omega (arith, within, more_there))
         | inr all ↦ ap (λ (n : ℕ). written_times c.limits id n w) (all ∙ ap (λ (n : ℕ). suc n) more_there)
       ]
       ∙ sym (flushed_so c.limits id w s from.there)
@@ -122,7 +145,7 @@ module _ (c : ConfigValues) (v : ServerValue) (id : ℕ) (s : Connection) (from 
       let left = flush_leaves c.limits id (world_after c es) s from.there in
       let flushed_there : side_of id (flushed c.limits id (world_after c es)).sides ≡ Some f.side = rw (← whole turns within done, ← f.world) f.there in
       let none : waiting_on f.side ≡ [] = cc (flushed_there, left.0.there, left.1) in
-      waits_shown turns (flush_turns turns id v).server (flush_turns turns id v).text f ∙ none
+      waits_shown turns (flush_turns turns id v).server (flush_turns turns id v).text (calls_of_flush turns id v) f ∙ none
 
   pub leaves_nothing : (after : ServerValue) (wrote : List ℕ → Type 0) → IsFlushed id v after wrote → waiting_at id after ≡ []
   leaves_nothing after wrote did = rw did.server (none_waits did.turns did.within (rw did.server at did.done))
@@ -154,27 +177,62 @@ flush_empties v after es id wrote shows did = flush_on v after es id wrote (side
 
 -- ---- the only connection
 
-module _ (c : ConfigValues) (v : ServerValue) (s : Connection) (bytes : List ℕ) (leads : LeadsTo c v s bytes) where
+module _ (c : ConfigValues) (v : ServerValue) (s : Connection) (bytes : List ℕ) (monitor : List AcceptedCall → Type 0) (leads : LeadsTo c v s bytes monitor) where
   abbrev id : ℕ
   id = only_id c
 
   abbrev from : ShowsSide c v id s
   from = record { config = leads.config; events = leads.events; shows = leads.shows; there = leads.there }
 
-  -- After all iterations, or those after which no byte is queued, the world is that for the bytes.
-  pub turns_stand : (turns : ℕ) → turns ≤ suc (more_at id v) → (waiting_at id (flush_turns turns id v).server ≡ []) ⊎ (turns ≡ suc (more_at id v))
-      → IsAtBytes c (flush_turns turns id v).server bytes × (stdio_output c bytes ≡ front_written s ++ (flush_turns turns id v).text)
-  turns_stand turns within done =
-      let f = flushing c v id s from turns in
-      let ends = f.world ∙ whole c v id s from turns within done ∙ leads.flushes in
-      let all = world_for_written c bytes in
-      let is_there : side_of id (world_for c bytes).sides ≡ Some f.side = rw (← ends) f.there in
-      let none : waiting_on f.side ≡ [] = cc (is_there, all.there, all.waits) in (
-        record { config = f.config; events = f.events; shows = f.shows; world = ends; spelled = λ still. f.spelled ∙ leads.spelled },
-        ap (λ (o : Outcome). o.output) (outcome_there c bytes f.side is_there) ∙ sym (none_waits_all_written f.side none) ∙ f.said,
-      )
+  -- The calls of these iterations follow those before the flush.
+  module _ (turns : ℕ) (later : List AcceptedCall → Type 0) (tells : later (leads.events ++ calls_of_flush turns id v)) where
+    -- After all iterations, or those after which no byte is queued, the world is that for the bytes.
+    turns_stand : turns ≤ suc (more_at id v) → (waiting_at id (flush_turns turns id v).server ≡ []) ⊎ (turns ≡ suc (more_at id v))
+        → IsAtBytes c (flush_turns turns id v).server bytes later × (stdio_output c bytes ≡ front_written s ++ (flush_turns turns id v).text)
+    turns_stand within done =
+        let f = flushing c v id s from turns in
+        let ends = f.world ∙ whole c v id s from turns within done ∙ leads.flushes in
+        let all = world_for_written c bytes in
+        let is_there : side_of id (world_for c bytes).sides ≡ Some f.side = rw (← ends) f.there in
+        let none : waiting_on f.side ≡ [] = cc (is_there, all.there, all.waits) in
+        let said = ap (λ (o : Outcome). o.output) (outcome_there c bytes f.side is_there) ∙ sym (none_waits_all_written f.side none) ∙ f.said in
+        let count : length (front_written s) + length (flush_turns turns id v).text ≡ length (stdio_output c bytes) =
+        omega (arith, ap (λ (b : List ℕ). length b) said, length-append (front_written s) (flush_turns turns id v).text) in (
+          record {
+            config = f.config;
+            events = f.events;
+            shows = f.shows;
+            world = ends;
+            spelled = λ still. f.spelled ∙ leads.spelled;
+            transfers = all_transferred c bytes f.events (subst (λ (n : ℕ). AreTransfers c id bytes n f.events) count (f.transfers bytes (length (front_written s)) leads.transfers));
+            tells = rw f.made tells;
+          },
+          said,
+        )
 
-  pub flush_stands : (after : ServerValue) (wrote : List ℕ → Type 0) → IsFlushed id v after wrote → StandsBehind c bytes (front_written s) after wrote
-  flush_stands after wrote did =
-      let both = turns_stand did.turns did.within (rw did.server at did.done) in
-      rw did.server (record { stands = both.0; text = (flush_turns did.turns id v).text; says = both.1; written = did.written })
+    -- The report of these iterations.
+    pub turns_reported : (r : HasReported c later bytes (length (front_written s) + length (flush_turns turns id v).text)) × (r.server ≡ (flush_turns turns id v).server)
+    turns_reported =
+        let f = flushing c v id s from turns in (
+          record {
+            server = (flush_turns turns id v).server;
+            config = f.config;
+            events = f.events;
+            shows = f.shows;
+            transfers = f.transfers bytes (length (front_written s)) leads.transfers;
+            monitor_tells = rw f.made tells;
+          },
+          refl,
+        )
+
+  -- The output for the bytes is at most that of all iterations.
+  pub turns_said : (stdio_output c bytes ≡ front_written s ++ (flush_turns (suc (more_at id v)) id v).text)
+  turns_said = (turns_stand (suc (more_at id v)) (λ _. Unit {0}) tt (omega arith) (inr refl)).1
+
+pub flush_stands : (c : ConfigValues) (v : ServerValue) (s : Connection) (bytes : List ℕ) (a m n : Option (List AcceptedCall)) → LeadsTo c v s bytes (TellsMore a m) → (after : ServerValue) (wrote : List ℕ → Type 0) → IsReportedFlush (only_id c) v after wrote (TellsMore m n)
+    → StandsBehind c bytes (front_written s) after wrote (TellsMore a n)
+flush_stands c v s bytes a m n leads after wrote report =
+    let did = report.flushed in
+    let calls : List AcceptedCall = calls_of_flush did.turns (only_id c) v in
+    let both = turns_stand c v s bytes (TellsMore a m) leads did.turns (TellsMore a n) (told_then a m n leads.events calls leads.tells report.tells) did.within (rw did.server at did.done) in
+    rw did.server (record { stands = both.0; text = (flush_turns did.turns (only_id c) v).text; says = both.1; written = did.written })

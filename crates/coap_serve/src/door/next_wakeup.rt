@@ -2,8 +2,9 @@
 
 ghost use Rattle.std.specs.Prelude.{◌≡◌, ◌≤◌, drop, length, map, slice_get, take, IfSome, false, None};
 ghost use Rattle.coap_serve.specs.Prelude.{AllByRecursion, end_of, agenda_past, IsIdle, IsInTurn, concerns_earlier};
-ghost use Rattle.coap_serve.specs.Prelude.{agenda_with, wait_of};
+ghost use Rattle.coap_serve.specs.Prelude.{agenda_with, wait_of, AreAsleep};
 
+use super::awake::Awake;
 use super::peer::Peers;
 use coap_io::{Ready, Wait};
 use coap_server_engine::ChangeStamp;
@@ -69,13 +70,15 @@ impl TurnProgress {
 }
 
 /// Skips idle connections from the next one on, up to the first that is not idle or to the end. Their deadlines are
-/// added to the agenda.
+/// added to the agenda. Connections that sleep are skipped without a look at them.
 pub(super) fn skip_idle<W: Ready>(
     peers: &Peers<W>,
+    awake: &mut Awake,
     seen: TurnProgress,
     stamp: ChangeStamp,
 ) -> TurnProgress
-    requires { seen.at ≤ length peers.now.entries }
+    requires within { seen.at ≤ length peers.now.entries }
+    requires asleep { AreAsleep W.readable W.writable awake.old peers.now.entries }
     ensures from { seen.at ≤ result.at }
     ensures within { result.at ≤ length peers.now.entries }
     ensures rest { AllByRecursion (IsIdle stamp) (map (λ e. end_of W.readable W.writable e.1)
@@ -85,15 +88,16 @@ pub(super) fn skip_idle<W: Ready>(
         (drop seen.at (take result.at peers.now.entries))) }
     ensures next { IfSome (slice_get peers.now.entries result.at)
         (λ e. IsInTurn stamp (end_of W.readable W.writable e.1)) }
+    ensures asleep { AreAsleep W.readable W.writable awake.new peers.now.entries }
 {
-    let mut at = seen.at;
+    awake.follow(stamp);
+    let mut at = awake.next(seen.at, peers.len());
     let mut due = seen.agenda.due;
     while at < peers.len() && peers[at].is_idle(stamp) {
-        let moment = peers[at].wants.due;
-        if moment.is_some() {
-            due = sooner(due, moment);
-        }
-        at += 1;
+        let peer = &peers[at];
+        due = sooner(due, peer.wants.due);
+        awake.record_visit(at, peer.wire.place(), false, peer.wants.due);
+        at = awake.next(at + 1, peers.len());
     }
     TurnProgress {
         at,

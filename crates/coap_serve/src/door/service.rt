@@ -2,7 +2,9 @@
 
 ghost use Rattle.std.specs.Prelude.{◌≡◌, false, All};
 ghost use Rattle.coap_serve.specs.streams.RecordedInterests.{IsNoted};
+ghost use Rattle.coap_serve.specs.streams.Sleepers.{AreAsleep};
 
+use super::awake::Awake;
 use super::peer::Peers;
 use super::removal::record_on;
 use super::silence::SilenceWatch;
@@ -20,12 +22,14 @@ use std::alloc::{AllocError, Global};
 /// iteration of its event loop. The recorded I/O interest of each connection is correct, unless an allocation failed in
 /// a turn.
 #[derive(Drop)]
-pub struct Service<W> {
+pub struct Service<W: Ready> {
     alloc: Global,
     server: Server,
     peers: Peers<W>,
+    awake: Awake,
     is_spent: bool,
     ghost noted: { is_spent ≡ false → All (IsNoted server) peers.entries },
+    ghost asleep: { is_spent ≡ false → AreAsleep W.readable W.writable awake peers.entries },
 }
 
 impl<W: Wire + Ready + Drop> Service<W> {
@@ -52,10 +56,13 @@ impl<W: Wire + Ready + Drop> Service<W> {
         ensures none { IfOk result (λ s. s.peers.entries ≡ []) }
         ensures ready { IfOk result (λ s. s.is_spent ≡ false) }
     {
+        let server = Server::new(alloc, config)?;
+        let stamp = server.stamp();
         Ok(Service {
             alloc,
-            server: Server::new(alloc, config)?,
+            server,
             peers: IndexMap::with_capacity(alloc, config.connections())?,
+            awake: Awake::new(stamp),
             is_spent: false,
         })
     }
@@ -197,6 +204,7 @@ impl<W: Wire + Ready + Drop> Service<W> {
         self.server.release(id)?;
         monitor.accepted(Call::Released(id), &self.server);
         record_on(&self.server, &mut self.peers, id);
+        self.awake.wake_all();
         Ok(())
     }
 
@@ -238,6 +246,7 @@ impl<W: Wire + Ready + Drop> Service<W> {
         self.server.drop_conn(id)?;
         monitor.accepted(Call::Dropped(id), &self.server);
         let _ = self.peers.shift_remove(&id);
+        self.awake.wake_all();
         Ok(())
     }
 
@@ -266,6 +275,7 @@ impl<W: Wire + Ready + Drop> Service<W> {
         }
         watch.now = now;
         sweep(&mut self.server, &mut self.peers, idle, watch);
+        self.awake.wake_all();
     }
 
     /// Returns a wait that lasts at most until the next second of the server's time, if there is a connection.
@@ -344,7 +354,14 @@ impl<W: Wire + Ready + Drop> Service<W> {
             return Err(IoFault::Memory);
         }
         self.is_spent = true;
-        let wait = take_turn(self.alloc, &mut self.server, &mut self.peers, door, monitor)?;
+        let wait = take_turn(
+            self.alloc,
+            &mut self.server,
+            &mut self.peers,
+            &mut self.awake,
+            door,
+            monitor,
+        )?;
         self.is_spent = false;
         Ok(wait)
     }

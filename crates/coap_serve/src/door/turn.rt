@@ -1,13 +1,14 @@
 //! One turn of the event loop over the connections of a listener.
 
-ghost use Rattle.std.specs.Prelude.{◌≡◌, ◌<◌, ◌≤◌, ◌+◌, ◌-◌, ◌^◌, ◌||◌, Bool, false, Ok, Some, length, is_none, map};
-ghost use Rattle.std.specs.Prelude.{remove, slice_get, take, IfSome, IfOk, IfErr, OnOk, OnErr};
+ghost use Rattle.std.specs.Prelude.{◌≡◌, ◌≢◌, ℕ, ◌<◌, ◌≤◌, ◌+◌, ◌-◌, ◌^◌, ◌||◌, Bool, false, Ok, Some, length};
+ghost use Rattle.std.specs.Prelude.{is_none, map, remove, slice_get, take, IfSome, IfOk, IfErr, OnOk, OnErr};
 ghost use Rattle.coap_serve.specs.Prelude.{keys_of, AreNoted, HasServed, HasTurned, HasGoneOn, IsRound, IsOpening};
 ghost use Rattle.coap_serve.specs.Prelude.{IsAskedOnce, IsTurnOf, asked_by, TellsMore, trace_by, IsServed, IsAgendaOf};
 ghost use Rattle.coap_serve.specs.Prelude.{concerns_earlier, end_of, wants_of, IsMemory, stamp_of, open_refusal};
-ghost use Rattle.coap_serve.specs.Prelude.{AreSettled, server_dropped};
+ghost use Rattle.coap_serve.specs.Prelude.{AreSettled, server_dropped, AreAsleep};
 ghost use Rattle.coap_serve.specs.declared.door.peer.PeerOutcome.TheVariants.{Open};
 
+use super::awake::Awake;
 use super::next_wakeup::{NextWakeup, TurnProgress, affects_served_peers, skip_idle};
 use super::peer::{Peer, PeerOutcome, Peers, serve_peer};
 use super::peer_interest::wants_on;
@@ -26,10 +27,12 @@ pub(super) fn take_turn<D: Door, M: Monitor<D::Wire>>(
     alloc: Global,
     server: &mut Server,
     peers: &mut Peers<D::Wire>,
+    awake: &mut Awake,
     door: &mut D,
     monitor: &mut M,
 ) -> Result<Wait, IoFault>
-    requires { AreNoted server.old peers.old.entries }
+    requires noted { AreNoted server.old peers.old.entries }
+    requires asleep { AreAsleep D.Wire.readable D.Wire.writable awake.old peers.old.entries }
     ensures shows { HasTurned (TellsMore (M.calls monitor.old) (M.calls monitor.new))
         server.old server.new }
     // The listener is asked once if another connection may be opened, and not otherwise.
@@ -40,11 +43,13 @@ pub(super) fn take_turn<D: Door, M: Monitor<D::Wire>>(
         (TellsMore (D.calls door.old) (D.calls door.new)) server.old peers.old.entries server.new peers.new.entries
         wait) }
     ensures noted { OnOk result (AreNoted server.new peers.new.entries) }
+    ensures asleep { OnOk result (AreAsleep D.Wire.readable D.Wire.writable awake.new peers.new.entries) }
     ensures settled { OnOk result (AreSettled server.new.host server.new.sessions) }
     ensures fault { IfErr result IsMemory }
 {
-    let opens = accept(alloc, server, peers, door, monitor)?;
-    let agenda = serve_each(server, peers, monitor)?;
+    awake.wake_places(door.woken());
+    let opens = accept(alloc, server, peers, awake, door, monitor)?;
+    let agenda = serve_each(server, peers, awake, monitor)?;
     Ok(agenda.with(opens, None).wait())
 }
 
@@ -58,13 +63,16 @@ fn accept<D: Door, M: Monitor<D::Wire>>(
     alloc: Global,
     server: &mut Server,
     peers: &mut Peers<D::Wire>,
+    awake: &mut Awake,
     door: &mut D,
     monitor: &mut M,
 ) -> Result<bool, IoFault>
-    requires { AreNoted server.old peers.old.entries }
+    requires noted { AreNoted server.old peers.old.entries }
+    requires asleep { AreAsleep D.Wire.readable D.Wire.writable awake.old peers.old.entries }
     ensures shows { HasTurned (TellsMore (M.calls monitor.old) (M.calls monitor.new))
         server.old server.new }
     ensures noted { OnOk result (AreNoted server.new peers.new.entries) }
+    ensures asleep { OnOk result (AreAsleep D.Wire.readable D.Wire.writable awake.new peers.new.entries) }
     ensures fault { IfErr result IsMemory }
     // The listener is asked once if another connection may be opened. Otherwise it is not asked, so it returns no wire
     // for which none could be opened.
@@ -92,6 +100,7 @@ fn accept<D: Door, M: Monitor<D::Wire>>(
     let Ok(_) = peers.insert(id, Peer { wire, rest, wants }) else {
         return Err(IoFault::Memory);
     };
+    awake.wake_all();
     Ok(true)
 }
 
@@ -104,9 +113,11 @@ fn accept<D: Door, M: Monitor<D::Wire>>(
 fn serve_each<W: Wire + Ready + Drop, M: Monitor<W>>(
     server: &mut Server,
     peers: &mut Peers<W>,
+    awake: &mut Awake,
     monitor: &mut M,
 ) -> Result<NextWakeup, IoFault>
-    requires { AreNoted server.old peers.old.entries }
+    requires noted { AreNoted server.old peers.old.entries }
+    requires asleep { AreAsleep W.readable W.writable awake.old peers.old.entries }
     ensures shows { HasServed (TellsMore (M.calls monitor.old) (M.calls monitor.new))
         server.old server.new }
     // Each connection in order is served, except those that are idle, and the result is the work that remains.
@@ -114,13 +125,14 @@ fn serve_each<W: Wire + Ready + Drop, M: Monitor<W>>(
         (trace_by W.given W.written W.answers W.rooms) server.old peers.old.entries agenda server.new
         peers.new.entries) }
     ensures noted { OnOk result (AreNoted server.new peers.new.entries) }
+    ensures asleep { OnOk result (AreAsleep W.readable W.writable awake.new peers.new.entries) }
     ensures settled { OnOk result (AreSettled server.new.host server.new.sessions) }
     ensures fault { IfErr result IsMemory }
 {
-    let mut seen = skip_idle(peers, TurnProgress::none(), server.stamp());
+    let mut seen = skip_idle(peers, awake, TurnProgress::none(), server.stamp());
     while seen.at < peers.len() {
-        let served = serve_next(server, peers, seen, monitor)?;
-        seen = skip_idle(peers, served, server.stamp());
+        let served = serve_next(server, peers, awake, seen, monitor)?;
+        seen = skip_idle(peers, awake, served, server.stamp());
     }
     Ok(seen.agenda)
 }
@@ -133,12 +145,14 @@ fn serve_each<W: Wire + Ready + Drop, M: Monitor<W>>(
 fn serve_next<W: Wire + Ready + Drop, M: Monitor<W>>(
     server: &mut Server,
     peers: &mut Peers<W>,
+    awake: &mut Awake,
     seen: TurnProgress,
     monitor: &mut M,
 ) -> Result<TurnProgress, IoFault>
     requires there { seen.at < length peers.old.entries }
     requires fits { length peers.old.entries < 2 ^ 64 }
     requires noted { AreNoted server.old peers.old.entries }
+    requires asleep { AreAsleep W.readable W.writable awake.old peers.old.entries }
     ensures shows { HasServed (TellsMore (M.calls monitor.old) (M.calls monitor.new))
         server.old server.new }
     // The connection was served, and the others are unchanged.
@@ -146,6 +160,7 @@ fn serve_next<W: Wire + Ready + Drop, M: Monitor<W>>(
         (trace_by W.given W.written W.answers W.rooms) server.old peers.old.entries seen.at server.new
         peers.new.entries later.at) }
     ensures noted { OnOk result (AreNoted server.new peers.new.entries) }
+    ensures asleep { OnOk result (AreAsleep W.readable W.writable awake.new peers.new.entries) }
     // The work that remains on it is added to that of the connections before it.
     ensures agenda { IfOk result (λ later. (changed : Bool) → IsAgendaOf seen.agenda changed (stamp_of server.old.host)
         (map (λ e. end_of W.readable W.writable e.1) (take seen.at peers.old.entries)) →
@@ -166,13 +181,17 @@ fn serve_next<W: Wire + Ready + Drop, M: Monitor<W>>(
     match course {
         PeerOutcome::Over => {
             drop_at(server, peers, seen.at, monitor);
+            awake.wake_all();
             Ok(TurnProgress { agenda, ..seen })
         }
         PeerOutcome::Open => {
             let peer = &peers[seen.at];
+            let is_ready = peer.is_ready();
+            awake.follow(server.stamp());
+            awake.record_visit(seen.at, peer.wire.place(), is_ready, peer.wants.due);
             Ok(TurnProgress {
                 at: seen.at + 1,
-                agenda: agenda.with(peer.is_ready(), peer.wants.due),
+                agenda: agenda.with(is_ready, peer.wants.due),
             })
         }
     }
@@ -207,6 +226,7 @@ fn serve_at<W: Wire + Ready, M: Monitor<W>>(
     // No other connection is changed.
     ensures beside { remove peers.new.entries at ≡ remove peers.old.entries at }
     ensures before { take at peers.new.entries ≡ take at peers.old.entries }
+    ensures each { (i : ℕ) → i ≢ at → slice_get peers.new.entries i ≡ slice_get peers.old.entries i }
     ensures same { keys_of peers.new.entries ≡ keys_of peers.old.entries }
     ensures fault { IfErr result IsMemory }
 {

@@ -60,9 +60,3 @@ pub record IsFlushed (id : ℕ) (v after : ServerValue) (wrote : List ℕ → Ty
   pub done : (waiting_at id after ≡ []) ⊎ (turns ≡ suc (more_at id v))
   pub server : after ≡ (flush_turns turns id v).server
   pub written : wrote (flush_turns turns id v).text
-
--- Holds if a write failed. A part was written of the bytes that `turns` iterations write.
-pub record IsPartFlushed (id : ℕ) (v : ServerValue) (wrote_part : List ℕ → Type 0) : Type 0 where
-  pub turns : ℕ
-  pub within : turns ≤ suc (more_at id v)
-  pub part : wrote_part (flush_turns turns id v).text

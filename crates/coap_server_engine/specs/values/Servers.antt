@@ -2,7 +2,7 @@
 use Rattle.std.specs.Prelude.{◌≡◌, ℕ, zero, suc, ◌+◌, ◌<◌, Bool, true, false, not, List, [], ◌∷◌, ◌++◌, length, map, filter, Option, Some, None, slice_get, nat_eq, ◌==◌, if◌then◌else◌}
 use Rattle.std.specs.List.{AllByRecursion, IsDistinct, position_or_len}
 use Rattle.std.specs.Map.{keys_of, values_of}
-use Rattle.coap_store.specs.Paths.{Path}
+use Rattle.coap_path.specs.Paths.{Path}
 use Rattle.coap_store.specs.Store.{put_in, removed_in}
 use Rattle.coap_model.specs.Configs.{ConfigValues}
 use Rattle.coap_server_session.specs.declared.server_state.ServerState.{ServerState}

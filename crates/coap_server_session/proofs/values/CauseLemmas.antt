@@ -9,7 +9,7 @@ use Rattle.coap_server_session.specs.Prelude.{ObservesNone, mark_of, state_on, c
 use Rattle.coap_server_session.specs.Prelude.{is_concerned, AreMarked, marks_after, ConcernsNone, marks_anew, IsMarkedBut}
 use Rattle.std.proofs.lemmas.Bool.{both_ways, eq-eqb}
 use Rattle.coap_server_session.proofs.values.MarkLemmas.{anew_same, anew_after, anew_unconcerned}
-use Rattle.coap_store.specs.declared.resource_kind.ResourceKind.{ResourceKind}
+use Rattle.coap_path.specs.declared.resource_kind.ResourceKind.{ResourceKind}
 use Rattle.coap_store.proofs.AnswerLaws.{key_is}
 use Rattle.coap_store.proofs.ChangeLaws.{other_is_kept_on_put, other_is_kept_on_delete}
 use Rattle.coap_server_session.specs.declared.cause.Cause.TheVariants as cause

@@ -8,7 +8,7 @@ use Rattle.coap_server_session.specs.Prelude.{mark_of, state_on, changed_mark, s
 use Rattle.coap_server_session.specs.Prelude.{IsBefore}
 use Rattle.std.proofs.lemmas.Bool.{not-false, false_from_ne_true, or_parts, ne_eqb}
 use Rattle.coap_conn.proofs.PendingLaws.{due_nothing, cons_parts}
-use Rattle.coap_store.specs.declared.resource_kind.ResourceKind.{ResourceKind}
+use Rattle.coap_path.specs.declared.resource_kind.ResourceKind.{ResourceKind}
 use Rattle.coap_store.proofs.StoreLemmas.{found_kept}
 use Rattle.coap_server_session.proofs.values.SettleLemmas.{settled_still}
 use Rattle.coap_model.proofs.world.EntryLemmas.{none_due}

@@ -10,7 +10,7 @@ use Rattle.coap_server_session.specs.Prelude.{first_index, IsFirstStale, IsFirst
 use Rattle.coap_wire.specs.Codes as code
 use Rattle.coap_store.proofs.NotificationLaws.{notification_tells}
 use Rattle.coap_server_session.specs.declared.cause.Cause.TheVariants as cause
-use Rattle.coap_store.specs.declared.resource_kind.ResourceKind.{ResourceKind}
+use Rattle.coap_path.specs.declared.resource_kind.ResourceKind.{ResourceKind}
 use Rattle.std.proofs.lemmas.Bool.{ne_eqb, eqb-true, or_parts}
 use Rattle.std.proofs.lemmas.List.{map-set, map_push}
 use Rattle.std.proofs.lemmas.Option.{slice_get-map}

@@ -8,7 +8,7 @@ use Rattle.coap_server_session.specs.Prelude.{mark_told, observer_shown}
 use Rattle.std.proofs.lemmas.Bool.{eqb-true, eq-eqb, ne_eqb, cond-false}
 use Rattle.std.proofs.lemmas.Fmt.{decimal_is_IsNumeral}
 use lib.Pointwise.{bytes_decides}
-use Rattle.coap_store.specs.declared.resource_kind.ResourceKind.{ResourceKind}
+use Rattle.coap_path.specs.declared.resource_kind.ResourceKind.{ResourceKind}
 use Rattle.coap_model.proofs.world.KnownLaws.{KnowsStored, IsKnownAt, IsKnown, IsVersioned, state_itself, state_is}
 use Rattle.coap_model.proofs.world.KnownLaws.{IsWatchable, told_known}
 

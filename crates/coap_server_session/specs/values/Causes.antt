@@ -1,7 +1,7 @@
 -- Defined by this project: the connections and observers that a change may affect, and the changed marks after it.
 use Rattle.std.specs.Prelude.{◌≡◌, ◌≢◌, ℕ, ◌+◌, ◌*◌, ◌%◌, Bool, ◌||◌, false, List, [], ◌∷◌, map, nat_le, Option, Some, None, ◌==◌, if◌then◌else◌}
 use Rattle.std.specs.List.{AllByRecursion, list_any}
-use Rattle.coap_store.specs.Paths.{Path}
+use Rattle.coap_path.specs.Paths.{Path}
 use Rattle.coap_store.specs.Answer.{Change, Nothing, Put, Delete}
 use Rattle.coap_server_session.specs.declared.server_state.ServerState.{ServerState}
 use Rattle.coap_server_session.specs.declared.cause.Cause.{Cause}

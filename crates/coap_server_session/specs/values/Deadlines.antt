@@ -2,7 +2,7 @@
 use Rattle.std.specs.Prelude.{◌<◌, ℕ, ◌+◌, Bool, not, List, Option, Some, None, min, ◌==◌, if◌then◌else◌}
 use Rattle.std.specs.List.{list_any}
 use Rattle.coap_conn.specs.PendingEntries.{next_moment}
-use Rattle.coap_store.specs.State.{kind_of_path, is_dynamic}
+use Rattle.coap_path.specs.ResourceKinds.{kind_of_path, is_dynamic}
 use Rattle.coap_server_session.specs.values.Sessions.{ObserverValue, SessionValue}
 
 -- ---- times, in seconds

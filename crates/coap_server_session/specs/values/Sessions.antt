@@ -19,7 +19,7 @@ use Rattle.coap_conn.specs.PendingEntries as held
 use Rattle.coap_conn.specs.LinkValue.{LinkValue, new_link, free_in, limit_in, standing_in, can_hold}
 use Rattle.coap_conn.specs.Calls.{link_after, may_announce}
 use Rattle.coap_conn.specs.Calls as call
-use Rattle.coap_store.specs.Paths.{Path, same_bytes}
+use Rattle.coap_path.specs.Paths.{Path, same_bytes}
 use Rattle.coap_store.specs.Store.{Representation}
 use Rattle.coap_store.specs.State.{state_of}
 use Rattle.coap_store.specs.Requests.{path_of}

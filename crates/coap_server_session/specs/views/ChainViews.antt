@@ -1,8 +1,8 @@
 -- The linked lists (chains) by which the code finds the observers that a change affects: the last one, and from each
 -- the one before it.
 use Rattle.std.specs.Prelude.{◌≡◌, ◌≤◌, ◌<◌, ◌==◌, ℕ, suc, Bool, true, false, not, List, Option, Some, None, slice_get, get_or}
-use Rattle.coap_store.specs.Paths.{Path}
-use Rattle.coap_store.specs.State.{kind_of_path, is_dynamic}
+use Rattle.coap_path.specs.Paths.{Path}
+use Rattle.coap_path.specs.ResourceKinds.{kind_of_path, is_dynamic}
 use Rattle.coap_server_session.specs.values.Causes.{path_hash}
 use Rattle.coap_server_session.specs.declared.cause.Cause.{Cause}
 use Rattle.coap_server_session.specs.declared.cause.Cause.TheVariants as cause

@@ -1,10 +1,11 @@
-use Rattle.std.proofs.Common.{rules, ◌≡◌, arith, sym, ◌∙◌}
-use Rattle.coap_frame.specs.Prelude.{Unknown}
+use Rattle.std.proofs.Common.{rules, ◌≡◌, arith, sym, ap, ◌∙◌}
+use Rattle.coap_frame.specs.Prelude.{declared_in}
+use Rattle.coap_wire.specs.declared.layout.Outline.TheVariants.{Unknown}
 use Rattle.coap_wire.proofs.StreamSteps.{unknown_small}
 use Rattle.coap_frame.proofs.filling.fill_head.Goals as goal
 
 pub push_reserved-requires : goal.push_reserved-requires
 push_reserved-requires c =
-    let unknown : c.loop-size.size ≡ Unknown = search rules in
-    let few = unknown_small c.loop-size.buffer.items (sym c.loop-size.invariant.taken.size_is ∙ unknown) in
-    omega (arith, few, c.loop-size.invariant.room, c.loop-size.buffer.ok)
+    let unknown : c.loop-known.known ≡ Unknown = search rules in
+    let few = unknown_small c.loop-known.buffer.items (sym c.loop-known.invariant.taken.size_is ∙ ap declared_in unknown) in
+    omega (arith, few, c.loop-known.invariant.room, c.loop-known.buffer.ok)

@@ -1,5 +1,5 @@
 use Rattle.std.proofs.Common.{List, ℕ, take, sym, ap, subst, ◌∙◌, arith}
-use Rattle.coap_frame.specs.Prelude.{Framing, IsFilled, finding_in, framer_of, FrameStatus}
+use Rattle.coap_frame.specs.Prelude.{Framing, IsFilled, finding_in, framer_of, FrameStatus, HasLayoutIn}
 use Rattle.coap_frame.specs.declared.framer.BufferContent.TheVariants as held
 use Rattle.coap_frame.proofs.FramingLemmas.{framing_unfinished, framing_whole, framing_fault, behind_more, behind_frame, behind_fault}
 use Rattle.coap_frame.proofs.framer.advance_in_buffer.Goals as goal
@@ -17,6 +17,7 @@ returns-in-Unfinished c =
       after = behind_more max c.args.copied.now kept p new taken c.saturating_add.result c.requires.some c.saturating_add.ensures filled;
       taken = sym (ap (λ (f : Framing). f.taken) is);
       within = filled.within;
+      layout = subst (HasLayoutIn (take taken p)) (sym c.in-Unfinished.is) tt;
       found = ap (finding_in (take taken p)) c.in-Unfinished.is ∙ sym (ap (λ (f : Framing). f.finding) is);
       capacity = omega (arith, c.requires.room, c.fill-taken.ensures.capacity);
     }
@@ -28,12 +29,14 @@ returns-in-Whole c =
     let p = c.args.piece.now in
     let new = c.fill-taken.new.buffer.items in
     let taken = c.fill-taken.result.0 in
+    let layout = c.in-Whole.field-0 in
     let filled = subst (λ (s : FrameStatus). IsFilled max kept p new taken s) c.in-Whole.is c.fill-taken.ensures.filled in
-    let is = framing_whole max kept p new taken filled in
+    let is = framing_whole max kept p new taken layout filled in
     record {
-      after = behind_frame max c.args.copied.now kept p new taken c.saturating_add.result c.requires.some c.saturating_add.ensures filled;
+      after = behind_frame max c.args.copied.now kept p new taken c.saturating_add.result c.requires.some c.saturating_add.ensures layout filled;
       taken = sym (ap (λ (f : Framing). f.taken) is);
       within = filled.within;
+      layout = subst (HasLayoutIn new) (sym c.in-Whole.is) filled.stands.3;
       found = ap (finding_in new) c.in-Whole.is ∙ sym (ap (λ (f : Framing). f.finding) is);
       capacity = omega (arith, c.requires.room, c.fill-taken.ensures.capacity);
     }
@@ -52,6 +55,7 @@ returns-in-Fault c =
       after = ap (λ (b : List ℕ). framer_of max held.Prefix b c.saturating_add.result) c.clear.ensures.items ∙ behind_fault max c.args.copied.now kept p new taken c.saturating_add.result c.requires.some c.saturating_add.ensures fault filled;
       taken = sym (ap (λ (f : Framing). f.taken) is);
       within = filled.within;
+      layout = subst (HasLayoutIn (take taken p)) (sym c.in-Fault.is) tt;
       found = ap (finding_in (take taken p)) c.in-Fault.is ∙ sym (ap (λ (f : Framing). f.finding) is);
       capacity = omega (arith, c.requires.room, c.fill-taken.ensures.capacity, c.clear.ensures.capacity);
     }

@@ -2,7 +2,7 @@ use Rattle.coap_serve.specs.Prelude.{NoneSoFar, TellsMore, trace_by}
 use Rattle.std.proofs.Common.{[], refl, ap, arith, ◌∙◌}
 use Rattle.std.proofs.lemmas.Result.{err_from_is_err_and}
 use Rattle.coap_io.proofs.streams.DeviceLemmas.{told_none}
-use Rattle.coap_serve.proofs.streams.DoorLemmas.{shown_ticked, shown_turned, turn_cut}
+use Rattle.coap_serve.proofs.streams.DoorLemmas.{memory_ends, shown_ticked, shown_turned, turn_cut}
 use Rattle.coap_serve.proofs.streams.TimedLemmas.{timed_once_more, cut_in_a_timed_turn, timed_ended_by_memory, shown_timed, shown_ended}
 use Rattle.coap_serve.proofs.door.serve_door_timed.Goals as goal
 
@@ -76,3 +76,8 @@ returns-clause-run g c = record {
   turned = c.loop-turn.invariant.turned;
   all = omega (arith, c.loop-turn.invariant.counted, c.loop-turn-test.false, c.turns-turn-end.ensures.value);
 }
+
+pub returns-in_err-asked-clause-fault : goal.returns-in_err-asked-clause-fault
+returns-in_err-asked-clause-fault g c =
+    let p = err_from_is_err_and c.from_residual.result c.from_residual.ensures.1 in
+    rw (p.1, p.2) (memory_ends (Unit {0}) c.in_err-asked.field-0.0 c.in_err-asked.ensures.fault)

@@ -2,7 +2,7 @@ use Rattle.coap_serve.specs.Prelude.{NoneYet, TellsMore, trace_by}
 use Rattle.std.proofs.Common.{[], refl, ap, arith, ◌∙◌}
 use Rattle.std.proofs.lemmas.Result.{err_from_is_err_and}
 use Rattle.coap_io.proofs.streams.DeviceLemmas.{told_none}
-use Rattle.coap_serve.proofs.streams.DoorLemmas.{turned_once_more, cut_in_a_turn, ended_by_memory, shown_so_far, shown_ticked, shown_turned, turn_cut}
+use Rattle.coap_serve.proofs.streams.DoorLemmas.{memory_ends, turned_once_more, cut_in_a_turn, ended_by_memory, shown_so_far, shown_ticked, shown_turned, turn_cut}
 use Rattle.coap_serve.proofs.door.serve_door_with.Goals as goal
 
 pub loop-turn-init : goal.loop-turn-init
@@ -61,3 +61,8 @@ returns-clause-run g c = record {
   turned = c.loop-turn.invariant.turned;
   all = omega (arith, c.loop-turn.invariant.counted, c.loop-turn-test.false, c.turns-turn-end.ensures.value);
 }
+
+pub returns-in_err-wait-clause-fault : goal.returns-in_err-wait-clause-fault
+returns-in_err-wait-clause-fault g c =
+    let p = err_from_is_err_and c.from_residual.result c.from_residual.ensures.1 in
+    rw (p.1, p.2) (memory_ends (Unit {0}) c.in_err-wait.field-0.0 c.in_err-wait.ensures.fault)

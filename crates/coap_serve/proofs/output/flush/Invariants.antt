@@ -1,12 +1,12 @@
 use Rattle.std.proofs.Common.{◌≡◌, ◌+◌, false}
 use Rattle.coap_serve.specs.Prelude.{session_of, stop_on}
-use Rattle.coap_server_engine.proofs.values.FlushLemmas.{Flushed}
+use Rattle.coap_serve.proofs.streams.FlushLemmas.{AfterFlush}
 use Rattle.coap_serve.proofs.output.flush.Given as goal
 
 abbrev pub invariant-loop : goal.invariant-loop
 invariant-loop g l =
     record {
-      flushing : Flushed l.fn.id l.fn.server (l.counter + 1) l.server (g.W.Outlet.written l.fn.writer) (g.W.Outlet.written l.writer) l.last.waited;
+      flushing : AfterFlush l.fn.id l.fn.server (l.counter + 1) l.server (g.W.Outlet.written l.fn.writer) (g.W.Outlet.written l.writer) (g.M.Monitor.calls l.fn.monitor) (g.M.Monitor.calls l.monitor) l.last.waited;
       stop : l.last.stop ≡ stop_on (session_of l.fn.id l.server.sessions);
       works : g.W.Outlet.is_failed l.writer ≡ false;
     }

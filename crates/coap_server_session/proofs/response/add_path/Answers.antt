@@ -1,7 +1,7 @@
 use Rattle.std.proofs.Common.{ap, arith}
 use Rattle.coap_wire.specs.OptionNumbers as numbers
 use Rattle.coap_server_session.specs.Prelude.{Path, path_size, written_length, each_at}
-use Rattle.coap_store.proofs.PathLemmas.{path_fits}
+use Rattle.coap_path.proofs.PathLemmas.{path_fits}
 use Rattle.coap_server_session.proofs.values.ResponseLemmas.{with_options, segment_added}
 use Rattle.coap_server_session.proofs.response.add_path.Goals as goal
 

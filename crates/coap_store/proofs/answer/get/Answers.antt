@@ -15,7 +15,7 @@ returns-then-is_valid c =
     c.valid.ensures ∙ rw (etag, c.watch_for.ensures) refl ∙ sym (get_valid c.args.place (found_value c.args.found) c.args.asked.now accepted among)
 
 -- If the response is delayed, the query is good.
-good : (c : goal.After-held) → is_good_query (value_of numbers.uri_query c.args.asked.now) ≡ true
+good : (c : goal.After-delay) → is_good_query (value_of numbers.uri_query c.args.asked.now) ≡ true
 good c =
     elim c.else-is_async.branch [
       | else-is_async-via-then-is_async+else-not-has_good_query w ↦ sym w.has_good_query.ensures ∙ w.if-not-has_good_query.false
@@ -29,7 +29,7 @@ returns-then-is_async-2 c =
     let accepted = sym (ap (λ w. is_accepted w c.args.found.format) c.accept.ensures) ∙ sym c.is_accepted.ensures ∙ c.if-not-is_accepted.false in
     let among = sym (ap (λ e. is_among e (values_of numbers.etag c.args.asked.now)) lent) ∙ sym c.is_valid.ensures ∙ c.if-is_valid.false in
     let waits = sym c.is_async-2.ensures ∙ c.if-is_async-2.true in
-    c.held.ensures ∙ rw (c.content.ensures, etag, c.max_age_of.ensures, c.seconds.ensures) refl ∙ sym (get_late c.args.place (found_value c.args.found) c.args.asked.now accepted among waits (good c))
+    c.delay.ensures ∙ rw (c.content.ensures, etag, c.max_age_of.ensures, c.seconds.ensures) refl ∙ sym (get_late c.args.place (found_value c.args.found) c.args.asked.now accepted among waits (good c))
 
 pub returns : goal.returns
 returns c =

@@ -1,20 +1,38 @@
-use Rattle.std.proofs.Common.{length, arith, ap}
-use Rattle.coap_store.proofs.CatalogueLemmas.{stored_list, stored_listed, bytes_of_stored_fit, found_is_there}
+use Rattle.std.proofs.Common.{◌+◌, length, get_or, [], sym, ap, ◌∙◌, arith}
+use Rattle.coap_store.specs.Prelude.{joined, resources_in, texts_of, end_bytes}
+use Rattle.coap_store.proofs.CatalogueLemmas.{equal_format}
+use Rattle.coap_store.proofs.ListingLemmas.{entry_of, text_at, texts_kept, texts_changed, texts_joined, texts_count, end_within}
 use Rattle.coap_store.proofs.catalogue.replace.Goals as goal
 
-pub unreachable-requires : goal.unreachable-requires
-unreachable-requires c = found_is_there _ _ c.requires.present c.in_default.ensures.absent
+pub returns-then-eq-clause-listed : goal.returns-then-eq-clause-listed
+returns-then-eq-clause-listed c =
+    let entries = c.args.resources.now.entries in
+    let found = entry_of entries c.args.index c.format_at-old.result c.format_at-old.ensures in
+    let same = sym found.2 ∙ equal_format _ _ (sym c.eq.ensures ∙ c.if-eq.true) in
+    c.requires.listed ∙ sym (texts_kept entries c.args.index found.0 c.args.resource found.1 same) ∙ ap (λ es. texts_of (resources_in es)) (sym c.write_at.ensures)
 
-pub write_listing-requires-clause-listed : goal.write_listing-requires-clause-listed
-write_listing-requires-clause-listed c =
-    stored_listed _ _ _ _ c.in-Ok.ensures.entries c.requires.all_listed c.requires.listed
+pub replace_end-requires-clause-exists : goal.replace_end-requires-clause-exists
+replace_end-requires-clause-exists c =
+    omega (arith, c.requires.within, c.text_index-text.ensures, ap length c.requires.listed, texts_count c.args.resources.now.entries)
 
-pub write_listing-requires-clause-room : goal.write_listing-requires-clause-room
-write_listing-requires-clause-room c =
-    omega (arith, bytes_of_stored_fit _ _ _ _ c.in-Ok.ensures.entries, c.in_ok-reserve.ensures.ok, c.in_ok-reserve.ensures.len, ap length c.requires.ready, ap length c.requires.listed)
+pub replace_end-requires-clause-within : goal.replace_end-requires-clause-within
+replace_end-requires-clause-within c =
+    let entries = c.args.resources.now.entries in
+    let found = entry_of entries c.args.index c.format_at-old.result c.format_at-old.ensures in
+    let text = (λ i. get_or (c.requires.listed i) (c.text_index-text.ensures i) []) ∙ text_at entries c.args.index found.0 found.1 in
+    let count = c.len.ensures.value ∙ ap length c.entry_end.ensures ∙ ap (λ f. length (end_bytes f)) found.2 in
+    omega (arith, count, ap length text, end_within found.0.0 found.0.1.format)
 
-pub returns-clause-stored : goal.returns-clause-stored
-returns-clause-stored c = stored_list _ _ _ _ c.in-Ok.ensures.entries
+pub replace_end-requires-clause-short : goal.replace_end-requires-clause-short
+replace_end-requires-clause-short c =
+    omega (arith, c.requires.short, c.as_str.ensures.fits, ap length c.as_bytes.ensures.value, ap (λ es. length (joined es)) c.requires.listed, ap length (texts_joined (resources_in c.args.resources.now.entries)))
 
-pub returns-clause-all_listed : goal.returns-clause-all_listed
-returns-clause-all_listed c = stored_listed _ _ _ _ c.in-Ok.ensures.entries c.requires.all_listed c.requires.listed
+pub returns-clause-listed : goal.returns-clause-listed
+returns-clause-listed c =
+    let entries = c.args.resources.now.entries in
+    let found = entry_of entries c.args.index c.format_at-old.result c.format_at-old.ensures in
+    let count = c.len.ensures.value ∙ ap length c.entry_end.ensures ∙ ap (λ f. length (end_bytes f)) found.2 in
+    let end = c.as_bytes.ensures.value ∙ c.as_str.ensures.value ∙ c.entry_end-end.ensures in
+    c.in_ok-replace_end.ensures.ok
+    ∙ texts_changed entries c.args.index found.0 c.args.resource _ _ _ _ found.1 c.requires.listed c.text_index-text.ensures count end
+    ∙ ap (λ es. texts_of (resources_in es)) (sym c.write_at-2.ensures)

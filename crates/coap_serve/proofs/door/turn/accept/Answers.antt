@@ -5,7 +5,7 @@ use Rattle.coap_serve.proofs.door.turn.accept.Goals as goal
 
 pub returns-clause-noted : goal.returns-clause-noted
 returns-clause-noted g c =
-    noted_with_one_more c.args.server.now c.open.new.self c.in-Ok-open.id _ c.args.peers.now.entries c.insert.new.self.entries c.can_open.ensures.settled c.requires
+    noted_with_one_more c.args.server.now c.open.new.self c.in-Ok-open.id _ c.args.peers.now.entries c.insert.new.self.entries c.can_open.ensures.settled c.requires.noted
     c.in-Ok-open.ensures.id c.in-Ok-open.ensures.ok c.wants_on-wants.ensures c.in-Ok-insert.ensures.entries c.in-Ok-insert.ensures.unique
 
 pub returns-clause-opened : goal.returns-clause-opened

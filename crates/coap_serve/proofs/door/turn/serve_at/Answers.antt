@@ -3,6 +3,7 @@ use Rattle.std.proofs.lemmas.Result.{IfOk-weaker}
 use Rattle.indexmap.proofs.CallerLemmas.{keys-with_value_at}
 use Rattle.coap_serve.proofs.streams.NoteLemmas.{beside_served, all_noted}
 use Rattle.coap_serve.proofs.streams.PeerLemmas.{set_there, before_written, beside_written}
+use Rattle.coap_serve.proofs.streams.SleepLemmas.{each_written}
 use Rattle.coap_serve.proofs.door.turn.serve_at.Goals as goal
 
 pub returns : goal.returns
@@ -25,6 +26,7 @@ returns g c =
           c.requires.settled c.pair_mut-peer.ensures.unique c.pair_mut-peer.ensures.value c.requires.noted c.serve_peer.result c.serve_peer.ensures.part c.serve_peer.ensures.wants;
       beside = beside_written c.args.peers.now.entries c.args.at c.serve_peer.new.peer;
       before = before_written c.args.peers.now.entries c.args.at c.serve_peer.new.peer;
+      each = each_written c.args.peers.now.entries c.args.at c.serve_peer.new.peer;
       same = keys-with_value_at c.args.peers.now c.args.at c.serve_peer.new.peer;
       fault = search rules;
     }

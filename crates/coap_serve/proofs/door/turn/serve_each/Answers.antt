@@ -17,10 +17,11 @@ loop-seen-init g c =
             c.stamp.ensures.stamp c.skip_idle-seen.ensures.from (rw c.none.ensures (record { due = refl; ready = false; can = refl; at_once = refl; fresh = λ none. tt }))
             c.skip_idle-seen.ensures.rest c.skip_idle-seen.ensures.agenda;
       },
-      c.requires,
+      c.requires.noted,
       c.stamp.ensures.settled,
       none_served (g.M.Monitor.calls c.args.monitor.now) c.args.server.now c.args.server.now refl,
       rw c.stamp.ensures.stamp at c.skip_idle-seen.ensures.next,
+      c.skip_idle-seen.ensures.asleep,
     )
 
 pub loop-seen-preserved : goal.loop-seen-preserved
@@ -41,6 +42,7 @@ loop-seen-preserved g c =
       c.stamp-in-loop-seen.ensures.settled,
       served_further (g.M.Monitor.calls c.args.monitor.now) (g.M.Monitor.calls c.loop-seen.monitor) (g.M.Monitor.calls c.serve_next.new.monitor) c.loop-seen.invariant.4 c.serve_next.ensures.shows,
       rw c.stamp-in-loop-seen.ensures.stamp at c.skip_idle-seen-in-loop-seen.ensures.next,
+      c.skip_idle-seen-in-loop-seen.ensures.asleep,
     )
 
 pub returns-in_err-served-clause-shows : goal.returns-in_err-served-clause-shows

@@ -1,5 +1,5 @@
 use Rattle.std.proofs.Common.{sym, ap, ◌∙◌}
-use Rattle.coap_store.proofs.PathLemmas.{keys_equal}
+use Rattle.coap_path.proofs.PathLemmas.{keys_equal}
 use Rattle.coap_server_session.specs.Prelude.{present_mark}
 use Rattle.coap_server_session.proofs.observer.Observer.present_by.Goals as goal
 

@@ -1,11 +1,15 @@
-use Rattle.std.proofs.Common.{sym, ◌∙◌}
-use Rattle.coap_store.proofs.CatalogueLemmas.{none_listed, none_there, bytes_of_none}
+use Rattle.std.proofs.Common.{[], ◌∷◌, ◌++◌, length, sym, ap, ◌∙◌, arith}
+use Rattle.coap_store.specs.Prelude.{joined, built_in_bytes}
+use Rattle.coap_store.proofs.CatalogueLemmas.{none_there, texts_of_none}
 use Rattle.coap_store.proofs.catalogue.Catalogue.new.Goals as goal
+
+pub append-requires : goal.append-requires
+unfolding joined
+append-requires c = omega (arith, ap (λ es. length (joined es)) c.new-listing.ensures)
 
 pub invariant_of-result : goal.invariant_of-result
 invariant_of-result c = record {
-  ready = c.in_ok-from_slice.ensures.items ∙ sym (bytes_of_none c.new.result.entries c.new.ensures.empty);
-  texts = none_listed c.new.result.entries c.new.ensures.empty;
+  listed = c.in_ok-append.ensures.ok ∙ ap (λ es. es ++ built_in_bytes ∷ []) c.new-listing.ensures ∙ sym (texts_of_none c.new.result.entries c.new.ensures.empty);
 }
 
 pub returns : goal.returns

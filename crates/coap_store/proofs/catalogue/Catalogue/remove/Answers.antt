@@ -1,20 +1,37 @@
-use Rattle.std.proofs.Common.{arith, length, ap, ◌∙◌}
-use Rattle.coap_store.specs.Prelude.{removed_at}
-use Rattle.coap_store.proofs.CatalogueLemmas.{removed_list, removed_are_listed, bytes_of_removed_fit}
+use Rattle.std.proofs.Common.{◌+◌, length, sym, ap, ◌∙◌, arith}
+use Rattle.std.specs.List.{remove}
+use Rattle.coap_store.specs.Prelude.{removed_at, resources_in, texts_of}
+use Rattle.coap_store.proofs.CatalogueLemmas.{found_within, removed_list, removed_absent}
+use Rattle.coap_store.proofs.ListingLemmas.{texts_removed, texts_count}
 use Rattle.coap_store.proofs.catalogue.Catalogue.remove.Goals as goal
 
-pub write_listing-requires-clause-listed : goal.write_listing-requires-clause-listed
-write_listing-requires-clause-listed c = removed_are_listed _ _ _ c.shift_remove.ensures.entries c.self.invariant.texts
+pub returns-in_default : goal.returns-in_default
+returns-in_default c =
+    let entries = c.self.inside.resources.entries in
+    sym (removed_absent entries c.args.path.now (sym c.in_default.ensures.found) ∙ c.self.view_is) ∙ ap (λ rs. removed_at rs c.args.path.now) c.self.view_is
 
-pub write_listing-requires-clause-room : goal.write_listing-requires-clause-room
-write_listing-requires-clause-room c =
-    omega (arith, bytes_of_removed_fit _ _ _ c.shift_remove.ensures.entries, ap length c.self.invariant.ready, c.self.inside.listing.ok)
+pub text_index-requires : goal.text_index-requires
+text_index-requires c = found_within c.self.inside.resources.entries c.args.path.now c.in-Some.index (sym c.in-Some.ensures.index)
+
+pub remove-requires : goal.remove-requires
+remove-requires c =
+    let entries = c.self.inside.resources.entries in
+    let within = found_within entries c.args.path.now c.in-Some.index (sym c.in-Some.ensures.index) in
+    omega (arith, within, c.text_index.ensures, ap length c.self.invariant.listed, texts_count entries)
 
 pub invariant_of-self : goal.invariant_of-self
-invariant_of-self c = record {
-  ready = c.write_listing.ensures;
-  texts = removed_are_listed _ _ _ c.shift_remove.ensures.entries c.self.invariant.texts;
-}
+invariant_of-self c =
+    let entries = c.self.inside.resources.entries in
+    let within = found_within entries c.args.path.now c.in-Some.index (sym c.in-Some.ensures.index) in
+    record {
+      listed = c.remove.ensures
+          ∙ (λ i. remove (c.self.invariant.listed i) (c.text_index.ensures i))
+          ∙ sym (texts_removed entries c.in-Some.index within)
+          ∙ ap (λ es. texts_of (resources_in es)) (sym c.shift_remove_index.ensures.entries);
+    }
 
 pub returns : goal.returns
-returns c = removed_list _ _ _ c.shift_remove.ensures.entries ∙ ap (λ rs. removed_at rs c.args.path.now) c.self.view_is
+returns c =
+    ap resources_in c.shift_remove_index.ensures.entries
+    ∙ removed_list c.self.inside.resources.entries c.args.path.now c.in-Some.index (sym c.in-Some.ensures.index)
+    ∙ ap (λ rs. removed_at rs c.args.path.now) c.self.view_is

@@ -7,14 +7,14 @@ use Rattle.coap_store.proofs.store.Store.notification.Goals as goal
 pub returns-in_default-clause-told : goal.returns-in_default-clause-told
 returns-in_default-clause-told c =
     let state = c.in_default.ensures ∙ state_by_key c.args.self.now c.args.now c.args.path.now _ c.is_kept-2.ensures c.kind-place.ensures in
-    c.only.ensures ∙ ap says (told_absent _ c.args.format _ state)
+    c.of_code.ensures ∙ ap says (told_absent _ c.args.format _ state)
 
 pub returns-then-ne-clause-told : goal.returns-then-ne-clause-told
 returns-then-ne-clause-told c =
     let state = c.in-Some.ensures ∙ state_by_key c.args.self.now c.args.now c.args.path.now _ c.is_kept-2.ensures c.kind-place.ensures in
-    c.only-then-ne.ensures ∙ ap says (told_other _ c.args.format (found_value c.in-Some.found) _ state (sym c.ne.ensures ∙ c.if-ne.true))
+    c.of_code-then-ne.ensures ∙ ap says (told_other _ c.args.format (found_value c.in-Some.found) _ state (sym c.ne.ensures ∙ c.if-ne.true))
 
-told : (c : goal.After-content) → c.content.result ≡ says (notification_of c.args.self.now c.args.now c.args.path.now c.args.format)
+told : (c : goal.After-content) → c.content.new.self ≡ says (notification_of c.args.self.now c.args.now c.args.path.now c.args.format)
 told c =
     let state = c.in-Some.ensures ∙ state_by_key c.args.self.now c.args.now c.args.path.now _ c.is_kept-2.ensures c.kind-place.ensures in
     let etag = c.etag_for-etag.ensures (found_value c.in-Some.found) refl in

@@ -1,6 +1,7 @@
-use Rattle.std.proofs.Common.{subst, sym, ◌+◌}
+use Rattle.std.proofs.Common.{subst, sym, ◌+◌, arith}
 use Rattle.coap_store.specs.Prelude.{store_value, TakesPut, IsStore}
-use Rattle.coap_store.proofs.StoreLemmas.{store_put}
+use Rattle.coap_store.proofs.ListingLemmas.{entry_short}
+use Rattle.coap_store.proofs.StoreLemmas.{store_put, listing_short}
 use Rattle.coap_store.proofs.store.Store.store.Goals as goal
 
 after : (c : goal.After-self-1) → IsStore (record (store_value c.self.inside) { resources = c.put.new.self; versions = c.self.inside.versions + 1 })
@@ -15,3 +16,10 @@ invariant_of-self-2 c = after c
 
 pub returns-clause-store : goal.returns-clause-store
 returns-clause-store c = after c
+
+pub put-requires-clause-short : goal.put-requires-clause-short
+put-requires-clause-short c = listing_short (store_value c.self.inside) c.self.invariant
+
+pub put-requires-clause-entry : goal.put-requires-clause-entry
+put-requires-clause-entry c =
+    omega (arith, entry_short c.args.path c.in_range.result c.requires.path_ok c.in_range.ensures.small)

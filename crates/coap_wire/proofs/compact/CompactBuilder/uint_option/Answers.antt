@@ -1,6 +1,6 @@
-use Rattle.std.proofs.Common.{rules, ◌≡◌, ◌∙◌, ◌∷◌, [], sym, ap, arith}
-use Rattle.coap_wire.specs.Prelude.{with_option, bytes_of_uint, without_leading_zeros}
-use Rattle.coap_wire.proofs.UintLaws.{four_bytes_of, no_byte_of_zero, one_byte_of}
+use Rattle.std.proofs.Common.{◌≡◌, ◌∙◌, ◌∷◌, [], sym, ap, arith}
+use Rattle.coap_wire.specs.Prelude.{with_option, bytes_of_uint}
+use Rattle.coap_wire.proofs.UintLaws.{no_byte_of_zero, one_byte_of}
 use Rattle.coap_wire.proofs.compact.CompactBuilder.uint_option.Goals as goal
 
 pub returns-then-value-eq0-clause-added : goal.returns-then-value-eq0-clause-added
@@ -11,9 +11,3 @@ pub returns-then-value-lt256-clause-added : goal.returns-then-value-lt256-clause
 returns-then-value-lt256-clause-added g c =
     let value : bytes_of_uint c.args.value ≡ c.args.value ∷ [] = one_byte_of c.args.value (omega (arith, c.if-value-eq0.false)) (omega (arith, c.if-value-lt256.true)) in
     c.option-then-value-lt256.ensures.added ∙ ap (with_option c.args.self.now c.args.number) (sym value)
-
-pub returns-clause-added : goal.returns-clause-added
-returns-clause-added g c =
-    let value : c.significant_bytes.result.now ≡ bytes_of_uint c.args.value =
-    c.significant_bytes.ensures.rest ∙ ap without_leading_zeros c.to_be_bytes.ensures ∙ sym (four_bytes_of c.args.value (search rules)) in
-    c.option-2.ensures.added ∙ ap (with_option c.args.self.now c.args.number) value

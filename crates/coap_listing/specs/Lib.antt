@@ -1,0 +1,4 @@
+pub mod Texts
+pub mod TextViews
+pub mod ListingViews
+pub mod Prelude

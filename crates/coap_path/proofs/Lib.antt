@@ -1,0 +1,5 @@
+pub mod PathLemmas
+mod FillLemmas
+mod PlaceLemmas
+pub mod TrailLemmas
+mod UriPathLemmas

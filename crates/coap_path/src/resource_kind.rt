@@ -1,0 +1,68 @@
+//! The kinds of resources.
+
+ghost use Rattle.std.specs.Prelude.{◌≡◌};
+ghost use Rattle.coap_path.specs.Prelude.{kind_of_path as place_named, is_dynamic as is_dynamic_place};
+ghost use Rattle.coap_path.specs.Prelude.{is_async as is_async_place, is_observable as is_observable_place};
+
+use crate::path::PathKey;
+
+/// Kind of resource that a path names: one of the built-in resources, or a created resource, which may be absent.
+#[derive(Clone, Copy, PartialEq, Eq)]
+pub enum ResourceKind {
+    /// Root, with a fixed greeting.
+    Root,
+    /// Resource `/time`: the time of the server in seconds.
+    Time,
+    /// Resource `/async`, whose responses are delayed.
+    Async,
+    /// Listing of all resources at `/.well-known/core` (RFC 6690 section 4).
+    Listing,
+    /// Resource at any other path.
+    Dynamic,
+}
+
+impl ResourceKind {
+    /// Returns `true` if the resource is not built in.
+    pub fn is_dynamic(self) -> bool
+        ensures { result ≡ is_dynamic_place self }
+    {
+        self == ResourceKind::Dynamic
+    }
+
+    /// Returns `true` if responses of the resource are delayed.
+    pub fn is_async(self) -> bool
+        ensures { result ≡ is_async_place self }
+    {
+        self == ResourceKind::Async
+    }
+
+    /// Returns `true` if the resource can be observed (RFC 7641 section 1.2).
+    pub fn is_observable(self) -> bool
+        ensures { result ≡ is_observable_place self }
+    {
+        self == ResourceKind::Time || self == ResourceKind::Dynamic
+    }
+}
+
+impl PathKey {
+    /// Returns the kind of resource that the path names.
+    #[tactic(auto, using(crate::proofs::PlaceLemmas::at_root, crate::proofs::PlaceLemmas::at_time, crate::proofs::PlaceLemmas::at_async, crate::proofs::PlaceLemmas::at_listing, crate::proofs::PlaceLemmas::elsewhere), unfolding(crate::specs::PathViews::written))]
+    pub fn kind(&self) -> ResourceKind
+        ensures { result ≡ place_named self.now }
+    {
+        let written = self.written();
+        if written.is_empty() {
+            return ResourceKind::Root;
+        }
+        if written == b"\x04time".as_slice() {
+            return ResourceKind::Time;
+        }
+        if written == b"\x05async".as_slice() {
+            return ResourceKind::Async;
+        }
+        if written == b"\x0b.well-known\x04core".as_slice() {
+            return ResourceKind::Listing;
+        }
+        ResourceKind::Dynamic
+    }
+}

@@ -1,0 +1,8 @@
+use Rattle.std.proofs.Common.{ap, ◌∙◌}
+use Rattle.coap_store.specs.Prelude.{joined, listing, resources_in}
+use Rattle.coap_store.proofs.ListingLemmas.{texts_joined}
+use Rattle.coap_store.proofs.catalogue.Catalogue.listing.Goals as goal
+
+pub returns : goal.returns
+returns c =
+    c.text.ensures ∙ ap joined c.self.invariant.listed ∙ texts_joined (resources_in c.self.inside.resources.entries) ∙ ap listing c.self.view_is

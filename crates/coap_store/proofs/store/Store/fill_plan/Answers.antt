@@ -1,0 +1,48 @@
+use Rattle.std.proofs.Common.{◌≡◌, ◌≤◌, true, length, [], sym, ap, ◌∙◌, subst}
+use Rattle.coap_store.specs.Prelude.{Answer, answer_of, TakesChange, changes, Drop}
+use Rattle.coap_store.proofs.AnswerLaws.{taken_of, bare_of, short_of}
+use Rattle.coap_store.proofs.StoreLemmas.{listing_short, stored_small}
+use Rattle.coap_store.proofs.AnswerLemmas.{answer_removes, answer_leaves}
+use Rattle.coap_store.proofs.store.Store.fill_plan.Goals as goal
+
+abbrev without_watch : Answer → Answer
+without_watch a = record a { watch = Drop }
+
+removed : (c : goal.After-set_watch) → c.set_watch.new.self ≡ answer_of c.args.self.now c.args.now c.args.request.now
+removed c =
+    c.set_watch.ensures ∙ ap without_watch c.check.ensures
+    ∙ answer_removes _ _ _ (sym c.removes_watch.ensures ∙ c.if-removes_watch.true)
+    ∙ ap (answer_of c.args.self.now c.args.now) c.by-asked.ensures
+
+pub returns-then-removes_watch-clause-answer : goal.returns-then-removes_watch-clause-answer
+returns-then-removes_watch-clause-answer c = removed c
+
+pub returns-then-removes_watch-clause-taken : goal.returns-then-removes_watch-clause-taken
+returns-then-removes_watch-clause-taken c =
+    subst (λ a. TakesChange c.args.self.now a.change) (sym (removed c)) (taken_of _ _ _ (c.is_kept.ensures.store).versions)
+
+pub returns-then-removes_watch-clause-bare : goal.returns-then-removes_watch-clause-bare
+returns-then-removes_watch-clause-bare c =
+    subst (λ a. changes a.change ≡ true → a.response.payload ≡ []) (sym (removed c)) (bare_of _ _ _)
+
+pub returns-then-removes_watch-clause-short : goal.returns-then-removes_watch-clause-short
+returns-then-removes_watch-clause-short c =
+    subst (λ a. length a.response.payload ≤ 1048576) (sym (removed c)) (short_of _ _ _ (listing_short _ c.is_kept.ensures.store) (stored_small _ c.is_kept.ensures.store) c.ranges.now.fits)
+
+left : (c : goal.Else-removes_watch) → c.check.new.plan ≡ answer_of c.args.self.now c.args.now c.args.request.now
+left c = c.check.ensures ∙ answer_leaves _ _ _ (sym c.removes_watch.ensures ∙ c.if-removes_watch.false) ∙ ap (answer_of c.args.self.now c.args.now) c.by-asked.ensures
+
+pub returns-else-removes_watch-clause-answer : goal.returns-else-removes_watch-clause-answer
+returns-else-removes_watch-clause-answer c = left c
+
+pub returns-else-removes_watch-clause-taken : goal.returns-else-removes_watch-clause-taken
+returns-else-removes_watch-clause-taken c =
+    subst (λ a. TakesChange c.args.self.now a.change) (sym (left c)) (taken_of _ _ _ (c.is_kept.ensures.store).versions)
+
+pub returns-else-removes_watch-clause-bare : goal.returns-else-removes_watch-clause-bare
+returns-else-removes_watch-clause-bare c =
+    subst (λ a. changes a.change ≡ true → a.response.payload ≡ []) (sym (left c)) (bare_of _ _ _)
+
+pub returns-else-removes_watch-clause-short : goal.returns-else-removes_watch-clause-short
+returns-else-removes_watch-clause-short c =
+    subst (λ a. length a.response.payload ≤ 1048576) (sym (left c)) (short_of _ _ _ (listing_short _ c.is_kept.ensures.store) (stored_small _ c.is_kept.ensures.store) c.ranges.now.fits)
