@@ -45,7 +45,7 @@ faults: bin/coap-server
 bench: bin/coap-server
 	tests/build coap_probe
 	bench/throughput; missed=$$?; bench/front || missed=1; tests/system/flood.py bin/coap-server observers || missed=1; \
-	bench/instructions && exit $$missed
+	bench/asymptotics || missed=1; bench/instructions && exit $$missed
 
 # UNPROVED: runs the source on the recorded streams before any proof, in up to a minute, for work in progress.
 try:

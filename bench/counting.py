@@ -4,6 +4,9 @@ import re
 import subprocess
 import tempfile
 
+# Ratio of a count to its target above which the target is missed. Counts vary a little with the number of requests in a read.
+MISSED_BY = 1.03
+
 
 def callgrind(profile):
     """Returns the words before the command of a program whose instructions are counted, with the profile in this file."""
