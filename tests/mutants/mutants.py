@@ -636,6 +636,7 @@ def main(words):
         print("\n".join("  ".join(it) for it in sorted(it.row() for it in whole)))
         return 1 if unquoted else 0
     control = [] if names else edits_of(f"{ROOT}/tests/mutants/edits/control", below, ["control"])
+    compiling = [it for it in control if it.refusal.strip() != "does not compile"]
     edits = edits_of(f"{ROOT}/tests/mutants/edits", names or below, ["gate", "all"] if is_all else ["gate"])
     by_rows = [it for it in whole if it.layer == "rows"] if is_all or "--rows" in words else []
     by_tests = [it for it in whole if it.layer in PROGRAMS] if is_all or "--tests" in words else []
@@ -643,7 +644,7 @@ def main(words):
         edits = []
     if {"--rows", "--tests", "--types"} & set(words):
         control, edits = [], []
-    typed = [] if {"--control", "--rows", "--tests"} & set(words) else whole
+    typed = [] if {"--control", "--rows", "--tests"} & set(words) else whole + compiling
     make_libraries(dict.fromkeys(it.crate for it in control + edits + typed), below)
     untyped = tell_wrong_types(typed)
     told_of = f", and {len(typed) - untyped} of {len(typed)} are well typed" if typed else ""
