@@ -40,7 +40,7 @@ LIBRARIES = ["coap_io/src/*.rt", "coap_program/src/*.rt", "coap_sockets/src/*.rt
 
 SOURCES = {
     # Source files with the lines and statuses of a program.
-    "coap-server": ["coap_server/src/*.rt", "coap_serve/src/*.rt", "coap_script/src/*.rt", "coap_model/src/*.rt",
+    "coap-server": ["coap_server/src/*.rt", "coap_server_streams/src/*.rt", "coap_server_listener/src/*.rt", "coap_script/src/*.rt", "coap_model/src/*.rt",
                     "coap_server_engine/src/*.rt"] + LIBRARIES,
     "coap-client": ["coap_client_main/src/*.rt", "coap_client_engine/src/run.rt", "coap_client_engine/src/run/*.rt",
                     "coap_client_engine/src/error_lines.rt", "coap_client_engine/src/cause_line.rt"] + LIBRARIES,

@@ -1,13 +1,7 @@
--- Runs of `serve_one` and `serve_door`: their errors, progress, turns and recorded interests, and the definition of
--- each run.
-pub mod StdioRun
-pub mod StdioCalls
-pub mod StdioProgress
-pub mod Faults
-pub mod Turns
-pub mod RecordedInterests
-pub mod Sleepers
-pub mod Serving
-pub mod DoorRun
-pub mod Silence
-pub mod TimedRun
+-- Re-exports the definitions of runs.
+pub use Rattle.coap_server_streams.specs.streams.StdioRun
+pub use Rattle.coap_server_streams.specs.streams.StdioCalls
+pub use Rattle.coap_server_listener.specs.streams.Turns
+pub use Rattle.coap_server_listener.specs.streams.Serving
+pub use Rattle.coap_server_listener.specs.streams.DoorRun
+pub use Rattle.coap_server_listener.specs.streams.TimedRun

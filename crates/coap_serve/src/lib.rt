@@ -1,5 +1,5 @@
-//! A CoAP server over reliable transports (RFC 8323). This crate contains the functions that run a server, and
-//! re-exports all public names of the crates of the server.
+//! A CoAP server over reliable transports (RFC 8323). This crate re-exports all public names of the crates of the
+//! server, and contains no function.
 //!
 //! - `serve_one` runs a server with one connection over one input and one output, such as standard input and output.
 //! - `serve_door` runs a server over the connections that a listener (`Door`) accepts. `Service` does the same for a
@@ -8,16 +8,12 @@
 //! - `Config`, `Limits` and `Starts` configure it. `script` parses a text of events, and `Server::replay` runs them.
 //! - `laws` has the theorems over all servers.
 //!
-//! This crate opens no socket: `coap_sockets` implements `Door`, `Wire` and `Clock` over TCP. The server is in
-//! `coap_server_engine`, and one connection of it in `coap_server_session`. `coap_model` defines the server's behaviour
-//! as a function of its events. Continue with `serve.rt` and then `door.rt`, or with
+//! `serve_one` is in `coap_server_streams`, and `serve_door` in `coap_server_listener`. Neither opens a socket:
+//! `coap_sockets` implements `Door`, `Wire` and `Clock` over TCP. The server is in `coap_server_engine`, and one
+//! connection of it in `coap_server_session`. `coap_model` defines the server's behaviour as a function of its events.
+//! Continue with `coap_server_streams/src/serve.rt`, then `coap_server_listener/src/door.rt`, or with
 //! `coap_server_engine/src/server.rt`.
 #![tactic(auto)]
-
-mod door;
-pub mod laws;
-mod output;
-mod serve;
 
 pub use coap_conn::{LimitFault, Limits, LimitsBuilder, Phase, Reason};
 pub use coap_io::{
@@ -29,8 +25,28 @@ pub use coap_model::{
     OpenFault, ReleaseFault, Starts, Status, TakeFault, Taken, WrittenFault,
 };
 pub use coap_script::{Event, ScriptFault, script, scripts_go_on_behind_whole_lines};
-pub use coap_server_engine::{Call, Monitor, NoMonitor, ReplayFault, Server};
+pub use coap_server_engine::{Call, IoFault, Monitor, NoMonitor, ReplayFault, Server};
+pub use coap_server_listener::{
+    Service, SilenceWatch, serve_door, serve_door_timed, serve_door_with,
+};
+pub use coap_server_streams::{Report, serve_one, serve_one_with};
 pub use coap_store::{PathKey, StoreFault};
 pub use coap_text::{bytes_in, number_in};
-pub use door::{Service, SilenceWatch, serve_door, serve_door_timed, serve_door_with};
-pub use serve::{IoFault, Report, serve_one, serve_one_with};
+
+/// Theorems about every server. Each is the contract of a function with an empty body.
+pub mod laws {
+    pub use coap_model::laws::{
+        a_pong_with_custody_follows_all_answers, connections_interact_only_through_store,
+        custody_comes_last, last_announced_size_applies, last_notification_matches_state,
+        limits_are_kept, pending_entries_are_sent, queued_messages_fit_limit,
+    };
+    pub use coap_server_engine::laws::{
+        each_message_taken_is_handled_once, no_change_is_lost, only_stores_allocate,
+        script_segmentation_is_irrelevant, segmentation_is_irrelevant,
+        waiting_until_next_deadline_is_safe,
+    };
+    pub use coap_server_listener::laws::{
+        idle_connections_may_be_skipped, recorded_interests_stay_valid, stamps_do_not_repeat,
+    };
+    pub use coap_server_streams::laws::a_flush_leaves_nothing_waiting;
+}

@@ -7,3 +7,4 @@ pub mod InResults
 pub mod ServerDeadlines
 pub mod ServerCauses
 pub mod Calls
+pub mod Faults

@@ -6,6 +6,7 @@
 //! - `Monitor` is the interface through which a program follows the calls that a server accepts.
 //! - `Server::replay` runs the events of a script (`coap_script`) and writes a line for each.
 //! - `ConnectionWork` is the work left on a connection. `ChangeStamp` changes with everything that may affect all connections.
+//! - `IoFault` is the error that ends a run of a server.
 //! - `laws` has the theorems on servers and on scripts.
 //!
 //! The contracts name the definitions of `specs/values/Servers.antt`, and those of `specs/world/Shows.antt` for the
@@ -15,11 +16,13 @@
 //! and `coap_serve` runs a server over transports. Continue with `server.rt`.
 #![tactic(auto)]
 
+mod io_fault;
 pub mod laws;
 mod monitor;
 mod replay;
 mod server;
 
+pub use io_fault::IoFault;
 pub use monitor::{Call, Monitor, NoMonitor};
 pub use replay::ReplayFault;
 pub use server::{ChangeStamp, ConnectionWork, FlushStep, Server};

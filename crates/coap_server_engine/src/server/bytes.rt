@@ -68,13 +68,28 @@ impl Server {
         self.take_at(at, id, piece)
     }
 
-    /// Accepts bytes as `take` does, on the connection at an index.
+    /// Returns the index of a connection, or `None` if no connection has this id.
+    ///
+    /// The index stays the same until a connection is dropped. `take_at` and `flush_once_at` use it and search for no
+    /// connection.
+    pub fn index_of(&self, id: ConnId) -> Option<usize>
+        ensures there { is_some result ≡ is_there (session_of id self.now.sessions) }
+        ensures at { IfSome result (λ at. LiesAt id at self.now.sessions) }
+    {
+        find(&self.sessions, id)
+    }
+
+    /// Accepts bytes as `take` does, on the connection at an index. `_id` is its id.
     ///
     /// # Errors
     ///
     /// - `Memory`: as for `take`.
+    ///
+    /// # Preconditions
+    ///
+    /// The connection with the id is at the index, as `index_of` returned it.
     #[inline(always)]
-    fn take_at(&mut self, at: usize, _id: ConnId, piece: &[u8]) -> Result<Taken, TakeFault>
+    pub fn take_at(&mut self, at: usize, _id: ConnId, piece: &[u8]) -> Result<Taken, TakeFault>
         requires { LiesAt _id at self.old.sessions }
         ensures within { IfOk result (λ t. t.bytes ≤ length piece.now) }
         ensures count { IfOk result (λ t. t.bytes ≡ count_taken self.old _id piece.now) }
@@ -275,6 +290,36 @@ impl Server {
                 stop: None,
             });
         };
+        self.flush_once_at(at, id, writer)
+    }
+
+    /// Writes all queued bytes as `flush_once` does, on the connection at an index. `_id` is its id.
+    ///
+    /// # Errors
+    ///
+    /// Returns `WriteFailed` as for `flush_once`.
+    ///
+    /// # Preconditions
+    ///
+    /// The outlet has not failed before. The connection with the id is at the index, as `index_of` returned it.
+    #[inline(always)]
+    pub fn flush_once_at<W: Outlet>(
+        &mut self,
+        at: usize,
+        _id: ConnId,
+        writer: &mut W,
+    ) -> Result<FlushStep, WriteFailed>
+        requires works { W.is_failed writer.old ≡ false }
+        requires at { LiesAt _id at self.old.sessions }
+        ensures ok { IfOk result (λ f. IsFlushedOnce _id self.old self.new
+            (AddsBytes (W.written writer.old) (W.written writer.new)) f.waited) }
+        ensures more { IfOk result (λ f. f.more ≡ more_at _id self.old) }
+        ensures stop { IfOk result (λ f. f.stop ≡ stop_on (session_of _id self.new.sessions)) }
+        ensures part { OnErr result (WritesPart (W.written writer.old) (W.written writer.new)
+            (waiting_at _id self.old)) }
+        ensures failure { W.is_failed writer.new ≡ is_err result }
+        ensures lies { OnOk result (LiesAt _id at self.new.sessions) }
+    {
         let more = self.sessions[at].settle_bound();
         let waited = flush_at(&mut self.sessions, at, &self.host, writer)?;
         let stop = self.sessions[at].phase().stop();

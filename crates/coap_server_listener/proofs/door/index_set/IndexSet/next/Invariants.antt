@@ -1,0 +1,7 @@
+use Rattle.std.proofs.Common.{ℕ, ◌*◌, ◌<◌, ◌≤◌}
+use Rattle.coap_server_listener.specs.Prelude.{IsOutside}
+use Rattle.coap_server_listener.proofs.door.index_set.IndexSet.next.Given as goal
+
+-- No index of the words before this one belongs to the set.
+abbrev pub invariant-loop-word : goal.invariant-loop-word
+invariant-loop-word l = (i : ℕ) → l.from ≤ i → i < l.word * 64 → IsOutside l.self.words i

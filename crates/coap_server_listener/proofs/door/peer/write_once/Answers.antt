@@ -1,0 +1,36 @@
+use Rattle.std.proofs.Common.{rules, refl, sym, add-zero}
+use Rattle.std.proofs.lemmas.List.{length-take-le}
+use Rattle.coap_server_listener.specs.Prelude.{Answered, waiting_at, Bytes, Later, End, Failed}
+use Rattle.coap_server_listener.proofs.streams.NextPartLemmas.{none_refused}
+use Rattle.coap_io.proofs.streams.DeviceLemmas.{part_written}
+use Rattle.coap_server_listener.proofs.streams.ServingLemmas.{written_served}
+use Rattle.coap_server_listener.proofs.door.peer.write_once.Goals as goal
+
+pub unreachable-requires : goal.unreachable-requires
+unreachable-requires g c =
+    none_refused c.args.server.now c.args.id c.in-Bytes.count c.first_part-part.result.now c.in_default-written.field-0
+    (sym c.in-Some.ensures.there) (rw c.in-Some.ensures.parts at c.first_part-part.ensures) c.in-Bytes.ensures.within.1 c.in_default-written.ensures.answer
+
+pub returns-in-Ok-clause-wrote : goal.returns-in-Ok-clause-wrote
+returns-in-Ok-clause-wrote g c = λ _.
+    rw c.if-not-may_write.false
+    (part_written (waiting_at c.args.id c.args.server.now) c.first_part-part.result.now (Bytes c.in-Bytes.count) (g.W.Wire.written c.args.wire.now) (g.W.Wire.written c.write.new.self)
+    (rw c.in-Some.ensures.parts at c.first_part-part.ensures).front c.in-Bytes.ensures.within c.in-Bytes.ensures.wrote)
+
+pub returns-in-Ok-clause-shows : goal.returns-in-Ok-clause-shows
+returns-in-Ok-clause-shows g c =
+    written_served (g.M.Monitor.calls c.args.monitor.now) (g.M.Monitor.calls c.accepted.new.self) c.args.server.now _ c.written.new.self c.args.id c.in-Bytes.count (search rules) c.in-Ok.ensures.shows
+    (rw (length-take-le c.in-Bytes.count c.first_part-part.result.now c.in-Bytes.ensures.within.1, add-zero) at c.accepted.ensures)
+
+-- The wire was written once, and the result of that write is the result of the function.
+pub returns-in-Ok-clause-answered : goal.returns-in-Ok-clause-answered
+returns-in-Ok-clause-answered g c = λ _. Answered (Bytes c.in-Bytes.count) c.in-Bytes.ensures.answered refl
+
+pub returns-in-Later-clause-answered : goal.returns-in-Later-clause-answered
+returns-in-Later-clause-answered g c = λ _. Answered Later c.in-Later.ensures.answered refl
+
+pub returns-in-End-clause-answered : goal.returns-in-End-clause-answered
+returns-in-End-clause-answered g c = λ _. Answered End c.in-End.ensures.answered refl
+
+pub returns-in-Failed-clause-answered : goal.returns-in-Failed-clause-answered
+returns-in-Failed-clause-answered g c = λ _. Answered Failed c.in-Failed.ensures.answered refl

@@ -1,0 +1,20 @@
+use Rattle.std.proofs.Common.{nat_eq}
+use Rattle.std.proofs.lemmas.Map.{none_passes_from_lookup}
+use Rattle.coap_server_listener.specs.Prelude.{TellsMore}
+use Rattle.coap_server_listener.proofs.streams.AgendaLemmas.{some_at_index}
+use Rattle.coap_server_listener.proofs.streams.SweepLemmas.{dropped_here, noted_where_removed, number_there}
+use Rattle.coap_server_listener.proofs.door.sweep.drop_at.Goals as goal
+
+pub returns-clause-part : goal.returns-clause-part
+returns-clause-part g c =
+    dropped_here (TellsMore (g.M.Monitor.calls c.args.watch.now.monitor) (g.M.Monitor.calls c.accepted.new.self.monitor)) c.args.watch.now.now c.args.server.now c.drop_conn.new.self c.args.watch.now.activities.entries c.accepted.new.self.activities.entries
+    c.args.peers.now.entries c.shift_remove_index.new.self.entries c.args.at c.args.id c.requires.there c.requires.number c.in-Ok.ensures.ok c.accepted.ensures.activities c.shift_remove_index.ensures.entries
+    c.in-Ok.ensures.shows c.accepted.ensures.told
+
+pub returns-clause-noted : goal.returns-clause-noted
+returns-clause-noted g c =
+    let at = some_at_index c.args.peers.now.entries c.args.at c.requires.there in
+    let same = number_there c.args.peers.now.entries c.args.at c.args.id at.0 c.requires.number at.1 in
+    let updates = rw (c.shift_remove_index.ensures.entry, at.1) at c.shift_remove_index.ensures.updates in
+    noted_where_removed c.args.server.now c.drop_conn.new.self c.args.id c.args.at c.args.peers.now.entries c.shift_remove_index.new.self.entries c.drop_conn.ensures.settled c.in-Ok.ensures.ok c.shift_remove_index.ensures.entries
+    (rw same at (none_passes_from_lookup (nat_eq at.0.0) c.shift_remove_index.new.self.entries updates.1)) c.requires.noted

@@ -1,0 +1,18 @@
+use Rattle.std.proofs.Common.{Some, refl, rules}
+use Rattle.coap_server_listener.proofs.streams.NoteLemmas.{noted_with_one_more}
+use Rattle.coap_server_listener.proofs.streams.AgendaLemmas.{one_more_opened}
+use Rattle.coap_server_listener.proofs.door.turn.accept.Goals as goal
+
+pub returns-clause-noted : goal.returns-clause-noted
+returns-clause-noted g c =
+    noted_with_one_more c.args.server.now c.open.new.self c.in-Ok-open.id _ c.args.peers.now.entries c.insert.new.self.entries c.can_open.ensures.settled c.requires.noted
+    c.in-Ok-open.ensures.id c.in-Ok-open.ensures.ok c.wants_on-wants.ensures c.in-Ok-insert.ensures.entries c.in-Ok-insert.ensures.unique
+
+pub returns-clause-opened : goal.returns-clause-opened
+returns-clause-opened g c = record {
+  handed = Some c.in-Some.wire;
+  asked = search rules;
+  opened =
+      one_more_opened c.args.server.now c.open.new.self c.in-Ok-open.id _ c.args.peers.now.entries c.insert.new.self.entries c.in-Ok-open.ensures.answer c.in-Ok-open.ensures.id c.in-Ok-open.ensures.ok c.in-Ok-insert.ensures.entries c.in-Ok.ensures;
+  is = refl;
+}

@@ -1,0 +1,36 @@
+use Rattle.std.proofs.lemmas.Option.{slice_get-map}
+use Rattle.coap_server_listener.proofs.streams.NoteLemmas.{stays_noted, dropped_on, others_become, dropped_so}
+use Rattle.std.proofs.lemmas.Map.{none_passes_from_lookup}
+use Rattle.coap_server_listener.specs.Prelude.{IsNoted, server_dropped}
+use Rattle.coap_server_listener.proofs.streams.ServingLemmas.{dropped_served, none_served}
+use Rattle.coap_server_listener.proofs.door.turn.drop_at.Goals as goal
+
+pub returns-in-Some-clause-noted : goal.returns-in-Some-clause-noted
+returns-in-Some-clause-noted g c =
+    rw (dropped_so c.drop_conn.result c.args.server.now _ c.in-Some.id c.requires.settled c.drop_conn.ensures.answer c.drop_conn.ensures.ok c.drop_conn.ensures.err)
+    (others_become (IsNoted c.args.server.now) (IsNoted (server_dropped c.args.server.now c.in-Some.id)) c.in-Some.id
+    (stays_noted (dropped_on c.args.server.now c.in-Some.id) c.requires.settled) c.shift_remove_index.new.self.entries
+    (none_passes_from_lookup _ _ c.in-Some.ensures.updates.1) (rw c.shift_remove_index.ensures.entries c.requires.noted))
+
+pub returns-in-Some-clause-server : goal.returns-in-Some-clause-server
+returns-in-Some-clause-server g c =
+    rw (slice_get-map, ← c.in-Some.ensures.entry)
+    (dropped_so c.drop_conn.result c.args.server.now _ c.in-Some.id c.requires.settled c.drop_conn.ensures.answer c.drop_conn.ensures.ok c.drop_conn.ensures.err)
+
+pub returns-in-Ok-clause-noted : goal.returns-in-Ok-clause-noted
+returns-in-Ok-clause-noted g c =
+    rw (dropped_so c.drop_conn.result c.args.server.now _ c.in-Some.id c.requires.settled c.drop_conn.ensures.answer c.drop_conn.ensures.ok c.drop_conn.ensures.err)
+    (others_become (IsNoted c.args.server.now) (IsNoted (server_dropped c.args.server.now c.in-Some.id)) c.in-Some.id
+    (stays_noted (dropped_on c.args.server.now c.in-Some.id) c.requires.settled) c.shift_remove_index.new.self.entries
+    (none_passes_from_lookup _ _ c.in-Some.ensures.updates.1) (rw c.shift_remove_index.ensures.entries c.requires.noted))
+
+pub returns-in-Ok-clause-server : goal.returns-in-Ok-clause-server
+returns-in-Ok-clause-server g c =
+    rw (slice_get-map, ← c.in-Some.ensures.entry)
+    (dropped_so c.drop_conn.result c.args.server.now _ c.in-Some.id c.requires.settled c.drop_conn.ensures.answer c.drop_conn.ensures.ok c.drop_conn.ensures.err)
+
+pub returns-in-Ok-clause-shows : goal.returns-in-Ok-clause-shows
+returns-in-Ok-clause-shows g c = dropped_served (g.M.Monitor.calls c.args.monitor.now) (g.M.Monitor.calls c.accepted.new.self) c.args.server.now c.drop_conn.new.self c.in-Some.id c.in-Ok.ensures.shows c.accepted.ensures
+
+pub returns-in-Some-clause-shows : goal.returns-in-Some-clause-shows
+returns-in-Some-clause-shows g c = none_served (g.M.Monitor.calls c.args.monitor.now) c.args.server.now c.drop_conn.new.self c.in-Err.ensures.err

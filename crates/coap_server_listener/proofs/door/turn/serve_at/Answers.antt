@@ -1,0 +1,32 @@
+use Rattle.std.proofs.Common.{rules}
+use Rattle.std.proofs.lemmas.Result.{IfOk-weaker}
+use Rattle.indexmap.proofs.CallerLemmas.{keys-with_value_at}
+use Rattle.coap_server_listener.proofs.streams.NoteLemmas.{beside_served, all_noted}
+use Rattle.coap_server_listener.proofs.streams.PeerLemmas.{set_there, before_written, beside_written}
+use Rattle.coap_server_listener.proofs.streams.SleepLemmas.{each_written}
+use Rattle.coap_server_listener.proofs.door.turn.serve_at.Goals as goal
+
+pub returns : goal.returns
+returns g c =
+    let written = set_there c.args.peers.now.entries c.args.at c.serve_peer.new.peer _ _ c.pair_mut-peer.ensures.value in
+    record {
+      shows = search rules;
+      part =
+          rw (c.pair_mut-peer.ensures.value, written)
+          (IfOk-weaker c.serve_peer.result _ _
+          (λ course part. record { may_read = _; may_write = _; read = c.may_read-may_read.ensures; write = c.may_write-may_write.ensures; part = part })
+          c.serve_peer.ensures.part);
+      wants = rw written c.serve_peer.ensures.wants;
+      others =
+          rw (beside_written c.args.peers.now.entries c.args.at c.serve_peer.new.peer)
+          (IfOk-weaker c.serve_peer.result _ _ (beside_served _ _ c.args.server.now _ _ _ c.serve_peer.new.server _ _ c.args.peers.now.entries c.args.at _ c.serve_peer.new.peer
+          c.requires.settled c.pair_mut-peer.ensures.unique c.pair_mut-peer.ensures.value c.requires.noted) c.serve_peer.ensures.part);
+      noted =
+          all_noted _ _ c.args.server.now _ _ _ c.serve_peer.new.server _ _ c.args.peers.now.entries c.args.at c.pair_mut-peer.result.1.now c.serve_peer.new.peer
+          c.requires.settled c.pair_mut-peer.ensures.unique c.pair_mut-peer.ensures.value c.requires.noted c.serve_peer.result c.serve_peer.ensures.part c.serve_peer.ensures.wants;
+      beside = beside_written c.args.peers.now.entries c.args.at c.serve_peer.new.peer;
+      before = before_written c.args.peers.now.entries c.args.at c.serve_peer.new.peer;
+      each = each_written c.args.peers.now.entries c.args.at c.serve_peer.new.peer;
+      same = keys-with_value_at c.args.peers.now c.args.at c.serve_peer.new.peer;
+      fault = search rules;
+    }

@@ -1,0 +1,24 @@
+use Rattle.coap_server_listener.proofs.streams.NoteLemmas.{wait_so}
+use Rattle.coap_server_listener.proofs.streams.ServingLemmas.{turned_further}
+use Rattle.coap_server_listener.proofs.door.turn.take_turn.Goals as goal
+
+pub returns-in_err-agenda-clause-shows : goal.returns-in_err-agenda-clause-shows
+returns-in_err-agenda-clause-shows g c = turned_further (g.M.Monitor.calls c.args.monitor.now) (g.M.Monitor.calls c.accept.new.monitor) (g.M.Monitor.calls c.serve_each.new.monitor) c.accept.ensures.shows c.serve_each.ensures.shows
+
+pub returns-clause-shows : goal.returns-clause-shows
+returns-clause-shows g c = turned_further (g.M.Monitor.calls c.args.monitor.now) (g.M.Monitor.calls c.accept.new.monitor) (g.M.Monitor.calls c.serve_each.new.monitor) c.accept.ensures.shows c.serve_each.ensures.shows
+
+pub returns-clause-turn : goal.returns-clause-turn
+returns-clause-turn g c =
+    let round = c.in_ok-agenda.ensures.round in
+    record {
+      opens = c.in_ok-opens.opens;
+      server = c.accept.new.server;
+      entries = c.accept.new.peers.entries;
+      opened = c.in_ok-opens.ensures.opened;
+      changed = round.changed;
+      served = round.served;
+      waits = rw c.wait.ensures
+          (wait_so g.D.Wire.Ready.readable g.D.Wire.Ready.writable c.serve_each.new.server c.serve_each.new.peers.entries c.in_ok-agenda.agenda c.with.result c.in_ok-opens.opens round.changed
+          c.in_ok-agenda.ensures.noted round.agenda c.with.ensures);
+    }

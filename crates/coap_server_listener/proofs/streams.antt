@@ -1,0 +1,14 @@
+-- Lemmas on runs: on flushes, chunks and turns, on recorded interests, and on a service.
+pub mod PeerLemmas
+pub mod AgendaLemmas
+pub mod PassedLemmas
+pub mod NoteLemmas
+pub mod ServingLemmas
+pub mod RemovalLemmas
+pub mod SweepLemmas
+pub mod NextPartLemmas
+pub mod ServiceLemmas
+pub mod DoorLemmas
+pub mod TimedLemmas
+pub mod IndexSetLemmas
+pub mod SleepLemmas

@@ -1,0 +1,129 @@
+-- The traces of clock and listener in a run, turn by turn.
+use Rattle.std.proofs.Common.{◌≡◌, ℕ, ◌+◌, ◌<◌, Bool, false, List, [], ◌∷◌, ◌++◌, length, Option, Result, Ok, Err, OnOk, OnErr, refl, ap, ◌∙◌, arith, inr}
+use Rattle.coap_server_listener.specs.Prelude.{is_none, ConfigValues, Peer, IoFault, Memory, Wait, open_refusal, ServerValue}
+use Rattle.coap_server_listener.specs.Prelude.{OneMore, HasTurnedSo, IsCutRun, EndsWith, moved_to, waited_behind}
+use Rattle.coap_server_listener.specs.Prelude.{IsTurnOf, IsAskedOnce, asked_by, TellsMore, DoorCall, IsMemory, IsMemoryOrTurns, WireTrace}
+use Rattle.coap_server_listener.specs.Prelude.{AcceptedCall, Ticked, HasTurned, ShowsMore, Shows, opening}
+use Rattle.std.proofs.lemmas.List.{append-nil, length-append}
+use Rattle.coap_io.proofs.streams.DeviceLemmas.{told_then}
+
+-- ---- the calls that a monitor received
+
+-- The record of a monitor, if it has one.
+abbrev pub Calls : Type 0
+Calls = Option (List AcceptedCall)
+
+-- The server shows the calls that a monitor received.
+pub record HasShown (told : List AcceptedCall → Type 0) (v : ServerValue) : Type 0 where
+  pub events : List AcceptedCall
+  pub shows : Shows v events
+  pub tells : told events
+
+-- After one more part of the run, the server shows the calls of both.
+pub shown_further : (a b c : Calls) (v w : ServerValue) (more : List AcceptedCall) → HasShown (TellsMore a b) v → ShowsMore v w more → TellsMore b c more → HasShown (TellsMore a c) w
+shown_further a b c v w more so_far shows tells = record {
+  events = so_far.events ++ more;
+  shows = shows so_far.events so_far.shows;
+  tells = told_then a b c so_far.events more so_far.tells tells;
+}
+
+-- The time was set, or it was earlier and nothing changed.
+pub shown_ticked : {T E M : Type 0} (calls : M → Calls) (m n : M) (r : Result T E) (a : Calls) (v w : ServerValue) (now : ℕ) → HasShown (TellsMore a (calls m)) v
+    → OnOk r (ShowsMore v w (Ticked now ∷ [])) → OnOk r (TellsMore (calls m) (calls n) (Ticked now ∷ [])) → OnErr r ((w ≡ v) × (n ≡ m)) → HasShown (TellsMore a (calls n)) w
+shown_ticked calls m n (Ok x) a v w now so_far shows tells err = shown_further a (calls m) (calls n) v w (Ticked now ∷ []) so_far shows tells
+shown_ticked calls m n (Err e) a v w now so_far shows tells err = rw (err.0, err.1) so_far
+
+-- A turn was made.
+pub shown_turned : (a b c d : Calls) (v w : ServerValue) → HasShown (TellsMore a b) v → HasTurned (TellsMore b c) v w → TellsMore c d [] → HasShown (TellsMore a d) w
+shown_turned a b c d v w so_far turned ends =
+    let after = shown_further a b c v w (opening v turned.opens ++ turned.events) so_far turned.shows turned.tells in
+    record { events = after.events; shows = after.shows; tells = rw (← append-nil after.events) (told_then a c d after.events [] after.tells ends) }
+
+-- A turn was cut.
+pub turn_cut : (a b c : Calls) (v w : ServerValue) (so_far : HasShown (TellsMore a b) v) → HasTurned (TellsMore b c) v w → HasTurned (λ more. TellsMore a c (so_far.events ++ more)) v w
+turn_cut a b c v w so_far turned = record {
+  opens = turned.opens;
+  events = turned.events;
+  serving = turned.serving;
+  shows = turned.shows;
+  tells = told_then a b c so_far.events (opening v turned.opens ++ turned.events) so_far.tells turned.tells;
+}
+
+-- ---- progress of a run
+
+module _ {W : Type 0} (readable writable : W → Option Bool) (trace : W → WireTrace) (c : ConfigValues) where
+  pub record HasRunTo (clock : List ℕ → Type 0) (door : List (DoorCall W) → Type 0) (monitor : List AcceptedCall → Type 0) (v : ServerValue) (es : List (ℕ × Peer W)) (is_spent : Bool) (wait : Wait) (turns : ℕ) : Type 0 where
+    pub turned : HasTurnedSo readable writable trace c clock door monitor v es wait
+    pub counted : length turned.moments ≡ turns
+    pub ready : is_spent ≡ false
+
+  -- The server shows the calls that the monitor received so far.
+  pub shown_so_far : {clock : List ℕ → Type 0} {door : List (DoorCall W) → Type 0} {monitor : List AcceptedCall → Type 0} {v : ServerValue} {es : List (ℕ × Peer W)} {is_spent : Bool} {wait : Wait} {turns : ℕ} → HasRunTo clock door monitor v es is_spent wait turns → HasShown monitor v
+  shown_so_far run = record { events = run.turned.events; shows = run.turned.shows; tells = run.turned.monitor_tells }
+
+  module _ (first before now : Option (List ℕ)) (start came waited asked : Option (List (DoorCall W))) (v : ServerValue) (es : List (ℕ × Peer W)) (is_spent : Bool) (wait : Wait) (turns : ℕ) (monitor : List AcceptedCall → Type 0) (so_far : HasRunTo (TellsMore first before) (TellsMore start came) monitor v es is_spent wait turns) (opens : Bool) (may_open : opens ≡ is_none (open_refusal v)) (waits : TellsMore came waited (waited_behind turns wait opens)) (moment : ℕ) (tells : TellsMore before now (moment ∷ [])) (moved : ServerValue) (moves : moved ≡ moved_to v moment) where
+    told_calls : (handed : Option W) → TellsMore waited asked (asked_by (moved_to v moment) handed) → TellsMore start asked ((so_far.turned.calls ++ waited_behind (length so_far.turned.moments) wait (is_none (open_refusal v))) ++ asked_by (moved_to v moment) handed)
+    told_calls handed asks =
+        let behind : List (DoorCall W) = waited_behind (length so_far.turned.moments) wait (is_none (open_refusal v)) in
+        told_then start waited asked (so_far.turned.calls ++ behind) (asked_by (moved_to v moment) handed)
+        (told_then start came waited so_far.turned.calls behind so_far.turned.door_tells (rw (so_far.counted, ← may_open) waits)) asks
+
+    pub turned_once_more : (kept : List (ℕ × Peer W)) (after : ServerValue) (left : List (ℕ × Peer W)) (is_spent' : Bool) (next : Wait) (later : List AcceptedCall → Type 0) → kept ≡ es → IsTurnOf readable writable trace (TellsMore waited asked) moved kept after left next → is_spent' ≡ false → HasShown later after
+        → HasRunTo (TellsMore first now) (TellsMore start asked) later after left is_spent' next (turns + 1)
+    turned_once_more kept after left is_spent' next later same turn ready' shown =
+        let t : IsTurnOf readable writable trace (TellsMore waited asked) (moved_to v moment) es after left next = rw (moves, same) at turn in
+        let handed = t.opened.handed in
+        record {
+          turned = record {
+            moments = so_far.turned.moments ++ moment ∷ [];
+            calls = (so_far.turned.calls ++ waited_behind (length so_far.turned.moments) wait (is_none (open_refusal v))) ++ asked_by (moved_to v moment) handed;
+            turns = OneMore so_far.turned.moments so_far.turned.calls v es wait moment (asked_by (moved_to v moment) handed) after left next so_far.turned.turns
+                (record {
+                  opens = t.opens;
+                  server = t.server;
+                  entries = t.entries;
+                  opened = record { handed = handed; asked = refl; opened = t.opened.opened; is = t.opened.is };
+                  changed = t.changed;
+                  served = t.served;
+                  waits = t.waits;
+                });
+            clock_tells = told_then first before now so_far.turned.moments (moment ∷ []) so_far.turned.clock_tells tells;
+            door_tells = told_calls handed t.opened.asked;
+            events = shown.events;
+            shows = shown.shows;
+            monitor_tells = shown.tells;
+          };
+          counted = length-append so_far.turned.moments (moment ∷ []) ∙ ap (λ n. n + 1) so_far.counted;
+          ready = ready';
+        }
+
+    pub cut_in_a_turn : (ticked : List AcceptedCall → Type 0) (later : List AcceptedCall → Type 0) (last : ServerValue) → IsAskedOnce (TellsMore waited asked) moved → turns < c.turns → (shown : HasShown ticked moved) → HasTurned (λ more. later (shown.events ++ more)) moved last
+        → IsCutRun readable writable trace c (TellsMore first now) (TellsMore start asked) later
+    cut_in_a_turn ticked later last asks few shown cut = record {
+      moments = so_far.turned.moments;
+      calls = so_far.turned.calls;
+      server = v;
+      entries = es;
+      wait = wait;
+      turns = so_far.turned.turns;
+      few = omega (arith, so_far.counted, few);
+      moment = moment;
+      handed = asks.0;
+      clock_tells = told_then first before now so_far.turned.moments (moment ∷ []) so_far.turned.clock_tells tells;
+      door_tells = told_calls asks.0 (rw moves at asks.1);
+      before = shown.events;
+      shown = rw moves at shown.shows;
+      last = last;
+      cut = rw moves at cut;
+    }
+
+  pub ended_by_memory : (clock : List ℕ → Type 0) (door : List (DoorCall W) → Type 0) (monitor : List AcceptedCall → Type 0) (fault : IoFault) → IsMemory fault → IsCutRun readable writable trace c clock door monitor → EndsWith readable writable trace c clock door monitor fault
+  ended_by_memory clock door monitor Memory is cut = inr cut
+  ended_by_memory clock door monitor fault is cut = absurd is
+
+-- ---- the error of a run
+
+-- A failed allocation is one of the two errors that end a run over a listener.
+pub memory_ends : (T : Type 0) (fault : IoFault) → IsMemory fault → IsMemoryOrTurns {T = T} (Err fault)
+memory_ends T Memory is = tt
+memory_ends T fault is = absurd is

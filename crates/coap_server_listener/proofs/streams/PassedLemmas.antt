@@ -1,0 +1,111 @@
+-- To serve a connection on which nothing can be done has no effect.
+use Rattle.std.proofs.Common.{◌≡◌, ℕ, zero, suc, Bool, true, false, ◌&&◌, List, [], ◌∷◌, length, drop, Some, None, refl, sym, ap, ◌∙◌, arith, ◌||◌, ◌==◌, nat_lt, option_map, if◌then◌else◌}
+use Rattle.std.proofs.Math.Dec.{eqb-suc-zero}
+use Rattle.std.proofs.lemmas.Bool.{or_parts}
+use Rattle.std.proofs.lemmas.Bool.Decides.{nat_tests}
+use Rattle.std.proofs.lemmas.List.{nil_from_length}
+use Rattle.coap_server_listener.specs.Prelude.{stop_of, is_over, Later, SessionValue, session_takes, ServerValue, LiesAt}
+use Rattle.coap_server_listener.specs.Prelude.{AreSettled, session_of, server_taken, count_taken, count_on, stop_on, InResult}
+use Rattle.coap_server_listener.specs.Prelude.{fed_turns, in_result, fed_more, IsTakenAndWritten, IsNoOp, is_heard}
+use Rattle.coap_server_listener.specs.Prelude.{waiting_once, server_wrote, is_over_in, left_behind, rest_left, wants_of}
+use Rattle.coap_server_listener.specs.Prelude.{can_go_on, session_outlook, outlook_of, PeerInterest}
+use Rattle.coap_server_engine.specs.values.InResults.{goes_on}
+use Rattle.coap_server_engine.proofs.values.ServerLemmas.{changed_one, written_at_index, written_back, all_settled_stay}
+use Rattle.coap_model.proofs.OptionLemmas.{there_is_none}
+use Rattle.coap_server_engine.proofs.world.ShowLaws.{taking_stopped}
+
+-- ---- accepting bytes
+
+untouched : (v : ServerValue) (id i : ℕ) (s : SessionValue) (piece : List ℕ) → LiesAt id i v.sessions → session_of id v.sessions ≡ Some s → AreSettled v.host v.sessions → session_takes s ≡ false → server_taken v id piece ≡ v
+unfolding server_taken
+untouched v id i s piece lies here settled closed =
+    let at = sym lies.found ∙ here in
+    let written = sym (written_at_index (λ _. s) v.sessions i s at) ∙ written_back v.sessions i s s at refl in
+    let same = sym (changed_one id (λ _. s) v.sessions i lies.distinct lies.index lies.within) ∙ written in
+    rw (here, taking_stopped v.host s piece closed, same, all_settled_stay v.host v.sessions settled) refl
+
+record IsUnaffected (v : ServerValue) (f : InResult) : Type 0 where
+  server : f.server ≡ v
+  count : f.count ≡ 0
+
+untouched_where_stopped : (v : ServerValue) (id i : ℕ) (s : SessionValue) (bytes : List ℕ) (turns : ℕ) → LiesAt id i v.sessions → session_of id v.sessions ≡ Some s → AreSettled v.host v.sessions → session_takes s ≡ false → IsUnaffected v (fed_turns turns v id bytes)
+unfolding fed_turns count_taken
+untouched_where_stopped v id i s bytes zero lies here settled closed = record { server = refl; count = refl }
+untouched_where_stopped v id i s bytes (suc turns) lies here settled closed =
+    let f : InResult = fed_turns turns v id bytes in
+    let so_far = untouched_where_stopped v id i s bytes turns lies here settled closed in
+    elim (goes_on bytes f) as (λ b. IsUnaffected v (if b then fed_more id (drop f.count bytes) f else f)) [
+      | true ↦ record {
+        server = rw so_far.server (untouched v id i s (drop f.count bytes) lies here settled closed);
+        count =
+            let none = ap (count_on v (drop f.count bytes)) here ∙ ap (λ t. t.count) (taking_stopped v.host s (drop f.count bytes) closed) in
+            rw so_far.server (omega (arith, so_far.count, none));
+      }
+      | false ↦ so_far
+    ]
+
+-- If bytes are left that the connection does not accept, it accepts none.
+takes_nothing : (v : ServerValue) (id : ℕ) (s : SessionValue) (b : ℕ) (rest : List ℕ) → session_of id v.sessions ≡ Some s → (wants_of v id (b ∷ rest)).take ≡ false
+    → (session_takes s ≡ false) × (is_over s.link.phase ≡ false)
+takes_nothing v id s b rest here idle = or_parts (session_takes s) (is_over s.link.phase) (rw eqb-suc-zero at (rw here at idle))
+
+-- Bytes that were read before and that do not fit stay; without such bytes, none are accepted.
+still_fed : (v : ServerValue) (id i : ℕ) (s : SessionValue) (rest : List ℕ) → LiesAt id i v.sessions → session_of id v.sessions ≡ Some s → AreSettled v.host v.sessions → (wants_of v id rest).take ≡ false → IsUnaffected v (in_result v id rest)
+unfolding fed_turns
+still_fed v id i s [] lies here settled idle = record { server = refl; count = refl }
+still_fed v id i s (b ∷ rest) lies here settled idle =
+    untouched_where_stopped v id i s (b ∷ rest) (length (b ∷ rest)) lies here settled (takes_nothing v id s b rest here idle).0
+
+left_as_it_is : (v : ServerValue) (id : ℕ) (s : SessionValue) (rest : List ℕ) → session_of id v.sessions ≡ Some s → (wants_of v id rest).take ≡ false → left_behind (stop_on (session_of id v.sessions)) rest ≡ rest
+left_as_it_is v id s [] here idle = elim (stop_on (session_of id v.sessions)) as (λ why. left_behind why [] ≡ []) [ None ↦ refl | Some why ↦ refl ]
+left_as_it_is v id s (b ∷ rest) here idle = rw (here, there_is_none (stop_of s.link.phase) (takes_nothing v id s b rest here idle).1) refl
+
+-- ---- serving the connection
+
+not_heard : (may_read is_empty takes : Bool) → ((is_empty && takes) && may_read) ≡ false → ((may_read && is_empty) && takes) ≡ false
+not_heard may_read is_empty takes e = grind arith
+
+not_written : (may_write : Bool) (waiting : List ℕ) → (nat_lt 0 (length waiting) && may_write) ≡ false → (if may_write then waiting else []) ≡ []
+not_written may_write waiting e = grind (arith, nat_tests, nil_from_length)
+
+nothing_done : (v : ServerValue) (id i : ℕ) (s : SessionValue) (rest : List ℕ) (may_read may_write : Bool) → LiesAt id i v.sessions → session_of id v.sessions ≡ Some s → AreSettled v.host v.sessions
+    → can_go_on (wants_of v id rest) may_read may_write ≡ false → is_over_in (outlook_of v id) ≡ false → IsNoOp may_read may_write v id rest
+nothing_done v id i s rest may_read may_write lies here settled idle on =
+    let w : PeerInterest = wants_of v id rest in
+    let write = or_parts (w.take || (w.read && may_read)) (w.write && may_write) idle in
+    let read = or_parts w.take (w.read && may_read) write.0 in
+    let unread : is_heard may_read v id rest ≡ false = rw here (not_heard may_read (length rest == 0) (session_takes s) (rw here at read.1)) in
+    let unwritten : waiting_once may_write id v ≡ [] = rw here (not_written may_write s.link.waiting (rw here at write.1)) in
+    let same = still_fed v id i s rest lies here settled read.0 in
+    let left_so : rest_left v id rest ≡ rest = rw (same.server, same.count) (left_as_it_is v id s rest here read.0) in
+    record {
+      unread = unread;
+      unwritten = unwritten;
+      there_is_one = λ wire. record {
+        heard = Later;
+        bytes = rest;
+        between = wire;
+        laid = rw unread (refl, refl, refl);
+        carried = record {
+          wrote = Later;
+          offered = rw same.server (record { idle = λ e. (refl, refl); busy = λ some. absurd (some unwritten) });
+          server = sym same.server;
+          rest = sym left_so;
+          outcome = rw on refl;
+        };
+      };
+      always = λ wire after left told course part.
+          let laid : (part.heard ≡ Later) × (part.bytes ≡ rest) × (part.between ≡ wire) = rw unread at part.laid in
+          let carried : IsTakenAndWritten may_write v id rest wire after left told course = rw (laid.0, laid.1, laid.2) at part.carried in
+          let wrote = carried.offered.idle (rw same.server unwritten) in
+          let server : after ≡ v = carried.server ∙ ap (server_wrote (in_result v id rest).server id) wrote.0 ∙ same.server in
+          (server, carried.rest ∙ left_so, wrote.1, carried.outcome ∙ rw (wrote.0, server, on) refl);
+    }
+
+-- A connection on which nothing can be done may be skipped.
+pub passed_over : (v : ServerValue) (id i : ℕ) (rest : List ℕ) (may_read may_write : Bool) → LiesAt id i v.sessions → AreSettled v.host v.sessions → can_go_on (wants_of v id rest) may_read may_write ≡ false → is_over_in (outlook_of v id) ≡ false → IsNoOp may_read may_write v id rest
+passed_over v id i rest may_read may_write lies settled idle on =
+    elim (session_of id v.sessions) as (λ o. session_of id v.sessions ≡ o → is_over_in (option_map (session_outlook v.host.now) o) ≡ false → IsNoOp may_read may_write v id rest) [
+      | None ↦ λ here over. absurd cc
+      | Some s ↦ λ here over. nothing_done v id i s rest may_read may_write lies here settled idle on
+    ] refl on

@@ -1,0 +1,153 @@
+-- Defined by this project: one turn of the event loop, its events, and how each connection is served in it.
+use Rattle.std.specs.Prelude.{◌≡◌, ℕ, ◌+◌, Bool, true, false, List, [], ◌∷◌, ◌++◌, length, map, take, drop, slice_get, Option, Some, None, is_none, is_some, nat_eq, ◌||◌, if◌then◌else◌}
+use Rattle.std.specs.List.{AllByRecursion}
+use Rattle.indexmap.specs.IndexMap.{insert_entry}
+use Rattle.coap_io.specs.streams.DeviceTraces.{DoorCall, Asked}
+use Rattle.coap_server_listener.specs.streams.RecordedInterests.{true_end}
+use Rattle.coap_server_listener.specs.streams.Turns.{IsServed, IsIdle, IsInTurn, IsAgendaOf, IsWaitAfter, concerns_earlier, end_of}
+use Rattle.coap_io.specs.streams.Wires.{WireTrace}
+use Rattle.coap_server_engine.specs.values.InResults.{ShowsMore}
+use Rattle.coap_server_engine.specs.values.ServerDeadlines.{stamp_of}
+use Rattle.coap_server_engine.specs.values.ServerAnswers.{open_refusal}
+use Rattle.coap_server_engine.specs.values.Servers.{ServerValue, server_opened, server_dropped}
+use Rattle.coap_model.specs.world.Events.{AcceptedCall, Opened, Took, Wrote, Ticked, Stored, Removed, Ended, Released, Announced, Dropped}
+use Rattle.coap_server_listener.specs.declared.door.peer.PeerOutcome.{PeerOutcome}
+use Rattle.coap_server_listener.specs.declared.door.peer.PeerOutcome.TheVariants.{Open, Over}
+use Rattle.coap_server_listener.specs.declared.door.peer.Peer.{Peer}
+use Rattle.coap_server_listener.specs.declared.door.next_wakeup.NextWakeup.{NextWakeup}
+use Rattle.coap_io.specs.declared.wire.Wait.{Wait}
+
+-- ---- events
+
+-- Holds of all events: no monitor receives them.
+abbrev pub Unrecorded : List AcceptedCall → Type 0
+Unrecorded events = Unit {0}
+
+-- The events of serving connections: bytes are accepted, bytes are written, an input ends, a connection is dropped.
+abbrev pub IsServing : AcceptedCall → Type 0
+IsServing (Opened id) = ⊥
+IsServing (Took id bytes) = Unit {0}
+IsServing (Wrote id n) = Unit {0}
+IsServing (Ticked now) = ⊥
+IsServing (Stored path format bytes) = ⊥
+IsServing (Removed path) = ⊥
+IsServing (Ended id) = Unit {0}
+IsServing (Released id) = ⊥
+IsServing (Announced id size) = ⊥
+IsServing (Dropped id) = Unit {0}
+
+-- Connections were served, and nothing else happened. If the server showed some events before, it now shows them
+-- followed by events of serving. `told` holds of these events.
+pub record HasServed (told : List AcceptedCall → Type 0) (v after : ServerValue) : Type 0 where
+  pub events : List AcceptedCall
+  pub serving : AllByRecursion IsServing events
+  pub shows : ShowsMore v after events
+  pub tells : told events
+
+-- The event that opens a connection with the next number, or no event.
+abbrev pub opening : ServerValue → Bool → List AcceptedCall
+opening v true = Opened (v.ids + 1) ∷ []
+opening v false = []
+
+-- A turn was made in full or in part. At most one connection was opened, then connections were served, and nothing else
+-- happened. `told` holds of the events.
+pub record HasTurned (told : List AcceptedCall → Type 0) (v after : ServerValue) : Type 0 where
+  pub opens : Bool
+  pub events : List AcceptedCall
+  pub serving : AllByRecursion IsServing events
+  pub shows : ShowsMore v after (opening v opens ++ events)
+  pub tells : told (opening v opens ++ events)
+
+-- ---- each connection in order
+
+-- The server and the entry of a connection after it was served. If the outcome is `Over`, the connection is dropped.
+abbrev pub server_left : PeerOutcome → ServerValue → ℕ → ServerValue
+server_left Open v id = v
+server_left Over v id = server_dropped v id
+
+abbrev pub end_left : {W : Type 0} → PeerOutcome → ℕ → Peer W → List (ℕ × Peer W)
+end_left Open id p = (id, p) ∷ []
+end_left Over id p = []
+
+-- A connection was served in a turn, and was dropped if its outcome is `Over`. Its wire was read and written at no
+-- other time.
+pub record IsServedInTurn {W : Type 0} (readable writable : W → Option Bool) (trace : W → WireTrace) (v : ServerValue) (e : ℕ × Peer W) (after : ServerValue) (left : List (ℕ × Peer W)) : Type 0 where
+  pub served : ServerValue
+  pub peer : Peer W
+  pub course : PeerOutcome
+  pub part : IsServed (readable e.1.wire) (writable e.1.wire) v e.0 e.1.rest (trace e.1.wire) served peer.rest (trace peer.wire) course
+  pub server : after ≡ server_left course served e.0
+  pub far_end : left ≡ end_left course e.0 peer
+
+-- The connection at an index was served, and the turn continues at the index `at`. The connections before and after it
+-- are unchanged.
+pub record HasGoneOn {W : Type 0} (readable writable : W → Option Bool) (trace : W → WireTrace) (v : ServerValue) (es : List (ℕ × Peer W)) (i : ℕ) (after : ServerValue) (left : List (ℕ × Peer W)) (at : ℕ) : Type 0 where
+  pub e : ℕ × Peer W
+  pub its : List (ℕ × Peer W)
+  pub there : slice_get es i ≡ Some e
+  pub part : IsServedInTurn readable writable trace v e after its
+  pub front : take at left ≡ take i es ++ its
+  pub back : drop at left ≡ drop (i + 1) es
+
+-- Each connection in order was served, or skipped if it is idle. `earlier` is the number of connections before these
+-- that still exist. `changed` is `true` if serving one of these may affect a connection before it, including those
+-- `earlier` ones.
+pub data AreServed {W : Type 0} (readable writable : W → Option Bool) (trace : W → WireTrace) : (earlier : ℕ) → ServerValue → List (ℕ × Peer W) → (changed : Bool) → ServerValue → List (ℕ × Peer W) → Type 0 where
+  NoMore : (earlier : ℕ) (v : ServerValue) → AreServed readable writable trace earlier v [] false v []
+  PassedOver : (earlier : ℕ) (v : ServerValue) (e : ℕ × Peer W) (es : List (ℕ × Peer W)) (changed : Bool) (after : ServerValue) (left : List (ℕ × Peer W)) → IsIdle (stamp_of v.host) (end_of readable writable e.1)
+      → AreServed readable writable trace (earlier + 1) v es changed after left → AreServed readable writable trace earlier v (e ∷ es) changed after (e ∷ left)
+  HadItsPart : (earlier : ℕ) (v : ServerValue) (e : ℕ × Peer W) (es : List (ℕ × Peer W)) (between : ServerValue) (its : List (ℕ × Peer W)) (changed : Bool) (after : ServerValue) (left : List (ℕ × Peer W)) → IsInTurn (stamp_of v.host) (end_of readable writable e.1)
+      → IsServedInTurn readable writable trace v e between its → AreServed readable writable trace (earlier + length its) between es changed after left
+      → AreServed readable writable trace earlier v (e ∷ es) (concerns_earlier earlier (stamp_of v.host) (stamp_of between.host) || changed) after (its ++ left)
+
+-- Each connection in order was served, except those that are idle, and the agenda describes the work that remains.
+pub record IsRound {W : Type 0} (readable writable : W → Option Bool) (trace : W → WireTrace) (v : ServerValue) (es : List (ℕ × Peer W)) (a : NextWakeup) (after : ServerValue) (left : List (ℕ × Peer W)) : Type 0 where
+  pub changed : Bool
+  pub served : AreServed readable writable trace 0 v es changed after left
+  pub agenda : IsAgendaOf a changed (stamp_of after.host) (map (λ e. end_of readable writable e.1) left)
+
+-- ---- a turn
+
+-- A connection was opened for a wire, and no limit was reached before. No bytes are left from its reads, and the wire
+-- was not touched.
+pub record HasOneMore {W : Type 0} (wire : W) (v : ServerValue) (es : List (ℕ × Peer W)) (after : ServerValue) (left : List (ℕ × Peer W)) : Type 0 where
+  pub peer : Peer W
+  pub may : open_refusal v ≡ None
+  pub server : after ≡ server_opened v
+  pub entries : left ≡ insert_entry nat_eq es (v.ids + 1) peer
+  pub rest : peer.rest ≡ []
+  pub handed : peer.wire ≡ wire
+
+-- A connection was opened for the wire that a listener returned. If it returned none, nothing changed.
+abbrev pub AreOpened : {W : Type 0} → (handed : Option W) → ServerValue → List (ℕ × Peer W) → ServerValue → List (ℕ × Peer W) → Type 0
+AreOpened (Some wire) v es after left = HasOneMore wire v es after left
+AreOpened None v es after left = (after ≡ v) × (left ≡ es)
+
+-- The calls of a listener in a turn. If another connection may be opened, it is asked once for a wire and returns one
+-- or none. Otherwise it is not called.
+abbrev pub asked_by : {W : Type 0} → ServerValue → (handed : Option W) → List (DoorCall W)
+asked_by v handed = if is_none (open_refusal v) then (Asked handed ∷ []) else []
+
+abbrev pub IsAskedOnce : {W : Type 0} → (told : List (DoorCall W) → Type 0) → ServerValue → Type 0
+IsAskedOnce {W} told v = (handed : Option W) × told (asked_by v handed)
+
+-- The listener was asked, and a connection was opened for the wire that it returned, or none was. `told` states which
+-- calls the listener had.
+pub record IsOpening {W : Type 0} (told : List (DoorCall W) → Type 0) (v : ServerValue) (es : List (ℕ × Peer W)) (after : ServerValue) (left : List (ℕ × Peer W)) (opens : Bool) : Type 0 where
+  pub handed : Option W
+  pub asked : told (asked_by v handed)
+  pub opened : AreOpened handed v es after left
+  pub is : opens ≡ is_some handed
+
+-- One turn of a server with its connections. `told` states which calls the listener had. If another connection may be
+-- opened, the listener is asked once, and a connection is opened for the wire that it returns. Then each connection is
+-- served. The wait is zero if and only if a connection was opened, a change may affect one served earlier, or one is
+-- ready.
+pub record IsTurnOf {W : Type 0} (readable writable : W → Option Bool) (trace : W → WireTrace) (told : List (DoorCall W) → Type 0) (v : ServerValue) (es : List (ℕ × Peer W)) (after : ServerValue) (left : List (ℕ × Peer W)) (wait : Wait) : Type 0 where
+  pub opens : Bool
+  pub server : ServerValue
+  pub entries : List (ℕ × Peer W)
+  pub opened : IsOpening told v es server entries opens
+  pub changed : Bool
+  pub served : AreServed readable writable trace 0 server entries changed after left
+  pub waits : IsWaitAfter (opens || changed) (map (λ e. true_end readable writable after e) left) wait

@@ -1,0 +1,240 @@
+-- Defined by this project: how a turn of the event loop serves one connection, and the work that remains afterwards.
+use Rattle.std.specs.Prelude.{◌≡◌, ◌≢◌, fold, ℕ, Bool, true, false, not, List, [], ◌∷◌, length, drop, Option, Some, None, nat_lt, ◌==◌, ◌&&◌, ◌||◌, if◌then◌else◌}
+use Rattle.std.specs.List.{AllByRecursion}
+use Rattle.coap_conn.specs.declared.reason.Reason.{Reason}
+use Rattle.coap_server_engine.specs.values.Servers.{ServerValue, session_of, server_ended, server_written}
+use Rattle.coap_server_engine.specs.values.ServerAnswers.{can_take_on, stop_on}
+use Rattle.coap_server_session.specs.values.Deadlines.{sooner}
+use Rattle.coap_server_engine.specs.values.InResults.{in_result}
+use Rattle.coap_server_engine.specs.values.ServerDeadlines.{outlook_of, stamp_of, same_stamp}
+use Rattle.coap_server_engine.specs.values.Flushes.{waiting_at}
+use Rattle.coap_io.specs.streams.Wires.{MatchesTrace, WireTrace, IsReadOnce, IsWrittenOnce}
+use Rattle.coap_server_listener.specs.declared.door.peer.PeerOutcome.{PeerOutcome}
+use Rattle.coap_server_listener.specs.declared.door.peer.PeerOutcome.TheVariants.{Open, Over}
+use Rattle.coap_server_listener.specs.declared.door.peer_interest.PeerInterest.{PeerInterest}
+use Rattle.coap_server_listener.specs.declared.door.peer.Peer.{Peer}
+use Rattle.coap_server_listener.specs.declared.door.next_wakeup.NextWakeup.{NextWakeup}
+use Rattle.coap_io.specs.declared.wire.Wait.{Wait}
+use Rattle.coap_io.specs.declared.wire.Wait.TheVariants.{No, Until, Forever}
+use Rattle.coap_server_engine.specs.declared.server.ConnectionWork.{ConnectionWork}
+use Rattle.coap_server_engine.specs.declared.server.ChangeStamp.{ChangeStamp}
+use Rattle.coap_io.specs.declared.wire.Got.{Got}
+use Rattle.coap_io.specs.declared.wire.Got.TheVariants.{Bytes, Later, End, Failed}
+use Rattle.coap_io.specs.declared.read_buffer.TheConstants.{READ_SIZE}
+
+-- A read is due: the wire may be read, no bytes are left from earlier reads, and the connection accepts bytes.
+abbrev pub is_heard : (may_read : Bool) → ServerValue → ℕ → List ℕ → Bool
+is_heard may_read v id rest = may_read && (length rest == 0) && can_take_on (session_of id v.sessions)
+
+-- The bytes that are offered to a write: all queued bytes if the wire may be written, otherwise none.
+abbrev pub waiting_once : (may_write : Bool) → ℕ → ServerValue → List ℕ
+waiting_once may_write id v = if may_write then waiting_at id v else []
+
+-- The server after a read with this result. If the read found the end, the input of the connection has ended.
+abbrev pub server_heard : ServerValue → ℕ → Got → ServerValue
+server_heard v id (Bytes n) = v
+server_heard v id Later = v
+server_heard v id End = server_ended v id
+server_heard v id Failed = v
+
+-- The server after a write with this result. The bytes that were written are removed from the queue.
+abbrev pub server_wrote : ServerValue → ℕ → Got → ServerValue
+server_wrote v id (Bytes n) = server_written v id n
+server_wrote v id Later = v
+server_wrote v id End = v
+server_wrote v id Failed = v
+
+-- The bytes that are kept of those left: none if the connection processes no further message, otherwise all.
+abbrev pub left_behind : Option Reason → List ℕ → List ℕ
+left_behind None rest = rest
+left_behind (Some why) rest = []
+
+-- The bytes that are kept after the connection accepted all that it accepts of these.
+abbrev pub rest_left : ServerValue → ℕ → List ℕ → List ℕ
+rest_left v id rest = left_behind (stop_on (session_of id (in_result v id rest).server.sessions)) (drop (in_result v id rest).count rest)
+
+-- Nothing more will be written on a connection with this work left, or there is no connection.
+abbrev pub is_over_in : Option ConnectionWork → Bool
+is_over_in None = true
+is_over_in (Some o) = o.finished
+
+-- ---- serving one connection
+
+abbrev pub has_failed : Got → Bool
+has_failed (Bytes n) = false
+has_failed Later = false
+has_failed End = false
+has_failed Failed = true
+
+-- The outcome for a connection, by the result of its write and by whether nothing more will be written.
+abbrev pub course_of : (wrote : Got) (is_over : Bool) → PeerOutcome
+course_of wrote is_over = if has_failed wrote || is_over then Over else Open
+
+-- The bytes to be processed, and the trace of the wire. If a read is due, the wire was read once and gave these bytes.
+-- Otherwise they are left from earlier reads, and the wire was not touched.
+abbrev pub IsLaidOut : (is_due : Bool) → List ℕ → WireTrace → Got → List ℕ → WireTrace → Type 0
+IsLaidOut true rest wire heard bytes after = IsReadOnce READ_SIZE wire after heard bytes
+IsLaidOut false rest wire heard bytes after = (heard ≡ Later) × (bytes ≡ rest) × (after ≡ wire)
+
+-- If the bytes offered to a wire are not empty, the wire was written once. Otherwise it was not touched.
+pub record IsOffered (bytes : List ℕ) (wire : WireTrace) (wrote : Got) (after : WireTrace) : Type 0 where
+  pub idle : bytes ≡ [] → (wrote ≡ Later) × (after ≡ wire)
+  pub busy : bytes ≢ [] → IsWrittenOnce bytes wire after wrote
+
+-- The connection accepted all that it accepts of these bytes. Then its queued bytes were offered to one write, if the
+-- wire may be written.
+pub record IsTakenAndWritten (may_write : Bool) (v : ServerValue) (id : ℕ) (bytes : List ℕ) (wire : WireTrace) (after : ServerValue) (left : List ℕ) (told : WireTrace) (course : PeerOutcome) : Type 0 where
+  pub wrote : Got
+  pub offered : IsOffered (waiting_once may_write id (in_result v id bytes).server) wire wrote told
+  pub server : after ≡ server_wrote (in_result v id bytes).server id wrote
+  pub rest : left ≡ rest_left v id bytes
+  pub outcome : course ≡ course_of wrote (is_over_in (outlook_of after id))
+
+-- The steps that follow a read. If the read failed, there is none, and the outcome is `Over`.
+abbrev pub IsCarriedOn : (failed may_write : Bool) → ServerValue → ℕ → List ℕ → WireTrace → ServerValue → List ℕ → WireTrace → PeerOutcome → Type 0
+IsCarriedOn true may_write v id bytes wire after left told course = (after ≡ v) × (told ≡ wire) × (course ≡ Over)
+IsCarriedOn false may_write v id bytes wire after left told course = IsTakenAndWritten may_write v id bytes wire after left told course
+
+-- One connection was served: a read if one is due, then processing, then a write if bytes are queued. `may_read` and
+-- `may_write` are the readiness of its wire. A failed read ends this. The wire was read and written at no other time,
+-- and `told` is its trace afterwards.
+pub record IsServedOnce (may_read may_write : Bool) (v : ServerValue) (id : ℕ) (rest : List ℕ) (wire : WireTrace) (after : ServerValue) (left : List ℕ) (told : WireTrace) (course : PeerOutcome) : Type 0 where
+  pub heard : Got
+  pub bytes : List ℕ
+  pub between : WireTrace
+  pub laid : IsLaidOut (is_heard may_read v id rest) rest wire heard bytes between
+  pub carried : IsCarriedOn (has_failed heard) may_write (server_heard v id heard) id bytes between after left told course
+
+-- To serve the connection has no effect, whatever its wire does: the wire is neither read nor written. There is an
+-- outcome. Every outcome leaves the server, the bytes left from its reads and the trace of its wire unchanged, and the
+-- connection open.
+pub record IsNoOp (may_read may_write : Bool) (v : ServerValue) (id : ℕ) (rest : List ℕ) : Type 0 where
+  pub unread : is_heard may_read v id rest ≡ false
+  pub unwritten : waiting_once may_write id v ≡ []
+  pub there_is_one : (wire : WireTrace) → IsServedOnce may_read may_write v id rest wire v rest wire Open
+  pub always : (wire : WireTrace) (after : ServerValue) (left : List ℕ) (told : WireTrace) (course : PeerOutcome) → IsServedOnce may_read may_write v id rest wire after left told course → (after ≡ v) × (left ≡ rest) × (told ≡ wire) × (course ≡ Open)
+
+-- The connection was served once, with the results of `may_read` and `may_write` of its wire. If the wire records them,
+-- they are `readable` and `writable`.
+pub record IsServed (readable writable : Option Bool) (v : ServerValue) (id : ℕ) (rest : List ℕ) (wire : WireTrace) (after : ServerValue) (left : List ℕ) (told : WireTrace) (course : PeerOutcome) : Type 0 where
+  pub may_read : Bool
+  pub may_write : Bool
+  pub read : MatchesTrace readable may_read
+  pub write : MatchesTrace writable may_write
+  pub part : IsServedOnce may_read may_write v id rest wire after left told course
+
+-- ---- remaining work
+
+-- The I/O interest of a connection with this work left. It states if bytes read before can be accepted or must be
+-- discarded, and if the wire must be read and written. Without a connection it is empty.
+abbrev pub wants_in : Option ConnectionWork → (is_empty : Bool) → ChangeStamp → PeerInterest
+wants_in None is_empty stamp = record { take = false; read = false; write = false; due = None; stamp = stamp }
+wants_in (Some o) is_empty stamp = record {
+  take = not is_empty && (o.takes || o.stopped);
+  read = is_empty && o.takes;
+  write = o.waits;
+  due = o.due;
+  stamp = stamp;
+}
+
+-- The I/O interest of the connection with this number, for these bytes left from its reads.
+abbrev pub wants_of : ServerValue → ℕ → List ℕ → PeerInterest
+wants_of v id rest = wants_in (outlook_of v id) (length rest == 0) (stamp_of v.host)
+
+-- Something in this I/O interest can be done at once.
+abbrev pub can_go_on : PeerInterest → (may_read may_write : Bool) → Bool
+can_go_on w may_read may_write = w.take || (w.read && may_read) || (w.write && may_write)
+
+-- The state that decides whether a connection can be served: its I/O interest and, if its wire records them, the wire's
+-- `may_read` and `may_write`.
+pub record PeerStatus : Type 0 where
+  pub readable : Option Bool
+  pub writable : Option Bool
+  pub wants : PeerInterest
+
+abbrev pub end_of : {W : Type 0} (readable writable : W → Option Bool) → Peer W → PeerStatus
+end_of readable writable p = record { readable = readable p.wire; writable = writable p.wire; wants = p.wants }
+
+-- `answer` is the readiness of a wire if that is wanted, and otherwise `false`.
+abbrev pub IsAsked : (wanted : Bool) (told : Option Bool) (answer : Bool) → Type 0
+IsAsked true told answer = MatchesTrace told answer
+IsAsked false told answer = answer ≡ false
+
+-- `result` is `true` if something can be done at once. The connection has bytes to accept or to discard, its wire must
+-- be read and may be, or it must be written and may be.
+pub record CanGoOn (e : PeerStatus) (result : Bool) : Type 0 where
+  pub reads : Bool
+  pub writes : Bool
+  pub read : IsAsked e.wants.read e.readable reads
+  pub write : IsAsked e.wants.write e.writable writes
+  pub is : result ≡ e.wants.take || reads || writes
+
+-- The connection is idle: it was last served when the server had this stamp, and nothing can be done now.
+abbrev pub IsIdle : ChangeStamp → PeerStatus → Type 0
+IsIdle stamp e = (e.wants.stamp ≡ stamp) × CanGoOn e false
+
+-- The connection is not idle: it was last served when the server had another stamp, or something can be done.
+pub record IsInTurn (stamp : ChangeStamp) (e : PeerStatus) : Type 0 where
+  pub ready : Bool
+  pub can : CanGoOn e ready
+  pub is : (same_stamp e.wants.stamp stamp && not ready) ≡ false
+
+-- The connection is idle if the last argument is `true`, and not idle if it is `false`.
+abbrev pub IsRestAnswer : ChangeStamp → PeerStatus → Bool → Type 0
+IsRestAnswer stamp e true = IsIdle stamp e
+IsRestAnswer stamp e false = IsInTurn stamp e
+
+-- The earliest of this time and of all times at which time alone may queue something on one of these connections.
+abbrev pub least_with : Option ℕ → List PeerStatus → Option ℕ
+least_with due all = fold (λ due e. sooner due e.wants.due) due all
+
+abbrev pub least_due : List PeerStatus → Option ℕ
+least_due all = least_with None all
+
+-- `true` if serving a connection may affect the `earlier` connections before it, which were served earlier in the turn.
+-- There must be at least one, and the stamp of the server must have changed.
+abbrev pub concerns_earlier : (earlier : ℕ) (before after : ChangeStamp) → Bool
+concerns_earlier earlier before after = nat_lt 0 earlier && not (same_stamp after before)
+
+-- `result` is `true` if something can be done at once on any of these connections.
+abbrev pub CanAnyGoOn : List PeerStatus → Bool → Type 0
+CanAnyGoOn [] result = result ≡ false
+CanAnyGoOn (e ∷ es) result = (first others : Bool) × CanGoOn e first × CanAnyGoOn es others × (result ≡ (first || others))
+
+-- The agenda describes the connections visited so far, on a server with this stamp. `changed` is `true` if serving one
+-- of them may have affected others before it. Another turn must follow at once if and only if `changed` is `true` or
+-- something can be done at once. The deadline is the earliest of all. If `changed` is `false`, all were last served
+-- when the server had this stamp.
+pub record IsAgendaOf (a : NextWakeup) (changed : Bool) (stamp : ChangeStamp) (all : List PeerStatus) : Type 0 where
+  pub due : a.due ≡ least_due all
+  pub ready : Bool
+  pub can : CanAnyGoOn all ready
+  pub at_once : a.at_once ≡ (changed || ready)
+  pub fresh : changed ≡ false → AllByRecursion (λ e. e.wants.stamp ≡ stamp) all
+
+-- The agenda after idle connections were skipped.
+abbrev pub agenda_past : NextWakeup → List PeerStatus → NextWakeup
+agenda_past a all = record a { due = least_with a.due all }
+
+-- The agenda after one more connection was visited, by whether something can be done on it at once and by its deadline.
+abbrev pub agenda_with : NextWakeup → Bool → Option ℕ → NextWakeup
+agenda_with a ready due = record { at_once = a.at_once || ready; due = sooner a.due due }
+
+abbrev pub wait_until : Option ℕ → Wait
+wait_until None = Forever
+wait_until (Some moment) = Until moment
+
+abbrev pub wait_of : NextWakeup → Wait
+wait_of a = if a.at_once then No else wait_until a.due
+
+-- The wait is zero if something must be done at once. Otherwise it ends at the earliest time at which time alone may
+-- queue something, or never if there is none.
+abbrev pub wait_for : (at_once : Bool) → List PeerStatus → Wait
+wait_for at_once all = if at_once then No else wait_until (least_due all)
+
+-- The wait after a turn is zero if and only if the turn itself requires another one or a connection can be served at
+-- once.
+pub record IsWaitAfter (calls_again : Bool) (all : List PeerStatus) (wait : Wait) : Type 0 where
+  pub ready : Bool
+  pub can : CanAnyGoOn all ready
+  pub is : wait ≡ wait_for (calls_again || ready) all

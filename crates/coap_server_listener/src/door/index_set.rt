@@ -1,0 +1,75 @@
+//! Sets of the indices of connections.
+
+ghost use Rattle.std.specs.Prelude.{◌≡◌, ◌≢◌, ℕ, ◌<◌, ◌≤◌};
+ghost use Rattle.coap_server_listener.specs.streams.Sleepers.{bit_of, IsOutside};
+
+/// Number of the indices that a set may lack. Every other index belongs to each set.
+const LIMIT: usize = 256;
+
+/// Bits of a word.
+const WORD: usize = 64;
+
+/// Number of words.
+const WORDS: usize = 4;
+
+/// Set of indices. Each index from 256 on belongs to it.
+#[derive(Drop)]
+pub(super) struct IndexSet {
+    /// Bit `i % 64` of word `i / 64` is set if index `i` belongs to the set.
+    words: [u64; WORDS],
+}
+
+impl IndexSet {
+    /// Returns the set of all indices.
+    pub(super) fn full() -> IndexSet
+        ensures { (i : ℕ) → i < 256 → bit_of result.words i ≡ 1 }
+    {
+        IndexSet {
+            words: [u64::MAX; WORDS],
+        }
+    }
+
+    /// Adds an index.
+    pub(super) fn insert(&mut self, at: usize)
+        ensures set { at < 256 → bit_of self.new.words at ≡ 1 }
+        ensures others { (i : ℕ) → i ≢ at → bit_of self.new.words i ≡ bit_of self.old.words i }
+    {
+        if at < LIMIT {
+            self.words[at / WORD] |= 1 << (at % WORD);
+        }
+    }
+
+    /// Removes an index, if it is less than 256.
+    pub(super) fn remove(&mut self, at: usize)
+        ensures clear { at < 256 → bit_of self.new.words at ≡ 0 }
+        ensures others { (i : ℕ) → i ≢ at → bit_of self.new.words i ≡ bit_of self.old.words i }
+    {
+        if at < LIMIT {
+            self.words[at / WORD] &= !(1 << (at % WORD));
+        }
+    }
+
+    /// Returns the first index of the set from `from` on, or `end` if that is less.
+    pub(super) fn next(&self, from: usize, end: usize) -> usize
+        requires { from ≤ end }
+        ensures from { from ≤ result }
+        ensures within { result ≤ end }
+        ensures between { (i : ℕ) → from ≤ i → i < result → IsOutside self.now.words i }
+        ensures found { result < end → result < 256 → bit_of self.now.words result ≡ 1 }
+    {
+        if from >= end || from >= LIMIT {
+            return from;
+        }
+        let left = self.words[from / WORD] >> (from % WORD);
+        if left != 0 {
+            return end.min(from + left.trailing_zeros() as usize);
+        }
+        for word in from / WORD + 1..WORDS {
+            let bits = self.words[word];
+            if bits != 0 {
+                return end.min(word * WORD + bits.trailing_zeros() as usize);
+            }
+        }
+        end.min(LIMIT)
+    }
+}

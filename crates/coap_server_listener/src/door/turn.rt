@@ -1,0 +1,264 @@
+//! One turn of the event loop over the connections of a listener.
+
+ghost use Rattle.std.specs.Prelude.{◌≡◌, ◌≢◌, ℕ, ◌<◌, ◌≤◌, ◌+◌, ◌-◌, ◌^◌, ◌||◌, Bool, false, Ok, Some, length, is_none};
+ghost use Rattle.std.specs.Prelude.{map, remove, slice_get, take, IfSome, IfOk, IfErr, OnOk, OnErr};
+ghost use Rattle.coap_server_listener.specs.Prelude.{keys_of, AreNoted, HasServed, HasTurned, HasGoneOn, IsRound};
+ghost use Rattle.coap_server_listener.specs.Prelude.{IsOpening, IsAskedOnce, IsTurnOf, asked_by, TellsMore, trace_by};
+ghost use Rattle.coap_server_listener.specs.Prelude.{IsServed, IsAgendaOf, concerns_earlier, end_of, wants_of};
+ghost use Rattle.coap_server_listener.specs.Prelude.{IsMemory, stamp_of, open_refusal, AreSettled, server_dropped};
+ghost use Rattle.coap_server_listener.specs.Prelude.{AreAsleep};
+ghost use Rattle.coap_server_listener.specs.declared.door.peer.PeerOutcome.TheVariants.{Open};
+
+use super::awake::Awake;
+use super::next_wakeup::{NextWakeup, TurnProgress, affects_served_peers, skip_idle};
+use super::peer::{Peer, PeerOutcome, Peers, serve_peer};
+use super::peer_interest::wants_on;
+use coap_io::{Door, ReadBuffer, Ready, Wait, Wire};
+use coap_server_engine::{Call, IoFault, Monitor, Server};
+use std::alloc::Global;
+
+/// Runs one turn: opens at most one connection, if the listener returns one, and serves each connection. Returns how
+/// long the listener may wait before the next turn, as `Service::turn` describes.
+///
+/// # Errors
+///
+/// - `Memory`: an allocation failed.
+pub(super) fn take_turn<D: Door, M: Monitor<D::Wire>>(
+    alloc: Global,
+    server: &mut Server,
+    peers: &mut Peers<D::Wire>,
+    awake: &mut Awake,
+    door: &mut D,
+    monitor: &mut M,
+) -> Result<Wait, IoFault>
+    requires noted { AreNoted server.old peers.old.entries }
+    requires asleep { AreAsleep D.Wire.readable D.Wire.writable awake.old peers.old.entries }
+    ensures shows { HasTurned (TellsMore (M.calls monitor.old) (M.calls monitor.new))
+        server.old server.new }
+    // The listener is asked once if another connection may be opened, and not otherwise.
+    ensures asks { IsAskedOnce (TellsMore (D.calls door.old) (D.calls door.new)) server.old }
+    // Each connection is served, and the result is the time that the listener may wait.
+    ensures turn { IfOk result (λ wait. IsTurnOf D.Wire.readable D.Wire.writable
+        (trace_by D.Wire.given D.Wire.written D.Wire.answers D.Wire.rooms)
+        (TellsMore (D.calls door.old) (D.calls door.new)) server.old peers.old.entries server.new peers.new.entries
+        wait) }
+    ensures noted { OnOk result (AreNoted server.new peers.new.entries) }
+    ensures asleep { OnOk result (AreAsleep D.Wire.readable D.Wire.writable awake.new peers.new.entries) }
+    ensures settled { OnOk result (AreSettled server.new.host server.new.sessions) }
+    ensures fault { IfErr result IsMemory }
+{
+    awake.wake_places(door.woken());
+    let opens = accept(alloc, server, peers, awake, door, monitor)?;
+    let agenda = serve_each(server, peers, awake, monitor)?;
+    Ok(agenda.with(opens, None).wait())
+}
+
+/// Opens one connection if another one may be opened and the listener returns one. Returns `true` if it did.
+///
+/// # Errors
+///
+/// - `Memory`: an allocation failed.
+#[tactic(auto, using(crate::proofs::streams::ServingLemmas::turned_as_before, crate::proofs::streams::ServingLemmas::turned_open))]
+fn accept<D: Door, M: Monitor<D::Wire>>(
+    alloc: Global,
+    server: &mut Server,
+    peers: &mut Peers<D::Wire>,
+    awake: &mut Awake,
+    door: &mut D,
+    monitor: &mut M,
+) -> Result<bool, IoFault>
+    requires noted { AreNoted server.old peers.old.entries }
+    requires asleep { AreAsleep D.Wire.readable D.Wire.writable awake.old peers.old.entries }
+    ensures shows { HasTurned (TellsMore (M.calls monitor.old) (M.calls monitor.new))
+        server.old server.new }
+    ensures noted { OnOk result (AreNoted server.new peers.new.entries) }
+    ensures asleep { OnOk result (AreAsleep D.Wire.readable D.Wire.writable awake.new peers.new.entries) }
+    ensures fault { IfErr result IsMemory }
+    // The listener is asked once if another connection may be opened. Otherwise it is not asked, so it returns no wire
+    // for which none could be opened.
+    ensures opened { IfOk result (λ opens. IsOpening (TellsMore (D.calls door.old) (D.calls door.new)) server.old
+        peers.old.entries server.new peers.new.entries opens) }
+    ensures passes { is_none (open_refusal server.old) ≡ false → (door.new ≡ door.old) × (result ≡ Ok false) }
+    // An allocation fails only for a wire that the listener returned.
+    ensures refused { OnErr result ((wire : D.Wire) ×
+        TellsMore (D.calls door.old) (D.calls door.new) (asked_by server.old (Some wire))) }
+{
+    if !server.can_open() {
+        return Ok(false);
+    }
+    let Some(wire) = door.next() else {
+        return Ok(false);
+    };
+    let Ok(rest) = ReadBuffer::new(alloc) else {
+        return Err(IoFault::Memory);
+    };
+    let Ok(id) = server.open() else {
+        return Err(IoFault::Memory);
+    };
+    monitor.opened(id, &wire, server);
+    let wants = wants_on(server, id, &rest);
+    let Ok(_) = peers.insert(id, Peer { wire, rest, wants }) else {
+        return Err(IoFault::Memory);
+    };
+    awake.wake_all();
+    Ok(true)
+}
+
+/// Serves each connection in order of its number, except those that are idle, and drops those with the outcome `Over`.
+/// Returns the work that remains.
+///
+/// # Errors
+///
+/// - `Memory`: an allocation failed.
+fn serve_each<W: Wire + Ready + Drop, M: Monitor<W>>(
+    server: &mut Server,
+    peers: &mut Peers<W>,
+    awake: &mut Awake,
+    monitor: &mut M,
+) -> Result<NextWakeup, IoFault>
+    requires noted { AreNoted server.old peers.old.entries }
+    requires asleep { AreAsleep W.readable W.writable awake.old peers.old.entries }
+    ensures shows { HasServed (TellsMore (M.calls monitor.old) (M.calls monitor.new))
+        server.old server.new }
+    // Each connection in order is served, except those that are idle, and the result is the work that remains.
+    ensures round { IfOk result (λ agenda. IsRound W.readable W.writable
+        (trace_by W.given W.written W.answers W.rooms) server.old peers.old.entries agenda server.new
+        peers.new.entries) }
+    ensures noted { OnOk result (AreNoted server.new peers.new.entries) }
+    ensures asleep { OnOk result (AreAsleep W.readable W.writable awake.new peers.new.entries) }
+    ensures settled { OnOk result (AreSettled server.new.host server.new.sessions) }
+    ensures fault { IfErr result IsMemory }
+{
+    let mut seen = skip_idle(peers, awake, TurnProgress::none(), server.stamp());
+    while seen.at < peers.len() {
+        let served = serve_next(server, peers, awake, seen, monitor)?;
+        seen = skip_idle(peers, awake, served, server.stamp());
+    }
+    Ok(seen.agenda)
+}
+
+/// Serves the next connection, and drops it if its outcome is `Over`. Returns the progress of the turn.
+///
+/// # Errors
+///
+/// - `Memory`: an allocation failed.
+fn serve_next<W: Wire + Ready + Drop, M: Monitor<W>>(
+    server: &mut Server,
+    peers: &mut Peers<W>,
+    awake: &mut Awake,
+    seen: TurnProgress,
+    monitor: &mut M,
+) -> Result<TurnProgress, IoFault>
+    requires there { seen.at < length peers.old.entries }
+    requires fits { length peers.old.entries < 2 ^ 64 }
+    requires noted { AreNoted server.old peers.old.entries }
+    requires asleep { AreAsleep W.readable W.writable awake.old peers.old.entries }
+    ensures shows { HasServed (TellsMore (M.calls monitor.old) (M.calls monitor.new))
+        server.old server.new }
+    // The connection was served, and the others are unchanged.
+    ensures part { IfOk result (λ later. HasGoneOn W.readable W.writable
+        (trace_by W.given W.written W.answers W.rooms) server.old peers.old.entries seen.at server.new
+        peers.new.entries later.at) }
+    ensures noted { OnOk result (AreNoted server.new peers.new.entries) }
+    ensures asleep { OnOk result (AreAsleep W.readable W.writable awake.new peers.new.entries) }
+    // The work that remains on it is added to that of the connections before it.
+    ensures agenda { IfOk result (λ later. (changed : Bool) → IsAgendaOf seen.agenda changed (stamp_of server.old.host)
+        (map (λ e. end_of W.readable W.writable e.1) (take seen.at peers.old.entries)) →
+        IsAgendaOf later.agenda
+        (changed || concerns_earlier seen.at (stamp_of server.old.host) (stamp_of server.new.host))
+        (stamp_of server.new.host)
+        (map (λ e. end_of W.readable W.writable e.1) (take later.at peers.new.entries))) }
+    ensures within { IfOk result (λ later. later.at ≤ length peers.new.entries) }
+    // The number of connections still to visit is one lower.
+    ensures fewer { IfOk result (λ later. length peers.new.entries - later.at + 1 ≡ length peers.old.entries -
+        seen.at) }
+    ensures fault { IfErr result IsMemory }
+{
+    let before = server.stamp();
+    let course = serve_at(server, peers, seen.at, monitor)?;
+    let concerned = affects_served_peers(seen.at, before, server.stamp());
+    let agenda = seen.agenda.with(concerned, None);
+    match course {
+        PeerOutcome::Over => {
+            drop_at(server, peers, seen.at, monitor);
+            awake.wake_all();
+            Ok(TurnProgress { agenda, ..seen })
+        }
+        PeerOutcome::Open => {
+            let peer = &peers[seen.at];
+            let is_ready = peer.is_ready();
+            awake.follow(server.stamp());
+            awake.record_visit(seen.at, peer.wire.place(), is_ready, peer.wants.due);
+            Ok(TurnProgress {
+                at: seen.at + 1,
+                agenda: agenda.with(is_ready, peer.wants.due),
+            })
+        }
+    }
+}
+
+/// Serves the connection at an index, and returns its outcome.
+///
+/// # Errors
+///
+/// - `Memory`: an allocation failed.
+fn serve_at<W: Wire + Ready, M: Monitor<W>>(
+    server: &mut Server,
+    peers: &mut Peers<W>,
+    at: usize,
+    monitor: &mut M,
+) -> Result<PeerOutcome, IoFault>
+    requires there { at < length peers.old.entries }
+    requires settled { AreSettled server.old.host server.old.sessions }
+    requires noted { AreNoted server.old peers.old.entries }
+    ensures shows { HasServed (TellsMore (M.calls monitor.old) (M.calls monitor.new))
+        server.old server.new }
+    ensures part { IfSome (slice_get peers.old.entries at)
+        (λ was. IfSome (slice_get peers.new.entries at)
+        (λ is. IfOk result (λ course. IsServed (W.readable was.1.wire) (W.writable was.1.wire) server.old was.0
+        was.1.rest (trace_by W.given W.written W.answers W.rooms was.1.wire) server.new is.1.rest
+        (trace_by W.given W.written W.answers W.rooms is.1.wire) course))) }
+    ensures wants { IfSome (slice_get peers.new.entries at)
+        (λ is. IfOk result (λ course. course ≡ Open → is.1.wants ≡ wants_of server.new is.0 is.1.rest)) }
+    // The recorded interests of the others are still correct, and so is that of this connection if it stays open.
+    ensures others { OnOk result (AreNoted server.new (remove peers.new.entries at)) }
+    ensures noted { IfOk result (λ course. course ≡ Open → AreNoted server.new peers.new.entries) }
+    // No other connection is changed.
+    ensures beside { remove peers.new.entries at ≡ remove peers.old.entries at }
+    ensures before { take at peers.new.entries ≡ take at peers.old.entries }
+    ensures each { (i : ℕ) → i ≢ at → slice_get peers.new.entries i ≡ slice_get peers.old.entries i }
+    ensures same { keys_of peers.new.entries ≡ keys_of peers.old.entries }
+    ensures fault { IfErr result IsMemory }
+{
+    let (id, peer) = peers.pair_mut(at);
+    let may_read = peer.wire.may_read();
+    let may_write = peer.wire.may_write();
+    serve_peer(server, *id, peer, may_read, may_write, monitor)
+}
+
+/// Drops the connection at an index.
+#[tactic(auto, using(crate::proofs::streams::ServingLemmas::none_served, crate::proofs::streams::ServingLemmas::dropped_served))]
+fn drop_at<W: Wire + Drop, M: Monitor<W>>(
+    server: &mut Server,
+    peers: &mut Peers<W>,
+    at: usize,
+    monitor: &mut M,
+)
+    requires there { at < length peers.old.entries }
+    requires settled { AreSettled server.old.host server.old.sessions }
+    requires noted { AreNoted server.old (remove peers.old.entries at) }
+    ensures shows { HasServed (TellsMore (M.calls monitor.old) (M.calls monitor.new))
+        server.old server.new }
+    ensures noted { AreNoted server.new peers.new.entries }
+    ensures peers { peers.new.entries ≡ remove peers.old.entries at }
+    ensures host { server.new.host ≡ server.old.host }
+    ensures server { IfSome (slice_get (keys_of peers.old.entries) at)
+        (λ id. server.new ≡ server_dropped server.old id) }
+{
+    if let Some((id, _)) = peers.shift_remove_index(at) {
+        match server.drop_conn(id) {
+            Ok(()) => monitor.accepted(Call::Dropped(id), server),
+            Err(_) => {}
+        }
+    }
+}

@@ -1,0 +1,65 @@
+//! Theorems on an event loop that skips idle connections. Each is the contract of a function with an empty body.
+
+ghost use Rattle.std.specs.Prelude.{◌≡◌, ℕ, Bool, ◌+◌, ◌≤◌, List, false};
+ghost use Rattle.coap_server_listener.specs.Prelude.{ConfigValues, ServerValue, AreSettled, LiesAt, server_opened};
+ghost use Rattle.coap_server_listener.specs.Prelude.{server_ticked, server_dropped, IsNoOp, IsServedOnce, can_go_on};
+ghost use Rattle.coap_server_listener.specs.Prelude.{is_over_in, wants_of, IsNoEarlier, KeepsNotes, WhilePassedOver};
+ghost use Rattle.coap_server_listener.specs.Prelude.{WireTrace, PeerOutcome, ChangeStamp, outlook_of, stamp_of};
+
+/// States that an idle connection may be skipped.
+///
+/// The theorem is about a connection on which more may be written, on a server whose connections are all settled. If
+/// nothing in its I/O interest can be done, serving it has no effect, whatever its wire does. The wire is neither read
+/// nor written. There is an outcome. Every outcome leaves the server, the bytes left from its reads, and the trace of
+/// its wire unchanged, and the connection stays open.
+pub fn idle_connections_may_be_skipped()
+    ensures { (v : ServerValue) (id i : ℕ) (rest : List ℕ) (may_read may_write : Bool) → LiesAt id i v.sessions →
+        AreSettled v.host v.sessions → can_go_on (wants_of v id rest) may_read may_write ≡ false →
+        is_over_in (outlook_of v id) ≡ false → IsNoOp may_read may_write v id rest }
+{}
+
+/// States that a stamp never repeats after it has changed.
+///
+/// Stamps are ordered by time, then by the number of versions stored so far, then by the number of stored resources,
+/// where fewer is later. The operations of an event loop never make the stamp of the server earlier. To serve a
+/// connection leaves it equal or later. To drop or open a connection leaves it equal. The time does not go back.
+pub fn stamps_do_not_repeat()
+    ensures itself { (one : ChangeStamp) → IsNoEarlier one one }
+    ensures on { (one other third : ChangeStamp) → IsNoEarlier one other → IsNoEarlier other third → IsNoEarlier one third }
+    ensures same { (one other : ChangeStamp) → IsNoEarlier one other → IsNoEarlier other one → one ≡ other }
+    ensures back { (one other third : ChangeStamp) → IsNoEarlier one other → IsNoEarlier other third → third ≡ one →
+        other ≡ one }
+    ensures served { (v after : ServerValue) (id : ℕ) (rest left : List ℕ) (wire told : WireTrace)
+        (may_read may_write : Bool) (course : PeerOutcome) →
+        IsServedOnce may_read may_write v id rest wire after left told course →
+        IsNoEarlier (stamp_of v.host) (stamp_of after.host) }
+    ensures dropped { (v : ServerValue) (id : ℕ) → stamp_of (server_dropped v id).host ≡ stamp_of v.host }
+    ensures opened { (v : ServerValue) → stamp_of (server_opened v).host ≡ stamp_of v.host }
+    ensures ticked { (v : ServerValue) (later : ℕ) → v.host.now ≤ later →
+        IsNoEarlier (stamp_of v.host) (stamp_of (server_ticked v later).host) }
+{}
+
+/// States that the recorded I/O interest of a connection stays correct while the stamp of the server is the same, if
+/// every connection is settled.
+///
+/// The interest is the same after another connection was served, dropped or opened. If the time advances and the stamp
+/// is the same, the whole server is unchanged. The interest is also the same after any sequence of these. An idle
+/// connection may therefore be skipped without a look at the server: to serve it would have no effect.
+pub fn recorded_interests_stay_valid()
+    ensures served { (v after : ServerValue) (id : ℕ) (rest left : List ℕ) (wire told : WireTrace)
+        (may_read may_write : Bool) (course : PeerOutcome) →
+        AreSettled v.host v.sessions → IsServedOnce may_read may_write v id rest wire after left told course →
+        KeepsNotes id v after }
+    ensures dropped { (v : ServerValue) (id : ℕ) → AreSettled v.host v.sessions →
+        KeepsNotes id v (server_dropped v id) }
+    ensures opened { (v : ServerValue) → AreSettled v.host v.sessions → KeepsNotes (v.ids + 1) v (server_opened v) }
+    ensures ticked { (v : ServerValue) (later : ℕ) → AreSettled v.host v.sessions →
+        stamp_of (server_ticked v later).host ≡ stamp_of v.host → server_ticked v later ≡ v }
+    ensures throughout { (v after : ServerValue) (id : ℕ) (rest : List ℕ) → AreSettled v.host v.sessions →
+        WhilePassedOver id v after → stamp_of after.host ≡ stamp_of v.host →
+        wants_of after id rest ≡ wants_of v id rest }
+    ensures passed_over { (v after : ServerValue) (id i : ℕ) (rest : List ℕ) (may_read may_write : Bool) →
+        AreSettled v.host v.sessions → WhilePassedOver id v after → stamp_of after.host ≡ stamp_of v.host →
+        LiesAt id i after.sessions → can_go_on (wants_of v id rest) may_read may_write ≡ false →
+        is_over_in (outlook_of v id) ≡ false → IsNoOp may_read may_write after id rest }
+{}
