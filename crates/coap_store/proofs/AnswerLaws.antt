@@ -281,6 +281,33 @@ bare_of s now m =
     let a = answer_at s (target_of s now (path_of m)) m in
     bare_finally (removes_watch m) a (bare_at s (target_of s now (path_of m)) m)
 
+-- An answer with a change has the code and the path of the response alone.
+abbrev pub IsPlain : Answer → Type 0
+IsPlain a = changes a.change ≡ true → a.response ≡ record (only a.response.code) { location = a.response.location }
+
+stored_plain : (key : Option Path) (state : Option Representation) (m : Message) → IsPlain (stored_under key state m)
+stored_plain None state m e = refl
+stored_plain (Some path) None m e = refl
+stored_plain (Some path) (Some r) m e = refl
+
+plain_at : (s : StoreValue) (t : RequestTarget) (m : Message) → IsPlain (answer_at s t m)
+plain_at s t m =
+    answer_cases IsPlain s t m (λ c e h. refl) (record {
+      read = λ r is. get_cases IsPlain t.place r m (λ c e h. refl) (record { valid = λ among h. absurd cc; late = λ h. absurd cc; content = λ h. absurd cc });
+      deleted = λ dynamic other h. refl;
+      stored = λ dynamic other. store_cases IsPlain s t m (λ c e h. refl) (λ h. absurd cc) (λ can. stored_plain t.key t.state m);
+    })
+
+plain_finally : (b : Bool) (a : Answer) → IsPlain a → IsPlain (with_observe_rule b a)
+plain_finally true a is = is
+plain_finally false a is = is
+
+pub plain_of : (s : StoreValue) (now : ℕ) (m : Message) → IsPlain (answer_of s now m)
+unfolding answer_of
+plain_of s now m =
+    let a = answer_at s (target_of s now (path_of m)) m in
+    plain_finally (removes_watch m) a (plain_at s (target_of s now (path_of m)) m)
+
 -- ---- a change is at the path of its request
 
 -- An index at which a path is found is that of the change.

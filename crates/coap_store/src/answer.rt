@@ -8,7 +8,7 @@ ghost use Rattle.coap_store.specs.Prelude.{is_among as is_one_of, watch_of, remo
 ghost use Rattle.coap_store.specs.Prelude.{stored as stored_there, delete_answer, found_value, target_value, found_in};
 ghost use Rattle.coap_store.specs.Prelude.{kind_of_path, target_of, state_at, answer_of, answer_at, resource_answer};
 ghost use Rattle.coap_store.specs.Prelude.{store_answer, no_answer, needs_resource as needs, TakesChange, changes};
-ghost use Rattle.coap_store.specs.Prelude.{IsStore, IsFoundAt, IsChangeAt, IfSome};
+ghost use Rattle.coap_store.specs.Prelude.{IsStore, IsFoundAt, IsChangeAt, IfSome, only};
 ghost use Rattle.coap_wire.specs.OptionNumbers as numbers;
 ghost use Rattle.coap_path.specs.declared.resource_kind.ResourceKind.TheVariants.{Dynamic};
 
@@ -61,6 +61,8 @@ impl Store {
         ensures taken { TakesChange self.now plan.new.change }
         ensures index { IfSome result (λ index. IsChangeAt self.now plan.new.change index) }
         ensures bare { changes plan.new.change ≡ true → plan.new.response.payload ≡ [] }
+        ensures plain { changes plan.new.change ≡ true → plan.new.response
+            ≡ record (only plan.new.response.code) { location = plan.new.response.location } }
         ensures short { length plan.new.response.payload ≤ LARGEST_MESSAGE }
         ensures store { IsStore self.now }
     {

@@ -75,6 +75,19 @@ impl Catalogue {
         Some((index, resource))
     }
 
+    /// Returns the resource at a path, and its index. First compares the path of the resource with the index `near`, and
+    /// searches only if it is another one.
+    pub(crate) fn find_near(&self, path: &PathKey, near: usize) -> Option<(usize, &Resource)>
+        ensures { option_map (λ r. representation r.1.now) result ≡ found_in self.now path.now }
+    {
+        if let Some((key, resource)) = self.resources.get_index(near) {
+            if key == path {
+                return Some((near, resource));
+            }
+        }
+        self.find(path)
+    }
+
     /// Returns the bytes of `/.well-known/core` (RFC 6690).
     pub(crate) fn listing(&self) -> &[u8]
         ensures { result.now ≡ listing_of self.now }

@@ -302,22 +302,69 @@ impl<'s, 'r> Plan<'s, 'r> {
         }
     }
 
-    /// Returns the plan without its payload. The plan then borrows from the request alone.
-    pub fn without_payload<'d>(self) -> Plan<'d, 'r>
-        ensures { result ≡ record self.entry { response = record self.entry.response { payload = [] } } }
+    /// Returns the change with the code of the response and its path, which are all that the plan has if it makes a
+    /// change. They borrow from the request alone.
+    pub fn into_change(self) -> ChangePlan<'r>
+        ensures { result ≡ record (says (record (only self.entry.response.code) {
+          location = self.entry.response.location;
+        })) { change = self.entry.change } }
     {
-        Plan {
-            code: self.code,
-            etag: self.etag,
-            format: self.format,
-            max_age: self.max_age,
-            tells_location: self.tells_location,
-            size1: self.size1,
-            payload: Payload::Stored(&[]),
-            text: ArrayVec::new(),
+        ChangePlan {
             change: self.change,
-            watch: self.watch,
-            hold: self.hold,
+            code: self.code,
+            tells_location: self.tells_location,
         }
+    }
+}
+
+/// Plan for a request that makes a change: the code of the response, its path and the change. Contracts see an `Answer`.
+#[derive(Drop)]
+pub struct ChangePlan<'r> {
+    change: Change<'r>,
+    code: Code,
+    /// `true` if the response has Location-Path options with the path of the change.
+    tells_location: bool,
+}
+
+impl<'r> Model for ChangePlan<'r> {
+    ghost use Rattle.coap_store.specs.Answer.{Answer};
+
+    ghost Value = { Answer };
+
+    ghost use Rattle.coap_store.specs.ChangePlanViews.{change_answer, is_change_plan};
+
+    ghost view = { change_answer };
+
+    ghost invariant = { is_change_plan };
+}
+
+impl<'r> ChangePlan<'r> {
+    /// Returns the code of the response.
+    pub fn code(&self) -> Code
+        ensures { result ≡ self.now.response.code }
+    {
+        self.code
+    }
+
+    /// Returns the path for Location-Path options, as `Plan::location` does.
+    pub fn location(&self) -> Option<UriPath<'r>>
+        ensures value { path_or_root result ≡ self.now.response.location }
+        ensures path { IfSome result (λ path. is_path path ≡ true) }
+        ensures some { IfSome result (λ path. path ≢ []) }
+    {
+        if !self.tells_location {
+            return None;
+        }
+        match &self.change {
+            Change::Put { body, .. } => Some(UriPath::of(body)),
+            _ => None,
+        }
+    }
+
+    /// Returns the change that the request makes.
+    pub fn change(&self) -> &Change<'r>
+        ensures { change_value result.now ≡ self.now.change }
+    {
+        &self.change
     }
 }

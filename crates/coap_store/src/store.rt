@@ -189,6 +189,23 @@ impl Store {
         self.resources.find(path)
     }
 
+    /// Returns the same as `find_place`. Needs no search if the index is `near`.
+    pub(crate) fn find_near(&self, path: &PathKey, near: usize) -> Option<(usize, &Resource)>
+        ensures { option_map (λ r. representation r.1.now) result ≡ found_in self.now.resources path.now }
+    {
+        self.resources.find_near(path, near)
+    }
+
+    /// Returns the version of the created resource at a path, if there is one. Needs no search if its index is `near`.
+    pub fn version_near(&self, path: &PathKey, near: usize) -> Option<u64>
+        ensures { result ≡ option_map (λ r. r.version) (found_in self.now.resources path.now) }
+    {
+        match self.find_near(path, near) {
+            Some((_, resource)) => Some(resource.version),
+            None => None,
+        }
+    }
+
     /// Returns the representation of `/.well-known/core` (RFC 6690).
     pub(crate) fn listing(&self) -> &[u8]
         ensures value { result.now ≡ listing_of self.now.resources }

@@ -1,6 +1,6 @@
 use Rattle.std.proofs.Common.{◌≡◌, ◌≤◌, true, length, [], sym, ap, ◌∙◌, subst}
 use Rattle.coap_store.specs.Prelude.{Answer, answer_of, TakesChange, changes, Drop, IfSome, IsChangeAt, IsFoundAt, Message, path_of}
-use Rattle.coap_store.proofs.AnswerLaws.{taken_of, bare_of, short_of, placed_of}
+use Rattle.coap_store.proofs.AnswerLaws.{taken_of, bare_of, short_of, placed_of, plain_of, IsPlain}
 use Rattle.coap_store.proofs.StoreLemmas.{listing_short, stored_small}
 use Rattle.coap_store.proofs.AnswerLemmas.{answer_removes, answer_leaves}
 use Rattle.coap_store.proofs.store.Store.fill_plan.Goals as goal
@@ -56,3 +56,9 @@ pub returns-else-removes_watch-clause-index : goal.returns-else-removes_watch-cl
 returns-else-removes_watch-clause-index c =
     let at = subst (λ (m : Message). IfSome c.check-index.result (λ i. IsFoundAt c.args.self.now.resources (path_of m) i)) c.by-asked.ensures c.check-index.ensures.index in
     subst (λ (a : Answer). IfSome c.check-index.result (λ i. IsChangeAt c.args.self.now a.change i)) (sym (left c)) (placed_of _ _ _ c.check-index.result at)
+
+pub returns-then-removes_watch-clause-plain : goal.returns-then-removes_watch-clause-plain
+returns-then-removes_watch-clause-plain c = subst IsPlain (sym (removed c)) (plain_of _ _ _)
+
+pub returns-else-removes_watch-clause-plain : goal.returns-else-removes_watch-clause-plain
+returns-else-removes_watch-clause-plain c = subst IsPlain (sym (left c)) (plain_of _ _ _)
