@@ -339,9 +339,10 @@ impl<'r> Model for ChangePlan<'r> {
 }
 
 impl<'r> ChangePlan<'r> {
-    /// Returns the code of the response.
+    /// Returns the code of the response, which has no more than this and a path.
     pub fn code(&self) -> Code
-        ensures { result ≡ self.now.response.code }
+        ensures code { result ≡ self.now.response.code }
+        ensures plain { self.now.response ≡ record (only result) { location = self.now.response.location } }
     {
         self.code
     }
