@@ -1,35 +1,13 @@
 -- Bytes that are moved.
 use Rattle.std.proofs.Common.{◌≡◌, ℕ, ◌+◌, ◌-◌, ◌≤◌, List, [], ◌++◌, length, take, drop, refl, sym, ap, ◌∙◌, append_assoc, length-append, arith}
-use Rattle.std.proofs.lemmas.List.{append-nil, take-append-drop, take-take, take_at, drop_at, drop-drop, drop-take, drop-append-le, drop_all, length-take-le, length-drop}
-use Rattle.std.proofs.lemmas.List.Edits.{take-paste, drop-paste, length-paste}
+use Rattle.std.proofs.lemmas.List.{append-nil, take-append-drop, take-take, drop-drop, drop-take, drop-append-le, drop_all, length-take-le, length-drop}
+use Rattle.std.proofs.lemmas.List.Edits.{drop-paste, length-paste}
 use lib.Seq.{paste}
 use borrow.Rule.Slice.PartMut.{put_mid}
 
 take_sum : (n m : ℕ) (s : List ℕ) → take (n + m) s ≡ take n s ++ take m (drop n s)
 take_sum n m s =
     sym (take-append-drop n (take (n + m) s)) ∙ (λ i. take-take n (n + m) s (omega arith) i ++ drop-take n m s i)
-
--- Bytes from a place on, of which the first ones are copies.
-pub drop_paste_at : (d s : List ℕ) (at n : ℕ) → at ≤ length d → drop at (paste d at s n) ≡ take n s ++ drop (at + n) d
-drop_paste_at d s at n within =
-    ap (drop at) (append_assoc (take at d) (take n s) (drop (at + n) d))
-    ∙ drop_at (take at d) (take n s ++ drop (at + n) d) at (length-take-le at d within)
-
--- One more part is moved down.
-pub moved_part : (old : List ℕ) (at gap n m : ℕ) → at + gap + n + m ≤ length old
-    → paste (paste old at (drop (at + gap) old) n) (at + n) (drop (at + n + gap) (paste old at (drop (at + gap) old) n)) m ≡ paste old at (drop (at + gap) old) (n + m)
-moved_part old at gap n m fits =
-    let s = drop (at + gap) old in
-    let now = paste old at s n in
-    let within : at ≤ length old = omega (arith, fits) in
-    let small : n ≤ length s = omega (arith, fits, length-drop (at + gap) old) in
-    let moved : at + gap + n ≡ at + n + gap = omega arith in
-    let behind : (k : ℕ) → drop (at + n + k) now ≡ drop (at + n + k) old =
-    λ k. sym (drop-drop k (at + n) now) ∙ ap (drop k) (drop-paste old at s n within small) ∙ drop-drop k (at + n) old in
-    let part : drop (at + n + gap) now ≡ drop n s = behind gap ∙ sym (ap (λ (k : ℕ). drop k old) moved) ∙ sym (drop-drop n (at + gap) old) in
-    let sums : at + n + m ≡ at + (n + m) = omega arith in
-    (λ i. take-paste old at s n within small i ++ take m (part i) ++ (behind m ∙ ap (λ (k : ℕ). drop k old) sums) i)
-    ∙ ap (λ (t : List ℕ). t ++ drop (at + (n + m)) old) (append_assoc (take at old) (take n s) (take m (drop n s)) ∙ ap (λ (t : List ℕ). take at old ++ t) (sym (take_sum n m s)))
 
 -- Bytes with the same front have the same shorter front.
 pub shorter_front : (t u : List ℕ) (m n : ℕ) → m ≤ n → take n t ≡ take n u → take m t ≡ take m u
@@ -117,18 +95,3 @@ module _ (xs : List ℕ) (s : ℕ) where
       let sums : s + at + k ≡ s + (at + k) = omega arith in
       drop_front at (new ++ drop k (drop (s + at) xs)) within
       ∙ ap (λ (t : List ℕ). take at (drop s xs) ++ (new ++ t)) (drop-drop k (s + at) xs ∙ ap (λ (n : ℕ). drop n xs) sums ∙ sym (drop-drop (at + k) s xs))
-
--- The bytes are moved down as far as `to`, and then as far as `next`.
-pub moved_next : (old now then : List ℕ) (at to gap next end : ℕ) → at ≤ to → to ≤ next → end ≡ next + gap → end ≤ length old
-    → now ≡ paste old at (drop (at + gap) old) (to - at) → then ≡ paste now to (drop (to + gap) now) (end - (to + gap))
-    → then ≡ paste old at (drop (at + gap) old) (next - at)
-moved_next old now then at to gap next end from order ends fits moved next_moved =
-    let n = to - at in
-    let m = next - to in
-    let place : to ≡ at + n = omega (arith, from) in
-    let count : end - (to + gap) ≡ m = omega (arith, order, ends) in
-    let sum : n + m ≡ next - at = omega (arith, from, order) in
-    next_moved
-    ∙ (λ i. paste (moved i) (place i) (drop (place i + gap) (moved i)) (count i))
-    ∙ moved_part old at gap n m (omega (arith, from, order, ends, fits))
-    ∙ ap (λ (k : ℕ). paste old at (drop (at + gap) old) k) sum

@@ -6,10 +6,6 @@
 ghost use Rattle.std.specs.Prelude.{◌≡◌, ◌+◌, ◌≤◌, length};
 ghost use Rattle.std.specs.List.{copy_within};
 
-/// Number of bytes that are moved down at once. It serves the count of instructions alone: callgrind counts one for each
-/// byte of a longer `memmove` down. The time is the same.
-const PART: usize = 2_048;
-
 /// Moves the bytes from `at` to `end` up by `gap`.
 pub(crate) fn move_up(bytes: &mut Vec<u8>, at: usize, end: usize, gap: usize)
     requires order { at ≤ end }
@@ -50,37 +46,22 @@ fn shift_down(bytes: &mut Vec<u8>, at: usize, end: usize, gap: usize)
     bytes[at..end + gap].copy_within(gap.., 0);
 }
 
-/// Moves the bytes from `at + gap` to `end + gap` down by `gap`, in parts.
+/// Moves the bytes from `at + gap` to `end + gap` down by `gap`.
 pub(crate) fn move_down(bytes: &mut Vec<u8>, at: usize, end: usize, gap: usize)
     requires order { at ≤ end }
     requires within { end + gap ≤ length bytes.old.items }
     ensures { bytes.new.items ≡ copy_within bytes.old.items (at + gap) (end + gap) at }
 {
     match gap {
-        1 => move_down_by(bytes, at, end, 1),
-        2 => move_down_by(bytes, at, end, 2),
-        3 => move_down_by(bytes, at, end, 3),
-        4 => move_down_by(bytes, at, end, 4),
-        5 => move_down_by(bytes, at, end, 5),
-        6 => move_down_by(bytes, at, end, 6),
-        7 => move_down_by(bytes, at, end, 7),
-        8 => move_down_by(bytes, at, end, 8),
-        9 => move_down_by(bytes, at, end, 9),
-        _ => move_down_by(bytes, at, end, gap),
+        1 => shift_down(bytes, at, end, 1),
+        2 => shift_down(bytes, at, end, 2),
+        3 => shift_down(bytes, at, end, 3),
+        4 => shift_down(bytes, at, end, 4),
+        5 => shift_down(bytes, at, end, 5),
+        6 => shift_down(bytes, at, end, 6),
+        7 => shift_down(bytes, at, end, 7),
+        8 => shift_down(bytes, at, end, 8),
+        9 => shift_down(bytes, at, end, 9),
+        _ => shift_down(bytes, at, end, gap),
     }
-}
-
-/// Does the same without cases. Inlined, so that the distance is a constant in each case.
-#[inline(always)]
-fn move_down_by(bytes: &mut Vec<u8>, at: usize, end: usize, gap: usize)
-    requires order { at ≤ end }
-    requires within { end + gap ≤ length bytes.old.items }
-    ensures { bytes.new.items ≡ copy_within bytes.old.items (at + gap) (end + gap) at }
-{
-    let mut to = at;
-    while PART < end - to {
-        shift_down(bytes, to, to + PART, gap);
-        to += PART;
-    }
-    shift_down(bytes, to, end, gap);
 }

@@ -74,10 +74,10 @@ fn word_of_watch(watch: Watch) -> &'static str {
 }
 
 /// Writes a plan: the code, the change, the effect on the observer, each part of the response, and the payload. Writes
-/// the effect on the observer again, for the plan without its payload.
+/// the change again, as the plan gives it up.
 fn tell_plan(plan: Plan, told: &mut RowLine) {
     told.number(u64::from(plan.code().byte()));
-    told.word(word_of_change(&plan.change()));
+    told.word(word_of_change(plan.change()));
     told.word(word_of_watch(plan.watch()));
     tell_number("held", plan.hold(), told);
     if let Some(etag) = plan.etag() {
@@ -89,13 +89,13 @@ fn tell_plan(plan: Plan, told: &mut RowLine) {
     tell_location(plan.location(), told);
     tell_number("size1", plan.size1(), told);
     told.hex(plan.payload());
-    told.word(word_of_watch(plan.without_payload().watch()));
+    told.word(word_of_change(plan.into_change().change()));
 }
 
 /// Applies the change that a request makes, or writes `memory` if allocation fails.
 fn make(store: &mut Store, request: &MessageRef, told: &mut RowLine) {
-    // The plan without its payload borrows the request alone.
-    let plan = store.answer(request, 0).without_payload();
+    // The change borrows the request alone.
+    let plan = store.answer(request, 0).into_change();
     if store.apply(plan.change()).is_err() {
         told.word("memory");
     }

@@ -52,9 +52,9 @@ pub use Rattle.coap_path.specs.ResourceKinds.{is_dynamic}
 unfoldable pub use Rattle.coap_path.specs.ResourceKinds.{kind_of_path}
 pub use Rattle.coap_path.specs.declared.resource_kind.ResourceKind.TheVariants.{Async, Dynamic, Listing, Root, Time}
 -- ---- coap_store
-pub use Rattle.coap_store.specs.Answer.{changed, without_hold, Change, Delete, Nothing, Put, Response, says}
+pub use Rattle.coap_store.specs.Answer.{changed, without_hold, Change, Delete, Nothing, Put, Response, says, only}
 unfoldable pub use Rattle.coap_store.specs.Answer.{answer_of, immediate_answer}
-pub use Rattle.coap_store.specs.Changes.{IsPut, TakesChange, changes}
+pub use Rattle.coap_store.specs.Changes.{IsPut, TakesChange, changes, IsChangeAt}
 pub use Rattle.coap_store.specs.Invariant.{IsStore}
 pub use Rattle.coap_store.specs.Messages.{response_message, response_with_observe, option_at, empty_at, number_at}
 pub use Rattle.coap_store.specs.Messages.{each_at}

@@ -1,11 +1,11 @@
 //! Answers requests and notifies observers.
 
 ghost use Rattle.std.specs.Prelude.{◌≡◌, ◌<◌, ◌≤◌, ◌++◌, ◌∷◌, [], ℕ, Option, map, true, Some, None, is_some, length};
-ghost use Rattle.std.specs.Prelude.{slice_get, if◌then◌else◌, IfOk, OnOk, OnErr};
+ghost use Rattle.std.specs.Prelude.{slice_get, if◌then◌else◌, IfOk, IfSome, OnOk, OnErr};
 ghost use Rattle.coap_server_session.specs.Prelude.{IsAnswering, AreMarked, IsTagged, marks_after, is_open};
 ghost use Rattle.coap_server_session.specs.Prelude.{PendingEntryValue, first_due, IsReady, can_hold, link_after};
 ghost use Rattle.coap_server_session.specs.Prelude.{changed, without_hold, response_message, change_value, path_of};
-ghost use Rattle.coap_server_session.specs.Prelude.{IsPut, TakesChange, change_hash, MayObserve, asks_entry as asks};
+ghost use Rattle.coap_server_session.specs.Prelude.{IsChangeAt, IsPut, TakesChange, change_hash, MayObserve, asks_entry as asks};
 ghost use Rattle.coap_server_session.specs.Prelude.{is_whole as is_sent_whole, ObserverValue, answer_on, hold_on};
 ghost use Rattle.coap_server_session.specs.Prelude.{held_in, host_changed, link_sent, new_entry, notification_on};
 ghost use Rattle.coap_server_session.specs.Prelude.{without_entry, IsFirstStale, link_replied, entries_replied};
@@ -15,12 +15,13 @@ ghost use Rattle.coap_conn.specs.Calls as call;
 use crate::cause::Cause;
 use crate::observer::Observer;
 use crate::observers::{Observers, StaleObserver};
-use crate::path_hash::hash_of;
-use crate::response::respond;
+use crate::path_hash::{hash_of, hash_of_request};
+use crate::response::{respond, respond_change};
 use crate::server_state::{ServerState, mark_at};
 use coap_conn::{Due, Link, Reply};
 use coap_store::{
-    Change, Plan, State, Store, Watch, delayed_response, refused_delay, request_path,
+    Change, ChangePlan, Plan, State, Store, UriPath, Watch, delayed_response, refused_delay,
+    request_path,
 };
 use coap_wire::{Code, MessageRef, TokenRef};
 use std::alloc::AllocError;
@@ -66,18 +67,18 @@ pub(crate) fn answer(
     ensures kept { OnErr result (observers.new ≡ observers.old) }
 {
     let mut plan = Plan::new();
-    host.store.fill_plan(request, host.now, &mut plan);
+    let index = host.store.fill_plan(request, host.now, &mut plan);
     if let Some(seconds) = plan.hold() {
         let moment = host.now.saturating_add(u64::from(seconds));
         delay_answer(link, observers, request, &plan, moment);
         return Ok(None);
     }
     if plan.changes() {
-        let plan = plan.without_payload();
-        let changed = change(&mut host.store, &plan)?;
+        let planned = plan.into_change();
+        let changed = change(&mut host.store, &planned, index)?;
         observers.remove_token(request.token());
         mark_changed(observers, changed, host);
-        respond(link, request.token(), &plan, false);
+        respond_change(link, request.token(), &planned);
         return Ok(changed);
     }
     observers.remove_token(request.token());
@@ -89,23 +90,28 @@ pub(crate) fn answer(
     Ok(None)
 }
 
-/// Applies the change of a plan that this store returned, and returns the hash of its path.
+/// Applies the change of a plan that this store returned with this index, and returns the hash of its path.
 ///
 /// # Errors
 ///
 /// Returns `AllocError` if allocation fails for the stored representation. The store is unchanged then.
 // Never inlined, since a function clears all its locals.
 #[inline(never)]
-fn change(store: &mut Store, plan: &Plan) -> Result<Option<u8>, AllocError>
-    requires { TakesChange store.old plan.now.change }
-    ensures ok { OnOk result (store.new ≡ changed store.old plan.now.change) }
-    ensures hash { IfOk result (λ hash. hash ≡ change_hash plan.now.change) }
-    ensures put { OnErr result (IsPut plan.now.change) }
+fn change(
+    store: &mut Store,
+    planned: &ChangePlan,
+    index: Option<usize>,
+) -> Result<Option<u8>, AllocError>
+    requires taken { TakesChange store.old planned.now.change }
+    requires index { IfSome index (λ index. IsChangeAt store.old planned.now.change index) }
+    ensures ok { OnOk result (store.new ≡ changed store.old planned.now.change) }
+    ensures hash { IfOk result (λ hash. hash ≡ change_hash planned.now.change) }
+    ensures put { OnErr result (IsPut planned.now.change) }
     ensures err { OnErr result (store.new ≡ store.old) }
 {
-    let change = plan.change();
-    let hash = hash_of_change(&change);
-    store.apply(change)?;
+    let change = planned.change();
+    let hash = hash_of_change(change);
+    store.apply_at(change, index)?;
     Ok(hash)
 }
 
@@ -128,8 +134,8 @@ fn hash_of_change(change: &Change) -> Option<u8>
 {
     match change {
         Change::Nothing => None,
-        Change::Put { path, .. } => Some(hash_of(path)),
-        Change::Delete(path) => Some(hash_of(path)),
+        Change::Put { body, .. } => Some(hash_of_request(UriPath::of(body))),
+        Change::Delete { body } => Some(hash_of_request(UriPath::of(body))),
     }
 }
 
@@ -236,6 +242,7 @@ fn entry_for(host: &ServerState, request: &MessageRef) -> Observer
         mark: mark_at(host.now, &there),
         hash: hash_of(&path),
         built_in: !path.kind().is_dynamic(),
+        index: 0,
         changed: None,
         previous: None,
         previous_built_in: None,
@@ -265,13 +272,19 @@ pub(crate) fn notify(
     ensures marked { AreMarked host.entry.now observers.new.entries observers.new.marks }
 {
     let observer = observers.get(stale.index);
-    let plan = host
-        .store
-        .notification(&observer.path, observer.format, host.now);
+    let mut plan = Plan::new();
+    let index = host.store.fill_notification(
+        &observer.path,
+        observer.kind(),
+        observer.index,
+        observer.format,
+        host.now,
+        &mut plan,
+    );
     let goes_on = plan.code() == Code::CONTENT;
     let reply = respond(link, &TokenRef::of(&observer.token), &plan, goes_on);
     if goes_on && is_whole(reply) {
-        observers.set_mark(stale.index, stale.mark);
+        observers.set_mark(stale.index, stale.mark, index);
     } else {
         observers.remove(stale.index);
     }

@@ -3,10 +3,11 @@
 ghost use Rattle.std.specs.Prelude.{◌≡◌};
 ghost use Rattle.coap_server_session.specs.Prelude.{linked, previous_in, IsTagged, present_mark, changed_mark};
 ghost use Rattle.coap_server_session.specs.Prelude.{untold_by as mark_untold_by, observer_value};
+ghost use Rattle.coap_server_session.specs.Prelude.{kind_of_path};
 
 use crate::cause::Cause;
 use crate::server_state::ServerState;
-use coap_store::PathKey;
+use coap_store::{PathKey, ResourceKind};
 use coap_wire::Token;
 
 /// Observer entry of a connection. Contracts see an `ObserverValue`.
@@ -22,6 +23,8 @@ pub(crate) struct Observer {
     pub mark: u64,
     /// Hash of `path`.
     pub hash: u8,
+    /// Index that the resource had when the observer was notified last. It may have another one now.
+    pub index: usize,
     /// `true` if `path` is built in. It is `/time` then, since no other built-in resource is observable.
     pub built_in: bool,
     /// Changed mark: `None` if the current state was sent last, otherwise the mark of the current state. If the path is
@@ -52,7 +55,18 @@ impl Observer {
         if self.built_in {
             return Some(host.now);
         }
-        host.mark(&self.path)
+        host.mark(&self.path, self.index)
+    }
+
+    /// Returns the kind of the path.
+    pub(crate) fn kind(&self) -> ResourceKind
+        requires { IsTagged self.now }
+        ensures { result ≡ kind_of_path self.now.path }
+    {
+        if self.built_in {
+            return self.path.kind();
+        }
+        ResourceKind::Dynamic
     }
 
     /// Returns the same as `present`. If the path is `known`, whose mark is `present`, the store is not read.

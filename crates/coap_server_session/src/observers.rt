@@ -122,13 +122,15 @@ impl Observers {
     /// Returns the observer at an index.
     pub(crate) fn get(&self, index: usize) -> &Observer
         requires { index < length self.now.entries }
-        ensures { slice_get self.now.entries index ≡ Some (observer_value result.now) }
+        ensures value { slice_get self.now.entries index ≡ Some (observer_value result.now) }
+        ensures tagged { IsTagged result.now }
     {
         &self.entries[index]
     }
 
-    /// Records that the observer at an index was sent the state with this mark, and clears its changed mark.
-    pub(crate) fn set_mark(&mut self, index: usize, mark: u64)
+    /// Records that the observer at an index was sent the state with this mark, and clears its changed mark. `place` is the
+    /// index of its resource.
+    pub(crate) fn set_mark(&mut self, index: usize, mark: u64, place: usize)
         requires { index < length self.old.entries }
         ensures { (o : ObserverValue) → slice_get self.old.entries index ≡ Some o → self.new ≡ record self.old {
           entries = slice_set self.old.entries index (record o { mark = mark });
@@ -137,6 +139,7 @@ impl Observers {
     {
         let observer = &mut self.entries[index];
         observer.mark = mark;
+        observer.index = place;
         observer.changed = None;
         self.marked.put(index, false);
     }

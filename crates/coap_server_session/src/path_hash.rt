@@ -3,7 +3,7 @@
 ghost use Rattle.std.specs.Prelude.{◌≡◌, ◌+◌, ◌*◌, ◌%◌};
 ghost use Rattle.coap_server_session.specs.Prelude.{hash_behind, path_hash};
 
-use coap_store::PathKey;
+use coap_store::{PathKey, UriPath};
 
 /// Returns the hash of a path. Different paths may have the same hash.
 pub fn hash_of(path: &PathKey) -> u8
@@ -11,6 +11,17 @@ pub fn hash_of(path: &PathKey) -> u8
 {
     let mut hash = 0;
     for segment in path.segments() {
+        hash = hash_on(hash, segment);
+    }
+    hash
+}
+
+/// Returns the hash of the path of a request, as `hash_of` does, without a key.
+pub(crate) fn hash_of_request(path: UriPath) -> u8
+    ensures { result ≡ path_hash path.entry }
+{
+    let mut hash = 0;
+    for segment in path {
         hash = hash_on(hash, segment);
     }
     hash

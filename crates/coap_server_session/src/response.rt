@@ -4,14 +4,15 @@ ghost use Rattle.std.specs.Prelude.{◌≡◌, ◌≤◌, ◌<◌, ◌+◌, ◌+
 ghost use Rattle.coap_server_session.specs.Prelude.{last_number, encoded_size, path_size, with_option, IsAnswering};
 ghost use Rattle.coap_server_session.specs.Prelude.{IsReady, limit_in, link_after, fit, bare_response, is_path};
 ghost use Rattle.coap_server_session.specs.Prelude.{path_or_root, response_with_observe, option_at, empty_at};
-ghost use Rattle.coap_server_session.specs.Prelude.{number_at, each_at, LARGEST_MESSAGE, MAX_EXTENDED_LENGTH};
+ghost use Rattle.coap_server_session.specs.Prelude.{number_at, each_at, LARGEST_MESSAGE, MAX_EXTENDED_LENGTH, only};
+ghost use Rattle.std.specs.Prelude.{false};
 ghost use Rattle.coap_wire.specs.OptionNumbers as numbers;
 ghost use Rattle.coap_conn.specs.Calls as call;
 
 use coap_conn::{Link, Reply};
-use coap_store::{Plan, UriPath};
+use coap_store::{ChangePlan, Plan, UriPath};
 use coap_wire::option_numbers::{CONTENT_FORMAT, ETAG, LOCATION_PATH, MAX_AGE, OBSERVE, SIZE1};
-use coap_wire::{CompactBuilder, SHORT_OPTIONS, TokenRef};
+use coap_wire::{Code, CompactBuilder, SHORT_OPTIONS, TokenRef};
 
 /// Largest encoded size of the options of a response with Location-Path, in bytes.
 const LOCATION_OPTIONS: usize = 368;
@@ -95,6 +96,60 @@ fn respond_from<'a, const N: usize>(
     add_number(&mut response, SIZE1, plan.size1());
     response.payload(plan.payload());
     link.reply_compact(&response)
+}
+
+/// Sends the response to a request that made a change, to the request with this token. It has a code, and a path if the
+/// request created a resource whose path it tells. Does the same as `respond`.
+///
+/// # Preconditions
+///
+/// As `respond`.
+// Never inlined, since a function clears all its locals.
+#[inline(never)]
+pub(crate) fn respond_change(link: &mut Link, token: &TokenRef, planned: &ChangePlan)
+    requires ready { IsReady link.old }
+    requires answering { IsAnswering link.old.phase }
+    ensures { link.new
+        ≡ link_after link.old (call.Reply (response_with_observe token.now false planned.now.response)) }
+{
+    let code = planned.code();
+    match planned.location() {
+        None => respond_code::<SHORT_OPTIONS>(link, token, code, None),
+        Some(path) => respond_created(link, token, code, path),
+    }
+}
+
+/// Sends a response with this code and Location-Path. (A separate function, as `respond_at`.)
+#[inline(never)]
+fn respond_created<'a>(link: &mut Link, token: &TokenRef, code: Code, path: UriPath<'a>)
+    requires ready { IsReady link.old }
+    requires answering { IsAnswering link.old.phase }
+    requires path { is_path path ≡ true }
+    ensures { link.new ≡ link_after link.old
+        (call.Reply (response_with_observe token.now false (record (only code) { location = path.entry }))) }
+{
+    respond_code::<LOCATION_OPTIONS>(link, token, code, Some(path));
+}
+
+/// Sends a response with this code and, if there is one, this Location-Path, with at most `N` bytes of options.
+#[inline(always)]
+fn respond_code<'a, const N: usize>(
+    link: &mut Link,
+    token: &TokenRef,
+    code: Code,
+    path: Option<UriPath<'a>>,
+)
+    requires ready { IsReady link.old }
+    requires answering { IsAnswering link.old.phase }
+    requires path { IfSome path (λ path. is_path path ≡ true) }
+    requires room { path_size (path_or_root path) ≤ N }
+    requires few { N ≤ MAX_EXTENDED_LENGTH }
+    ensures { link.new ≡ link_after link.old (call.Reply
+        (response_with_observe token.now false (record (only code) { location = path_or_root path.entry }))) }
+{
+    let mut response: CompactBuilder<N> = CompactBuilder::new(code, token.copy());
+    add_location(&mut response, path);
+    link.reply_compact(&response);
 }
 
 /// Returns the same number in 32 bits.

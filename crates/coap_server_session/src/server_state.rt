@@ -1,10 +1,10 @@
 //! The state that all connections of a server share, and from which requests are answered.
 
-ghost use Rattle.std.specs.Prelude.{◌≡◌, ◌<◌, ◌≤◌, ◌^◌, IfOk};
+ghost use Rattle.std.specs.Prelude.{◌≡◌, ◌<◌, ◌≤◌, ◌^◌, true, IfOk};
 ghost use Rattle.coap_server_session.specs.Prelude.{empty_host, mark_at as mark_in, present_mark};
-ghost use Rattle.coap_server_session.specs.Prelude.{LARGEST_MESSAGE};
+ghost use Rattle.coap_server_session.specs.Prelude.{LARGEST_MESSAGE, is_dynamic, kind_of_path};
 
-use coap_store::{PathKey, Present, State, Store};
+use coap_store::{PathKey, Present, Store};
 use std::alloc::{AllocError, Global};
 
 /// Server state that all connections share: the resources and the time.
@@ -57,16 +57,19 @@ impl ServerState {
         self.store.keep_moment(self.now);
     }
 
-    /// Returns the mark of the current state of a path, or `None` if the path is absent.
+    /// Returns the mark of the current state of the path of a created resource, or `None` if the path is absent. `near`
+    /// is an index that the resource may have.
     ///
     /// A mark is a number that distinguishes the states that a path has over time.
-    pub(crate) fn mark(&self, path: &PathKey) -> Option<u64>
+    pub(crate) fn mark(&self, path: &PathKey, near: usize) -> Option<u64>
+        requires { is_dynamic (kind_of_path path.now) ≡ true }
         ensures { result ≡ present_mark self.entry.now path.now }
     {
-        let State::Present(there) = self.store.state(path, self.now) else {
-            return None;
-        };
-        Some(mark_at(self.now, &there))
+        path.is_kept();
+        match self.store.version_near(path, near) {
+            Some(version) => Some(if version == 0 { self.now } else { version }),
+            None => None,
+        }
     }
 }
 

@@ -9,6 +9,7 @@ use Rattle.coap_store.specs.Prelude.{refuse, first_of, is_accepted, etag_at, is_
 use Rattle.coap_store.specs.Prelude.{get_answer, greatest_version, stored_under, too_large, store_answer, deletion}
 use Rattle.coap_store.specs.Prelude.{delete_answer, needs_resource, read_answer, method_answer, resource_answer}
 use Rattle.coap_store.specs.Prelude.{answer_at, removes_watch, with_observe_rule, answer_of, unheld_by, without_hold, TakesPut}
+use Rattle.coap_store.specs.Prelude.{IsFoundAt, IsChangeAt, IfSome}
 use Rattle.coap_store.specs.Prelude.{TakesChange, changes, ResourceKind, Root, Time, Async, Listing, Dynamic}
 use Rattle.std.proofs.lemmas.Bool.{leb-false, ltb-false, eqb-false, lt-ltb}
 use Rattle.std.proofs.lemmas.Fmt.{length-decimal-le}
@@ -279,6 +280,63 @@ unfolding answer_of
 bare_of s now m =
     let a = answer_at s (target_of s now (path_of m)) m in
     bare_finally (removes_watch m) a (bare_at s (target_of s now (path_of m)) m)
+
+-- An answer with a change has the code and the path of the response alone.
+abbrev pub IsPlain : Answer → Type 0
+IsPlain a = changes a.change ≡ true → a.response ≡ record (only a.response.code) { location = a.response.location }
+
+stored_plain : (key : Option Path) (state : Option Representation) (m : Message) → IsPlain (stored_under key state m)
+stored_plain None state m e = refl
+stored_plain (Some path) None m e = refl
+stored_plain (Some path) (Some r) m e = refl
+
+plain_at : (s : StoreValue) (t : RequestTarget) (m : Message) → IsPlain (answer_at s t m)
+plain_at s t m =
+    answer_cases IsPlain s t m (λ c e h. refl) (record {
+      read = λ r is. get_cases IsPlain t.place r m (λ c e h. refl) (record { valid = λ among h. absurd cc; late = λ h. absurd cc; content = λ h. absurd cc });
+      deleted = λ dynamic other h. refl;
+      stored = λ dynamic other. store_cases IsPlain s t m (λ c e h. refl) (λ h. absurd cc) (λ can. stored_plain t.key t.state m);
+    })
+
+plain_finally : (b : Bool) (a : Answer) → IsPlain a → IsPlain (with_observe_rule b a)
+plain_finally true a is = is
+plain_finally false a is = is
+
+pub plain_of : (s : StoreValue) (now : ℕ) (m : Message) → IsPlain (answer_of s now m)
+unfolding answer_of
+plain_of s now m =
+    let a = answer_at s (target_of s now (path_of m)) m in
+    plain_finally (removes_watch m) a (plain_at s (target_of s now (path_of m)) m)
+
+-- ---- a change is at the path of its request
+
+-- An index at which a path is found is that of the change.
+placed_stored : (s : StoreValue) (key : Option Path) (state : Option Representation) (path : Path) (m : Message) (i : ℕ) → key_for path ≡ key → IsFoundAt s.resources path i → IsChangeAt s (stored_under key state m).change i
+placed_stored s None state path m i key at = tt
+placed_stored s (Some q) None path m i key at = subst (λ p. IsFoundAt s.resources p i) (key_is path q key).1 at
+placed_stored s (Some q) (Some r) path m i key at = subst (λ p. IsFoundAt s.resources p i) (key_is path q key).1 at
+
+placed_deletion : (s : StoreValue) (key : Option Path) (state : Option Representation) (path : Path) (i : ℕ) → key_for path ≡ key → IsFoundAt s.resources path i → IsChangeAt s (deletion key state) i
+placed_deletion s None state path i key at = tt
+placed_deletion s (Some q) None path i key at = tt
+placed_deletion s (Some q) (Some r) path i key at = subst (λ p. IsFoundAt s.resources p i) (key_is path q key).1 at
+
+placed_at : (s : StoreValue) (now : ℕ) (path : Path) (m : Message) (i : ℕ) → IsFoundAt s.resources path i → IsChangeAt s (answer_at s (target_of s now path) m).change i
+placed_at s now path m i at =
+    let t = target_of s now path in
+    let P : Answer → Type 0 = λ a. IsChangeAt s a.change i in
+    answer_cases P s t m (λ c e. tt) (record {
+      read = λ r is. get_cases P t.place r m (λ c e. tt) (record { valid = λ among. tt; late = tt; content = tt });
+      deleted = λ dynamic other. placed_deletion s t.key t.state path i refl at;
+      stored = λ dynamic other. store_cases P s t m (λ c e. tt) tt (λ can. placed_stored s t.key t.state path m i refl at);
+    })
+
+pub placed_of : (s : StoreValue) (now : ℕ) (m : Message) (index : Option ℕ) → IfSome index (λ i. IsFoundAt s.resources (path_of m) i) → IfSome index (λ i. IsChangeAt s (answer_of s now m).change i)
+unfolding answer_of
+placed_of s now m None at = at
+placed_of s now m (Some i) at =
+    let a = answer_at s (target_of s now (path_of m)) m in
+    subst (λ c. IsChangeAt s c i) (sym (change_finally (removes_watch m) a)) (placed_at s now (path_of m) m i at)
 
 -- ---- the length of a payload
 

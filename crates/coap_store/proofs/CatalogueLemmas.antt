@@ -1,18 +1,19 @@
 -- The map of the resources agrees with their list.
-use Rattle.std.proofs.Common.{◌≡◌, ℕ, ◌+◌, ◌<◌, Bool, true, false, List, [], ◌∷◌, ◌++◌, length, Option, Some, None, refl, sym, ap, ◌∙◌}
+use Rattle.std.proofs.Common.{◌≡◌, ℕ, zero, suc, ◌+◌, ◌<◌, Bool, true, false, List, [], ◌∷◌, ◌++◌, length, Option, Some, None, refl, sym, ap, ◌∙◌, arith}
 use Rattle.std.specs.Prelude.{position}
 use Rattle.std.specs.List.{remove}
 use Rattle.std.specs.Map.{keys_of}
 use Rattle.coap_store.specs.Prelude.{option_map, not, nat_eq, option_eq, Bor, lookup, insert_entry, set_value_at}
 use Rattle.coap_store.specs.Prelude.{if◌then◌else◌, Path, same_path, Representation, found_in, put_at, removed_at, entry_bytes}
 use Rattle.coap_store.specs.Prelude.{built_in_bytes, representation, resources_in, texts_of, Resource}
+use Rattle.coap_store.specs.Prelude.{IsFoundAt, replaced_at, resource_at, IfSome}
 use Rattle.std.specs.Option.{is_some, option_copied}
 use Rattle.std.proofs.lemmas.Bool.{eqb-true}
 use Rattle.std.proofs.lemmas.List.{length-map}
 use Rattle.coap_store.specs.Store as store
 use Rattle.coap_path.specs.contracts.path.PathKeyPartialEq.TheImpl as key_eq
 use Rattle.coap_path.proofs.PathLemmas.{key_equality}
-use Rattle.coap_store.proofs.ListingLemmas.{resources_found, resources_put, resources_set, resources_removed, texts_created, first_at, first_within}
+use Rattle.coap_store.proofs.ListingLemmas.{IsFirstAt, resources_found, resources_put, resources_set, resources_removed, texts_created, first_at, first_within}
 
 -- The comparison of keys in the map.
 abbrev pub key_test : Path → Path → Bool
@@ -96,3 +97,47 @@ removed_none (r ∷ rs) path none =
 -- Removing a path that is not there changes nothing.
 pub removed_absent : (entries : List (Path × Resource)) (path : Path) → is_some (lookup (key_test path) entries) ≡ false → removed_at (resources_in entries) path ≡ resources_in entries
 removed_absent entries path none = removed_none (resources_in entries) path (absent_path entries path none)
+
+-- ---- the resource with an index
+
+found_first : (entries : List (Path × Resource)) (path : Path) (i : ℕ) → IsFirstAt (key_test path) entries i → IsFoundAt (resources_in entries) path i
+unfolding resources_in
+found_first [] path i first = absurd first
+found_first (e ∷ es) path zero first = sym (key_equality path e.0) ∙ first
+found_first (e ∷ es) path (suc i) first = (sym (key_equality path e.0) ∙ first.0, found_first es path i first.1)
+
+-- The map finds a resource at the index that the list has.
+pub found_place : (entries : List (Path × Resource)) (path : Path) (i : ℕ) → position (key_test path) (keys_of entries) ≡ Some i → IsFoundAt (resources_in entries) path i
+found_place entries path i at = found_first entries path i (first_at (key_test path) entries i at)
+
+pub place_within : (rs : List store.Resource) (path : Path) (i : ℕ) → IsFoundAt rs path i → i < length rs
+place_within [] path i found = absurd found
+place_within (r ∷ rs) path zero found = omega arith
+place_within (r ∷ rs) path (suc i) found = omega (arith, place_within rs path i found.1)
+
+pub replaced_list : (entries : List (Path × Resource)) (i : ℕ) (r : Resource) → resources_in (set_value_at entries i r) ≡ replaced_at (resources_in entries) i (representation r)
+unfolding resources_in replaced_at
+replaced_list [] i r = refl
+replaced_list (e ∷ es) zero r = refl
+replaced_list (e ∷ es) (suc i) r = ap (λ (rs : List store.Resource). resource_at e ∷ rs) (replaced_list es i r)
+
+pub removed_index : (entries : List (Path × Resource)) (i : ℕ) → resources_in (remove entries i) ≡ remove (resources_in entries) i
+unfolding resources_in
+removed_index [] zero = refl
+removed_index [] (suc i) = refl
+removed_index (e ∷ es) zero = refl
+removed_index (e ∷ es) (suc i) = ap (λ (rs : List store.Resource). resource_at e ∷ rs) (removed_index es i)
+
+-- What is stored at an index is stored at the path of its resource.
+pub put_by_index : (rs : List store.Resource) (path : Path) (i : ℕ) (now : Representation) → IsFoundAt rs path i → replaced_at rs i now ≡ put_at rs path now
+unfolding replaced_at put_at
+put_by_index [] path i now found = absurd found
+put_by_index (r ∷ rs) path zero now found = rw found refl
+put_by_index (r ∷ rs) path (suc i) now found = rw found.0 (ap (λ (ss : List store.Resource). r ∷ ss) (put_by_index rs path i now found.1))
+
+-- The resource that is removed at an index is that at its path.
+pub removed_by_index : (rs : List store.Resource) (path : Path) (i : ℕ) → IsFoundAt rs path i → remove rs i ≡ removed_at rs path
+unfolding removed_at
+removed_by_index [] path i found = absurd found
+removed_by_index (r ∷ rs) path zero found = rw found refl
+removed_by_index (r ∷ rs) path (suc i) found = rw found.0 (ap (λ (ss : List store.Resource). r ∷ ss) (removed_by_index rs path i found.1))

@@ -3,7 +3,7 @@ use Rattle.std.proofs.Common.{◌≡◌, ◌≢◌, ℕ, ◌+◌, ◌<◌, ◌�
 use Rattle.coap_store.specs.Prelude.{IfSome, option_map, if◌then◌else◌, Bor, AllByRecursion, Path, same_path}
 use Rattle.coap_store.specs.Prelude.{Representation, StoreValue, found_in, put_at, removed_at, put_in, removed_in}
 use Rattle.coap_store.specs.Prelude.{listing, representation, Change, Nothing, Put, Delete, changed, TakesPut}
-use Rattle.coap_store.specs.Prelude.{TakesChange, HasSmallFormat, HaveOwnVersions, IsKept, IsStore}
+use Rattle.coap_store.specs.Prelude.{TakesChange, is_path, HasSmallFormat, HaveOwnVersions, IsKept, IsStore}
 use Rattle.std.specs.Option.{is_some}
 use Rattle.std.proofs.lemmas.Bool.{ltb-true}
 use Rattle.coap_store.specs.Store.{Resource}
@@ -179,6 +179,14 @@ store_empty dynamic_max rep_max versions most largest fits = record { paths = tt
 -- A resource that is found has the property of stored resources.
 pub found_kept : (s : StoreValue) (path : Path) (now : Representation) → IsStore s → found_in s.resources path ≡ Some now → IsKept s.versions s.rep_max (record { path = path; now = now })
 found_kept s path now is found = holds_of_found (IsKept s.versions s.rep_max) s.resources path now is.kept found
+
+-- A path that is found is that of a resource.
+pub found_is_path : (s : StoreValue) (path : Path) → IsStore s → is_some (found_in s.resources path) ≡ true → is_path path ≡ true
+found_is_path s path kept found = by (found_in s.resources path) refl found
+  where
+    by : (o : Option Representation) → found_in s.resources path ≡ o → is_some o ≡ true → is_path path ≡ true
+    by None e f = absurd cc
+    by (Some r) e f = (found_kept s path r kept e).path
 
 pub stored_small : (s : StoreValue) → IsStore s → (path : Path) (r : Representation) → found_in s.resources path ≡ Some r → length r.bytes ≤ 1048576
 stored_small s is path r found = let kept = found_kept s path r is found in omega (arith, kept.small, is.largest)

@@ -2,7 +2,7 @@
 use Rattle.std.specs.Prelude.{◌≡◌, ℕ, ◌+◌, ◌<◌, ◌≤◌, ◌^◌, Bool, true, false, ◌&&◌, ◌||◌, List, [], ◌∷◌, length, Option, is_some, nat_lt, IfSome, ◌==◌}
 use Rattle.coap_wire.specs.Codes as code
 use Rattle.coap_path.specs.Paths.{Path, is_path}
-use Rattle.coap_store.specs.Store.{Representation, StoreValue, found_in}
+use Rattle.coap_store.specs.Store.{Representation, StoreValue, found_in, IsFoundAt}
 use Rattle.coap_path.specs.ResourceKinds.{kind_of_path}
 use Rattle.coap_store.specs.Answer.{Response, Change, Nothing, Put, Delete, changed}
 use Rattle.coap_path.specs.declared.resource_kind.ResourceKind.TheVariants.{Dynamic}
@@ -21,6 +21,12 @@ abbrev pub TakesChange : StoreValue → Change → Type 0
 TakesChange s Nothing = Unit {0}
 TakesChange s (Put path format bytes) = TakesPut s path bytes
 TakesChange s (Delete path) = is_some (found_in s.resources path) ≡ true
+
+-- The resource that the change replaces or removes has this index.
+abbrev pub IsChangeAt : StoreValue → Change → ℕ → Type 0
+IsChangeAt s Nothing index = Unit {0}
+IsChangeAt s (Put path format bytes) index = IsFoundAt s.resources path index
+IsChangeAt s (Delete path) index = IsFoundAt s.resources path index
 
 -- The change stores a representation or removes a resource.
 abbrev pub changes : Change → Bool

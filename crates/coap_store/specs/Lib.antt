@@ -13,6 +13,7 @@ pub mod Messages
 pub mod StateReports
 pub mod PlanViews
 pub mod PlanAnswerViews
+pub mod ChangePlanViews
 pub mod RequestTargetViews
 pub mod PresentViews
 pub mod StateViews

@@ -1,7 +1,7 @@
 -- Defined by this project: the model value and the invariant of the type `Plan`, which contracts see as an answer.
 use Rattle.std.specs.Prelude.{option_map}
 use Rattle.coap_store.specs.Answer.{Answer}
-use Rattle.coap_store.specs.PlanViews.{bytes_in, IsTextOf, effect_value, IsAtPath, IsToldNamed, location_in}
+use Rattle.coap_store.specs.PlanViews.{bytes_in, IsTextOf, change_value, IsAtPath, IsToldNamed, location_in}
 use Rattle.coap_store.specs.declared.plan.Plan.TheInside.{Inside}
 
 abbrev pub plan_answer : Inside → Answer
@@ -11,11 +11,11 @@ plan_answer p = record {
     etag = option_map (λ etag. etag.items) p.etag;
     format = p.format;
     max_age = p.max_age;
-    location = location_in p.tells_location (effect_value p.effect);
+    location = location_in p.tells_location (change_value p.change);
     size1 = p.size1;
     payload = bytes_in p.payload;
   };
-  change = effect_value p.effect;
+  change = change_value p.change;
   watch = p.watch;
   hold = p.hold;
 }
@@ -23,4 +23,4 @@ plan_answer p = record {
 -- The invariant of a plan. A resource can have the path of its change, and a path in its response has a segment. The
 -- text is that of the payload.
 abbrev pub is_plan : Inside → Type 0
-is_plan p = IsAtPath p.effect × IsToldNamed p.tells_location p.effect × IsTextOf p.payload p.text.items
+is_plan p = IsAtPath p.change × IsToldNamed p.tells_location p.change × IsTextOf p.payload p.text.items

@@ -50,7 +50,7 @@ pub use Rattle.coap_store.specs.Answer.{watched, when}
 unfoldable pub use Rattle.coap_store.specs.Answer.{get_answer, answer_of, answer_at, resource_answer, store_answer}
 unfoldable pub use Rattle.coap_store.specs.Answer.{immediate_answer, method_answer}
 pub use Rattle.coap_store.specs.Changes.{TakesChange, changes, says_change, HasSmallFormat, changed_by, TakesChanges}
-pub use Rattle.coap_store.specs.Changes.{TakesPut, IsPut}
+pub use Rattle.coap_store.specs.Changes.{TakesPut, IsPut, IsChangeAt}
 pub use Rattle.coap_store.specs.Invariant.{IsStore, AreDistinct, HaveOwnVersions, IsKept}
 pub use Rattle.coap_store.specs.Listing.{slash, format_bytes, built_in_bytes, hex_digit, is_unreserved}
 unfoldable pub use Rattle.coap_store.specs.Listing.{listing, entry_bytes, encoded_byte, path_bytes}
@@ -59,7 +59,7 @@ pub use Rattle.coap_store.specs.Notifications.{notification_of}
 unfoldable pub use Rattle.coap_store.specs.Notifications.{notification_at}
 pub use Rattle.coap_store.specs.OptionScan.{first_given, nothing, notes_value, all_noted, AreNotesOf, RequestOptions, match_after}
 unfoldable pub use Rattle.coap_store.specs.OptionScan.{options_after}
-pub use Rattle.coap_store.specs.PlanViews.{bytes_in, IsTextOf, change_value, effect_value, IsAtPath, IsToldNamed, path_or_root}
+pub use Rattle.coap_store.specs.PlanViews.{bytes_in, IsTextOf, change_value, IsAtPath, IsToldNamed, path_or_root}
 pub use Rattle.coap_store.specs.PlanViews.{location_in}
 pub use Rattle.coap_store.specs.Refusals.{RefusedOrMemory, first_fault, refusal_in}
 unfoldable pub use Rattle.coap_store.specs.Refusals.{put_refusal, remove_refusal}
@@ -76,8 +76,8 @@ pub use Rattle.coap_store.specs.State.{target_of, state_of, built, RequestTarget
 pub use Rattle.coap_store.specs.State.{stored_at}
 unfoldable pub use Rattle.coap_store.specs.State.{state_at, key_for}
 pub use Rattle.coap_store.specs.StateViews.{state_value}
-pub use Rattle.coap_store.specs.Store.{Representation, StoreValue, put_in, removed_in}
-unfoldable pub use Rattle.coap_store.specs.Store.{found_in, put_at, removed_at}
+pub use Rattle.coap_store.specs.Store.{Representation, StoreValue, put_in, removed_in, IsFoundAt}
+unfoldable pub use Rattle.coap_store.specs.Store.{found_in, put_at, removed_at, replaced_at}
 pub use Rattle.coap_store.specs.StoreViews.{store_value}
 pub use Rattle.coap_store.specs.RequestTargetViews.{found_value, target_value}
 pub use Rattle.coap_store.specs.Observing.{MayObserve}

@@ -1,5 +1,5 @@
 -- Defined by this project: the created resources of a server, which the methods of RFC 7252 section 5.8 change.
-use Rattle.std.specs.Prelude.{ℕ, ◌+◌, List, [], ◌∷◌, Option, Some, None, if◌then◌else◌}
+use Rattle.std.specs.Prelude.{◌≡◌, ℕ, zero, suc, ◌+◌, true, false, List, [], ◌∷◌, Option, Some, None, if◌then◌else◌}
 use Rattle.coap_path.specs.Paths.{Path, same_path}
 
 -- A representation: its version, its Content-Format, if any, and its bytes.
@@ -36,6 +36,18 @@ put_at (r ∷ rs) path now = if same_path path r.path then record r { now = now 
 unfoldable pub removed_at : List Resource → Path → List Resource
 removed_at [] path = []
 removed_at (r ∷ rs) path = if same_path path r.path then rs else r ∷ removed_at rs path
+
+-- The resource at a path has this index.
+abbrev pub IsFoundAt : List Resource → Path → ℕ → Type 0
+IsFoundAt [] path index = ⊥
+IsFoundAt (r ∷ rs) path zero = same_path path r.path ≡ true
+IsFoundAt (r ∷ rs) path (suc index) = (same_path path r.path ≡ false) × IsFoundAt rs path index
+
+-- The resources after another representation was stored at the one with this index, if there is one.
+unfoldable pub replaced_at : List Resource → ℕ → Representation → List Resource
+replaced_at [] index now = []
+replaced_at (r ∷ rs) zero now = record r { now = now } ∷ rs
+replaced_at (r ∷ rs) (suc index) now = r ∷ replaced_at rs index now
 
 -- The store after a representation was stored at a path, with the next version.
 abbrev pub put_in : StoreValue → Path → Option ℕ → List ℕ → StoreValue

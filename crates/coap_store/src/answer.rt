@@ -8,12 +8,12 @@ ghost use Rattle.coap_store.specs.Prelude.{is_among as is_one_of, watch_of, remo
 ghost use Rattle.coap_store.specs.Prelude.{stored as stored_there, delete_answer, found_value, target_value, found_in};
 ghost use Rattle.coap_store.specs.Prelude.{kind_of_path, target_of, state_at, answer_of, answer_at, resource_answer};
 ghost use Rattle.coap_store.specs.Prelude.{store_answer, no_answer, needs_resource as needs, TakesChange, changes};
-ghost use Rattle.coap_store.specs.Prelude.{IsStore};
+ghost use Rattle.coap_store.specs.Prelude.{IsStore, IsFoundAt, IsChangeAt, IfSome, only};
 ghost use Rattle.coap_wire.specs.OptionNumbers as numbers;
 ghost use Rattle.coap_path.specs.declared.resource_kind.ResourceKind.TheVariants.{Dynamic};
 
 use crate::found::{Payload, RepresentationRef};
-use crate::plan::{Plan, PlannedChange, Watch};
+use crate::plan::{Change, Plan, Watch};
 use crate::request::ParsedRequest;
 use crate::request_options::RequestOptions;
 use crate::store::Store;
@@ -44,42 +44,67 @@ impl Store {
     /// Fills a new plan with that for a request at the time `now`, in seconds. Does the same as `answer`. A plan is large
     /// and costly to move, so this fills it in place.
     ///
+    /// Returns the index of the resource that the plan's change replaces or removes, or `None` if there is none. `apply_at`
+    /// then needs no search.
+    ///
     /// # Preconditions
     ///
     /// - The plan is new (`Plan::new`).
-    pub fn fill_plan<'s, 'r>(&'s self, request: &MessageRef<'r>, now: u64, plan: &mut Plan<'s, 'r>)
+    pub fn fill_plan<'s, 'r>(
+        &'s self,
+        request: &MessageRef<'r>,
+        now: u64,
+        plan: &mut Plan<'s, 'r>,
+    ) -> Option<usize>
         requires { plan.old ≡ no_answer }
         ensures answer { plan.new ≡ answer_of self.now now request.now }
         ensures taken { TakesChange self.now plan.new.change }
+        ensures index { IfSome result (λ index. IsChangeAt self.now plan.new.change index) }
         ensures bare { changes plan.new.change ≡ true → plan.new.response.payload ≡ [] }
+        ensures plain { changes plan.new.change ≡ true → plan.new.response
+            ≡ record (only plan.new.response.code) { location = plan.new.response.location } }
         ensures short { length plan.new.response.payload ≤ LARGEST_MESSAGE }
         ensures store { IsStore self.now }
     {
         self.is_kept();
         let mut notes = RequestOptions::nothing();
         let asked = ParsedRequest::by(request, &mut notes);
-        self.check(&asked, now, plan);
+        let index = self.check(&asked, now, plan);
         if removes_watch(&asked) {
             plan.set_watch(Watch::Drop);
         }
+        index
     }
 
-    /// Fills a new plan, after checking the request itself and then its resource.
+    /// Fills a new plan, after checking the request itself and then its resource. Returns the index of the resource, if
+    /// it was looked for and found.
     #[tactic(auto, unfolding(crate::specs::Answer::answer_at))]
-    fn check<'s, 'r>(&'s self, asked: &ParsedRequest<'_, 'r>, now: u64, plan: &mut Plan<'s, 'r>)
+    fn check<'s, 'r>(
+        &'s self,
+        asked: &ParsedRequest<'_, 'r>,
+        now: u64,
+        plan: &mut Plan<'s, 'r>,
+    ) -> Option<usize>
         requires { plan.old ≡ no_answer }
-        ensures { plan.new ≡ answer_at self.now (target_of self.now now (path_of asked.now)) asked.now }
+        ensures answer { plan.new ≡ answer_at self.now (target_of self.now now (path_of asked.now)) asked.now }
+        ensures index { IfSome result (λ index. IsFoundAt self.now.resources (path_of asked.now) index) }
     {
         if asked.has_bad_option() {
-            return plan.only(Code::BAD_OPTION);
+            plan.only(Code::BAD_OPTION);
+            return None;
         }
         if asked.asks_proxy() {
-            return plan.only(Code::PROXYING_NOT_SUPPORTED);
+            plan.only(Code::PROXYING_NOT_SUPPORTED);
+            return None;
         }
         if !is_method(asked.code()) {
-            return plan.only(Code::METHOD_NOT_ALLOWED);
+            plan.only(Code::METHOD_NOT_ALLOWED);
+            return None;
         }
-        self.at_target(asked, self.target(asked, now), plan);
+        let target = self.target(asked, now);
+        let index = target.index;
+        self.at_target(asked, target, plan);
+        index
     }
 
     /// Returns the target of a request, with the state of its path at the time `now`.
@@ -87,6 +112,7 @@ impl Store {
         ensures value { target_value asked.now result ≡ target_of self.now now (path_of asked.now) }
         ensures path { result.is_path ≡ is_path (path_of asked.now) }
         ensures place { result.place ≡ kind_of_path (path_of asked.now) }
+        ensures index { IfSome result.index (λ index. IsFoundAt self.now.resources (path_of asked.now) index) }
     {
         let place = asked.kind();
         if place.is_dynamic() {
@@ -96,6 +122,7 @@ impl Store {
             is_path: true,
             place,
             state: self.found_at(None, place, now),
+            index: None,
         }
     }
 
@@ -107,6 +134,7 @@ impl Store {
         ensures value { (now : ℕ) → target_value asked.now result ≡ target_of self.now now (path_of asked.now) }
         ensures path { result.is_path ≡ is_path (path_of asked.now) }
         ensures place { result.place ≡ Dynamic }
+        ensures index { IfSome result.index (λ index. IsFoundAt self.now.resources (path_of asked.now) index) }
     {
         let mut path = PathKey::root();
         if !asked.fill_key(&mut path) {
@@ -114,12 +142,22 @@ impl Store {
                 is_path: false,
                 place: ResourceKind::Dynamic,
                 state: None,
+                index: None,
             };
         }
-        RequestTarget {
-            is_path: true,
-            place: ResourceKind::Dynamic,
-            state: self.stored_at(&path),
+        match self.find_place(&path) {
+            Some((index, resource)) => RequestTarget {
+                is_path: true,
+                place: ResourceKind::Dynamic,
+                state: Some(RepresentationRef::of(resource)),
+                index: Some(index),
+            },
+            None => RequestTarget {
+                is_path: true,
+                place: ResourceKind::Dynamic,
+                state: None,
+                index: None,
+            },
         }
     }
 
@@ -156,11 +194,7 @@ impl Store {
         ensures { option_map found_value result ≡ found_in self.now.resources path.now }
     {
         let resource = self.find(path)?;
-        Some(RepresentationRef {
-            version: resource.version,
-            format: resource.format,
-            bytes: Payload::Stored(&resource.bytes),
-        })
+        Some(RepresentationRef::of(resource))
     }
 
     /// Fills a new plan, after checking the resource and then the method.
@@ -359,11 +393,12 @@ fn stored<'s, 'r>(asked: &ParsedRequest<'_, 'r>, is_new: bool, plan: &mut Plan<'
 {
     let tells_location = is_new && asked.code() == Code::POST;
     let code = if is_new { Code::CREATED } else { Code::CHANGED };
-    let effect = PlannedChange::Put {
+    let change = Change::Put {
         body: asked.body(),
         format: asked.content_format(),
+        bytes: asked.payload(),
     };
-    plan.change_by(code, tells_location, effect);
+    plan.change_by(code, tells_location, change);
 }
 
 /// Fills a new plan with that for DELETE (RFC 7252 section 5.8.4).
@@ -375,6 +410,6 @@ fn delete<'s, 'r>(asked: &ParsedRequest<'_, 'r>, target: RequestTarget, plan: &m
     if !target.is_path || target.state.is_none() {
         return plan.only(Code::DELETED);
     }
-    let effect = PlannedChange::Delete { body: asked.body() };
-    plan.change_by(Code::DELETED, false, effect);
+    let change = Change::Delete { body: asked.body() };
+    plan.change_by(Code::DELETED, false, change);
 }

@@ -1,9 +1,11 @@
 //! The created resources of a store, with the listing.
 
 ghost use Rattle.std.specs.Prelude.{◌≡◌, ◌+◌, ◌≤◌, ◌<◌, OnOk, OnErr, Some, None, [], IfOk, length, slice_get};
-ghost use Rattle.std.specs.Prelude.{option_map};
+ghost use Rattle.std.specs.Prelude.{option_map, IfSome};
+ghost use Rattle.std.specs.List.{remove};
 ghost use Rattle.coap_store.specs.Prelude.{found_in, put_at, listing as listing_of, resources_in, LARGEST_MESSAGE};
 ghost use Rattle.coap_store.specs.Prelude.{representation, removed_at, texts_of, entry_bytes, set_value_at};
+ghost use Rattle.coap_store.specs.Prelude.{IsFoundAt, replaced_at};
 
 use crate::resource::{BUILT_IN_TEXT, Resource, Resources, entry_end, entry_text};
 use coap_listing::Listing;
@@ -62,6 +64,30 @@ impl Catalogue {
         self.resources.get(path)
     }
 
+    /// Returns the resource at a path, and its index.
+    pub(crate) fn find(&self, path: &PathKey) -> Option<(usize, &Resource)>
+        ensures value { option_map (λ r. representation r.1.now) result ≡ found_in self.now path.now }
+        ensures index { IfSome result (λ r. IsFoundAt self.now path.now r.0) }
+    {
+        let Some((index, _, resource)) = self.resources.get_full(path) else {
+            return None;
+        };
+        Some((index, resource))
+    }
+
+    /// Returns the resource at a path, and its index. First compares the path of the resource with the index `near`, and
+    /// searches only if it is another one.
+    pub(crate) fn find_near(&self, path: &PathKey, near: usize) -> Option<(usize, &Resource)>
+        ensures { option_map (λ r. representation r.1.now) result ≡ found_in self.now path.now }
+    {
+        if let Some((key, resource)) = self.resources.get_index(near) {
+            if key == path {
+                return Some((near, resource));
+            }
+        }
+        self.find(path)
+    }
+
     /// Returns the bytes of `/.well-known/core` (RFC 6690).
     pub(crate) fn listing(&self) -> &[u8]
         ensures { result.now ≡ listing_of self.now }
@@ -95,6 +121,37 @@ impl Catalogue {
             return create(&mut self.resources, &mut self.listing, path, resource, text);
         };
         replace(&mut self.resources, &mut self.listing, index, resource)
+    }
+
+    /// Stores a representation at the resource with this index. If allocation fails, the resources are unchanged.
+    pub(crate) fn replace(
+        &mut self,
+        index: usize,
+        version: u64,
+        format: Option<u16>,
+        bytes: &[u8],
+    ) -> Result<(), AllocError>
+        requires within { index < length self.old }
+        requires short { length (listing_of self.old) ≤ LARGEST_MESSAGE }
+        ensures ok { OnOk result (self.new ≡ replaced_at self.old index
+            (record { version = version; format = format; bytes = bytes.now })) }
+        ensures err { OnErr result (self.new ≡ self.old) }
+    {
+        let resource = Resource {
+            version,
+            format,
+            bytes: Vec::from_slice(self.alloc, bytes)?,
+        };
+        replace(&mut self.resources, &mut self.listing, index, resource)
+    }
+
+    /// Removes the resource with this index; the others keep their order. Moves the later part of the listing once.
+    pub(crate) fn remove_at(&mut self, index: usize)
+        requires { index < length self.old }
+        ensures { self.new ≡ remove self.old index }
+    {
+        self.listing.remove(text_index(&self.resources, index));
+        self.resources.shift_remove_index(index);
     }
 
     /// Removes a resource; the others keep their order. Moves the later part of the listing once.

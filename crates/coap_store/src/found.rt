@@ -2,7 +2,9 @@
 
 ghost use Rattle.std.specs.Prelude.{◌≡◌, Some};
 ghost use Rattle.coap_store.specs.Prelude.{bytes_in, IsTextOf, built as built_in, found_value};
+ghost use Rattle.coap_store.specs.Prelude.{representation};
 
+use crate::resource::Resource;
 use arrayvec::ArrayVec;
 use coap_text::decimal_digits;
 
@@ -52,6 +54,17 @@ pub(crate) struct RepresentationRef<'s> {
 }
 
 impl<'s> RepresentationRef<'s> {
+    /// Creates the representation of a created resource.
+    pub(crate) fn of(resource: &'s Resource) -> RepresentationRef<'s>
+        ensures { found_value result ≡ representation resource.now }
+    {
+        RepresentationRef {
+            version: resource.version,
+            format: resource.format,
+            bytes: Payload::Stored(&resource.bytes),
+        }
+    }
+
     /// Creates the representation of a built-in resource.
     pub(crate) fn built(format: u16, bytes: Payload<'s>) -> RepresentationRef<'s>
         ensures { Some (found_value result) ≡ built_in format (bytes_in bytes.entry) }

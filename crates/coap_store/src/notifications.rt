@@ -1,15 +1,17 @@
 //! The notifications of observers (RFC 7641).
 
 use crate::answer::{etag_for, max_age_of};
+use crate::found::RepresentationRef;
 use crate::plan::{Plan, Watch};
 use crate::store::Store;
-use coap_path::PathKey;
+use coap_path::{PathKey, ResourceKind};
 use coap_wire::Code;
 
 impl Store {
-    ghost use Rattle.std.specs.Prelude.{◌≡◌, ◌≤◌, length};
+    ghost use Rattle.std.specs.Prelude.{◌≡◌, ◌≤◌, length, option_map, Some};
     ghost use Rattle.coap_store.specs.Prelude.{LARGEST_MESSAGE};
-    ghost use Rattle.coap_store.specs.Prelude.{says, IsStore, notification_of};
+    ghost use Rattle.coap_store.specs.Prelude.{says, IsStore, notification_of, no_answer, kind_of_path};
+    ghost use Rattle.coap_store.specs.Prelude.{found_value, state_at};
 
     /// Returns the notification for an observer of a path at the time `now`, in seconds (RFC 7641 section 4.2).
     ///
@@ -26,18 +28,70 @@ impl Store {
         ensures short { length result.response.payload ≤ LARGEST_MESSAGE }
         ensures store { IsStore self.now }
     {
+        let mut plan = Plan::new();
+        self.fill_notification(path, path.kind(), 0, format, now, &mut plan);
+        plan
+    }
+
+    /// Fills a new plan with the notification that `notification` returns, and returns the index of the resource, or 0 if
+    /// there is none.
+    ///
+    /// `near` is an index that the resource may have, as an earlier call returned it. Only if it has another one, it is
+    /// searched.
+    ///
+    /// # Preconditions
+    ///
+    /// - The plan is new (`Plan::new`), and `place` is the kind of the path.
+    pub fn fill_notification<'s, 'r>(
+        &'s self,
+        path: &PathKey,
+        place: ResourceKind,
+        near: usize,
+        format: Option<u16>,
+        now: u64,
+        plan: &mut Plan<'s, 'r>,
+    ) -> usize
+        requires place { place ≡ kind_of_path path.now }
+        requires fresh { plan.old ≡ no_answer }
+        ensures told { plan.new ≡ says (notification_of self.now now path.now format) }
+        ensures short { length plan.new.response.payload ≤ LARGEST_MESSAGE }
+        ensures store { IsStore self.now }
+    {
         self.is_kept();
         path.is_kept();
-        let place = path.kind();
-        let Some(found) = self.found_at(Some(path), place, now) else {
-            return Plan::of_code(Code::NOT_FOUND);
+        let Some((index, found)) = self.found_near(path, place, near, now) else {
+            plan.only(Code::NOT_FOUND);
+            return 0;
         };
         if found.format != format {
-            return Plan::of_code(Code::NOT_ACCEPTABLE);
+            plan.only(Code::NOT_ACCEPTABLE);
+            return index;
         }
         let etag = etag_for(place, found.version);
-        let mut plan = Plan::new();
         plan.content(etag, found, max_age_of(place), Watch::Nothing);
-        plan
+        index
+    }
+
+    /// Returns the representation of a resource at the time `now`, if it exists, and its index, which is 0 if it is built
+    /// in.
+    fn found_near(
+        &self,
+        path: &PathKey,
+        place: ResourceKind,
+        near: usize,
+        now: u64,
+    ) -> Option<(usize, RepresentationRef<'_>)>
+        ensures { option_map (λ r. found_value r.1) result ≡ state_at self.now now (Some path.now) place }
+    {
+        if place.is_dynamic() {
+            return match self.find_near(path, near) {
+                Some((index, resource)) => Some((index, RepresentationRef::of(resource))),
+                None => None,
+            };
+        }
+        match self.found_at(Some(path), place, now) {
+            Some(found) => Some((0, found)),
+            None => None,
+        }
     }
 }

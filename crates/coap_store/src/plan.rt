@@ -2,66 +2,29 @@
 
 ghost use Rattle.std.specs.Prelude.{◌≡◌, ◌≢◌, ◌≤◌, true, [], Some, IfSome, length, option_map};
 ghost use Rattle.coap_store.specs.Prelude.{bytes_in, change_value, says, only, no_answer, without_hold};
-ghost use Rattle.coap_store.specs.Prelude.{changes as is_change, is_path, effect_value, IsAtPath, IsToldNamed};
+ghost use Rattle.coap_store.specs.Prelude.{changes as is_change, is_path, IsAtPath, IsToldNamed};
 ghost use Rattle.coap_store.specs.Prelude.{path_or_root, location_in};
 ghost use Rattle.coap_wire.specs.Codes as code;
 
 use crate::found::{Payload, PayloadText, RepresentationRef};
-use crate::request::path_in;
 use arrayvec::ArrayVec;
-use coap_path::{PathKey, UriPath};
+use coap_path::UriPath;
 use coap_wire::{Body, Code};
 use std::marker::Model;
 
-/// Change that a request makes.
+/// Change that a request makes. Its path is in the options of the request, so that no key is moved with it.
 #[derive(Drop)]
 pub enum Change<'r> {
     /// No change.
     Nothing,
-    /// Representation to be stored at a path, in place of the present one.
+    /// Representation to be stored at the path, in place of the present one.
     Put {
-        /// Path.
-        path: PathKey,
-        /// Content-Format, if there is one.
-        format: Option<u16>,
-        /// Bytes, which are borrowed from the request.
-        bytes: &'r [u8],
-    },
-    /// Path of a resource to be removed.
-    Delete(PathKey),
-}
-
-impl<'r> Change<'r> {
-    /// Returns a copy, without allocation.
-    pub fn duplicate(&self) -> Change<'r>
-        ensures { change_value result ≡ change_value self.now }
-    {
-        match self {
-            Change::Nothing => Change::Nothing,
-            Change::Put {
-                path,
-                format,
-                bytes,
-            } => Change::Put {
-                path: path.duplicate(),
-                format: *format,
-                bytes,
-            },
-            Change::Delete(path) => Change::Delete(path.duplicate()),
-        }
-    }
-}
-
-/// Change that a request makes, with the request's options, which have its path.
-#[derive(Drop)]
-pub(crate) enum PlannedChange<'r> {
-    Nothing,
-    /// Payload to be stored at the path.
-    Put {
-        /// Options and payload of the request.
+        /// Options of the request.
         body: Body<'r>,
         /// Content-Format, if there is one.
         format: Option<u16>,
+        /// Payload of the request.
+        bytes: &'r [u8],
     },
     /// Removal of the resource at the path.
     Delete {
@@ -95,7 +58,7 @@ pub struct Plan<'s, 'r> {
     payload: Payload<'s>,
     /// Text of the payload, if that is a number.
     text: PayloadText,
-    effect: PlannedChange<'r>,
+    change: Change<'r>,
     max_age: Option<u32>,
     size1: Option<u32>,
     /// Delay of the response in seconds, if there is one.
@@ -133,7 +96,7 @@ impl<'s, 'r> Plan<'s, 'r> {
             size1: None,
             payload: Payload::Stored(&[]),
             text: ArrayVec::new(),
-            effect: PlannedChange::Nothing,
+            change: Change::Nothing,
             watch: Watch::Nothing,
             hold: None,
         }
@@ -207,17 +170,17 @@ impl<'s, 'r> Plan<'s, 'r> {
 
     /// Sets a code and a change in a new plan. If `tells_location` is `true`, the response has the path of a stored
     /// representation.
-    pub(crate) fn change_by(&mut self, code: Code, tells_location: bool, effect: PlannedChange<'r>)
-        requires path { IsAtPath effect }
-        requires named { IsToldNamed tells_location effect }
+    pub(crate) fn change_by(&mut self, code: Code, tells_location: bool, change: Change<'r>)
+        requires path { IsAtPath change }
+        requires named { IsToldNamed tells_location change }
         requires fresh { self.old ≡ no_answer }
         ensures { self.new
-            ≡ record (says (record (only code) { location = location_in tells_location (effect_value effect.entry) }))
-            { change = effect_value effect.entry } }
+            ≡ record (says (record (only code) { location = location_in tells_location (change_value change.entry) }))
+            { change = change_value change.entry } }
     {
         self.code = code;
         self.tells_location = tells_location;
-        self.effect = effect;
+        self.change = change;
     }
 
     /// Sets the effect on the observers.
@@ -273,8 +236,8 @@ impl<'s, 'r> Plan<'s, 'r> {
         if !self.tells_location {
             return None;
         }
-        match &self.effect {
-            PlannedChange::Put { body, .. } => Some(UriPath::of(body)),
+        match &self.change {
+            Change::Put { body, .. } => Some(UriPath::of(body)),
             _ => None,
         }
     }
@@ -293,27 +256,19 @@ impl<'s, 'r> Plan<'s, 'r> {
         self.payload.bytes(&self.text)
     }
 
-    /// Returns the change that the request makes. Its key is made by this call, not with the plan.
-    pub fn change(&self) -> Change<'r>
-        ensures { change_value result ≡ self.now.change }
+    /// Returns the change that the request makes.
+    pub fn change(&self) -> &Change<'r>
+        ensures { change_value result.now ≡ self.now.change }
     {
-        match &self.effect {
-            PlannedChange::Nothing => Change::Nothing,
-            PlannedChange::Put { body, format } => Change::Put {
-                path: path_in(body),
-                format: *format,
-                bytes: body.payload(),
-            },
-            PlannedChange::Delete { body } => Change::Delete(path_in(body)),
-        }
+        &self.change
     }
 
     /// Returns `true` if the request makes a change.
     pub fn changes(&self) -> bool
         ensures { result ≡ is_change self.now.change }
     {
-        match &self.effect {
-            PlannedChange::Nothing => false,
+        match &self.change {
+            Change::Nothing => false,
             _ => true,
         }
     }
@@ -340,29 +295,77 @@ impl<'s, 'r> Plan<'s, 'r> {
             None => self,
             Some(_) => Plan {
                 tells_location: false,
-                effect: self.effect,
+                change: self.change,
                 watch: self.watch,
                 ..Plan::of_code(Code::SERVICE_UNAVAILABLE)
             },
         }
     }
 
-    /// Returns the plan without its payload. The plan then borrows from the request alone.
-    pub fn without_payload<'d>(self) -> Plan<'d, 'r>
-        ensures { result ≡ record self.entry { response = record self.entry.response { payload = [] } } }
+    /// Returns the change with the code of the response and its path, which are all that the plan has if it makes a
+    /// change. They borrow from the request alone.
+    pub fn into_change(self) -> ChangePlan<'r>
+        ensures { result ≡ record (says (record (only self.entry.response.code) {
+          location = self.entry.response.location;
+        })) { change = self.entry.change } }
     {
-        Plan {
+        ChangePlan {
+            change: self.change,
             code: self.code,
-            etag: self.etag,
-            format: self.format,
-            max_age: self.max_age,
             tells_location: self.tells_location,
-            size1: self.size1,
-            payload: Payload::Stored(&[]),
-            text: ArrayVec::new(),
-            effect: self.effect,
-            watch: self.watch,
-            hold: self.hold,
         }
+    }
+}
+
+/// Plan for a request that makes a change: the code of the response, its path and the change. Contracts see an `Answer`.
+#[derive(Drop)]
+pub struct ChangePlan<'r> {
+    change: Change<'r>,
+    code: Code,
+    /// `true` if the response has Location-Path options with the path of the change.
+    tells_location: bool,
+}
+
+impl<'r> Model for ChangePlan<'r> {
+    ghost use Rattle.coap_store.specs.Answer.{Answer};
+
+    ghost Value = { Answer };
+
+    ghost use Rattle.coap_store.specs.ChangePlanViews.{change_answer, is_change_plan};
+
+    ghost view = { change_answer };
+
+    ghost invariant = { is_change_plan };
+}
+
+impl<'r> ChangePlan<'r> {
+    /// Returns the code of the response, which has no more than this and a path.
+    pub fn code(&self) -> Code
+        ensures code { result ≡ self.now.response.code }
+        ensures plain { self.now.response ≡ record (only result) { location = self.now.response.location } }
+    {
+        self.code
+    }
+
+    /// Returns the path for Location-Path options, as `Plan::location` does.
+    pub fn location(&self) -> Option<UriPath<'r>>
+        ensures value { path_or_root result ≡ self.now.response.location }
+        ensures path { IfSome result (λ path. is_path path ≡ true) }
+        ensures some { IfSome result (λ path. path ≢ []) }
+    {
+        if !self.tells_location {
+            return None;
+        }
+        match &self.change {
+            Change::Put { body, .. } => Some(UriPath::of(body)),
+            _ => None,
+        }
+    }
+
+    /// Returns the change that the request makes.
+    pub fn change(&self) -> &Change<'r>
+        ensures { change_value result.now ≡ self.now.change }
+    {
+        &self.change
     }
 }

@@ -4,14 +4,16 @@ ghost use Rattle.std.specs.Prelude.{◌≡◌, ◌<◌, IfSome, ◌≤◌, [], I
 ghost use Rattle.std.specs.Prelude.{option_map, decimal};
 ghost use Rattle.coap_store.specs.Prelude.{LARGEST_MESSAGE, changed, greatest_version, found_in, put_in, removed_in};
 ghost use Rattle.coap_store.specs.Prelude.{listing as listing_of, representation, TakesChange, TakesPut, IsPut};
-ghost use Rattle.coap_store.specs.Prelude.{IsStore, change_value, bytes_in};
+ghost use Rattle.coap_store.specs.Prelude.{IsStore, change_value, bytes_in, IsFoundAt, IsChangeAt, path_told};
 
 use crate::catalogue::Catalogue;
 use crate::found::Payload;
 use crate::plan::Change;
+use crate::request::path_in;
 use crate::resource::Resource;
 use coap_path::PathKey;
 use coap_text::Decimal;
+use coap_wire::Body;
 use std::alloc::{AllocError, Global};
 use std::marker::Model;
 
@@ -122,21 +124,50 @@ impl Store {
     /// # Preconditions
     ///
     /// - The store accepts the change. This is the case if `answer` returned it and the store has not changed since.
-    pub fn apply(&mut self, change: Change) -> Result<(), AllocError>
-        requires { TakesChange self.old (change_value change) }
-        ensures ok { OnOk result (self.new ≡ changed self.old (change_value change.entry)) }
+    pub fn apply(&mut self, change: &Change) -> Result<(), AllocError>
+        requires { TakesChange self.old (change_value change.now) }
+        ensures ok { OnOk result (self.new ≡ changed self.old (change_value change.now)) }
         ensures err { OnErr result (self.new ≡ self.old) }
-        ensures put { OnErr result (IsPut (change_value change.entry)) }
+        ensures put { OnErr result (IsPut (change_value change.now)) }
         ensures store { IsStore self.new }
     {
+        self.apply_at(change, None)
+    }
+
+    /// Makes a change that `fill_plan` returned with this index. Does the same as `apply`, and builds a key only if there
+    /// is no index.
+    ///
+    /// # Errors
+    ///
+    /// - `AllocError`: allocation for a representation failed. The store is unchanged.
+    ///
+    /// # Preconditions
+    ///
+    /// - The store accepts the change, and the index is that of its resource. This is the case if `fill_plan` returned
+    ///   both and the store has not changed since.
+    pub fn apply_at(&mut self, change: &Change, index: Option<usize>) -> Result<(), AllocError>
+        requires taken { TakesChange self.old (change_value change.now) }
+        requires index { IfSome index (λ index. IsChangeAt self.old (change_value change.now) index) }
+        ensures ok { OnOk result (self.new ≡ changed self.old (change_value change.now)) }
+        ensures err { OnErr result (self.new ≡ self.old) }
+        ensures put { OnErr result (IsPut (change_value change.now)) }
+        ensures store { IsStore self.new }
+    {
+        self.is_kept();
         match change {
             Change::Nothing => {}
             Change::Put {
-                path,
+                body,
                 format,
                 bytes,
-            } => self.store(path, format, bytes)?,
-            Change::Delete(path) => self.delete(&path),
+            } => match index {
+                Some(index) => self.replace(body, index, *format, bytes)?,
+                None => self.store(path_in(body), *format, bytes)?,
+            },
+            Change::Delete { body } => match index {
+                Some(index) => self.delete_at(body, index),
+                None => self.delete(&path_in(body)),
+            },
         }
         self.is_kept();
         Ok(())
@@ -148,6 +179,31 @@ impl Store {
         ensures small { IfSome result (λ r. length r.now.bytes.items ≤ LARGEST_MESSAGE) }
     {
         self.resources.get(path)
+    }
+
+    /// Returns the created resource at a path, and its index.
+    pub(crate) fn find_place(&self, path: &PathKey) -> Option<(usize, &Resource)>
+        ensures value { option_map (λ r. representation r.1.now) result ≡ found_in self.now.resources path.now }
+        ensures index { IfSome result (λ r. IsFoundAt self.now.resources path.now r.0) }
+    {
+        self.resources.find(path)
+    }
+
+    /// Returns the same as `find_place`. Needs no search if the index is `near`.
+    pub(crate) fn find_near(&self, path: &PathKey, near: usize) -> Option<(usize, &Resource)>
+        ensures { option_map (λ r. representation r.1.now) result ≡ found_in self.now.resources path.now }
+    {
+        self.resources.find_near(path, near)
+    }
+
+    /// Returns the version of the created resource at a path, if there is one. Needs no search if its index is `near`.
+    pub fn version_near(&self, path: &PathKey, near: usize) -> Option<u64>
+        ensures { result ≡ option_map (λ r. r.version) (found_in self.now.resources path.now) }
+    {
+        match self.find_near(path, near) {
+            Some((_, resource)) => Some(resource.version),
+            None => None,
+        }
     }
 
     /// Returns the representation of `/.well-known/core` (RFC 6690).
@@ -225,6 +281,36 @@ impl Store {
             .put(path, self.versions + 1, in_range(format), bytes)?;
         self.versions += 1;
         Ok(())
+    }
+
+    /// Stores a representation with the next version at the path in a request, whose resource has this index. If
+    /// allocation fails, the store is unchanged.
+    fn replace(
+        &mut self,
+        _body: &Body,
+        index: usize,
+        format: Option<u16>,
+        bytes: &[u8],
+    ) -> Result<(), AllocError>
+        requires taken { TakesPut self.old (path_told _body.now) bytes.now }
+        requires index { IsFoundAt self.old.resources (path_told _body.now) index }
+        ensures ok { OnOk result (self.new ≡ put_in self.old (path_told _body.now) format bytes.now) }
+        ensures err { OnErr result (self.new ≡ self.old) }
+        ensures store { IsStore self.new }
+    {
+        self.resources
+            .replace(index, self.versions + 1, in_range(format), bytes)?;
+        self.versions += 1;
+        Ok(())
+    }
+
+    /// Removes the resource at the path in a request, which has this index.
+    fn delete_at(&mut self, _body: &Body, index: usize)
+        requires { IsFoundAt self.old.resources (path_told _body.now) index }
+        ensures removed { self.new ≡ removed_in self.old (path_told _body.now) }
+        ensures store { IsStore self.new }
+    {
+        self.resources.remove_at(index);
     }
 
     /// Removes the resource at a path, if there is one.

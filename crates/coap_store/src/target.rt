@@ -22,6 +22,8 @@ pub(crate) struct RequestTarget<'s> {
     pub place: ResourceKind,
     /// Representation, or `None` if the path is absent.
     pub state: Option<RepresentationRef<'s>>,
+    /// Index of the resource, if it is a created one.
+    pub index: Option<usize>,
 }
 
 /// Returns the path of a request's Uri-Path options, or `None` if no resource can have it (RFC 7252 section 5.10.1).

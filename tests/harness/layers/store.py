@@ -64,7 +64,7 @@ def request_of(text):
 def parts_of(line):
     """Returns the parts of the line of a plan, by name."""
     words = line.split()
-    if len(words) % 2 == 0 or words[-1] != words[2]:
+    if len(words) % 2 == 0 or words[-1] != words[1]:
         raise ValueError(line)
     plan = {"code": int(words[0]), "change": words[1], "watch": words[2], "location": [], "payload": payload_of(words[-2])}
     for name, value in zip(words[3:-2:2], words[4:-2:2]):

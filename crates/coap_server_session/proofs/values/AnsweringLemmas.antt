@@ -6,7 +6,7 @@ use Rattle.coap_server_session.specs.Prelude.{response_message, response_with_ob
 use Rattle.coap_server_session.specs.Prelude.{moment_after, asks_entry, is_whole, with_entry, goes_on, ObserverValue}
 use Rattle.coap_server_session.specs.Prelude.{new_entry, answer_on, hold_on, held_in, is_stale, mark_of, notification_on}
 use Rattle.coap_server_session.specs.Prelude.{state_on, first_index, is_observed, response_on, is_sent, link_replied}
-use Rattle.coap_server_session.specs.Prelude.{entries_replied, entries_notified}
+use Rattle.coap_server_session.specs.Prelude.{entries_replied, entries_notified, Response}
 use Rattle.std.proofs.lemmas.List.{append-nil}
 use Rattle.std.proofs.lemmas.Bool.{and_left, both_ways, false_from_ne_true}
 use Rattle.coap_wire.specs.Codes as code
@@ -79,12 +79,12 @@ module _ (host : ServerState) (m : Message) (l : LinkValue) (room : ℕ) (others
   pub prompt_entries : (enters : Bool) → enters ≡ (is_observed host room others m && is_sent l (response_on host room others m)) → with_entry enters others (new_entry host m) ≡ entries_replied host l room others m (held_in l (hold_on host m))
   prompt_entries enters is = cc
 
-  -- A request that changes the store has a response without a payload, and gets no entry.
+  -- A request that changes the store gets no entry.
   module _ (does : changes (answer_on host m).change ≡ true) where
-    pub change_link : (after : LinkValue) → (answer_on host m).response.payload ≡ [] → after ≡ link_after l (call.Reply (response_with_observe m.token false (record (answer_on host m).response { payload = [] }))) → after ≡ link_replied host l room others m (held_in l (hold_on host m))
-    change_link after bare is =
+    pub change_link : (after : LinkValue) (r : Response) → r ≡ (answer_on host m).response → after ≡ link_after l (call.Reply (response_with_observe m.token false r)) → after ≡ link_replied host l room others m (held_in l (hold_on host m))
+    change_link after r same is =
         is
-        ∙ ap (λ (p : List ℕ). link_after l (call.Reply (response_with_observe m.token false (record (answer_on host m).response { payload = p })))) (sym bare)
+        ∙ ap (λ (s : Response). link_after l (call.Reply (response_with_observe m.token false s))) same
         ∙ ap (λ (b : Bool). link_after l (call.Reply (response_with_observe m.token b (answer_on host m).response))) (sym (unobserved host m room others does))
         ∙ prompt_link
 

@@ -1,5 +1,7 @@
 -- The options of a response, in the order in which they are added.
-use Rattle.std.proofs.Common.{◌≡◌, ℕ, Bool, List, [], ◌∷◌, ◌++◌, ap, ◌∙◌, append_assoc}
+use Rattle.std.proofs.Common.{◌≡◌, ℕ, Bool, false, List, [], ◌∷◌, ◌++◌, sym, ap, ◌∙◌, append_assoc}
+use Rattle.std.proofs.lemmas.List.{append-nil}
+use Rattle.coap_server_session.specs.Prelude.{only}
 use Rattle.coap_server_session.specs.Prelude.{CoapOption, Message, last_number, with_option, Path, Response, option_at}
 use Rattle.coap_server_session.specs.Prelude.{empty_at, number_at, each_at, response_with_observe}
 use Rattle.coap_wire.specs.OptionNumbers as numbers
@@ -34,3 +36,7 @@ pub record IsBuilt (token : List ℕ) (observes : Bool) (r : Response) (tagged o
 pub is_response : (token : List ℕ) (observes : Bool) (r : Response) (tagged observed located formatted aged sized whole : Message) → IsBuilt token observes r tagged observed located formatted aged sized whole → whole ≡ response_with_observe token observes r
 is_response token observes r tagged observed located formatted aged sized whole built =
     rw (built.payload, built.size1, built.max_age, built.format, built.location, built.observe, built.etag) (simp append_assoc)
+
+-- The response of a change: a code and a path.
+pub change_response : (token : List ℕ) (code : ℕ) (path : Path) (located : Message) → located ≡ with_options (record { code = code; token = token; options = []; payload = [] }) (each_at numbers.location_path path) → located ≡ response_with_observe token false (record (only code) { location = path })
+change_response token code path located is = is ∙ ap (λ os. record { code = code; token = token; options = os; payload = [] }) (sym (append-nil (each_at numbers.location_path path)))

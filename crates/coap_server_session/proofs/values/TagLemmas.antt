@@ -54,9 +54,9 @@ pub two_lists : (room : ℕ) (es fs : List ObserverValue) (ms ns : List (Option 
 two_lists room es fs ms ns entries marks =
     ap (λ (os : List ObserverValue). record { room = room; entries = os; marks = ms }) entries ∙ ap (λ (os : List (Option ℕ)). record { room = room; entries = fs; marks = os }) marks
 
-pub told_value : (room : ℕ) (xs : List Observer) (i mark : ℕ) (x : Observer) (o : ObserverValue) → i < length xs → x ≡ get_or xs i x → slice_get (map observer_value xs) i ≡ Some o → (let y : Observer = record x { mark = mark; changed = None } in ◌≡◌ {A = ObserversValue} (record { room = room; entries = map observer_value (set xs i y); marks = map mark_in (set xs i y) }) (record { room = room; entries = set (map observer_value xs) i (record o { mark = mark }); marks = set (map mark_in xs) i None }))
-told_value room xs i mark x o within read at =
-    let y : Observer = record x { mark = mark; changed = None } in
+pub told_value : (room : ℕ) (xs : List Observer) (i mark place : ℕ) (x : Observer) (o : ObserverValue) → i < length xs → x ≡ get_or xs i x → slice_get (map observer_value xs) i ≡ Some o → (let y : Observer = record x { mark = mark; index = place; changed = None } in ◌≡◌ {A = ObserversValue} (record { room = room; entries = map observer_value (set xs i y); marks = map mark_in (set xs i y) }) (record { room = room; entries = set (map observer_value xs) i (record o { mark = mark }); marks = set (map mark_in xs) i None }))
+told_value room xs i mark place x o within read at =
+    let y : Observer = record x { mark = mark; index = place; changed = None } in
     let both : Some (observer_value x) ≡ Some o = sym (read_at xs i x within read) ∙ at in
     let same : observer_value x ≡ o = cc both in
     two_lists room _ _ _ _ (map-set observer_value xs i y ∙ ap (λ (p : ObserverValue). set (map observer_value xs) i (record p { mark = mark })) same) (map-set mark_in xs i y)

@@ -19,12 +19,12 @@ returns-in-Some c =
     let room = c.args.observers.now.room in
     let seconds = c.in-Some.seconds in
     let others : List ObserverValue = without_entry m.token c.args.observers.now.entries in
-    let holds : hold_on host m ≡ Some seconds = ap (λ (a : Answer). a.hold) (sym c.fill_plan.ensures.answer) ∙ sym c.in-Some.ensures.seconds in
+    let holds : hold_on host m ≡ Some seconds = ap (λ (a : Answer). a.hold) (sym c.fill_plan-index.ensures.answer) ∙ sym c.in-Some.ensures.seconds in
     let at = c.saturating_add-moment.ensures ∙ ap (λ (n : ℕ). min (host.now + n) 18446744073709551615) c.from.ensures in
     let quiet = late_quiet host m seconds room others holds in
     assumption (
       ap change_hash (sym quiet),
-      late_link host m seconds room others holds c.args.link.now _ c.saturating_add-moment.result at (rw c.fill_plan.ensures.answer at c.delay_answer.ensures.link),
+      late_link host m seconds room others holds c.args.link.now _ c.saturating_add-moment.result at (rw c.fill_plan-index.ensures.answer at c.delay_answer.ensures.link),
       c.delay_answer.ensures.entries ∙ late_entries host m seconds room others holds c.args.link.now,
       c.delay_answer.ensures.room,
       c.delay_answer.ensures.marks (changed_mark host) c.requires.marked,
@@ -35,7 +35,7 @@ returns-in-Some c =
 
 pub add_observer-requires-clause-watched : goal.add_observer-requires-clause-watched
 add_observer-requires-clause-watched c =
-    let prompt = prompt_is c.args.host.now c.args.request.now c.fill_plan.new.plan c.fill_plan.ensures.answer (sym c.hold.ensures.seconds ∙ c.in_default.is) in
+    let prompt = prompt_is c.args.host.now c.args.request.now c.fill_plan-index.new.plan c.fill_plan-index.ensures.answer (sym c.hold.ensures.seconds ∙ c.in_default.is) in
     elim c.if-asks_entry.branch [
       | then-asks_entry w ↦ may_watch c.args.host.now c.args.request.now (cc (prompt.1, c.watch.ensures, c.asks_entry.ensures, w.if-asks_entry.true))
       | else-asks_entry w ↦ absurd (let bad : ◌≡◌ {A = Bool} false true = cc (w.if-asks_entry.false) in cc)
@@ -58,7 +58,7 @@ prompted c enters after enters_is after_is room_is marked =
     let l = c.args.link.now in
     let before = c.args.observers.now in
     let others : List ObserverValue = without_entry m.token before.entries in
-    let prompt = prompt_is host m c.fill_plan.new.plan c.fill_plan.ensures.answer (sym c.hold.ensures.seconds ∙ c.in_default.is) in
+    let prompt = prompt_is host m c.fill_plan-index.new.plan c.fill_plan-index.ensures.answer (sym c.hold.ensures.seconds ∙ c.in_default.is) in
     let none = prompt.0 in
     let answer = prompt.1 in
     let quiet : (answer_on host m).change ≡ Nothing =
@@ -96,8 +96,8 @@ returns-else-observes c =
 
 pub returns-in_err-changed-clause-put : goal.returns-in_err-changed-clause-put
 returns-in_err-changed-clause-put c =
-    let prompt = prompt_is c.args.host.now c.args.request.now c.fill_plan.new.plan c.fill_plan.ensures.answer (sym c.hold.ensures.seconds ∙ c.in_default.is) in
-    on_any_fault c.from_residual.result _ (subst IsPut (cc (c.without_payload-plan.ensures, prompt.1)) c.in_err-changed.ensures.put)
+    let prompt = prompt_is c.args.host.now c.args.request.now c.fill_plan-index.new.plan c.fill_plan-index.ensures.answer (sym c.hold.ensures.seconds ∙ c.in_default.is) in
+    on_any_fault c.from_residual.result _ (subst IsPut (cc (c.into_change-planned.ensures, prompt.1)) c.in_err-changed.ensures.put)
 
 pub returns-then-changes : goal.returns-then-changes
 returns-then-changes c =
@@ -105,11 +105,11 @@ returns-then-changes c =
     let m = c.args.request.now in
     let room = c.args.observers.now.room in
     let others : List ObserverValue = without_entry m.token c.args.observers.now.entries in
-    let prompt = prompt_is host m c.fill_plan.new.plan c.fill_plan.ensures.answer (sym c.hold.ensures.seconds ∙ c.in_default.is) in
+    let prompt = prompt_is host m c.fill_plan-index.new.plan c.fill_plan-index.ensures.answer (sym c.hold.ensures.seconds ∙ c.in_default.is) in
     let answer = prompt.1 in
-    let change = ap (λ (a : Answer). a.change) c.without_payload-plan.ensures ∙ ap (λ (a : Answer). a.change) answer in
+    let change = ap (λ (a : Answer). a.change) c.into_change-planned.ensures ∙ ap (λ (a : Answer). a.change) answer in
     let does = ap (λ (a : Answer). changes a.change) (sym answer) ∙ sym c.changes.ensures ∙ c.if-changes.true in
-    let bare = subst (λ (a : Answer). changes a.change ≡ true → a.response.payload ≡ []) answer c.fill_plan.ensures.bare in
+    let plain = ap (λ (a : Answer). a.response) c.into_change-planned.ensures ∙ sym (c.fill_plan-index.ensures.plain (sym c.changes.ensures ∙ c.if-changes.true)) ∙ ap (λ (a : Answer). a.response) answer in
     let hash_is = c.in_ok-changed.ensures.hash ∙ ap change_hash change in
     let host_is = ap (λ (s : StoreValue). record host { store = s }) (c.in_ok-changed.ensures.ok ∙ ap (changed host.store) change) in
     let es = c.remove_token.new.self.entries in
@@ -121,8 +121,7 @@ returns-then-changes c =
     ∙ ap (λ (h : ServerState). map (changed_mark h) es) (sym host_is) ∙ ap (λ (o : ObserversValue). map (changed_mark after) o.entries) (sym c.mark_changed.ensures) in
     assumption (
       hash_is,
-      change_link host m c.args.link.now room others prompt.0 does _ (bare does)
-          (rw (c.token-then-changes.ensures, c.without_payload-plan.ensures, answer) at c.respond.ensures.after),
+      change_link host m c.args.link.now room others prompt.0 does _ _ plain (rw c.token-then-changes.ensures at c.respond_change.ensures),
       ap (λ (o : ObserversValue). o.entries) c.mark_changed.ensures ∙ (rw c.token.ensures at c.remove_token.ensures.entries)
           ∙ change_entries host m c.args.link.now room others prompt.0 does,
       ap (λ (o : ObserversValue). o.room) c.mark_changed.ensures ∙ c.remove_token.ensures.room,

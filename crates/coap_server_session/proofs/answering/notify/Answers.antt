@@ -22,8 +22,8 @@ returns-then-is_whole-clause-entries c = λ o at.
     let link = c.args.link.now in
     let entries = c.args.observers.now.entries in
     let index = c.args.stale.index in
-    let stays = observer_stays_by host link entries index (observer_value c.get-observer.result.now) o _ _ _ _ c.get-observer.ensures at
-    c.notification-plan.ensures.told c.code.ensures c.eq-goes_on.ensures (rw c.of.ensures at c.respond-reply.ensures.reply) in
+    let stays = observer_stays_by host link entries index (observer_value c.get-observer.result.now) o _ _ _ _ c.get-observer.ensures.value at
+    c.fill_notification-index.ensures.told c.code.ensures c.eq-goes_on.ensures (rw c.of.ensures at c.respond-reply.ensures.reply) in
     let both : true ≡ goes_whole host link o = cc (stays, c.if-goes_on.true, c.is_whole.ensures, c.if-is_whole.true) in
     cc (ap (λ (k : ObserversValue). k.entries) (c.set_mark.ensures o at), c.requires.first.mark o at, notified_entries host link entries index o true c.requires.first.first both)
 
@@ -33,8 +33,8 @@ returns-else-goes_on-clause-entries c = λ o at.
     let link = c.args.link.now in
     let entries = c.args.observers.now.entries in
     let index = c.args.stale.index in
-    let stays = observer_stays_by host link entries index (observer_value c.get-observer.result.now) o _ _ _ _ c.get-observer.ensures at
-    c.notification-plan.ensures.told c.code.ensures c.eq-goes_on.ensures (rw c.of.ensures at c.respond-reply.ensures.reply) in
+    let stays = observer_stays_by host link entries index (observer_value c.get-observer.result.now) o _ _ _ _ c.get-observer.ensures.value at
+    c.fill_notification-index.ensures.told c.code.ensures c.eq-goes_on.ensures (rw c.of.ensures at c.respond-reply.ensures.reply) in
     let not_both : false ≡ goes_whole host link o = elim c.else-goes_on.branch [
       | else-goes_on-via-then-goes_on+else-is_whole w ↦ cc (stays, w.if-goes_on.true, w.is_whole.ensures, w.if-is_whole.false)
       | else-goes_on-via-else-goes_on w ↦ cc (stays, w.if-goes_on.false)
@@ -42,7 +42,7 @@ returns-else-goes_on-clause-entries c = λ o at.
     cc (ap (λ (k : ObserversValue). k.entries) c.remove.ensures, notified_entries host link entries index o false c.requires.first.first not_both)
 
 pub returns-then-is_whole-clause-room : goal.returns-then-is_whole-clause-room
-returns-then-is_whole-clause-room c = ap (λ (k : ObserversValue). k.room) (c.set_mark.ensures _ c.get-observer.ensures)
+returns-then-is_whole-clause-room c = ap (λ (k : ObserversValue). k.room) (c.set_mark.ensures _ c.get-observer.ensures.value)
 
 pub returns-then-is_whole-clause-marked : goal.returns-then-is_whole-clause-marked
 returns-then-is_whole-clause-marked c =
@@ -51,9 +51,9 @@ returns-then-is_whole-clause-marked c =
     let entries = c.args.observers.now.entries in
     let index = c.args.stale.index in
     let o : ObserverValue = observer_value c.get-observer.result.now in
-    let at = c.get-observer.ensures in
+    let at = c.get-observer.ensures.value in
     let stays = observer_stays_by host link entries index o o _ _ _ _ at at
-    c.notification-plan.ensures.told c.code.ensures c.eq-goes_on.ensures (rw c.of.ensures at c.respond-reply.ensures.reply) in
+    c.fill_notification-index.ensures.told c.code.ensures c.eq-goes_on.ensures (rw c.of.ensures at c.respond-reply.ensures.reply) in
     let both : true ≡ goes_whole host link o = cc (stays, c.if-goes_on.true, c.is_whole.ensures, c.if-is_whole.true) in
     let told = told_unmarked host o c.args.stale.mark (and_parts _ _ (sym both)).0 (c.requires.first.mark o at) in
     rw (c.set_mark.ensures o at) (told_marked host entries c.args.observers.now.marks index (record o { mark = c.args.stale.mark }) c.requires.marked told)

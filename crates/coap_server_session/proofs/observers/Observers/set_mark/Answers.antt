@@ -12,7 +12,7 @@ invariant_of-self c =
     let items = c.self.inside.entries.items in
     let index = c.args.index in
     let old : Observer = c.index_mut-observer.result.now in
-    let told : Observer = record old { mark = c.args.mark; changed = None } in
+    let told : Observer = record old { mark = c.args.mark; index = c.args.place; changed = None } in
     let within = rw (← c.self.view_is) at c.requires in
     let inside : index < length items = omega (arith, within, length-map items observer_value) in
     let tag = all_at IsTagged items index old c.self.invariant.tagged inside c.index_mut-observer.ensures.value in
@@ -33,5 +33,5 @@ returns c = λ o at.
     let items = c.self.inside.entries.items in
     let within = rw (← c.self.view_is) at c.requires in
     rw (← c.self.view_is)
-    (told_value c.self.inside.room items c.args.index c.args.mark c.index_mut-observer.result.now o (omega (arith, within, length-map items observer_value)) c.index_mut-observer.ensures.value
+    (told_value c.self.inside.room items c.args.index c.args.mark c.args.place c.index_mut-observer.result.now o (omega (arith, within, length-map items observer_value)) c.index_mut-observer.ensures.value
     (rw (← c.self.view_is) at at))
