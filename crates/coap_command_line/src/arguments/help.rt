@@ -43,7 +43,7 @@ pub(super) const IDLE: &str =
     "Seconds until a silent connection is closed, 0 to 4294967295 (0: never) [default: 0]";
 
 pub(super) const STARTS: &str =
-    "Start values of --stdio or --script: time, versions and ids given [default: 0,0,0]";
+    "Start values of --stdio or --script: MOMENT,VERSIONS,IDS [default: 0,0,0]";
 
 // ---- coap-client
 
