@@ -1,8 +1,8 @@
 //! Options of `coap-server`.
 
 ghost use Rattle.std.specs.Prelude.{◌≡◌, ◌<◌, ◌+◌, ◌^◌, IfOk, IfSome, Some, codes, option_map};
-ghost use Rattle.coap_command_line.specs.Prelude.{found_of, rows_of, named, number_within, option_value, TellsServerPlan};
-ghost use Rattle.coap_command_line.specs.Prelude.{mode_value};
+ghost use Rattle.coap_command_line.specs.Prelude.{found_of, rows_of, named, number_within, option_value, mode_value};
+ghost use Rattle.coap_command_line.specs.Prelude.{TellsServerPlan};
 ghost use Rattle.coap_command_line.specs.ServerWords as spec;
 
 use crate::arguments::WordsFault;
