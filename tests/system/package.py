@@ -104,6 +104,7 @@ COMPLETED = [
     (["coap-server"], "--max", ["--max-message", "--max-sent"]),
     (["coap-server", "--log"], "", ["0", "1", "2", "3"]),
     (["coap-server", "--idle"], "", []),
+    (["coap-server", "--starts"], "", []),
     (["coap-client", "-m"], "p", ["put", "post"]),
     (["coap-client", "--log"], "", ["0", "1", "2", "3"]),
     (["coap-client", "--log", "="], "2", ["2"]),

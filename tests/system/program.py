@@ -85,6 +85,31 @@ SCRIPTS = [
     ),
 ]
 
+# Start values, a script, and its output.
+STARTS_SCRIPTS = [
+    # The time, the versions and the ids.
+    (
+        "5,6,7",
+        "put /a - 78\nopen\nin 8 00e1510101b4" "74696d65\ndrain 8\nput /a - 79\ntick 4\ntick 6\nopen\n",
+        f"put 7\nopen 8\nin 8 10\nout 8 {CSM}514501c02101ff35\nput 8\ntick fault 1\ntick 6\nopen 9\n",
+    ),
+    # The ETag is the version.
+    (
+        "1700000000,111411200000000,0",
+        "put /a 0 78\nopen\nin 1 00e1210101b161\ndrain 1\n",
+        f"put 111411200000001\nopen 1\nin 1 7\nout 1 {CSM}a14501466553f100000180ff78\n",
+    ),
+    # The largest values: one id is left, and no version. A delayed response is due at once, since no later time exists.
+    (
+        "18446744073709551615,18446744073709551615,18446744073709551614",
+        "open\nopen\nput /a - 78\nin 18446744073709551615 00e1\nin 18446744073709551615 410301b161ff78\n"
+        "in 18446744073709551615 610102b56173796e63\ndrain 18446744073709551615\ntick 18446744073709551615\ntick 18446744073709551614\n",
+        "open 18446744073709551615\nopen fault 2\nput fault 5\nin 18446744073709551615 2\nin 18446744073709551615 7\n"
+        f"in 18446744073709551615 9\nout 18446744073709551615 {CSM}01a301614502c0ff646f6e65\ntick 18446744073709551615\ntick fault 1\n",
+    ),
+    ("0,00,000", "put /a - 78\nopen\n", "put 1\nopen 1\n"),
+]
+
 BAD_SCRIPTS = [
     # A script, and the number of the first line that is not an event.
     ("opens\n", 1),
@@ -111,6 +136,7 @@ SERVER_WORDS = [
     (["--stdio", "--stdio"], 1, None), (["--script"], 1, None), (["--stdio=1"], 1, None), (["-"], 1, None), (["stdio"], 1, None), ([""], 1, None),
     (["--script", "-", "-"], 1, None), (["-", "--script"], 1, None), (["-x"], 1, None), (["--stdio", "--Queue", "70000"], 1, None), (["-d"], 1, None),
     (["x", "--help"], 1, None), (["--help=x"], 1, None), (["-x", "-V"], 1, None), (["--log", "1", "--log", "1"], 1, None), (["--idle"], 1, None),
+    (["--starts"], 1, None), (["--starts", "1,2,3", "--starts", "1,2,3", "--stdio"], 1, None), (["--stdio", "--starts", "-1,2,3"], 1, None),
     # Addresses for documentation, which no machine has.
     (["-A", "192.0.2.1"], 3, cannot_listen("192.0.2.1")), (["-A", "2001:db8::1", "-p", "0005683"], 3, cannot_listen("2001:db8::1")),
     (["-A", "192.0.2.1", "-p", "1", "--turns", "1"], 3, cannot_listen("192.0.2.1")),
@@ -120,6 +146,7 @@ SERVER_WORDS = [
 ADDRESS, PORT = "a numeric IPv4 or IPv6 address", "a port from 1 to 65535"
 QUEUE = "65536 (--max-sent) to 4194304 bytes"
 LEVEL = "a level from 0 to 3"
+STARTS = "three numbers MOMENT,VERSIONS,IDS from 0 to 18446744073709551615 (IDS to 18446744073709551614)"
 SERVER_VALUES = [
     (["-A", "localhost", "--stdio"], "-A", ADDRESS, "localhost"), (["-A", "1.2.3", "--stdio"], "-A", ADDRESS, "1.2.3"),
     (["-A", "::1::"], "-A", ADDRESS, "::1::"), (["-A", "[::1]"], "-A", ADDRESS, "[::1]"), (["-A", "fe80::1%eth0"], "-A", ADDRESS, "fe80::1%eth0"),
@@ -137,6 +164,12 @@ SERVER_VALUES = [
     (["--turns", "0"], "--turns", "1 to 1000000000000 turns", "0"), (["--turns", "1000000000001"], "--turns", "1 to 1000000000000 turns", "1000000000001"),
     (["--log", "4", "--stdio"], "--log", LEVEL, "4"), (["--log=-1"], "--log", LEVEL, "-1"),
     (["--idle", "4294967296"], "--idle", "0 to 4294967295 seconds", "4294967296"),
+    *((["--stdio", f"--starts={it}"], "--starts", STARTS, it or "an empty text") for it in (
+        "", "1", "1,2", "1,2,", "1,2,3,", ",1,2,3", "1,,3", "1,2,3,4", "1;2;3", "1, 2,3", "1,2,x", "+1,2,3", "-1,2,3", "0x1,2,3", "000000000000000000001,2,3",
+        "18446744073709551616,0,0", "0,18446744073709551616,0", "0,0,18446744073709551615",
+    )),
+    (["--script", "-", "--starts", "1,2"], "--starts", STARTS, "1,2"), (["--starts", "1,2"], "--starts", STARTS, "1,2"),
+    (["--starts", "x", "--idle", "x"], "--idle", "0 to 4294967295 seconds", "x"),
     # The first bad value in the order of the usage line, also if options exclude each other.
     (["--turns", "0", "-p", "0", "--script", "-", "--stdio"], "-p", PORT, "0"), (["--idle", "x", "--log", "x"], "--log", LEVEL, "x"),
     (["--log", "x", "--turns", "x"], "--turns", "1 to 1000000000000 turns", "x"), (["--script", "-", "--log", "4"], "--log", LEVEL, "4"),
@@ -154,6 +187,10 @@ SERVER_CLASHES = [
     (["--stdio", "--idle", "5"], "--stdio and --idle cannot be used together"),
     (["--idle", "5", "--log", "1", "--script", "-"], "--script and --log cannot be used together"),
     (["--idle", "5", "--script", "-", "--stdio"], "--stdio and --script cannot be used together"),
+    (["--starts", "0,0,0"], "--starts can be used only with --stdio or --script"),
+    (["-p", "1", "--starts", "1,2,3", "--idle", "5", "--log", "1"], "--starts can be used only with --stdio or --script"),
+    (["--starts", "1,2,3", "--stdio", "--script", "-"], "--stdio and --script cannot be used together"),
+    (["--starts", "1,2,3", "--stdio", "--idle", "5"], "--stdio and --idle cannot be used together"),
 ]
 
 def hindrance_v6():
@@ -245,7 +282,8 @@ def refused_words(name, values, clashes, targets=()):
 SERVER_HELP = (
     b"A CoAP server over TCP (RFC 8323)\n\nUsage: coap-server [OPTIONS]\n\nOptions:\n",
     ["-A <ADDRESS>", "-p <PORT>", "-d <MAX>", "--stdio", "--script <FILE>", "--max-message <N>", "--max-sent <N>", "--queue <N>", "--pending <N>"]
-    + ["--observers <N>", "--connections <N>", "--turns <N>", "--log <LEVEL>", "--idle <SECONDS>", "-h, --help", "-V, --version"],
+    + ["--observers <N>", "--connections <N>", "--turns <N>", "--log <LEVEL>", "--idle <SECONDS>", "--starts <N,N,N>"]
+    + ["-h, --help", "-V, --version"],
 )
 
 CLIENT_HELP = (
@@ -260,6 +298,9 @@ STDIO_WORDS = [
     (["-d", "1"], "00e1410301b161ff78210102b161", CSM, "0141014145024101ff78"),
     (["--pending", "0"], "00e1610105b56173796e63", CSM, "01a305"),
     (["--observers", "0", "-d", "1"], "00e1410301b161ff78310102605161", CSM, "0141014145024101ff78"),
+    # The version 7, and the time 5.
+    (["--starts", "5,6,7", "-d", "1"], "00e1410301b161ff78210102b161510103b4" "74696d65", CSM, "0141014145024107ff78514503c02101ff35"),
+    (["--starts", "0,255,18446744073709551614", "-d", "1"], "00e1410301b161ff78210102b161", CSM, "014101514502420100ff78"),
 ]
 
 
@@ -269,12 +310,12 @@ def stored(name):
         return it.read()
 
 
-def replay(program, script):
+def replay(program, script, words=()):
     """Returns the results of a script on standard input, and of the same script in a file."""
     with tempfile.NamedTemporaryFile() as file:
         file.write(script)
         file.flush()
-        both = [run(program, ["--script", "-"], script), run(program, ["--script", file.name])]
+        both = [run(program, ["--script", "-", *words], script), run(program, [*words, "--script", file.name])]
     return [(it.returncode, it.stdout, it.stderr) for it in both]
 
 
@@ -283,6 +324,8 @@ def check_scripts(program, checks):
     checks.same("stored script", replay(program, stored("stdin")), [(0, stored("stdout"), b"")] * 2)
     for script, lines in SCRIPTS:
         checks.same("lines for %r" % script, replay(program, script.encode()), [(0, lines.encode(), b"")] * 2)
+    for starts, script, lines in STARTS_SCRIPTS:
+        checks.same("lines from %s" % starts, replay(program, script.encode(), ["-d", "1", "--starts", starts]), [(0, lines.encode(), b"")] * 2)
     for script, number in BAD_SCRIPTS:
         told = b"coap-server: bad script line %d\n" % number
         checks.same("bad script %r" % script, replay(program, script.encode()), [(1, b"", told)] * 2)

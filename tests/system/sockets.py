@@ -507,6 +507,28 @@ def check_versions(checks, programs):
     checks.same("no ETag is repeated in a later run", min(second) > max(first), True)
 
 
+def check_recorded(checks, programs):
+    """Checks that the bytes of a connection, replayed with the start values of their server, have the same responses, with the same ETag."""
+    # PUT and GET of /a.
+    sent = "00e1" "410301b161ff78" "210102b161"
+    with Server(programs.server, ["-d", "1"]) as server, server.connect() as peer:
+        peer.sendall(bytes.fromhex(sent))
+        peer.shutdown(socket.SHUT_WR)
+        got, _ = read_to_end(peer)
+    # The CSM, 2.01, and 2.05 with an ETag of six bytes.
+    etag = int.from_bytes(got[15:21], "big")
+    moment = etag // 65_536
+    checks.same("the server has the time of the system", abs(moment - time.time()) < 60, True)
+    words = ["-d", "1", "--starts", "%d,%d,0" % (moment, moment * 65_536)]
+    script = "open\nin 1 00e1\nin 1 410301b161ff78\nin 1 210102b161\ndrain 1\n"
+    for mode, stream, told in (
+        (["--stdio"], bytes.fromhex(sent), got),
+        (["--script", "-"], script.encode(), b"open 1\nin 1 2\nin 1 7\nin 1 5\nout 1 %s\n" % got.hex().encode()),
+    ):
+        done = subprocess.run([programs.server, *words, *mode], input=stream, capture_output=True, timeout=LIMIT)
+        checks.same("replayed with %s" % mode[0], (done.returncode, done.stdout, done.stderr), (0, told, b""))
+
+
 def check_room(checks, programs):
     """Checks that both programs continue to write as soon as the socket has space again."""
     with Waits(at_most=200) as waits, Server(programs.server) as server:
@@ -724,7 +746,7 @@ class Programs:
 CHECKS = [
     check_requests, check_tokens, check_observers, check_bodies, check_connecting, check_ended, check_causes, check_silent, check_address, check_reserved,
     check_files, check_close, check_flooded_client, check_addresses, check_closed, check_urgent, check_timeouts, check_connections, check_versions, check_room,
-    check_alive, check_sleepers,
+    check_alive, check_sleepers, check_recorded,
 ]
 
 

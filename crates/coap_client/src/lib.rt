@@ -23,7 +23,9 @@ pub use coap_command_line::{WordsFault, client_reason, client_words, server_reas
 pub use coap_conn::{LimitFault, Limits, LimitsBuilder, Phase, Reason, RequestFault};
 pub use coap_io::{Clock, Got, Outlet, Wire, WriteFailed, WriteOutlet};
 pub use coap_print::Line;
-pub use coap_request::{ClientPlan, Extras, Method, Mode, ServerPlan, Target, TargetFault};
+pub use coap_request::{
+    ClientPlan, Extras, Method, Mode, ServerPlan, StartCounts, Target, TargetFault,
+};
 pub use coap_wire::{Code, MessageRef, OptionRef, Token, TokenRef};
 
 /// Theorems over all clients.

@@ -99,6 +99,13 @@ fn tell_server(plan: &ServerPlan, told: &mut RowLine) {
     if plan.idle != 0 {
         let _ = write!(told, "idle {} ", plan.idle);
     }
+    let starts = &plan.starts;
+    if starts.moment != 0 || starts.versions != 0 || starts.ids != 0 {
+        told.word("starts");
+        told.number(starts.moment);
+        told.number(starts.versions);
+        told.number(starts.ids);
+    }
 }
 
 /// Writes a plan of `coap-client`.

@@ -26,6 +26,10 @@ level : server_value (matches_of server_app (codes "--log" ∷ codes "4" ∷ [])
 unfolding clap_on_literals server_value row_in
 level = refl
 
+starts : server_value (matches_of server_app (codes "--starts" ∷ codes "1,2" ∷ codes "--stdio" ∷ [])) (codes "--starts") ≡ Some (codes "--starts takes three numbers MOMENT,VERSIONS,IDS from 0 to 18446744073709551615 (IDS to 18446744073709551614), not 1,2")
+unfolding clap_on_literals server_value row_in
+starts = refl
+
 no_option : server_value (matches_of server_app ([])) (codes "-B") ≡ None
 unfolding clap_on_literals server_value row_in
 no_option = refl
@@ -63,6 +67,10 @@ silence_of_a_script = refl
 silence_of_standard_input : server_clash (matches_of server_app (codes "--idle" ∷ codes "1" ∷ codes "--stdio" ∷ [])) ≡ codes "--stdio and --idle cannot be used together"
 unfolding clap_on_literals server_clash is_used
 silence_of_standard_input = refl
+
+starts_of_a_listener : server_clash (matches_of server_app (codes "--starts" ∷ codes "1,2,3" ∷ codes "-p" ∷ codes "5700" ∷ [])) ≡ codes "--starts can be used only with --stdio or --script"
+unfolding clap_on_literals server_clash is_used
+starts_of_a_listener = refl
 
 two_payloads : client_clash (matches_of client_app (codes "-e" ∷ codes "x" ∷ codes "-f" ∷ codes "y" ∷ codes "coap+tcp://h/" ∷ [])) ≡ codes "-e and -f cannot be used together"
 unfolding clap_on_literals client_clash method_text

@@ -1,9 +1,12 @@
 -- Lemmas on the results of `clap`, and on the texts of addresses.
-use Rattle.std.proofs.Common.{◌≡◌, ◌∙◌, ℕ, List, [], ◌∷◌, length, Option, Some, None, Result, Ok, Err, sym, ap, refl, subst, option_map, true, append-nil, ne_eqb, arith, lit≤}
+use Rattle.std.proofs.Common.{◌≡◌, ◌∙◌, ◌==◌, ◌≤◌, ℕ, List, [], ◌∷◌, length, Option, Some, None, Result, Ok, Err, sym, ap, refl, subst, option_map, true, append-nil, ne_eqb, arith, lit≤}
 use Rattle.coap_command_line.specs.Prelude.{result_ok, ipv4_octets, ipv6_segments, IsColonHex, IsDotted, IsIpText, Parses}
 use Rattle.coap_command_line.specs.Prelude.{Read, read_ipv4, read_ipv6, whole_value, IpAddr, App, Rule, Text, first_of}
 use Rattle.coap_command_line.specs.Prelude.{first_value, rows_of, with_rule, Found, list_any, Bor, AreHalves, is_comma}
-use Rattle.coap_command_line.specs.Prelude.{address_of}
+use Rattle.coap_command_line.specs.Prelude.{address_of, three_in}
+use Rattle.coap_command_line.specs.ServerWords.{comma, three_of}
+use Rattle.coap_text.specs.Words.{parts}
+use Rattle.std.proofs.lemmas.List.Splits.{length-slice_split}
 use Rattle.std.specs.declared.net.ip_addr.IpAddr.TheVariants as ip
 use Rattle.std.proofs.NetLemmas.Ipv4.{read_ipv4_complete, read_ipv4_sound}
 use Rattle.std.proofs.NetLemmas.Ipv6.{EndsGroups-nil, IsDotted-not_colon_hex, read_ipv6_complete, read_ipv6_sound}
@@ -74,3 +77,17 @@ comma_parts text (Some x) h =
     let parts = split_parts 44 text (Some x) h (lit≤ tt) in
     let firsts = split_once_first 44 text (Some x) h (lit≤ tt) in
     (subst (λ t. list_any is_comma t ≡ true) (sym parts.0) (list_any-at 44 x.0.now x.1.now), firsts.1, firsts.2)
+
+-- ---- start values
+
+more_than_three : (first second third : Text) (more : List Text) → 1 ≤ length more → three_of (first ∷ second ∷ third ∷ more) ≡ None
+more_than_three first second third [] some = absurd (omega (arith, some))
+more_than_three first second third (fourth ∷ more) some = refl
+
+-- A text with three commas or more has no three parts.
+pub three_commas : (text first rest second others third last : Text) → parts comma text ≡ first ∷ parts comma rest
+    → parts comma rest ≡ second ∷ parts comma others → parts comma others ≡ third ∷ parts comma last → three_in text ≡ None
+unfolding three_in
+three_commas text first rest second others third last e1 e2 e3 =
+    ap three_of (e1 ∙ ap (λ ps. first ∷ ps) (e2 ∙ ap (λ ps. second ∷ ps) e3))
+    ∙ more_than_three first second third (parts comma last) (omega (arith, length-slice_split (λ b. b == comma) last))

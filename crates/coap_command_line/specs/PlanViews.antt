@@ -32,6 +32,7 @@ server_value plan = record {
   turns = plan.turns;
   log = plan.log;
   idle = plan.idle;
+  starts = plan.starts;
 }
 
 -- The number and the value of the extra option.

@@ -93,14 +93,15 @@ client_value rows name = row_text (row_in client_values name) (given_for name ro
 
 -- ---- options that exclude each other
 
--- The first two options of the server that exclude each other. One of them is `--script` or `--stdio`.
+-- The first two options of the server that exclude each other, or the one that a server which listens excludes.
 unfoldable pub server_clash : List Row → Text
 server_clash rows =
     if is_some (first_of (codes "--script") rows)
     then (if is_used (codes "--stdio") rows then codes "--stdio and --script cannot be used together"
     else (if is_some (first_of (codes "--log") rows) then codes "--script and --log cannot be used together"
     else codes "--script and --idle cannot be used together"))
-    else codes "--stdio and --idle cannot be used together"
+    else (if is_used (codes "--stdio") rows then codes "--stdio and --idle cannot be used together"
+    else codes "--starts can be used only with --stdio or --script")
 
 -- The text for an observation with a method other than get.
 unfoldable pub method_text : Text → Text

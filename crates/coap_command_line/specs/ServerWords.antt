@@ -1,14 +1,16 @@
 -- Defined by this project: the plan for the arguments of `coap-server`.
-use Rattle.std.specs.Prelude.{◌∷◌, [], ◌&&◌, ◌||◌, ℕ, Bool, true, false, List, Option, Some, None, is_some, Result, Ok, Err, codes, if◌then◌else◌}
+use Rattle.std.specs.Prelude.{◌∷◌, [], ◌&&◌, ◌||◌, ℕ, Bool, true, false, not, List, Option, Some, None, is_some, Result, Ok, Err, codes, if◌then◌else◌}
 use Rattle.std.specs.Net.Reader.{read_ipv4, read_ipv6, whole_value}
 use Rattle.std.specs.declared.net.ip_addr.IpAddr.{IpAddr}
 use Rattle.std.specs.declared.net.ip_addr.IpAddr.TheVariants as ip
 use Rattle.clap.specs.Simple.{new_shape}
 use Rattle.clap.specs.Words.{App, Row, Text, fault_of, first_of, matches_of}
 use Rattle.coap_conn.specs.Limits.{LimitValues, limits_of}
+use Rattle.coap_text.specs.Words.{decimal_value, parts}
 use Rattle.coap_print.specs.declared.level.LogLevel.{LogLevel}
 use Rattle.coap_print.specs.declared.level.LogLevel.TheVariants.{Nothing}
 use Rattle.coap_command_line.specs.CommandLines.{◌>>=◌, WordsFaultValue, Clash, Value, is_used, letter_option, level_in, number_within, option_value, unless_refused, word_flag, word_option}
+use Rattle.coap_request.specs.declared.plan.StartCounts.{StartCounts}
 use Rattle.coap_command_line.specs.declared.arguments.server.ServerValues.{ServerValues}
 use Rattle.coap_wire.specs.declared.sizes.TheConstants.{BASE_MESSAGE_SIZE, LARGEST_MESSAGE, LARGEST_SENT_MESSAGE}
 use Rattle.coap_wire.specs.declared.sizes.TheConstants.{LARGEST_QUEUE, DEFAULT_QUEUE}
@@ -31,6 +33,7 @@ pub record ServerPlanValue : Type 0 where
   pub turns : ℕ
   pub log : LogLevel
   pub idle : ℕ
+  pub starts : StartCounts
 
 -- ---- the options
 
@@ -45,7 +48,7 @@ server_app = record {
         ∷ word_option (codes "--max-message") ∷ word_option (codes "--max-sent") ∷ word_option (codes "--queue")
         ∷ word_option (codes "--pending") ∷ word_option (codes "--observers")
         ∷ word_option (codes "--connections") ∷ word_option (codes "--turns")
-        ∷ word_option (codes "--log") ∷ word_option (codes "--idle") ∷ [];
+        ∷ word_option (codes "--log") ∷ word_option (codes "--idle") ∷ word_option (codes "--starts") ∷ [];
     has_version = true;
     no_binary_name = true;
   };
@@ -80,6 +83,38 @@ limits_said rows = do
   observers ← option_value (codes "--observers") (number_within 0 256) 16 rows
   Ok (limits_of message sent queue pending observers 16)
 
+abbrev pub comma : ℕ
+comma = 44
+
+-- The start values, if all three are valid.
+abbrev pub counts_of : Option ℕ → Option ℕ → Option ℕ → Option StartCounts
+counts_of (Some moment) (Some versions) (Some ids) = Some (record { moment = moment; versions = versions; ids = ids })
+counts_of _ _ _ = None
+
+-- Three texts, if there are exactly three.
+abbrev pub three_of : List Text → Option (Text × Text × Text)
+three_of (first ∷ second ∷ third ∷ []) = Some (first, second, third)
+three_of other = None
+
+-- The three parts of a text with exactly two commas.
+unfoldable pub three_in : Text → Option (Text × Text × Text)
+three_in text = three_of (parts comma text)
+
+-- The start values in three texts: the time, the number of versions and the number of connection ids. An id is left for
+-- a connection.
+abbrev pub counts_in : Option (Text × Text × Text) → Option StartCounts
+counts_in None = None
+counts_in (Some (moment, versions, ids)) =
+    counts_of (decimal_value moment) (decimal_value versions) (number_within 0 18446744073709551614 ids)
+
+-- The start values in a text: exactly three numbers, separated by commas.
+unfoldable pub starts_in : Text → Option StartCounts
+starts_in text = counts_in (three_in text)
+
+-- The start values of a server without the option.
+abbrev pub from_zero : StartCounts
+from_zero = record { moment = 0; versions = 0; ids = 0 }
+
 -- The values of all options except those that choose a mode, or the name of the first option with an invalid text. The
 -- order is that of the usage line.
 unfoldable pub values_said : List Row → Result ServerValues Text
@@ -92,17 +127,25 @@ values_said rows = do
   turns ← option_value (codes "--turns") (number_within 1 1000000000000) 1000000000000 rows
   log ← option_value (codes "--log") level_in Nothing rows
   idle ← option_value (codes "--idle") (number_within 0 4294967295) 0 rows
-  Ok (record { address = address; port = port; dynamic_max = dynamic_max; limits = limits; connections = connections; turns = turns; log = log; idle = idle })
+  starts ← option_value (codes "--starts") starts_in from_zero rows
+  Ok (record { address = address; port = port; dynamic_max = dynamic_max; limits = limits; connections = connections; turns = turns; log = log; idle = idle; starts = starts })
 
 -- ---- the plan for the arguments
 
--- True if an option of the log or of silent connections is given with a mode that excludes it. A script excludes both,
--- and standard input and output exclude `--idle`.
+-- True if `--starts` is given to a server that listens, whose start values are those of its clock.
+unfoldable pub starts_a_listener : List Row → Bool
+starts_a_listener rows =
+    is_some (first_of (codes "--starts") rows)
+    && (not (is_some (first_of (codes "--script") rows)) && not (is_used (codes "--stdio") rows))
+
+-- True if an option is given with a mode that excludes it. A script excludes `--log` and `--idle`, standard input and
+-- output exclude `--idle`, and a server that listens excludes `--starts`.
 unfoldable pub excludes_mode : List Row → Bool
 excludes_mode rows =
     (is_some (first_of (codes "--script") rows) && is_some (first_of (codes "--log") rows))
     || (is_some (first_of (codes "--script") rows) && is_some (first_of (codes "--idle") rows))
     || (is_used (codes "--stdio") rows && is_some (first_of (codes "--idle") rows))
+    || starts_a_listener rows
 
 -- The mode: standard input and output, the script with a name, or otherwise the address and the port. The first two
 -- exclude each other.
@@ -116,7 +159,7 @@ mode_of true (Some name) address port = None
 abbrev pub with_mode : ServerValues → Option ModeValue → Result ServerPlanValue WordsFaultValue
 with_mode values None = Err Clash
 with_mode values (Some mode) =
-    Ok (record { mode = mode; limits = values.limits; connections = values.connections; dynamic_max = values.dynamic_max; turns = values.turns; log = values.log; idle = values.idle })
+    Ok (record { mode = mode; limits = values.limits; connections = values.connections; dynamic_max = values.dynamic_max; turns = values.turns; log = values.log; idle = values.idle; starts = values.starts })
 
 -- The plan with a mode, or the error of the values. `excluded` is true if an option excludes the mode.
 abbrev pub planned : Bool → Bool → Option Text → Result ServerValues Text → Result ServerPlanValue WordsFaultValue

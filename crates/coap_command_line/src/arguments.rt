@@ -1,6 +1,6 @@
 //! Parsers of the command lines of both programs.
 
-ghost use Rattle.std.specs.Prelude.{map, option_map, ◌≡◌, IfOk};
+ghost use Rattle.std.specs.Prelude.{map, option_map, ◌≡◌, ◌<◌, ◌+◌, ◌^◌, IfOk};
 ghost use Rattle.coap_command_line.specs.Prelude.{IsClientPlan, IsServerPlan, is_help_or_version, words_fault_number};
 ghost use Rattle.coap_command_line.specs.Reasons.{line_of};
 ghost use Rattle.coap_command_line.specs.Reasons as spec;
@@ -83,10 +83,11 @@ impl WordsFault {
 ///
 /// - `Usage`: `clap` rejects the arguments, or they ask for help or for the version.
 /// - `Value`: the value of an option is malformed or out of range.
-/// - `Clash`: both `--stdio` and `--script` are given.
+/// - `Clash`: both `--stdio` and `--script` are given, or an option with a mode that excludes it.
 /// - `Memory`: allocation failed.
 pub fn server_words<'a, S: AsStr>(alloc: Global, words: &'a [S]) -> Result<ServerPlan, WordsFault>
-    ensures { IsServerPlan (map S.text words.entry.now) result }
+    ensures plan { IsServerPlan (map S.text words.entry.now) result }
+    ensures id_left { IfOk result (λ plan. plan.starts.ids + 1 < 2 ^ 64) }
 {
     let Ok(command) = server_command(alloc) else {
         return Err(WordsFault::Memory);

@@ -15,6 +15,6 @@ mod plan;
 mod request;
 mod target;
 
-pub use plan::{ClientPlan, Mode, ServerPlan};
+pub use plan::{ClientPlan, Mode, ServerPlan, StartCounts};
 pub use request::{Extras, Formats, Method, cancellation_message, formats_of, request_message};
 pub use target::{Target, TargetFault};

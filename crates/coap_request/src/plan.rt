@@ -17,6 +17,17 @@ pub enum Mode {
     Script(String),
 }
 
+/// Values at which the counts of a server begin.
+#[derive(Clone, Copy)]
+pub struct StartCounts {
+    /// Time at which the server starts, in seconds.
+    pub moment: u64,
+    /// Number of versions already given.
+    pub versions: u64,
+    /// Number of connection ids already given, at most 2^64 - 2.
+    pub ids: u64,
+}
+
 /// Settings of a run of `coap-server`.
 #[derive(Drop)]
 pub struct ServerPlan {
@@ -34,6 +45,8 @@ pub struct ServerPlan {
     pub log: LogLevel,
     /// Maximum time in seconds that a connection may be silent, or 0 if there is no limit.
     pub idle: u32,
+    /// Start values of a script or of a run over standard input and output. A listening server does not use them.
+    pub starts: StartCounts,
 }
 
 /// Settings of a run of `coap-client`.

@@ -14,6 +14,10 @@ rep_max = 65_000
 abbrev pub planned : ServerPlan → Starts → ConfigValues
 planned plan starts = config_of plan.limits plan.connections plan.dynamic_max rep_max plan.turns (start_values starts)
 
+-- The counters of a script or of a run over standard input and output: those of the plan.
+abbrev pub starts_in : ServerPlan → Starts
+starts_in plan = record { moment = plan.starts.moment; versions = plan.starts.versions; ids = plan.starts.ids }
+
 -- The counters of a server that starts to listen at this time.
 abbrev pub starts_of : ℕ → Starts
 starts_of moment = record { moment = moment; versions = min (moment * 65_536) (2 ^ 64 - 1); ids = 0 }

@@ -2,13 +2,14 @@
 //!
 //! The function `coap_command_line::server_words` defines its arguments. With `--stdio` it serves one connection over
 //! standard input and output. With `--script FILE` it runs the events of the script in that file, and writes the line
-//! of each event. If FILE is `-`, the script is read from standard input. Otherwise it listens at an address and serves
-//! the connections that clients open.
+//! of each event. If FILE is `-`, the script is read from standard input. In these modes the time, the versions and the
+//! connection ids begin at the values of `--starts`. Otherwise it listens at an address and serves the connections that
+//! clients open.
 #![tactic(auto)]
 
-ghost use Rattle.std.specs.Prelude.{◌≡◌, true, is_some, IfSome, IfNone};
+ghost use Rattle.std.specs.Prelude.{◌≡◌, ◌<◌, ◌+◌, ◌^◌, true, is_some, IfSome, IfNone};
 ghost use Rattle.coap_serve.specs.Configs.{config_refusal};
-ghost use Rattle.coap_server.specs.Planned.{planned};
+ghost use Rattle.coap_server.specs.Planned.{planned, starts_in};
 
 mod listening;
 mod log;
@@ -35,13 +36,6 @@ pub(crate) const PROGRAM: Program = Program {
 /// Maximum length of a representation, in bytes.
 const REP_MAX: usize = 65_000;
 
-/// Counters that begin at 0.
-const FROM_ZERO: Starts = Starts {
-    moment: 0,
-    versions: 0,
-    ids: 0,
-};
-
 /// Returns the configuration of a plan, with counters that begin at `starts`, or `None` if a limit is out of its range.
 pub(crate) fn config_of(plan: &ServerPlan, starts: Starts) -> Option<Config>
     ensures value { IfSome result (λ config. config ≡ planned plan.now starts) }
@@ -61,13 +55,26 @@ pub(crate) fn config_of(plan: &ServerPlan, starts: Starts) -> Option<Config>
     }
 }
 
+/// Returns the configuration of a plan, with the counters of the plan, or `None` if a limit is out of its range.
+fn config_in(plan: &ServerPlan) -> Option<Config>
+    ensures value { IfSome result (λ config. config ≡ planned plan.now (starts_in plan.now)) }
+    ensures refused { IfNone result (is_some (config_refusal (planned plan.now (starts_in plan.now))) ≡ true) }
+{
+    let starts = Starts {
+        moment: plan.starts.moment,
+        versions: plan.starts.versions,
+        ids: plan.starts.ids,
+    };
+    config_of(plan, starts)
+}
+
 /// Serves one connection over standard input and output, and returns the exit status.
 fn serve(
     rt: &(impl Input + Print + Eprint + time::Clock + AllocGlobal),
     config: &Config,
     level: LogLevel,
 ) -> u8
-    requires { config.now.starts.ids ≡ 0 }
+    requires { config.now.starts.ids + 1 < 2 ^ 64 }
 {
     let mut input = ReadSource::new(rt.reader());
     let mut output = WriteOutlet::new(io::writer(rt));
@@ -94,11 +101,13 @@ fn status_of(rt: &impl Eprint, ended: Result<Report, IoFault>) -> u8 {
 fn run(
     rt: &(impl Input + Print + Eprint + Files + Net + time::Clock + AllocGlobal),
     plan: &ServerPlan,
-) -> u8 {
+) -> u8
+    requires { plan.now.starts.ids + 1 < 2 ^ 64 }
+{
     if let Mode::Listen(address, port) = &plan.mode {
         return listening::run(rt, SocketAddr::new(*address, *port), plan);
     }
-    let Some(config) = config_of(plan, FROM_ZERO) else {
+    let Some(config) = config_in(plan) else {
         return PROGRAM.print_fault(rt, "a limit is out of its range", USAGE);
     };
     match &plan.mode {

@@ -141,7 +141,8 @@ pub(super) fn server_command<'a>(alloc: Global) -> Result<Command<'a>, AllocErro
     )?;
     let command = with_number(alloc, command, "--turns", "turns", help::TURNS)?;
     let command = with_word(alloc, command, "--log", "log", "LEVEL", help::LOG)?;
-    with_word(alloc, command, "--idle", "idle", "SECONDS", help::IDLE)
+    let command = with_word(alloc, command, "--idle", "idle", "SECONDS", help::IDLE)?;
+    with_word(alloc, command, "--starts", "starts", "N,N,N", help::STARTS)
 }
 
 /// Adds the URI as the only argument that is no option. The URI is required.

@@ -42,6 +42,9 @@ pub(super) const TURNS: &str =
 pub(super) const IDLE: &str =
     "Seconds until a silent connection is closed, 0 to 4294967295 (0: never) [default: 0]";
 
+pub(super) const STARTS: &str =
+    "Start values of --stdio or --script: MOMENT,VERSIONS,IDS [default: 0,0,0]";
+
 // ---- coap-client
 
 pub(super) const CLIENT: &str = "A CoAP client over TCP (RFC 8323)";

@@ -191,14 +191,19 @@ fn client_value(matches: &ArgMatches<'_>, name: &str) -> Option<Line>
 
 // ---- options that exclude each other
 
-/// Returns the text for the first two options of the server that exclude each other.
+/// Returns the text for the first two options of the server that exclude each other, or for an option that a server
+/// which listens excludes.
 #[tactic(auto, unfolding(crate::specs::Reasons::server_clash))]
 fn server_clash(matches: &ArgMatches<'_>) -> &'static str
     ensures text { result.now ≡ spec.server_clash (rows_of (found_of matches.now)) }
     ensures printable { is_text result.now ≡ true }
 {
     if text_of(matches, "--script").is_none() {
-        "--stdio and --idle cannot be used together"
+        if is_used(matches, "--stdio") {
+            "--stdio and --idle cannot be used together"
+        } else {
+            "--starts can be used only with --stdio or --script"
+        }
     } else if is_used(matches, "--stdio") {
         "--stdio and --script cannot be used together"
     } else if text_of(matches, "--log").is_some() {

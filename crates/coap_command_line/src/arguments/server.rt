@@ -1,7 +1,8 @@
 //! Options of `coap-server`.
 
-ghost use Rattle.std.specs.Prelude.{◌≡◌, IfOk, Some, codes, option_map};
-ghost use Rattle.coap_command_line.specs.Prelude.{found_of, rows_of, named, option_value, TellsServerPlan, mode_value};
+ghost use Rattle.std.specs.Prelude.{◌≡◌, ◌<◌, ◌+◌, ◌^◌, IfOk, IfSome, Some, codes, option_map};
+ghost use Rattle.coap_command_line.specs.Prelude.{found_of, rows_of, named, number_within, option_value, mode_value};
+ghost use Rattle.coap_command_line.specs.Prelude.{TellsServerPlan};
 ghost use Rattle.coap_command_line.specs.ServerWords as spec;
 
 use crate::arguments::WordsFault;
@@ -9,7 +10,8 @@ use crate::arguments::option_values::{is_used, log, number, text_of};
 use clap::ArgMatches;
 use coap_conn::Limits;
 use coap_print::LogLevel;
-use coap_request::{Mode, ServerPlan};
+use coap_request::{Mode, ServerPlan, StartCounts};
+use coap_text::{number_in, split_once};
 use coap_wire::{
     BASE_MESSAGE_SIZE, DEFAULT_QUEUE, LARGEST_MESSAGE, LARGEST_QUEUE, LARGEST_SENT_MESSAGE,
 };
@@ -27,6 +29,7 @@ pub(super) struct ServerValues {
     pub(super) turns: u64,
     pub(super) log: LogLevel,
     pub(super) idle: u32,
+    pub(super) starts: StartCounts,
 }
 
 /// Returns the numeric IP address that a text denotes, or `None` if there is none.
@@ -91,12 +94,80 @@ fn limits(matches: &ArgMatches<'_>) -> Result<Limits, &'static str>
     Ok(limits)
 }
 
+/// Maximum number of connection ids already given. One id is left.
+const MOST_IDS: u64 = u64::MAX - 1;
+
+/// Returns the three parts of a text with exactly two commas, or `None` for another text.
+#[tactic(auto, unfolding(crate::specs::ServerWords::three_in))]
+fn three_parts(text: &[u8]) -> Option<(&[u8], &[u8], &[u8])>
+    ensures { option_map (λ x. (x.0.now, x.1.now, x.2.now)) result ≡ spec.three_in text.now }
+{
+    let (first, rest) = split_once(text, b',')?;
+    let (second, third) = split_once(rest, b',')?;
+    match split_once(third, b',') {
+        Some(_) => None,
+        None => Some((first, second, third)),
+    }
+}
+
+/// Returns the number of connection ids already given that a text means, if an id is left.
+#[tactic(auto, unfolding(crate::specs::CommandLines::number_within))]
+fn ids_in(text: &[u8]) -> Option<u64>
+    ensures value { result ≡ number_within 0 18446744073709551614 text.now }
+    ensures id_left { IfSome result (λ ids. ids + 1 < 2 ^ 64) }
+{
+    let ids = number_in(text)?;
+    if ids > MOST_IDS {
+        return None;
+    }
+    Some(ids)
+}
+
+/// Returns the start values in a text: exactly three numbers, separated by commas.
+#[tactic(auto, unfolding(crate::specs::ServerWords::starts_in))]
+fn starts_in(text: &str) -> Option<StartCounts>
+    ensures value { result ≡ spec.starts_in text.now }
+    ensures id_left { IfSome result (λ starts. starts.ids + 1 < 2 ^ 64) }
+{
+    let (moment, versions, ids) = three_parts(text.as_bytes())?;
+    let moment = number_in(moment)?;
+    let versions = number_in(versions)?;
+    let ids = ids_in(ids)?;
+    Some(StartCounts {
+        moment,
+        versions,
+        ids,
+    })
+}
+
+/// Returns the start values, by default three zeros.
+///
+/// The error is the name of the option, if its text is not three numbers in their ranges.
+fn starts(matches: &ArgMatches<'_>) -> Result<StartCounts, &'static str>
+    ensures value { named result
+        ≡ option_value (codes "--starts") spec.starts_in spec.from_zero (rows_of (found_of matches.now)) }
+    ensures id_left { IfOk result (λ starts. starts.ids + 1 < 2 ^ 64) }
+{
+    match text_of(matches, "--starts") {
+        Some(text) => match starts_in(text) {
+            Some(starts) => Ok(starts),
+            None => Err("--starts"),
+        },
+        None => Ok(StartCounts {
+            moment: 0,
+            versions: 0,
+            ids: 0,
+        }),
+    }
+}
+
 /// Returns the values of all options except `--stdio` and `--script`.
 ///
 /// The error is the name of the first option whose text is malformed or out of range, in the order of the usage line.
 #[tactic(auto, unfolding(crate::specs::ServerWords::values_said))]
 pub(super) fn server_values(matches: &ArgMatches<'_>) -> Result<ServerValues, &'static str>
-    ensures { named result ≡ spec.values_said (rows_of (found_of matches.now)) }
+    ensures values { named result ≡ spec.values_said (rows_of (found_of matches.now)) }
+    ensures id_left { IfOk result (λ values. values.starts.ids + 1 < 2 ^ 64) }
 {
     let address = address(matches)?;
     let port = number(matches, "-p", 1, 65_535, 5_683)?;
@@ -106,6 +177,7 @@ pub(super) fn server_values(matches: &ArgMatches<'_>) -> Result<ServerValues, &'
     let turns = number(matches, "--turns", 1, 1_000_000_000_000, 1_000_000_000_000)?;
     let log = log(matches)?;
     let idle = number(matches, "--idle", 0, 4_294_967_295, 0)?;
+    let starts = starts(matches)?;
     Ok(ServerValues {
         address,
         port: port as u16,
@@ -115,10 +187,21 @@ pub(super) fn server_values(matches: &ArgMatches<'_>) -> Result<ServerValues, &'
         turns,
         log,
         idle: idle as u32,
+        starts,
     })
 }
 
-/// Returns `true` if `--log` or `--idle` is given with a mode that excludes it.
+/// Returns `true` if `--starts` is given to a server that listens.
+#[tactic(auto, unfolding(crate::specs::ServerWords::starts_a_listener))]
+fn starts_a_listener(matches: &ArgMatches<'_>) -> bool
+    ensures { result ≡ spec.starts_a_listener (rows_of (found_of matches.now)) }
+{
+    text_of(matches, "--starts").is_some()
+        && text_of(matches, "--script").is_none()
+        && !is_used(matches, "--stdio")
+}
+
+/// Returns `true` if `--log`, `--idle` or `--starts` is given with a mode that excludes it.
 #[tactic(auto, unfolding(crate::specs::ServerWords::excludes_mode))]
 fn excludes_mode(matches: &ArgMatches<'_>) -> bool
     ensures { result ≡ spec.excludes_mode (rows_of (found_of matches.now)) }
@@ -127,7 +210,7 @@ fn excludes_mode(matches: &ArgMatches<'_>) -> bool
     if text_of(matches, "--script").is_some() && (idle || text_of(matches, "--log").is_some()) {
         return true;
     }
-    is_used(matches, "--stdio") && idle
+    is_used(matches, "--stdio") && idle || starts_a_listener(matches)
 }
 
 /// Returns the mode of the server, or `None` if both `--stdio` and `--script` are given.
@@ -161,7 +244,8 @@ fn mode_in(
 /// Returns the plan for the options that `clap` found, or the error `Value`, `Clash` or `Memory`.
 #[tactic(auto, unfolding(crate::specs::ServerWords::server_plan_in))]
 pub(super) fn server_plan(alloc: Global, matches: &ArgMatches<'_>) -> Result<ServerPlan, WordsFault>
-    ensures { TellsServerPlan (spec.server_plan_in (rows_of (found_of matches.now))) result }
+    ensures plan { TellsServerPlan (spec.server_plan_in (rows_of (found_of matches.now))) result }
+    ensures id_left { IfOk result (λ plan. plan.starts.ids + 1 < 2 ^ 64) }
 {
     let values = match server_values(matches) {
         Ok(values) => values,
@@ -181,6 +265,7 @@ pub(super) fn server_plan(alloc: Global, matches: &ArgMatches<'_>) -> Result<Ser
             turns: values.turns,
             log: values.log,
             idle: values.idle,
+            starts: values.starts,
         }),
         Ok(None) => Err(WordsFault::Clash),
         Err(_) => Err(WordsFault::Memory),

@@ -6,11 +6,15 @@ pub type ValueRow = (&'static str, &'static str);
 /// Values of a content format.
 const FORMAT: &str = "a number from 0 to 65535 or a name such as application/json";
 
+/// Values of `--starts`.
+const STARTS: &str =
+    "three numbers MOMENT,VERSIONS,IDS from 0 to 18446744073709551615 (IDS to 18446744073709551614)";
+
 /// Values of `--log`.
 const LEVEL: &str = "a level from 0 to 3";
 
 /// Options of `coap-server`. The minimum of `--queue` depends on `--max-sent`, so the table does not have it.
-pub const SERVER_VALUES: [ValueRow; 11] = [
+pub const SERVER_VALUES: [ValueRow; 12] = [
     ("-A", "a numeric IPv4 or IPv6 address"),
     ("-p", "a port from 1 to 65535"),
     ("-d", "0 to 1000 resources"),
@@ -22,6 +26,7 @@ pub const SERVER_VALUES: [ValueRow; 11] = [
     ("--turns", "1 to 1000000000000 turns"),
     ("--log", LEVEL),
     ("--idle", "0 to 4294967295 seconds"),
+    ("--starts", STARTS),
 ];
 
 /// Options of `coap-client`.

@@ -19,4 +19,5 @@ returns c =
     let e11 = shape_with_rule (app_of c.in_ok-command-10.command) (app_of c.in_ok-command-11.command) _ (word_option (codes "--connections")) c.in_ok-command-11.ensures e10 in
     let e12 = shape_with_rule (app_of c.in_ok-command-11.command) (app_of c.in_ok-command-12.command) _ (word_option (codes "--turns")) c.in_ok-command-12.ensures e11 in
     let e13 = shape_with_rule (app_of c.in_ok-command-12.command) (app_of c.in_ok-command-13.command) _ (word_option (codes "--log")) c.in_ok-command-13.ensures e12 in
-    IfOk-weaker c.with_word-3.result _ _ (λ done h. shape_with_rule (app_of c.in_ok-command-13.command) (app_of done) _ (word_option (codes "--idle")) h e13) c.with_word-3.ensures
+    let e14 = shape_with_rule (app_of c.in_ok-command-13.command) (app_of c.in_ok-command-14.command) _ (word_option (codes "--idle")) c.in_ok-command-14.ensures e13 in
+    IfOk-weaker c.with_word-4.result _ _ (λ done h. shape_with_rule (app_of c.in_ok-command-14.command) (app_of done) _ (word_option (codes "--starts")) h e14) c.with_word-4.ensures
