@@ -81,6 +81,7 @@ impl<'t, 'p, const N: usize> CompactBuilder<'t, 'p, N> {
         write_option(&mut self.options, self.last, number, value);
         self.last = number;
     }
+
     /// Appends an option of format uint, with the shortest value (RFC 7252 section 3.2). Its encoding has at most 9
     /// bytes.
     ///
@@ -173,6 +174,7 @@ impl<'t, 'p, const N: usize> CompactBuilder<'t, 'p, N> {
     /// # Preconditions
     ///
     /// The sink has space for these bytes.
+    #[inline(always)]
     pub fn write_front<S: Sink>(&self, out: &mut S)
         requires { length (front_spelling self.now) ≤ S.space out.old }
         ensures appended { S.contents out.new ≡ S.contents out.old ++ front_spelling self.now }
