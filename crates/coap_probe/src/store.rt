@@ -12,7 +12,9 @@
 //! An absent FORMAT is none.
 
 use arrayvec::ArrayVec;
-use coap_store::{Change, PathKey, Plan, State, Store, StoreFault, UriPath, Watch, request_path};
+use coap_store::{
+    Change, PathKey, Plan, PlannedChange, State, Store, StoreFault, UriPath, Watch, request_path,
+};
 use coap_wire::option_numbers::URI_PATH;
 use coap_wire::{MessageRef, parse};
 use probe_support::{RowLine, cut, next_number, number, read_hex};
@@ -64,6 +66,15 @@ fn word_of_change(change: &Change) -> &'static str {
     }
 }
 
+/// Returns the word for a change whose path is in the options of its request.
+fn word_of_planned(change: &PlannedChange) -> &'static str {
+    match change {
+        PlannedChange::Nothing => "-",
+        PlannedChange::Put { .. } => "Put",
+        PlannedChange::Delete { .. } => "Delete",
+    }
+}
+
 /// Returns the word for the effect on the observer.
 fn word_of_watch(watch: Watch) -> &'static str {
     match watch {
@@ -77,7 +88,7 @@ fn word_of_watch(watch: Watch) -> &'static str {
 /// the change again, as the plan gives it up.
 fn tell_plan(plan: Plan, told: &mut RowLine) {
     told.number(u64::from(plan.code().byte()));
-    told.word(word_of_change(plan.change()));
+    told.word(word_of_change(&plan.change()));
     told.word(word_of_watch(plan.watch()));
     tell_number("held", plan.hold(), told);
     if let Some(etag) = plan.etag() {
@@ -89,14 +100,14 @@ fn tell_plan(plan: Plan, told: &mut RowLine) {
     tell_location(plan.location(), told);
     tell_number("size1", plan.size1(), told);
     told.hex(plan.payload());
-    told.word(word_of_change(plan.into_change().change()));
+    told.word(word_of_planned(plan.into_change().change()));
 }
 
 /// Applies the change that a request makes, or writes `memory` if allocation fails.
 fn make(store: &mut Store, request: &MessageRef, told: &mut RowLine) {
     // The change borrows the request alone.
-    let plan = store.answer(request, 0).into_change();
-    if store.apply(plan.change()).is_err() {
+    let change = store.answer(request, 0).change();
+    if store.apply(change).is_err() {
         told.word("memory");
     }
 }

@@ -59,7 +59,7 @@ pub use Rattle.coap_store.specs.Invariant.{IsStore}
 pub use Rattle.coap_store.specs.Messages.{response_message, response_with_observe, option_at, empty_at, number_at}
 pub use Rattle.coap_store.specs.Messages.{each_at}
 pub use Rattle.coap_store.specs.Notifications.{notification_of}
-pub use Rattle.coap_store.specs.PlanViews.{change_value, path_or_root}
+pub use Rattle.coap_store.specs.PlanViews.{planned_value, path_or_root}
 pub use Rattle.coap_store.specs.Requests.{path_of}
 pub use Rattle.coap_store.specs.State.{state_of, stored_at}
 unfoldable pub use Rattle.coap_store.specs.State.{key_for, state_at}

@@ -4,7 +4,7 @@ ghost use Rattle.std.specs.Prelude.{◌≡◌, ◌<◌, ◌≤◌, ◌++◌, ◌
 ghost use Rattle.std.specs.Prelude.{slice_get, if◌then◌else◌, IfOk, IfSome, OnOk, OnErr};
 ghost use Rattle.coap_server_session.specs.Prelude.{IsAnswering, AreMarked, IsTagged, marks_after, is_open};
 ghost use Rattle.coap_server_session.specs.Prelude.{PendingEntryValue, first_due, IsReady, can_hold, link_after};
-ghost use Rattle.coap_server_session.specs.Prelude.{changed, without_hold, response_message, change_value, path_of};
+ghost use Rattle.coap_server_session.specs.Prelude.{changed, without_hold, response_message, planned_value, path_of};
 ghost use Rattle.coap_server_session.specs.Prelude.{IsChangeAt, IsPut, TakesChange, change_hash, MayObserve, asks_entry as asks};
 ghost use Rattle.coap_server_session.specs.Prelude.{is_whole as is_sent_whole, ObserverValue, answer_on, hold_on};
 ghost use Rattle.coap_server_session.specs.Prelude.{held_in, host_changed, link_sent, new_entry, notification_on};
@@ -20,7 +20,7 @@ use crate::response::{respond, respond_change};
 use crate::server_state::{ServerState, mark_at};
 use coap_conn::{Due, Link, Reply};
 use coap_store::{
-    Change, ChangePlan, Plan, State, Store, UriPath, Watch, delayed_response, refused_delay,
+    ChangePlan, Plan, PlannedChange, State, Store, UriPath, Watch, delayed_response, refused_delay,
     request_path,
 };
 use coap_wire::{Code, MessageRef, TokenRef};
@@ -129,13 +129,13 @@ fn mark_changed(observers: &mut Observers, changed: Option<u8>, host: &ServerSta
 }
 
 /// Returns the hash of the path that a change stores or deletes, or `None` if there is no change.
-fn hash_of_change(change: &Change) -> Option<u8>
-    ensures { result ≡ change_hash (change_value change.now) }
+fn hash_of_change(change: &PlannedChange) -> Option<u8>
+    ensures { result ≡ change_hash (planned_value change.now) }
 {
     match change {
-        Change::Nothing => None,
-        Change::Put { body, .. } => Some(hash_of_request(UriPath::of(body))),
-        Change::Delete { body } => Some(hash_of_request(UriPath::of(body))),
+        PlannedChange::Nothing => None,
+        PlannedChange::Put { body, .. } => Some(hash_of_request(UriPath::of(body))),
+        PlannedChange::Delete { body } => Some(hash_of_request(UriPath::of(body))),
     }
 }
 

@@ -1,12 +1,12 @@
 -- The map of the resources agrees with their list.
-use Rattle.std.proofs.Common.{◌≡◌, ℕ, zero, suc, ◌+◌, ◌<◌, Bool, true, false, List, [], ◌∷◌, ◌++◌, length, Option, Some, None, refl, sym, ap, ◌∙◌, arith}
+use Rattle.std.proofs.Common.{◌≡◌, ℕ, zero, suc, ◌<◌, Bool, true, false, List, [], ◌∷◌, ◌++◌, length, Option, Some, None, refl, sym, ap, ◌∙◌, arith}
 use Rattle.std.specs.Prelude.{position}
 use Rattle.std.specs.List.{remove}
 use Rattle.std.specs.Map.{keys_of}
 use Rattle.coap_store.specs.Prelude.{option_map, not, nat_eq, option_eq, Bor, lookup, insert_entry, set_value_at}
 use Rattle.coap_store.specs.Prelude.{if◌then◌else◌, Path, same_path, Representation, found_in, put_at, removed_at, entry_bytes}
 use Rattle.coap_store.specs.Prelude.{built_in_bytes, representation, resources_in, texts_of, Resource}
-use Rattle.coap_store.specs.Prelude.{IsFoundAt, replaced_at, resource_at, IfSome}
+use Rattle.coap_store.specs.Prelude.{IsFoundAt, replaced_at, resource_at}
 use Rattle.std.specs.Option.{is_some, option_copied}
 use Rattle.std.proofs.lemmas.Bool.{eqb-true}
 use Rattle.std.proofs.lemmas.List.{length-map}

@@ -1,7 +1,7 @@
 -- Defined by this project: the model value and the invariant of the type `Plan`, which contracts see as an answer.
 use Rattle.std.specs.Prelude.{option_map}
 use Rattle.coap_store.specs.Answer.{Answer}
-use Rattle.coap_store.specs.PlanViews.{bytes_in, IsTextOf, change_value, IsAtPath, IsToldNamed, location_in}
+use Rattle.coap_store.specs.PlanViews.{bytes_in, IsTextOf, planned_value, IsAtPath, IsToldNamed, location_in}
 use Rattle.coap_store.specs.declared.plan.Plan.TheInside.{Inside}
 
 abbrev pub plan_answer : Inside → Answer
@@ -11,11 +11,11 @@ plan_answer p = record {
     etag = option_map (λ etag. etag.items) p.etag;
     format = p.format;
     max_age = p.max_age;
-    location = location_in p.tells_location (change_value p.change);
+    location = location_in p.tells_location (planned_value p.change);
     size1 = p.size1;
     payload = bytes_in p.payload;
   };
-  change = change_value p.change;
+  change = planned_value p.change;
   watch = p.watch;
   hold = p.hold;
 }

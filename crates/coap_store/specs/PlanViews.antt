@@ -7,6 +7,8 @@ use Rattle.coap_store.specs.declared.found.Payload.{Payload}
 use Rattle.coap_store.specs.declared.found.Payload.TheVariants.{Stored, Decimal}
 use Rattle.coap_store.specs.declared.plan.Change.{Change}
 use Rattle.coap_store.specs.declared.plan.Change.TheVariants as changes
+use Rattle.coap_store.specs.declared.plan.PlannedChange.{PlannedChange}
+use Rattle.coap_store.specs.declared.plan.PlannedChange.TheVariants as planned
 
 -- The bytes, which are borrowed or computed.
 abbrev pub bytes_in : Payload → List ℕ
@@ -18,24 +20,30 @@ abbrev pub IsTextOf : Payload → List ℕ → Type 0
 IsTextOf (Stored bytes) text = Unit {0}
 IsTextOf (Decimal number) text = text ≡ decimal number
 
--- The model value of a change, whose path is in the options of the request.
+-- The model value of a change.
 abbrev pub change_value : Change → answer.Change
 change_value changes.Nothing = answer.Nothing
-change_value (changes.Put body format bytes) = answer.Put (path_told body) format bytes.now
-change_value (changes.Delete body) = answer.Delete (path_told body)
+change_value (changes.Put path format bytes) = answer.Put path format bytes.now
+change_value (changes.Delete path) = answer.Delete path
+
+-- The model value of a change, whose path is in the options of the request.
+abbrev pub planned_value : PlannedChange → answer.Change
+planned_value planned.Nothing = answer.Nothing
+planned_value (planned.Put body format bytes) = answer.Put (path_told body) format bytes.now
+planned_value (planned.Delete body) = answer.Delete (path_told body)
 
 -- A resource can have that path.
-abbrev pub IsAtPath : Change → Type 0
-IsAtPath changes.Nothing = Unit {0}
-IsAtPath (changes.Put body format bytes) = is_path (path_told body) ≡ true
-IsAtPath (changes.Delete body) = is_path (path_told body) ≡ true
+abbrev pub IsAtPath : PlannedChange → Type 0
+IsAtPath planned.Nothing = Unit {0}
+IsAtPath (planned.Put body format bytes) = is_path (path_told body) ≡ true
+IsAtPath (planned.Delete body) = is_path (path_told body) ≡ true
 
 -- With the flag, the path of a stored representation is not the root.
-abbrev pub IsToldNamed : Bool → Change → Type 0
+abbrev pub IsToldNamed : Bool → PlannedChange → Type 0
 IsToldNamed false change = Unit {0}
-IsToldNamed true changes.Nothing = Unit {0}
-IsToldNamed true (changes.Put body format bytes) = path_told body ≢ []
-IsToldNamed true (changes.Delete body) = Unit {0}
+IsToldNamed true planned.Nothing = Unit {0}
+IsToldNamed true (planned.Put body format bytes) = path_told body ≢ []
+IsToldNamed true (planned.Delete body) = Unit {0}
 
 -- The path, or the root if there is none.
 abbrev pub path_or_root : Option Path → Path

@@ -59,7 +59,7 @@ pub use Rattle.coap_store.specs.Notifications.{notification_of}
 unfoldable pub use Rattle.coap_store.specs.Notifications.{notification_at}
 pub use Rattle.coap_store.specs.OptionScan.{first_given, nothing, notes_value, all_noted, AreNotesOf, RequestOptions, match_after}
 unfoldable pub use Rattle.coap_store.specs.OptionScan.{options_after}
-pub use Rattle.coap_store.specs.PlanViews.{bytes_in, IsTextOf, change_value, IsAtPath, IsToldNamed, path_or_root}
+pub use Rattle.coap_store.specs.PlanViews.{bytes_in, IsTextOf, change_value, planned_value, IsAtPath, IsToldNamed, path_or_root}
 pub use Rattle.coap_store.specs.PlanViews.{location_in}
 pub use Rattle.coap_store.specs.Refusals.{RefusedOrMemory, first_fault, refusal_in}
 unfoldable pub use Rattle.coap_store.specs.Refusals.{put_refusal, remove_refusal}

@@ -13,7 +13,7 @@ ghost use Rattle.coap_wire.specs.OptionNumbers as numbers;
 ghost use Rattle.coap_path.specs.declared.resource_kind.ResourceKind.TheVariants.{Dynamic};
 
 use crate::found::{Payload, RepresentationRef};
-use crate::plan::{Change, Plan, Watch};
+use crate::plan::{Plan, PlannedChange, Watch};
 use crate::request::ParsedRequest;
 use crate::request_options::RequestOptions;
 use crate::store::Store;
@@ -393,7 +393,7 @@ fn stored<'s, 'r>(asked: &ParsedRequest<'_, 'r>, is_new: bool, plan: &mut Plan<'
 {
     let tells_location = is_new && asked.code() == Code::POST;
     let code = if is_new { Code::CREATED } else { Code::CHANGED };
-    let change = Change::Put {
+    let change = PlannedChange::Put {
         body: asked.body(),
         format: asked.content_format(),
         bytes: asked.payload(),
@@ -410,6 +410,6 @@ fn delete<'s, 'r>(asked: &ParsedRequest<'_, 'r>, target: RequestTarget, plan: &m
     if !target.is_path || target.state.is_none() {
         return plan.only(Code::DELETED);
     }
-    let change = Change::Delete { body: asked.body() };
+    let change = PlannedChange::Delete { body: asked.body() };
     plan.change_by(Code::DELETED, false, change);
 }

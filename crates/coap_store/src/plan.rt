@@ -1,20 +1,60 @@
 //! The plan for a request.
 
 ghost use Rattle.std.specs.Prelude.{◌≡◌, ◌≢◌, ◌≤◌, true, [], Some, IfSome, length, option_map};
-ghost use Rattle.coap_store.specs.Prelude.{bytes_in, change_value, says, only, no_answer, without_hold};
+ghost use Rattle.coap_store.specs.Prelude.{bytes_in, change_value, planned_value, says, only, no_answer, without_hold};
 ghost use Rattle.coap_store.specs.Prelude.{changes as is_change, is_path, IsAtPath, IsToldNamed};
 ghost use Rattle.coap_store.specs.Prelude.{path_or_root, location_in};
 ghost use Rattle.coap_wire.specs.Codes as code;
 
 use crate::found::{Payload, PayloadText, RepresentationRef};
+use crate::request::path_in;
 use arrayvec::ArrayVec;
-use coap_path::UriPath;
+use coap_path::{PathKey, UriPath};
 use coap_wire::{Body, Code};
 use std::marker::Model;
 
-/// Change that a request makes. Its path is in the options of the request, so that no key is moved with it.
+/// Change that a request makes.
 #[derive(Drop)]
 pub enum Change<'r> {
+    /// No change.
+    Nothing,
+    /// Representation to be stored at a path, in place of the present one.
+    Put {
+        /// Path.
+        path: PathKey,
+        /// Content-Format, if there is one.
+        format: Option<u16>,
+        /// Bytes, which are borrowed from the request.
+        bytes: &'r [u8],
+    },
+    /// Path of a resource to be removed.
+    Delete(PathKey),
+}
+
+impl<'r> Change<'r> {
+    /// Returns a copy, without allocation.
+    pub fn duplicate(&self) -> Change<'r>
+        ensures { change_value result ≡ change_value self.now }
+    {
+        match self {
+            Change::Nothing => Change::Nothing,
+            Change::Put {
+                path,
+                format,
+                bytes,
+            } => Change::Put {
+                path: path.duplicate(),
+                format: *format,
+                bytes,
+            },
+            Change::Delete(path) => Change::Delete(path.duplicate()),
+        }
+    }
+}
+
+/// Change that a request makes, with the request's options, which have its path. So no key is moved with it.
+#[derive(Drop)]
+pub enum PlannedChange<'r> {
     /// No change.
     Nothing,
     /// Representation to be stored at the path, in place of the present one.
@@ -58,7 +98,7 @@ pub struct Plan<'s, 'r> {
     payload: Payload<'s>,
     /// Text of the payload, if that is a number.
     text: PayloadText,
-    change: Change<'r>,
+    change: PlannedChange<'r>,
     max_age: Option<u32>,
     size1: Option<u32>,
     /// Delay of the response in seconds, if there is one.
@@ -96,7 +136,7 @@ impl<'s, 'r> Plan<'s, 'r> {
             size1: None,
             payload: Payload::Stored(&[]),
             text: ArrayVec::new(),
-            change: Change::Nothing,
+            change: PlannedChange::Nothing,
             watch: Watch::Nothing,
             hold: None,
         }
@@ -170,13 +210,13 @@ impl<'s, 'r> Plan<'s, 'r> {
 
     /// Sets a code and a change in a new plan. If `tells_location` is `true`, the response has the path of a stored
     /// representation.
-    pub(crate) fn change_by(&mut self, code: Code, tells_location: bool, change: Change<'r>)
+    pub(crate) fn change_by(&mut self, code: Code, tells_location: bool, change: PlannedChange<'r>)
         requires path { IsAtPath change }
         requires named { IsToldNamed tells_location change }
         requires fresh { self.old ≡ no_answer }
         ensures { self.new
-            ≡ record (says (record (only code) { location = location_in tells_location (change_value change.entry) }))
-            { change = change_value change.entry } }
+            ≡ record (says (record (only code) { location = location_in tells_location (planned_value change.entry) }))
+            { change = planned_value change.entry } }
     {
         self.code = code;
         self.tells_location = tells_location;
@@ -237,7 +277,7 @@ impl<'s, 'r> Plan<'s, 'r> {
             return None;
         }
         match &self.change {
-            Change::Put { body, .. } => Some(UriPath::of(body)),
+            PlannedChange::Put { body, .. } => Some(UriPath::of(body)),
             _ => None,
         }
     }
@@ -256,11 +296,23 @@ impl<'s, 'r> Plan<'s, 'r> {
         self.payload.bytes(&self.text)
     }
 
-    /// Returns the change that the request makes.
-    pub fn change(&self) -> &Change<'r>
-        ensures { change_value result.now ≡ self.now.change }
+    /// Returns the change that the request makes. Its key is made by this call, not with the plan.
+    pub fn change(&self) -> Change<'r>
+        ensures { change_value result ≡ self.now.change }
     {
-        &self.change
+        match &self.change {
+            PlannedChange::Nothing => Change::Nothing,
+            PlannedChange::Put {
+                body,
+                format,
+                bytes,
+            } => Change::Put {
+                path: path_in(body),
+                format: *format,
+                bytes,
+            },
+            PlannedChange::Delete { body } => Change::Delete(path_in(body)),
+        }
     }
 
     /// Returns `true` if the request makes a change.
@@ -268,7 +320,7 @@ impl<'s, 'r> Plan<'s, 'r> {
         ensures { result ≡ is_change self.now.change }
     {
         match &self.change {
-            Change::Nothing => false,
+            PlannedChange::Nothing => false,
             _ => true,
         }
     }
@@ -320,7 +372,7 @@ impl<'s, 'r> Plan<'s, 'r> {
 /// Plan for a request that makes a change: the code of the response, its path and the change. Contracts see an `Answer`.
 #[derive(Drop)]
 pub struct ChangePlan<'r> {
-    change: Change<'r>,
+    change: PlannedChange<'r>,
     code: Code,
     /// `true` if the response has Location-Path options with the path of the change.
     tells_location: bool,
@@ -357,14 +409,14 @@ impl<'r> ChangePlan<'r> {
             return None;
         }
         match &self.change {
-            Change::Put { body, .. } => Some(UriPath::of(body)),
+            PlannedChange::Put { body, .. } => Some(UriPath::of(body)),
             _ => None,
         }
     }
 
     /// Returns the change that the request makes.
-    pub fn change(&self) -> &Change<'r>
-        ensures { change_value result.now ≡ self.now.change }
+    pub fn change(&self) -> &PlannedChange<'r>
+        ensures { planned_value result.now ≡ self.now.change }
     {
         &self.change
     }

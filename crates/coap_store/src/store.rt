@@ -4,11 +4,11 @@ ghost use Rattle.std.specs.Prelude.{◌≡◌, ◌<◌, IfSome, ◌≤◌, [], I
 ghost use Rattle.std.specs.Prelude.{option_map, decimal};
 ghost use Rattle.coap_store.specs.Prelude.{LARGEST_MESSAGE, changed, greatest_version, found_in, put_in, removed_in};
 ghost use Rattle.coap_store.specs.Prelude.{listing as listing_of, representation, TakesChange, TakesPut, IsPut};
-ghost use Rattle.coap_store.specs.Prelude.{IsStore, change_value, bytes_in, IsFoundAt, IsChangeAt, path_told};
+ghost use Rattle.coap_store.specs.Prelude.{IsStore, change_value, planned_value, bytes_in, IsFoundAt, IsChangeAt, path_told};
 
 use crate::catalogue::Catalogue;
 use crate::found::Payload;
-use crate::plan::Change;
+use crate::plan::{Change, PlannedChange};
 use crate::request::path_in;
 use crate::resource::Resource;
 use coap_path::PathKey;
@@ -124,14 +124,24 @@ impl Store {
     /// # Preconditions
     ///
     /// - The store accepts the change. This is the case if `answer` returned it and the store has not changed since.
-    pub fn apply(&mut self, change: &Change) -> Result<(), AllocError>
-        requires { TakesChange self.old (change_value change.now) }
-        ensures ok { OnOk result (self.new ≡ changed self.old (change_value change.now)) }
+    pub fn apply(&mut self, change: Change) -> Result<(), AllocError>
+        requires { TakesChange self.old (change_value change) }
+        ensures ok { OnOk result (self.new ≡ changed self.old (change_value change.entry)) }
         ensures err { OnErr result (self.new ≡ self.old) }
-        ensures put { OnErr result (IsPut (change_value change.now)) }
+        ensures put { OnErr result (IsPut (change_value change.entry)) }
         ensures store { IsStore self.new }
     {
-        self.apply_at(change, None)
+        match change {
+            Change::Nothing => {}
+            Change::Put {
+                path,
+                format,
+                bytes,
+            } => self.store(path, format, bytes)?,
+            Change::Delete(path) => self.delete(&path),
+        }
+        self.is_kept();
+        Ok(())
     }
 
     /// Makes a change that `fill_plan` returned with this index. Does the same as `apply`, and builds a key only if there
@@ -145,18 +155,22 @@ impl Store {
     ///
     /// - The store accepts the change, and the index is that of its resource. This is the case if `fill_plan` returned
     ///   both and the store has not changed since.
-    pub fn apply_at(&mut self, change: &Change, index: Option<usize>) -> Result<(), AllocError>
-        requires taken { TakesChange self.old (change_value change.now) }
-        requires index { IfSome index (λ index. IsChangeAt self.old (change_value change.now) index) }
-        ensures ok { OnOk result (self.new ≡ changed self.old (change_value change.now)) }
+    pub fn apply_at(
+        &mut self,
+        change: &PlannedChange,
+        index: Option<usize>,
+    ) -> Result<(), AllocError>
+        requires taken { TakesChange self.old (planned_value change.now) }
+        requires index { IfSome index (λ index. IsChangeAt self.old (planned_value change.now) index) }
+        ensures ok { OnOk result (self.new ≡ changed self.old (planned_value change.now)) }
         ensures err { OnErr result (self.new ≡ self.old) }
-        ensures put { OnErr result (IsPut (change_value change.now)) }
+        ensures put { OnErr result (IsPut (planned_value change.now)) }
         ensures store { IsStore self.new }
     {
         self.is_kept();
         match change {
-            Change::Nothing => {}
-            Change::Put {
+            PlannedChange::Nothing => {}
+            PlannedChange::Put {
                 body,
                 format,
                 bytes,
@@ -164,7 +178,7 @@ impl Store {
                 Some(index) => self.replace(body, index, *format, bytes)?,
                 None => self.store(path_in(body), *format, bytes)?,
             },
-            Change::Delete { body } => match index {
+            PlannedChange::Delete { body } => match index {
                 Some(index) => self.delete_at(body, index),
                 None => self.delete(&path_in(body)),
             },

@@ -1,4 +1,4 @@
-use Rattle.std.proofs.Common.{◌+◌, length, get_or, [], sym, ap, ◌∙◌, arith}
+use Rattle.std.proofs.Common.{length, get_or, [], sym, ap, ◌∙◌, arith}
 use Rattle.coap_store.specs.Prelude.{joined, resources_in, texts_of, end_bytes}
 use Rattle.coap_store.proofs.CatalogueLemmas.{equal_format}
 use Rattle.coap_store.proofs.ListingLemmas.{entry_of, text_at, texts_kept, texts_changed, texts_joined, texts_count, end_within}

@@ -1,7 +1,7 @@
 use Rattle.std.proofs.Common.{sym, ap, ◌∙◌}
 use Rattle.std.proofs.lemmas.Result.{on_ok_weaker}
 use Rattle.coap_store.specs.Prelude.{put_at, resources_in}
-use Rattle.coap_store.proofs.CatalogueLemmas.{absent_path, found_within, set_list}
+use Rattle.coap_store.proofs.CatalogueLemmas.{absent_path, set_list}
 use Rattle.coap_store.proofs.catalogue.Catalogue.put.Goals as goal
 
 pub create-requires-clause-new : goal.create-requires-clause-new

@@ -1,4 +1,4 @@
-use Rattle.std.proofs.Common.{◌+◌, length, sym, ap, ◌∙◌, arith}
+use Rattle.std.proofs.Common.{length, sym, ap, ◌∙◌, arith}
 use Rattle.std.specs.List.{remove}
 use Rattle.coap_store.specs.Prelude.{resources_in, texts_of}
 use Rattle.coap_store.proofs.CatalogueLemmas.{count_resources, removed_index}

@@ -1,4 +1,4 @@
-use Rattle.std.proofs.Common.{length, sym, ap, ◌∙◌, arith}
+use Rattle.std.proofs.Common.{length, ap, ◌∙◌, arith}
 use Rattle.std.proofs.lemmas.Result.{on_ok_weaker}
 use Rattle.coap_store.specs.Prelude.{replaced_at, resources_in}
 use Rattle.coap_store.proofs.CatalogueLemmas.{count_resources, replaced_list}

@@ -1,4 +1,4 @@
-use Rattle.std.proofs.Common.{subst, sym, ap, ◌∙◌, ◌+◌, ◌≡◌}
+use Rattle.std.proofs.Common.{subst, sym, ◌∙◌, ◌+◌, ◌≡◌}
 use Rattle.coap_store.specs.Prelude.{store_value, TakesPut, IsStore, IsFoundAt, StoreValue, put_at, path_told}
 use Rattle.coap_store.proofs.CatalogueLemmas.{place_within, put_by_index}
 use Rattle.coap_store.proofs.StoreLemmas.{store_put, listing_short}
