@@ -1,0 +1,5 @@
+mod WorkedLines
+pub mod EscapeLemmas
+pub mod WordLaws
+pub mod LineLaws
+pub mod WriteLemmas

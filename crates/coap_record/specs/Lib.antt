@@ -1,0 +1,4 @@
+pub mod RecordLines
+pub mod SaidEvents
+pub mod Writes
+pub mod Prelude
