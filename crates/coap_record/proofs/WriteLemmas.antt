@@ -1,18 +1,12 @@
 -- Writes of the pieces of a text, one after another.
-use Rattle.std.proofs.Common.{◌≡◌, ℕ, ◌+◌, ◌*◌, ◌<◌, ◌≤◌, true, false, ◌==◌, List, [], ◌∷◌, ◌++◌, length, get_or, take, drop, take-append-drop, take_all, map, Option, Result, Ok, Err, refl, sym, ap, ◌∙◌, subst, append_assoc, append-nil, arith, is_err, eqb-true, true≢false, OnOk, OnErr, Bor, codes, decimal}
+use Rattle.std.proofs.Common.{◌≡◌, ℕ, ◌+◌, ◌*◌, ◌<◌, ◌≤◌, true, false, ◌==◌, List, [], ◌∷◌, ◌++◌, length, get_or, take, drop, take-append-drop, take-take, take_all, length-drop, length-take, map, Option, Some, None, Result, Ok, Err, refl, sym, ap, ◌∙◌, subst, append_assoc, append-nil, arith, is_err, eqb-true, true≢false, OnOk, OnErr, Bor, codes, decimal}
 use Rattle.std.proofs.lemmas.List.{drop_more, drop_all, take-append-le}
 use Rattle.hex.proofs.HexLemmas.{length-encode_with}
 use Rattle.coap_io.proofs.streams.DeviceLemmas.{bytes_none, bytes_then}
 use Rattle.coap_io.proofs.streams.WriteLemmas.{part_before, part_after}
-use Rattle.coap_record.specs.Prelude.{encode_with, encode_lower, lower_digits, concat, AddsBytes, WritesPart}
-use Rattle.coap_record.specs.Prelude.{WritesText, Path, path_word, path_bytes, flat_map, encoded_byte, slash, took_line}
+use Rattle.coap_record.specs.Prelude.{encode_with, encode_lower, lower_digits, append_known, concat, AddsBytes, WritesPart}
+use Rattle.coap_record.specs.Prelude.{WritesText, WritesUpTo, QueueValue, room_in, Path, path_word, path_bytes, flat_map, encoded_byte, slash, took_line}
 use Rattle.coap_record.specs.Prelude.{stored_line, format_word, bytes_text}
-
--- A prefix of a text was written between the records x and y, and `left` is the rest of the text.
-pub record WritesUpTo (text left : List ℕ) (x y : Option (List ℕ)) : Type 0 where
-  pub front : List ℕ
-  pub all : text ≡ front ++ left
-  pub written : AddsBytes x y front
 
 pub nothing_yet : (text : List ℕ) (x : Option (List ℕ)) → WritesUpTo text text x x
 nothing_yet text x = record { front = []; all = refl; written = bytes_none x }
@@ -142,3 +136,26 @@ after_first a b c d e = simp append_assoc
 
 pub after_second : (a b c d : List ℕ) → ((a ++ b) ++ c) ++ d ≡ a ++ (b ++ (c ++ d))
 after_second a b c d = simp append_assoc
+
+-- ---- buffers
+
+-- Bytes of a queue that were passed on leave the bytes written, followed by those in the queue, as they were.
+pub buffer_goes_on : (x y : Option (List ℕ)) (queued left more all : List ℕ) → WritesUpTo queued left x y → all ≡ left ++ more → AddsBytes (append_known x queued) (append_known y all) more
+buffer_goes_on None y queued left more all moved is = tt
+buffer_goes_on (Some w) y queued left more all moved is =
+    ap (λ known. append_known known all) moved.written
+    ∙ ap (λ bytes. Some bytes) (append_assoc w moved.front all ∙ ap (λ t. w ++ (moved.front ++ t)) is
+      ∙ ap (λ t. w ++ t) (sym (append_assoc moved.front left more)) ∙ ap (λ t. w ++ (t ++ more)) (sym moved.all) ∙ sym (append_assoc w queued more))
+
+-- The first bytes of a part of a queue, and the other bytes of the queue.
+pub part_of_queue : (waiting whole part : List ℕ) (count : ℕ) → whole ≡ waiting → part ≡ take (length part) whole → count ≤ length part → waiting ≡ take count part ++ drop count waiting
+part_of_queue waiting whole part count same front within =
+    let first = ap (take count) (front ∙ ap (take (length part)) same) ∙ take-take count (length part) waiting within in
+    sym (take-append-drop count waiting) ∙ ap (λ t. t ++ drop count waiting) (sym first)
+
+pub part_fits : (whole part waiting : List ℕ) (count : ℕ) → whole ≡ waiting → part ≡ take (length part) whole → count ≤ length part → count ≤ length waiting
+part_fits whole part waiting count same front within = omega (arith, ap length front, ap length same, length-take (length part) whole)
+
+-- The memory of a queue stays when its first bytes are removed.
+pub room_stays : (before after : QueueValue) (count : ℕ) → after ≡ record before { waiting = drop count before.waiting } → count ≤ length before.waiting → length before.waiting ≤ before.bytes → room_in after ≡ room_in before
+room_stays before after count is within fits = rw is (omega (arith, length-drop count before.waiting, within, fits))

@@ -1,6 +1,7 @@
 -- Names for the contracts and proofs of this crate, re-exported from one file. Declares nothing.
 
 -- ---- std and the kit's crates
+pub use Rattle.std.specs.Io.KnownBytes.{append_known}
 pub use Rattle.std.specs.List.{concat, list_all, flat_map, slice_split}
 pub use Rattle.std.specs.Char.{is_ascii_digit}
 pub use Rattle.std.specs.Str.{all_ascii_digits}
@@ -8,6 +9,10 @@ pub use Rattle.std.specs.Str.Parse.{digits_value}
 unfoldable pub use Rattle.hex.specs.Hex.{encode_with}
 pub use Rattle.hex.specs.Hex.{encode_lower, decode_of, lower_digits}
 unfoldable pub use Rattle.percent_encoding.specs.Percent.{percent_decode, percent_encode}
+-- ---- coap_wire
+pub use Rattle.coap_wire.specs.declared.sizes.TheConstants.{BASE_MESSAGE_SIZE, LARGEST_QUEUE}
+-- ---- coap_conn
+pub use Rattle.coap_conn.specs.QueueValue.{QueueValue, IsNextPart, free_of}
 -- ---- coap_io
 pub use Rattle.coap_io.specs.streams.Device.{AddsBytes, WritesPart}
 -- ---- coap_path
@@ -39,4 +44,4 @@ pub use Rattle.coap_record.specs.RecordLines.{format_word, drain_line, stored_li
 unfoldable pub use Rattle.coap_record.specs.RecordLines.{path_word, took_line, line_of, lines_of}
 unfoldable pub use Rattle.coap_record.specs.SaidEvents.{events_said, all_events_said, IsInRange}
 pub use Rattle.coap_record.specs.SaidEvents.{IsNumber, AreBytes, IsPathOfBytes, IsFormat}
-pub use Rattle.coap_record.specs.Writes.{WritesText}
+pub use Rattle.coap_record.specs.Writes.{WritesText, WritesUpTo, room_in}

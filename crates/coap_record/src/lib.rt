@@ -10,8 +10,12 @@
 //! This crate reads no script and runs no server: `coap_script` and `coap_server_engine` do. Continue with `lines.rt`.
 #![tactic(auto)]
 
+mod buffered;
 pub mod laws;
 mod lines;
 mod pieces;
+mod ranges;
 
+pub use buffered::BufferedOutlet;
 pub use lines::{write_call, write_opened};
+pub use ranges::read_range;

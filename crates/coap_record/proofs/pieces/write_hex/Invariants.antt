@@ -1,7 +1,7 @@
 -- The digits of the bytes before those left were written.
 use Rattle.std.proofs.Common.{◌≡◌, false, length}
 use Rattle.coap_record.specs.Prelude.{encode_lower}
-use Rattle.coap_record.proofs.WriteLemmas.{WritesUpTo}
+use Rattle.coap_record.specs.Prelude.{WritesUpTo}
 use Rattle.coap_record.proofs.pieces.write_hex.Given as goal
 
 abbrev pub invariant-loop-left : goal.invariant-loop-left

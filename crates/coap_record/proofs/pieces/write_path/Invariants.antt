@@ -1,7 +1,7 @@
 -- The segments before those left were written.
 use Rattle.std.proofs.Common.{◌≡◌, false}
 use Rattle.coap_record.specs.Prelude.{path_word, path_bytes}
-use Rattle.coap_record.proofs.WriteLemmas.{WritesUpTo}
+use Rattle.coap_record.specs.Prelude.{WritesUpTo}
 use Rattle.coap_record.proofs.pieces.write_path.Given as goal
 
 abbrev pub invariant-loop-segment : goal.invariant-loop-segment

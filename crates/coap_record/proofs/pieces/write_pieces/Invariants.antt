@@ -1,7 +1,7 @@
 -- The pieces before the next one were written.
 use Rattle.std.proofs.Common.{◌≡◌, false, map, drop}
 use Rattle.coap_record.specs.Prelude.{concat}
-use Rattle.coap_record.proofs.WriteLemmas.{WritesUpTo}
+use Rattle.coap_record.specs.Prelude.{WritesUpTo}
 use Rattle.coap_record.proofs.pieces.write_pieces.Given as goal
 
 abbrev pub invariant-loop-piece : goal.invariant-loop-piece

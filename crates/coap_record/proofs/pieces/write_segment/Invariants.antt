@@ -2,7 +2,7 @@
 use Rattle.std.proofs.Common.{◌≡◌, false, ◌∷◌}
 use Rattle.percent_encoding.specs.Iter.{encoded_text}
 use Rattle.coap_record.specs.Prelude.{flat_map, encoded_byte, slash}
-use Rattle.coap_record.proofs.WriteLemmas.{WritesUpTo}
+use Rattle.coap_record.specs.Prelude.{WritesUpTo}
 use Rattle.coap_record.proofs.pieces.write_segment.Given as goal
 
 abbrev pub invariant-loop-piece : goal.invariant-loop-piece
