@@ -3,3 +3,4 @@ pub mod EscapeLemmas
 pub mod WordLaws
 pub mod LineLaws
 pub mod WriteLemmas
+pub mod RecordLemmas

@@ -45,3 +45,4 @@ unfoldable pub use Rattle.coap_record.specs.RecordLines.{path_word, took_line, l
 unfoldable pub use Rattle.coap_record.specs.SaidEvents.{events_said, all_events_said, IsInRange}
 pub use Rattle.coap_record.specs.SaidEvents.{IsNumber, AreBytes, IsPathOfBytes, IsFormat}
 pub use Rattle.coap_record.specs.Writes.{WritesText, WritesUpTo, room_in}
+pub use Rattle.coap_record.specs.Records.{IsRecordOf}

@@ -15,7 +15,9 @@ pub mod laws;
 mod lines;
 mod pieces;
 mod ranges;
+mod recorder;
 
 pub use buffered::BufferedOutlet;
 pub use lines::{write_call, write_opened};
 pub use ranges::read_range;
+pub use recorder::Recorder;
