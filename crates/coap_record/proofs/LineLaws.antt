@@ -1,6 +1,6 @@
 -- The script reader reads the line of a call back as the event of the call.
-use Rattle.std.proofs.Common.{◌≡◌, ℕ, ◌<◌, ◌≤◌, Bool, true, false, ◌&&◌, ◌==◌, List, [], ◌∷◌, ◌++◌, Option, Some, None, Result, Ok, Err, refl, sym, ap, ◌∙◌, subst, arith, nat_le, nat_lt, decimal, codes, All, append_assoc, append-nil}
-use Rattle.std.proofs.lemmas.Bool.{cond-true, cond-false, and_parts}
+use Rattle.std.proofs.Common.{◌≡◌, ℕ, Bool, true, false, ◌&&◌, ◌==◌, List, [], ◌∷◌, ◌++◌, Option, Some, Ok, refl, sym, ap, ◌∙◌, arith, nat_le, nat_lt, decimal, codes, All, append_assoc, append-nil}
+use Rattle.std.proofs.lemmas.Bool.{and_parts}
 use Rattle.std.proofs.lemmas.Bool.Decides.{nat_tests}
 use Rattle.std.proofs.lemmas.List.Elements.{All-head, All-tail}
 use Rattle.std.proofs.lemmas.List.Splits.{slice_split_none, slice_split_at}
@@ -10,7 +10,7 @@ use Rattle.coap_model.specs.world.Events as call
 use Rattle.coap_record.specs.Prelude.{list_all, encode_lower, ScriptEventValue, event_of, event_alone, event_with_one}
 use Rattle.coap_record.specs.Prelude.{event_with_two, in_event, drain_event, number_event, put_event, remove_event}
 use Rattle.coap_record.specs.Prelude.{bytes_text, word_line, script_of, said_by_line, said_by_parts, event_in, events_in}
-use Rattle.coap_record.specs.Prelude.{says_nothing, newline, space, words_of, parts, decimal_value, AcceptedCall, Path}
+use Rattle.coap_record.specs.Prelude.{says_nothing, newline, space, words_of, AcceptedCall, Path}
 use Rattle.coap_record.specs.Prelude.{path_word, format_word, took_line, drain_line, stored_line, removed_line, announced_line}
 use Rattle.coap_record.specs.Prelude.{line_of, lines_of, events_said, all_events_said, IsInRange, IsNumber, AreBytes}
 use Rattle.coap_record.specs.Prelude.{IsPathOfBytes, IsFormat}

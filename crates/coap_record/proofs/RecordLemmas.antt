@@ -1,5 +1,5 @@
 -- The text of a record, call by call.
-use Rattle.std.proofs.Common.{◌≡◌, ℕ, Bool, true, false, List, [], ◌∷◌, ◌++◌, Option, Some, None, Result, Ok, Err, refl, sym, ap, ◌∙◌, subst, append_assoc, append-nil, is_err, true≢false}
+use Rattle.std.proofs.Common.{◌≡◌, ℕ, Bool, true, false, List, [], ◌∷◌, ◌++◌, Option, Some, None, Result, Ok, Err, sym, ap, ◌∙◌, append_assoc, append-nil, is_err, true≢false}
 use Rattle.coap_record.specs.Prelude.{append_known, AcceptedCall, line_of, lines_of, IsRecordOf, WritesText, WritesUpTo}
 use Rattle.coap_record.proofs.WriteLemmas.{buffer_goes_on}
 

@@ -1,5 +1,5 @@
 -- The words of a record's lines, and the values that the script reader gives to them.
-use Rattle.std.proofs.Common.{◌≡◌, ℕ, zero, suc, ◌+◌, ◌-◌, ◌*◌, ◌/◌, ◌%◌, ◌^◌, ◌<◌, ◌≤◌, Bool, true, false, not, ◌&&◌, ◌==◌, cond, List, [], ◌∷◌, ◌++◌, length, get_or, map, Option, Some, None, refl, sym, ap, ◌∙◌, subst, arith, nat_le, nat_lt, decimal, codes, All, length-append, append-nil, true≢false, lt-ltb, le-leb}
+use Rattle.std.proofs.Common.{◌≡◌, ℕ, zero, suc, ◌<◌, ◌≤◌, Bool, true, false, not, ◌&&◌, ◌==◌, List, [], ◌∷◌, ◌++◌, length, get_or, map, Option, Some, None, refl, sym, ap, ◌∙◌, arith, nat_le, nat_lt, decimal, All, length-append, append-nil, true≢false, le-leb}
 use Rattle.std.proofs.lemmas.Bool.{agree_below_at, and_from, and_parts, cond-true}
 use Rattle.std.proofs.lemmas.Bool.Decides.{nat_tests}
 use Rattle.std.proofs.lemmas.Fmt.{digits_decimal, decimal_nonempty, length-decimal-le, decimal_is_IsNumeral}
@@ -13,10 +13,10 @@ use Rattle.coap_record.specs.declared.pieces.TheConstants.{ESCAPED}
 use Rattle.coap_record.proofs.EscapeLemmas.{segment_is}
 use Rattle.coap_text.proofs.WordLemmas.{hex_of_some}
 use Rattle.coap_script.proofs.scripting.WordLemmas.{segments_of_some, path_read}
-use Rattle.coap_record.specs.Prelude.{list_all, flat_map, slice_split, is_ascii_digit, all_ascii_digits, digits_value}
-use Rattle.coap_record.specs.Prelude.{encode_with, encode_lower, decode_of, lower_digits, percent_decode, percent_encode}
+use Rattle.coap_record.specs.Prelude.{list_all, flat_map, is_ascii_digit, all_ascii_digits}
+use Rattle.coap_record.specs.Prelude.{encode_with, encode_lower, lower_digits, percent_decode}
 use Rattle.coap_record.specs.Prelude.{Path, is_path, encoded_byte, path_bytes, key_for, is_hyphen, parts, decimal_value}
-use Rattle.coap_record.specs.Prelude.{hex_value, bytes_text, slash, space, format_value, path_value, payload_value}
+use Rattle.coap_record.specs.Prelude.{hex_value, bytes_text, slash, format_value, path_value, payload_value}
 use Rattle.coap_record.specs.Prelude.{segments_of, path_word, format_word, IsNumber, AreBytes, IsFormat}
 
 -- ---- words

@@ -1,5 +1,5 @@
 -- Worked examples: calls and their lines.
-use Rattle.std.proofs.Common.{[], ◌≡◌, ℕ, List, ◌∷◌, ◌++◌, map, Some, None, refl, codes}
+use Rattle.std.proofs.Common.{[], ◌≡◌, ℕ, List, ◌∷◌, map, Some, None, refl, codes}
 use Rattle.std.specs.Fmt.{digits}
 use Rattle.coap_record.specs.Prelude.{encode_with, encoded_byte, path_bytes, AcceptedCall, path_word, took_line, line_of, lines_of}
 use Rattle.coap_model.specs.world.Events as call

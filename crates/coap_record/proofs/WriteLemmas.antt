@@ -145,7 +145,7 @@ buffer_goes_on None y queued left more all moved is = tt
 buffer_goes_on (Some w) y queued left more all moved is =
     ap (λ known. append_known known all) moved.written
     ∙ ap (λ bytes. Some bytes) (append_assoc w moved.front all ∙ ap (λ t. w ++ (moved.front ++ t)) is
-      ∙ ap (λ t. w ++ t) (sym (append_assoc moved.front left more)) ∙ ap (λ t. w ++ (t ++ more)) (sym moved.all) ∙ sym (append_assoc w queued more))
+    ∙ ap (λ t. w ++ t) (sym (append_assoc moved.front left more)) ∙ ap (λ t. w ++ (t ++ more)) (sym moved.all) ∙ sym (append_assoc w queued more))
 
 -- The first bytes of a part of a queue, and the other bytes of the queue.
 pub part_of_queue : (waiting whole part : List ℕ) (count : ℕ) → whole ≡ waiting → part ≡ take (length part) whole → count ≤ length part → waiting ≡ take count part ++ drop count waiting

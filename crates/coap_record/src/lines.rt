@@ -45,7 +45,10 @@ fn write_drain<O: Outlet>(outlet: &mut O, id: ConnId, count: u64) -> Result<(), 
 {
     let id = decimal_digits(id);
     let count = decimal_digits(count);
-    write_pieces(outlet, &[b"drain ", id.as_slice(), b" ", count.as_slice(), b"\n"])
+    write_pieces(
+        outlet,
+        &[b"drain ", id.as_slice(), b" ", count.as_slice(), b"\n"],
+    )
 }
 
 /// Returns the word of a Content-Format, a hyphen for none.
@@ -113,7 +116,10 @@ fn write_announced<O: Outlet>(outlet: &mut O, id: ConnId, size: u32) -> Result<(
 {
     let id = decimal_digits(id);
     let size = decimal_digits(u64::from(size));
-    write_pieces(outlet, &[b"# announced ", id.as_slice(), b" ", size.as_slice(), b"\n"])
+    write_pieces(
+        outlet,
+        &[b"# announced ", id.as_slice(), b" ", size.as_slice(), b"\n"],
+    )
 }
 
 /// Writes the line of a call of `open`, `open`. The line does not name the number of the connection: a script opens the

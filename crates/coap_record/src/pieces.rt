@@ -25,10 +25,7 @@ const ESCAPED: AsciiSet = ascii_set!(
 /// # Errors
 ///
 /// - `WriteFailed`: a write failed. Only a prefix of the bytes was written.
-pub(crate) fn write_pieces<O: Outlet>(
-    outlet: &mut O,
-    pieces: &[&[u8]],
-) -> Result<(), WriteFailed>
+pub(crate) fn write_pieces<O: Outlet>(outlet: &mut O, pieces: &[&[u8]]) -> Result<(), WriteFailed>
     requires { O.is_failed outlet.old ≡ false }
     ensures text { WritesText (O.written outlet.old) (O.written outlet.new) (concat (map (λ p. p.now) pieces.now))
         result }

@@ -1,4 +1,4 @@
-use Rattle.std.proofs.Common.{ap, ◌∙◌}
+use Rattle.std.proofs.Common.{◌∙◌}
 use Rattle.coap_io.proofs.streams.DeviceLemmas.{not_failed_write}
 use Rattle.coap_record.proofs.WriteLemmas.{piece_written, part_of_queue, part_fits, room_stays}
 use Rattle.coap_record.proofs.buffered.write_queue.Goals as goal

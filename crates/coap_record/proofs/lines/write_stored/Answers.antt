@@ -27,7 +27,7 @@ returns-in_err-write_payload-clause-text g c =
     fault_then _ _ _ _ (bytes_text c.args.bytes.now) (codes "\n") _ _ c.from_residual-in_err-write_payload.ensures.0
     (rw (c.as_slice.ensures.value, c.format_word-format.ensures) (stored_parts c.args.path.now c.args.format c.args.bytes.now))
     (bytes_then _ _ _ (codes "put " ++ path_word c.args.path.now) _
-      (bytes_then _ _ _ (codes "put ") (path_word c.args.path.now) c.in_ok-write_all.ensures.ok c.in_ok-write_path.ensures.text) c.in_ok-write_pieces.ensures.text)
+    (bytes_then _ _ _ (codes "put ") (path_word c.args.path.now) c.in_ok-write_all.ensures.ok c.in_ok-write_path.ensures.text) c.in_ok-write_pieces.ensures.text)
     c.in_err-write_payload.ensures.text
 
 pub returns-clause-text : goal.returns-clause-text
@@ -35,7 +35,7 @@ returns-clause-text g c =
     text_then _ _ _ _ (codes "\n") _ c.write_all-2.result
     (rw (c.as_slice.ensures.value, c.format_word-format.ensures) (stored_parts c.args.path.now c.args.format c.args.bytes.now))
     (bytes_then _ _ _ _ (bytes_text c.args.bytes.now)
-      (bytes_then _ _ _ (codes "put " ++ path_word c.args.path.now) _
-        (bytes_then _ _ _ (codes "put ") (path_word c.args.path.now) c.in_ok-write_all.ensures.ok c.in_ok-write_path.ensures.text) c.in_ok-write_pieces.ensures.text)
-      c.in_ok-write_payload.ensures.text)
+    (bytes_then _ _ _ (codes "put " ++ path_word c.args.path.now) _
+    (bytes_then _ _ _ (codes "put ") (path_word c.args.path.now) c.in_ok-write_all.ensures.ok c.in_ok-write_path.ensures.text) c.in_ok-write_pieces.ensures.text)
+    c.in_ok-write_payload.ensures.text)
     (text_of_all _ _ _ c.write_all-2.result c.write_all-2.ensures.ok c.write_all-2.ensures.part)

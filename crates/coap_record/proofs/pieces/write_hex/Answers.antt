@@ -1,5 +1,5 @@
 use Rattle.std.proofs.Common.{subst}
-use Rattle.coap_record.specs.Prelude.{encode_lower, AddsBytes, WritesPart}
+use Rattle.coap_record.specs.Prelude.{AddsBytes, WritesPart}
 use Rattle.coap_record.proofs.WriteLemmas.{piece_written, piece_cut, all_written, fault_text, digits_split, digits_before, no_digits}
 use Rattle.coap_record.proofs.pieces.write_hex.Goals as goal
 

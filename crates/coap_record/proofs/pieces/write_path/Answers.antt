@@ -1,5 +1,5 @@
-use Rattle.std.proofs.Common.{refl, sym, ap, ◌∙◌, ◌∷◌, []}
-use Rattle.coap_record.specs.Prelude.{slash, path_bytes}
+use Rattle.std.proofs.Common.{sym, ◌∙◌, ◌∷◌, []}
+use Rattle.coap_record.specs.Prelude.{slash}
 use Rattle.coap_record.proofs.WriteLemmas.{nothing_yet, piece_written, piece_cut, all_written, fault_text, fault_first, text_is, text_of_all, path_root, path_first, path_next, no_segments}
 use Rattle.coap_record.proofs.pieces.write_path.Goals as goal
 
