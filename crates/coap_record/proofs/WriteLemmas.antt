@@ -1,6 +1,6 @@
 -- Writes of the pieces of a text, one after another.
 use Rattle.std.proofs.Common.{◌≡◌, ℕ, ◌+◌, ◌*◌, ◌<◌, ◌≤◌, true, false, ◌==◌, List, [], ◌∷◌, ◌++◌, length, get_or, take, drop, take-append-drop, take-take, take_all, length-drop, length-take, map, Option, Some, None, Result, Ok, Err, refl, sym, ap, ◌∙◌, subst, append_assoc, append-nil, arith, is_err, eqb-true, true≢false, OnOk, OnErr, Bor, codes, decimal}
-use Rattle.std.proofs.lemmas.List.{drop_more, drop_all, take-append-le}
+use Rattle.std.proofs.lemmas.List.{drop_more, take-append-le}
 use Rattle.hex.proofs.HexLemmas.{length-encode_with}
 use Rattle.coap_io.proofs.streams.DeviceLemmas.{bytes_none, bytes_then}
 use Rattle.coap_io.proofs.streams.WriteLemmas.{part_before, part_after}
@@ -72,9 +72,6 @@ bytes_in pieces = concat (map (λ p. p.now) pieces)
 
 pub pieces_go_on : (pieces : List (Bor (List ℕ))) (i : ℕ) → i < length pieces → bytes_in (drop i pieces) ≡ (get_or pieces i no_piece).now ++ bytes_in (drop (i + 1) pieces)
 pieces_go_on pieces i inside = ap bytes_in (drop_more pieces i no_piece inside)
-
-pub no_pieces_left : (pieces : List (Bor (List ℕ))) (i : ℕ) → length pieces ≤ i → bytes_in (drop i pieces) ≡ []
-no_pieces_left pieces i past = ap bytes_in (drop_all i pieces past)
 
 -- The hexadecimal digits of bytes one after another.
 pub digits_of_both : (t xs ys : List ℕ) → encode_with t (xs ++ ys) ≡ encode_with t xs ++ encode_with t ys
