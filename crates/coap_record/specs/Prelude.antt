@@ -14,7 +14,7 @@ pub use Rattle.coap_wire.specs.declared.sizes.TheConstants.{BASE_MESSAGE_SIZE, L
 -- ---- coap_conn
 pub use Rattle.coap_conn.specs.QueueValue.{QueueValue, IsNextPart, free_of}
 -- ---- coap_io
-pub use Rattle.coap_io.specs.streams.Device.{AddsBytes, WritesPart}
+pub use Rattle.coap_io.specs.streams.Device.{AddsBytes, WritesPart, is_failed_write}
 -- ---- coap_path
 pub use Rattle.coap_path.specs.Paths.{Path}
 unfoldable pub use Rattle.coap_path.specs.Paths.{is_path}
