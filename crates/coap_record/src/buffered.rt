@@ -66,6 +66,13 @@ impl<O: Outlet + Drop> BufferedOutlet<O> {
         Ok(BufferedOutlet { outlet, queue })
     }
 
+    /// Returns the other outlet.
+    pub fn outlet(&self) -> &O
+        ensures { result.now ≡ self.now.outlet }
+    {
+        &self.outlet
+    }
+
     /// Passes all bytes in the queue on.
     ///
     /// # Errors

@@ -25,6 +25,13 @@ impl<O: Outlet + Drop> Recorder<O> {
         Recorder { outlet }
     }
 
+    /// Returns the outlet, from which a program learns why a record has ended.
+    pub fn outlet(&self) -> &BufferedOutlet<O>
+        ensures { result.now ≡ self.now.outlet }
+    {
+        &self.outlet
+    }
+
     /// Returns `true` if a write has failed, so that the record has ended.
     pub fn has_stopped(&self) -> bool
         ensures { result ≡ ⟦<BufferedOutlet<O> as Outlet>⟧.is_failed self.now.outlet }
