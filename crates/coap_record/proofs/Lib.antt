@@ -1,0 +1,6 @@
+mod WorkedLines
+pub mod EscapeLemmas
+pub mod WordLaws
+pub mod LineLaws
+pub mod WriteLemmas
+pub mod RecordLemmas

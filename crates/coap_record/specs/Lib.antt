@@ -1,0 +1,5 @@
+pub mod RecordLines
+pub mod SaidEvents
+pub mod Writes
+pub mod Records
+pub mod Prelude

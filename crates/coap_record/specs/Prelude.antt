@@ -1,0 +1,48 @@
+-- Names for the contracts and proofs of this crate, re-exported from one file. Declares nothing.
+
+-- ---- std and the kit's crates
+pub use Rattle.std.specs.Io.KnownBytes.{append_known}
+pub use Rattle.std.specs.List.{concat, list_all, flat_map, slice_split}
+pub use Rattle.std.specs.Char.{is_ascii_digit}
+pub use Rattle.std.specs.Str.{all_ascii_digits}
+pub use Rattle.std.specs.Str.Parse.{digits_value}
+unfoldable pub use Rattle.hex.specs.Hex.{encode_with}
+pub use Rattle.hex.specs.Hex.{encode_lower, decode_of, lower_digits}
+unfoldable pub use Rattle.percent_encoding.specs.Percent.{percent_decode, percent_encode}
+-- ---- coap_wire
+pub use Rattle.coap_wire.specs.declared.sizes.TheConstants.{BASE_MESSAGE_SIZE, LARGEST_QUEUE}
+-- ---- coap_conn
+pub use Rattle.coap_conn.specs.QueueValue.{QueueValue, IsNextPart, free_of}
+-- ---- coap_io
+pub use Rattle.coap_io.specs.streams.Device.{AddsBytes, WritesPart, is_failed_write}
+-- ---- coap_path
+pub use Rattle.coap_path.specs.Paths.{Path}
+unfoldable pub use Rattle.coap_path.specs.Paths.{is_path}
+-- ---- coap_store
+unfoldable pub use Rattle.coap_store.specs.Listing.{encoded_byte, path_bytes}
+unfoldable pub use Rattle.coap_store.specs.State.{key_for}
+-- ---- coap_text
+pub use Rattle.coap_text.specs.Words.{is_hyphen, parts}
+unfoldable pub use Rattle.coap_text.specs.Words.{decimal_value, hex_value}
+-- ---- coap_script
+pub use Rattle.coap_script.specs.script.Events.{ScriptEventValue}
+unfoldable pub use Rattle.coap_script.specs.script.Events.{drain_event, event_alone, event_of, event_with_one}
+unfoldable pub use Rattle.coap_script.specs.script.Events.{event_with_two, in_event, number_event, put_event}
+unfoldable pub use Rattle.coap_script.specs.script.Events.{remove_event}
+pub use Rattle.coap_script.specs.script.Lines.{bytes_text, tick_line, word_line}
+pub use Rattle.coap_script.specs.script.Script.{script_of, said_behind, said_by_line}
+unfoldable pub use Rattle.coap_script.specs.script.Script.{event_in, events_in, said_by_parts, says_nothing}
+pub use Rattle.coap_script.specs.script.Words.{newline, space, slash, words_of}
+unfoldable pub use Rattle.coap_script.specs.script.Words.{format_value, path_value}
+unfoldable pub use Rattle.coap_script.specs.script.Words.{payload_value, segments_of}
+-- ---- coap_model
+pub use Rattle.coap_model.specs.world.Events.{AcceptedCall}
+-- ---- coap_server_engine
+pub use Rattle.coap_server_engine.specs.values.Calls.{call_value}
+-- ---- this crate
+pub use Rattle.coap_record.specs.RecordLines.{format_word, drain_line, stored_line, removed_line, announced_line}
+unfoldable pub use Rattle.coap_record.specs.RecordLines.{path_word, took_line, line_of, lines_of}
+unfoldable pub use Rattle.coap_record.specs.SaidEvents.{events_said, all_events_said, IsInRange}
+pub use Rattle.coap_record.specs.SaidEvents.{IsNumber, AreBytes, IsPathOfBytes, IsFormat}
+pub use Rattle.coap_record.specs.Writes.{WritesText, WritesUpTo, room_in}
+pub use Rattle.coap_record.specs.Records.{IsRecordOf}

@@ -1,0 +1,28 @@
+//! Records of the calls that a server accepted, as scripts that make the same calls again.
+//!
+//! - `write_call` and `write_opened` write the line of a call to an outlet. They allocate nothing.
+//! - `Recorder` is a monitor that writes these lines to a `BufferedOutlet`, and passes them on at the end of each turn.
+//!   `LimitedOutlet` limits their number of bytes.
+//! - `read_range` gives the range of a call's values, which the theorem asks for.
+//! - `laws` has the theorem on lines: the script reader reads the line of a call back as the event of the call.
+//!
+//! The contracts name the definitions of `specs/`: `RecordLines` for the line of a call, `SaidEvents` for the events that
+//! it says. An announced message size has no event, so its line is a comment. A record is faithful up to the first such
+//! line.
+//!
+//! This crate reads no script and runs no server: `coap_script` and `coap_server_engine` do. Continue with `lines.rt`.
+#![tactic(auto)]
+
+mod buffered;
+pub mod laws;
+mod limited;
+mod lines;
+mod pieces;
+mod ranges;
+mod recorder;
+
+pub use buffered::BufferedOutlet;
+pub use limited::LimitedOutlet;
+pub use lines::{write_call, write_opened};
+pub use ranges::read_range;
+pub use recorder::Recorder;

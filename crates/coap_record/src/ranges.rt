@@ -1,0 +1,67 @@
+//! The ranges of the values of a call, which the theorem on lines asks for.
+
+ghost use Rattle.coap_record.specs.Prelude.{IsNumber, AreBytes, IsPathOfBytes, IsFormat, IsInRange, call_value};
+
+use coap_server_engine::Call;
+use coap_store::PathKey;
+
+/// Reads a number, which gives its range to the proof of a caller. Does nothing else.
+fn read_number(_number: u64)
+    ensures { IsNumber _number }
+{}
+
+/// Reads bytes, which gives their range to the proof of a caller. Does nothing else.
+fn read_bytes(_bytes: &[u8])
+    ensures { AreBytes _bytes.now }
+{}
+
+/// Reads the segments of a path, which gives their range to the proof of a caller. Does nothing else.
+fn read_path(path: &PathKey)
+    ensures { IsPathOfBytes path.now }
+{
+    for segment in path.segments() {
+        read_bytes(segment);
+    }
+}
+
+/// Reads a Content-Format, which gives its range to the proof of a caller. Does nothing else.
+fn read_format(format: Option<u16>)
+    ensures { IsFormat format }
+{
+    if let Some(number) = format {
+        read_number(u64::from(number));
+    }
+}
+
+/// Reads a call, which gives the range of its values to the proof of a caller. Does nothing else.
+///
+/// `laws::lines_are_read_back` asks for this range.
+#[tactic(auto, unfolding(crate::specs::SaidEvents::IsInRange))]
+pub fn read_range(call: &Call<'_>)
+    ensures { IsInRange (call_value call.now) }
+{
+    match call {
+        Call::Took { id, bytes, .. } => {
+            read_number(*id);
+            read_bytes(bytes);
+        }
+        Call::Wrote(id, first, second) => {
+            read_number(*id);
+            read_number((first.len() + second.len()) as u64);
+        }
+        Call::Ticked(now) => read_number(*now),
+        Call::Stored(path, format, bytes) => {
+            read_path(path);
+            read_format(*format);
+            read_bytes(bytes);
+        }
+        Call::Removed(path) => read_path(path),
+        Call::Ended(id) => read_number(*id),
+        Call::Released(id) => read_number(*id),
+        Call::Announced(id, size) => {
+            read_number(*id);
+            read_number(u64::from(*size));
+        }
+        Call::Dropped(id) => read_number(*id),
+    }
+}
