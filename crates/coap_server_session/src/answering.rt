@@ -5,11 +5,11 @@ ghost use Rattle.std.specs.Prelude.{slice_get, if◌then◌else◌, IfOk, IfSome
 ghost use Rattle.coap_server_session.specs.Prelude.{IsAnswering, AreMarked, IsTagged, marks_after, is_open};
 ghost use Rattle.coap_server_session.specs.Prelude.{PendingEntryValue, first_due, IsReady, can_hold, link_after};
 ghost use Rattle.coap_server_session.specs.Prelude.{changed, without_hold, response_message, planned_value, path_of};
-ghost use Rattle.coap_server_session.specs.Prelude.{IsChangeAt, IsPut, TakesChange, change_hash, MayObserve, asks_entry as asks};
-ghost use Rattle.coap_server_session.specs.Prelude.{is_whole as is_sent_whole, ObserverValue, answer_on, hold_on};
-ghost use Rattle.coap_server_session.specs.Prelude.{held_in, host_changed, link_sent, new_entry, notification_on};
-ghost use Rattle.coap_server_session.specs.Prelude.{without_entry, IsFirstStale, link_replied, entries_replied};
-ghost use Rattle.coap_server_session.specs.Prelude.{entries_notified, observer_value, LARGEST_MESSAGE};
+ghost use Rattle.coap_server_session.specs.Prelude.{IsChangeAt, IsPut, TakesChange, change_hash, MayObserve};
+ghost use Rattle.coap_server_session.specs.Prelude.{asks_entry as asks, is_whole as is_sent_whole, ObserverValue};
+ghost use Rattle.coap_server_session.specs.Prelude.{answer_on, hold_on, held_in, host_changed, link_sent, new_entry};
+ghost use Rattle.coap_server_session.specs.Prelude.{notification_on, without_entry, IsFirstStale, link_replied};
+ghost use Rattle.coap_server_session.specs.Prelude.{entries_replied, entries_notified, observer_value, LARGEST_MESSAGE};
 ghost use Rattle.coap_conn.specs.Calls as call;
 
 use crate::cause::Cause;

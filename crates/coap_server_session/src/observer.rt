@@ -2,8 +2,7 @@
 
 ghost use Rattle.std.specs.Prelude.{◌≡◌};
 ghost use Rattle.coap_server_session.specs.Prelude.{linked, previous_in, IsTagged, present_mark, changed_mark};
-ghost use Rattle.coap_server_session.specs.Prelude.{untold_by as mark_untold_by, observer_value};
-ghost use Rattle.coap_server_session.specs.Prelude.{kind_of_path};
+ghost use Rattle.coap_server_session.specs.Prelude.{untold_by as mark_untold_by, observer_value, kind_of_path};
 
 use crate::cause::Cause;
 use crate::server_state::ServerState;

@@ -98,8 +98,8 @@ fn respond_from<'a, const N: usize>(
     link.reply_compact(&response)
 }
 
-/// Sends the response to a request that made a change, to the request with this token. It has a code, and a path if the
-/// request created a resource whose path it tells. Does the same as `respond`.
+/// Sends the response to a request that made a change, to the request with this token. It has a code, and the path of
+/// the created resource if the plan has one. Does the same as `respond`.
 ///
 /// # Preconditions
 ///

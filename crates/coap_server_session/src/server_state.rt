@@ -1,8 +1,8 @@
 //! The state that all connections of a server share, and from which requests are answered.
 
 ghost use Rattle.std.specs.Prelude.{◌≡◌, ◌<◌, ◌≤◌, ◌^◌, true, IfOk};
-ghost use Rattle.coap_server_session.specs.Prelude.{empty_host, mark_at as mark_in, present_mark};
-ghost use Rattle.coap_server_session.specs.Prelude.{LARGEST_MESSAGE, is_dynamic, kind_of_path};
+ghost use Rattle.coap_server_session.specs.Prelude.{empty_host, mark_at as mark_in, present_mark, LARGEST_MESSAGE};
+ghost use Rattle.coap_server_session.specs.Prelude.{is_dynamic, kind_of_path};
 
 use coap_store::{PathKey, Present, Store};
 use std::alloc::{AllocError, Global};

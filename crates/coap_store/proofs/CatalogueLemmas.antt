@@ -128,7 +128,7 @@ removed_index [] (suc i) = refl
 removed_index (e ∷ es) zero = refl
 removed_index (e ∷ es) (suc i) = ap (λ (rs : List store.Resource). resource_at e ∷ rs) (removed_index es i)
 
--- What is stored at an index is stored at the path of its resource.
+-- A representation that is stored at an index is stored at the path of its resource.
 pub put_by_index : (rs : List store.Resource) (path : Path) (i : ℕ) (now : Representation) → IsFoundAt rs path i → replaced_at rs i now ≡ put_at rs path now
 unfolding replaced_at put_at
 put_by_index [] path i now found = absurd found

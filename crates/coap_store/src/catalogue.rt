@@ -4,8 +4,8 @@ ghost use Rattle.std.specs.Prelude.{◌≡◌, ◌+◌, ◌≤◌, ◌<◌, OnOk
 ghost use Rattle.std.specs.Prelude.{option_map, IfSome};
 ghost use Rattle.std.specs.List.{remove};
 ghost use Rattle.coap_store.specs.Prelude.{found_in, put_at, listing as listing_of, resources_in, LARGEST_MESSAGE};
-ghost use Rattle.coap_store.specs.Prelude.{representation, removed_at, texts_of, entry_bytes, set_value_at};
-ghost use Rattle.coap_store.specs.Prelude.{IsFoundAt, replaced_at};
+ghost use Rattle.coap_store.specs.Prelude.{representation, removed_at, texts_of, entry_bytes, set_value_at, IsFoundAt};
+ghost use Rattle.coap_store.specs.Prelude.{replaced_at};
 
 use crate::resource::{BUILT_IN_TEXT, Resource, Resources, entry_end, entry_text};
 use coap_listing::Listing;

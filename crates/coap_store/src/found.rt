@@ -1,8 +1,7 @@
 //! Representations, which are stored or computed.
 
 ghost use Rattle.std.specs.Prelude.{◌≡◌, Some};
-ghost use Rattle.coap_store.specs.Prelude.{bytes_in, IsTextOf, built as built_in, found_value};
-ghost use Rattle.coap_store.specs.Prelude.{representation};
+ghost use Rattle.coap_store.specs.Prelude.{bytes_in, IsTextOf, built as built_in, found_value, representation};
 
 use crate::resource::Resource;
 use arrayvec::ArrayVec;

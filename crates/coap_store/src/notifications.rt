@@ -9,9 +9,8 @@ use coap_wire::Code;
 
 impl Store {
     ghost use Rattle.std.specs.Prelude.{◌≡◌, ◌≤◌, length, option_map, Some};
-    ghost use Rattle.coap_store.specs.Prelude.{LARGEST_MESSAGE};
-    ghost use Rattle.coap_store.specs.Prelude.{says, IsStore, notification_of, no_answer, kind_of_path};
-    ghost use Rattle.coap_store.specs.Prelude.{found_value, state_at};
+    ghost use Rattle.coap_store.specs.Prelude.{LARGEST_MESSAGE, says, IsStore, notification_of, no_answer};
+    ghost use Rattle.coap_store.specs.Prelude.{kind_of_path, found_value, state_at};
 
     /// Returns the notification for an observer of a path at the time `now`, in seconds (RFC 7641 section 4.2).
     ///

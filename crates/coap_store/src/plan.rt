@@ -2,8 +2,8 @@
 
 ghost use Rattle.std.specs.Prelude.{◌≡◌, ◌≢◌, ◌≤◌, true, [], Some, IfSome, length, option_map};
 ghost use Rattle.coap_store.specs.Prelude.{bytes_in, change_value, planned_value, says, only, no_answer, without_hold};
-ghost use Rattle.coap_store.specs.Prelude.{changes as is_change, is_path, IsAtPath, IsToldNamed};
-ghost use Rattle.coap_store.specs.Prelude.{path_or_root, location_in};
+ghost use Rattle.coap_store.specs.Prelude.{changes as is_change, is_path, IsAtPath, IsToldNamed, path_or_root};
+ghost use Rattle.coap_store.specs.Prelude.{location_in};
 ghost use Rattle.coap_wire.specs.Codes as code;
 
 use crate::found::{Payload, PayloadText, RepresentationRef};

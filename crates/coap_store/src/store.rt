@@ -4,7 +4,8 @@ ghost use Rattle.std.specs.Prelude.{◌≡◌, ◌<◌, IfSome, ◌≤◌, [], I
 ghost use Rattle.std.specs.Prelude.{option_map, decimal};
 ghost use Rattle.coap_store.specs.Prelude.{LARGEST_MESSAGE, changed, greatest_version, found_in, put_in, removed_in};
 ghost use Rattle.coap_store.specs.Prelude.{listing as listing_of, representation, TakesChange, TakesPut, IsPut};
-ghost use Rattle.coap_store.specs.Prelude.{IsStore, change_value, planned_value, bytes_in, IsFoundAt, IsChangeAt, path_told};
+ghost use Rattle.coap_store.specs.Prelude.{IsStore, change_value, planned_value, bytes_in, IsFoundAt, IsChangeAt};
+ghost use Rattle.coap_store.specs.Prelude.{path_told};
 
 use crate::catalogue::Catalogue;
 use crate::found::Payload;
