@@ -5,7 +5,8 @@ ghost use Rattle.std.specs.Prelude.{slice_get, if◌then◌else◌, IfOk, IfSome
 ghost use Rattle.coap_server_session.specs.Prelude.{IsAnswering, AreMarked, IsTagged, marks_after, is_open};
 ghost use Rattle.coap_server_session.specs.Prelude.{PendingEntryValue, first_due, IsReady, can_hold, link_after};
 ghost use Rattle.coap_server_session.specs.Prelude.{changed, without_hold, response_message, change_value, path_of};
-ghost use Rattle.coap_server_session.specs.Prelude.{IsChangeAt, IsPut, TakesChange, change_hash, MayObserve, asks_entry as asks};
+ghost use Rattle.coap_server_session.specs.Prelude.{IsChangeAt};
+ghost use Rattle.coap_server_session.specs.Prelude.{IsPut, TakesChange, change_hash, MayObserve, asks_entry as asks};
 ghost use Rattle.coap_server_session.specs.Prelude.{is_whole as is_sent_whole, ObserverValue, answer_on, hold_on};
 ghost use Rattle.coap_server_session.specs.Prelude.{held_in, host_changed, link_sent, new_entry, notification_on};
 ghost use Rattle.coap_server_session.specs.Prelude.{without_entry, IsFirstStale, link_replied, entries_replied};
