@@ -62,7 +62,7 @@ fn word_of_change(change: &Change) -> &'static str {
     match change {
         Change::Nothing => "-",
         Change::Put { .. } => "Put",
-        Change::Delete { .. } => "Delete",
+        Change::Delete(_) => "Delete",
     }
 }
 
