@@ -1,6 +1,6 @@
 //! `Recorder`, a monitor that writes the line of each call.
 
-ghost use Rattle.std.specs.Prelude.{◌≡◌, ◌∷◌, ◌++◌, ℕ, List, [], true};
+ghost use Rattle.std.specs.Prelude.{◌≡◌, ◌∷◌, ◌++◌, ℕ, List, [], true, false};
 ghost use Rattle.coap_model.specs.world.Events.{Opened};
 ghost use Rattle.coap_record.specs.Prelude.{AcceptedCall, IsRecordOf, call_value};
 
@@ -80,6 +80,8 @@ impl<O: Outlet + Drop> Recorder<O> {
             IsRecordOf header (⟦<BufferedOutlet<O> as Outlet>⟧.is_failed self.new.outlet)
             (⟦<BufferedOutlet<O> as Outlet>⟧.written self.new.outlet) calls }
         ensures stopped { ⟦<BufferedOutlet<O> as Outlet>⟧.is_failed self.old.outlet ≡ true → self.new ≡ self.old }
+        ensures passed { ⟦<BufferedOutlet<O> as Outlet>⟧.is_failed self.new.outlet ≡ false →
+            self.new.outlet.queue.waiting ≡ [] }
     {
         if self.outlet.failed() {
             return;
