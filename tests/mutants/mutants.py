@@ -52,8 +52,8 @@ The last line is 'N passed, M failed', and the status is 0 if M is 0.
 Costs, in processor time: a round takes about 15 s before its first edit. Each edit adds 3 to 4 s, and one of a long function (`fill`) 20 s. With
 incremental data, the 26 edits of coap_wire took 117 s, and one alone 19 to 34 s. The edits of the gate should therefore change different functions:
 most crates then need one or two rounds. All edits of both layers took 51 rounds, those of the gate 17. The gate's took 4,592 s without incremental
-data of coap_serve, which was then one crate with its engine. On that machine the proof of coap_wire takes 253 s. The edits of coap_frame took 70 s,
-and 73 s from scratch. A build for an edit of another layer takes about two minutes. The check of all quotes takes about 2 s, and a copy of a crate
+data of coap_serve, which was then one crate with its engine. On that machine the proof of coap_wire takes 253 s. The edits of coap_frame took 89 s
+from scratch, where only the changed functions and those that they call are checked, and 108 s with all functions. A build for an edit of another layer takes about two minutes. The check of all quotes takes about 2 s, and a copy of a crate
 for the type errors about 4 s.
 
 `rt try` keeps 1 MiB of output, so the output of the rows of an edit must stay below that with the edit. A program that `rt try` builds is slow. A
@@ -316,11 +316,17 @@ def words_to_check(name):
 
 
 def check(name, kept, edits):
-    """Returns the lines of a check of the crate with these edits, on top of the incremental data in that folder."""
-    texts = {}
+    """Returns the lines of a check of the crate with these edits, on top of the incremental data in that folder. Only the functions that the
+    edits change are checked, and those that they call. An edit of a constant may concern any function, so then all are checked."""
+    texts, only = {}, []
     for edit in edits:
         texts = edit.applied(texts)
-    return check_texts(name, texts, ["--incremental", kept])
+        only += [] if edit.is_constant() else [word for it in sorted(edit.functions()) for word in ("--only", it)]
+    if not only:
+        return check_texts(name, texts, ["--incremental", kept])
+    lines = check_texts(name, texts, ["--incremental", kept, *only])
+    # Without this line, a name fits no function, or more than one.
+    return lines if any(it.startswith("only=") for it in lines) else check_texts(name, texts, ["--incremental", kept])
 
 
 def check_texts(name, texts, more):
@@ -463,7 +469,7 @@ def try_round(name, kept, is_own, edits):
     except (BadEdit, OSError, shutil.Error) as why:
         # A smaller round may need fewer resources.
         return Outcome([], edits, str(why) or repr(why))
-    judged = any(it.startswith(("logic=not-proved", "logic=proved")) for it in lines)
+    judged = any(it.startswith(("logic=not-proved", "logic=proved", "only=")) for it in lines)
     if not judged:
         return Outcome([], edits, next((it for it in lines if "error" in it), f"the check gave no verdict: {lines[-1:]}"))
     (goals, cites), known = open_functions(name, lines), all_functions(lines)
