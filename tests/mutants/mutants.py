@@ -52,8 +52,8 @@ The last line is 'N passed, M failed', and the status is 0 if M is 0.
 Costs, in processor time: a round takes about 15 s before its first edit. Each edit adds 3 to 4 s, and one of a long function (`fill`) 20 s. With
 incremental data, the 26 edits of coap_wire took 117 s, and one alone 19 to 34 s. The edits of the gate should therefore change different functions:
 most crates then need one or two rounds. All edits of both layers took 51 rounds, those of the gate 17. The gate's took 4,592 s without incremental
-data of coap_serve, which was then one crate with its engine. On that machine the proof of coap_wire takes 253 s. The edits of coap_frame took 89 s
-from scratch, where only the changed functions and those that they call are checked, and 108 s with all functions. A build for an edit of another layer takes about two minutes. The check of all quotes takes about 2 s, and a copy of a crate
+data of coap_serve, which was then one crate with its engine. On that machine the proof of coap_wire takes 253 s. The edits of coap_frame take 89 s
+from scratch. With all functions instead of the changed ones and those that they call, they take 108 s. A build for an edit of another layer takes about two minutes. The check of all quotes takes about 2 s, and a copy of a crate
 for the type errors about 4 s.
 
 `rt try` keeps 1 MiB of output, so the output of the rows of an edit must stay below that with the edit. A program that `rt try` builds is slow. A
