@@ -100,7 +100,8 @@ pub use Rattle.coap_server_engine.specs.script.Replayed.{IsUnrun}
 pub use Rattle.coap_server_engine.specs.script.Shown.{ShowsRun, IsShownReplay, ShowsPart, IsPartlyMade, ShowsRefusedAt}
 unfoldable pub use Rattle.coap_server_engine.specs.script.Shown.{events_made, events_ran}
 -- ---- this crate: values
-pub use Rattle.coap_server_engine.specs.values.Calls.{call_value, TellsPartlyFed}
+pub use Rattle.coap_server_engine.specs.values.Calls.{call_value, TellsPartlyFed, Following}
+unfoldable pub use Rattle.coap_server_engine.specs.values.Calls.{FollowsMore}
 pub use Rattle.coap_server_session.specs.values.Causes.{change_hash, path_hash}
 pub use Rattle.coap_server_session.specs.values.Causes.{IsUnaffected}
 pub use Rattle.coap_server_session.specs.values.Causes.{ConcernsNone, IsMarkedBut}

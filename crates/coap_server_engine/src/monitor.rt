@@ -1,14 +1,14 @@
 //! The interface through which a program follows the calls that a server accepts, for a log or a record.
 
-ghost use Rattle.std.specs.Prelude.{◌≡◌, false, List, [], ◌∷◌, Option, None};
-ghost use Rattle.coap_server_engine.specs.Prelude.{AcceptedCall, Opened, TellsMore, call_value};
+ghost use Rattle.std.specs.Prelude.{◌≡◌, false, ℕ, List, [], ◌∷◌};
+ghost use Rattle.coap_server_engine.specs.Prelude.{AcceptedCall, Opened, FollowsMore, call_value};
 
 use crate::server::Server;
 use coap_model::{ConnId, Handled};
 use coap_store::PathKey;
 
 /// Call that a server accepted, with its arguments and its result. `Monitor::opened` receives that of `open`.
-#[derive(Drop)]
+#[derive(Clone, Copy)]
 pub enum Call<'a> {
     /// Bytes that a connection accepted, at most up to the end of one message.
     Took {
@@ -40,29 +40,31 @@ pub enum Call<'a> {
 /// Receiver of the calls that a server accepts, each once and in their order. `W` is the type of the transport
 /// connections. `NoMonitor` ignores them, at no cost.
 pub trait Monitor<W> {
-    /// Calls received so far, in order, if the monitor records them.
-    ghost calls: { Self → Option (List AcceptedCall) } = { λ _. None };
+    /// States what the monitor made of the calls received, in order. `follows m start calls` holds if `m` has received
+    /// `calls` since its text was `start`. A monitor without a text leaves `start` out. By default nothing is stated.
+    ghost follows: { Self → List ℕ → List AcceptedCall → Type 0 } = { λ _ _ _. Unit {0} };
 
     /// Receives a call of `open`: the number of the new connection, and its transport connection. `server` is the server
     /// after the call.
     fn opened(&mut self, id: ConnId, wire: &W, server: &Server)
-        ensures { TellsMore (calls self.old) (calls self.new) (Opened id ∷ []) };
+        ensures { FollowsMore (follows self.old) (follows self.new) (Opened id ∷ []) };
 
     /// Receives any other call that the server accepted. `server` is the server after the call. Only for `Call::Wrote` is it
     /// the server before the call, whose queue still has the bytes.
     fn accepted(&mut self, call: Call<'_>, server: &Server)
-        ensures { TellsMore (calls self.old) (calls self.new) (call_value call.entry ∷ []) };
+        ensures { FollowsMore (follows self.old) (follows self.new) (call_value call.entry ∷ []) };
 
     /// Returns `false` if the monitor ignores all calls. A caller may then do without reporting them.
     fn listens(&self) -> bool
-        ensures { result ≡ false → calls self.now ≡ None }
+        ensures { result ≡ false →
+            (more : List AcceptedCall) → FollowsMore (follows self.now) (follows self.now) more }
     {
         true
     }
 
-    /// Receives the end of a turn of the event loop: the listener waits next.
+    /// Receives the end of a turn of the event loop: the caller waits or reads next.
     fn turn_ended(&mut self)
-        ensures { TellsMore (calls self.old) (calls self.new) [] };
+        ensures { FollowsMore (follows self.old) (follows self.new) [] };
 }
 
 /// Monitor that ignores all calls.
@@ -70,21 +72,17 @@ pub trait Monitor<W> {
 pub struct NoMonitor;
 
 impl<W> Monitor<W> for NoMonitor {
-    fn opened(&mut self, _id: ConnId, _wire: &W, _server: &Server)
-        ensures { TellsMore None None (Opened _id ∷ []) }
-    {}
+    #[tactic(auto, unfolding(crate::specs::values::Calls::FollowsMore))]
+    fn opened(&mut self, _id: ConnId, _wire: &W, _server: &Server) {}
 
-    fn accepted(&mut self, _call: Call<'_>, _server: &Server)
-        ensures { TellsMore None None (call_value _call.entry ∷ []) }
-    {}
+    #[tactic(auto, unfolding(crate::specs::values::Calls::FollowsMore))]
+    fn accepted(&mut self, _call: Call<'_>, _server: &Server) {}
 
-    fn listens(&self) -> bool
-        ensures { result ≡ false → (λ (c : Option (List AcceptedCall)). c ≡ None) None }
-    {
+    #[tactic(auto, unfolding(crate::specs::values::Calls::FollowsMore))]
+    fn listens(&self) -> bool {
         false
     }
 
-    fn turn_ended(&mut self)
-        ensures { TellsMore {A = AcceptedCall} None None [] }
-    {}
+    #[tactic(auto, unfolding(crate::specs::values::Calls::FollowsMore))]
+    fn turn_ended(&mut self) {}
 }

@@ -66,7 +66,7 @@ pub use Rattle.coap_server_engine.specs.declared.io_fault.IoFault.TheVariants.{M
 pub use Rattle.coap_server_engine.specs.declared.server.ConnectionWork.{ConnectionWork}
 pub use Rattle.coap_server_engine.specs.declared.server.ChangeStamp.{ChangeStamp}
 -- ---- runs
-pub use Rattle.coap_server_listener.specs.streams.DoorRun.{IsDoorRun, waited_behind, moved_to, EndsWith, HasTurnedSo, IsCutRun}
+pub use Rattle.coap_server_listener.specs.streams.DoorRun.{IsDoorRun, waited_behind, moved_to, ticked_calls, EndsWith, HasTurnedSo, IsCutRun}
 pub use Rattle.coap_server_listener.specs.streams.DoorRun.{NoneYet, OneMore}
 pub use Rattle.coap_server_engine.specs.values.Faults.{is_read_fault, is_write_fault, IsMemory, IsMemoryOrTurns}
 pub use Rattle.coap_server_listener.specs.streams.Silence.{silence_action, quiet_action, action_for, new_activity, activities_after}
@@ -92,7 +92,8 @@ pub use Rattle.coap_server_listener.specs.streams.Turns.{concerns_earlier, wait_
 -- ---- coap_server_engine and coap_server_session
 pub use Rattle.coap_server_session.specs.values.Deadlines.{sooner}
 pub use Rattle.coap_server_engine.specs.values.InResults.{InResult, IsPartialIn, ShowsMore, ShowsPartlyFed, in_result, fed_more}
-pub use Rattle.coap_server_engine.specs.values.Calls.{TellsPartlyFed, call_value}
+pub use Rattle.coap_server_engine.specs.values.Calls.{TellsPartlyFed, call_value, Following}
+unfoldable pub use Rattle.coap_server_engine.specs.values.Calls.{FollowsMore}
 pub use Rattle.coap_server_engine.specs.values.InResults.{took, where_there}
 unfoldable pub use Rattle.coap_server_engine.specs.values.InResults.{fed_turns, took_turns}
 pub use Rattle.coap_server_engine.specs.values.Flushes.{IsFlushed, IsFlushedOnce, waiting_at, more_at}

@@ -1,6 +1,7 @@
 //! Runs a server over the connections that a listener (`Door`) accepts.
 
-ghost use Rattle.coap_server_listener.specs.Prelude.{IsDoorRun, waited_behind, TellsMore, trace_by, IsMemoryOrTurns};
+ghost use Rattle.coap_server_listener.specs.Prelude.{IsDoorRun, waited_behind, TellsMore, FollowsMore, trace_by};
+ghost use Rattle.coap_server_listener.specs.Prelude.{IsMemoryOrTurns};
 ghost use Rattle.coap_server_listener.specs.Prelude.{AreEnded, HasEnded, IsTimedRun, Unrecorded, is_sweep_due};
 ghost use Rattle.std.specs.Prelude.{◌≡◌, false};
 
@@ -92,7 +93,7 @@ pub fn serve_door_with<D: Door, C: Clock, M: Monitor<D::Wire>>(
     ensures run { let tells = TellsMore (C.moments clock.old) (C.moments clock.new) in
         IsDoorRun D.Wire.readable D.Wire.writable
         (trace_by D.Wire.given D.Wire.written D.Wire.answers D.Wire.rooms) config tells
-        (TellsMore (D.calls door.old) (D.calls door.new)) (TellsMore (M.calls monitor.old) (M.calls monitor.new))
+        (TellsMore (D.calls door.old) (D.calls door.new)) (FollowsMore (M.follows monitor.old) (M.follows monitor.new))
         result }
 {
     let Ok(mut service) = Service::new(alloc, config) else {
@@ -134,7 +135,7 @@ pub fn serve_door_timed<D: Door, C: Clock, U: Clock, M: Monitor<D::Wire>>(
         (trace_by D.Wire.given D.Wire.written D.Wire.answers D.Wire.rooms) config idle
         (TellsMore (C.moments clock.old) (C.moments clock.new)) (TellsMore (U.moments uptime.old) (U.moments uptime.new))
         (TellsMore (D.calls door.old) (D.calls door.new))
-        (TellsMore (M.calls watch.old.monitor) (M.calls watch.new.monitor)) result }
+        (FollowsMore (M.follows watch.old.monitor) (M.follows watch.new.monitor)) result }
 {
     let Ok(mut service) = Service::new(alloc, config) else {
         return Err(IoFault::Memory);
@@ -165,7 +166,7 @@ fn end_silent_after<W: Wire + Ready + Drop, M: Monitor<W>>(
     requires { service.old.is_spent ≡ false }
     ensures ended { AreEnded (is_sweep_due last second) idle second service.old.server service.old.peers.entries
         service.new.server service.new.peers.entries }
-    ensures shown { HasEnded (TellsMore (M.calls watch.old.monitor) (M.calls watch.new.monitor)) service.old.server
+    ensures shown { HasEnded (FollowsMore (M.follows watch.old.monitor) (M.follows watch.new.monitor)) service.old.server
         service.new.server }
     ensures spent { service.new.is_spent ≡ false }
 {

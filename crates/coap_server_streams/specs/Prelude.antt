@@ -73,7 +73,8 @@ pub use Rattle.coap_server_streams.specs.streams.StdioRun.{LeavesNothingWaiting}
 -- ---- coap_server_engine and coap_server_session
 pub use Rattle.coap_server_session.specs.values.Deadlines.{sooner}
 pub use Rattle.coap_server_engine.specs.values.InResults.{InResult, IsPartialIn, ShowsMore, ShowsPartlyFed, in_result, fed_more}
-pub use Rattle.coap_server_engine.specs.values.Calls.{TellsPartlyFed, call_value}
+pub use Rattle.coap_server_engine.specs.values.Calls.{TellsPartlyFed, call_value, Following}
+unfoldable pub use Rattle.coap_server_engine.specs.values.Calls.{FollowsMore}
 pub use Rattle.coap_server_engine.specs.values.InResults.{took, where_there}
 unfoldable pub use Rattle.coap_server_engine.specs.values.InResults.{fed_turns, took_turns}
 pub use Rattle.coap_server_engine.specs.values.Flushes.{IsFlushed, IsFlushedOnce, waiting_at, more_at}

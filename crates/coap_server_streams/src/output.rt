@@ -2,7 +2,7 @@
 
 ghost use Rattle.std.specs.Prelude.{◌≡◌, false, IfOk, OnOk, OnErr, is_err};
 ghost use Rattle.coap_server_streams.specs.Prelude.{AddsBytes, WritesPart, IsReportedFlush, IsCutFlush, session_of};
-ghost use Rattle.coap_server_streams.specs.Prelude.{stop_on, IsFlushedOnce, flush_calls, more_at, LiesAt, TellsMore};
+ghost use Rattle.coap_server_streams.specs.Prelude.{stop_on, IsFlushedOnce, flush_calls, more_at, LiesAt, FollowsMore};
 ghost use Rattle.coap_server_streams.specs.Prelude.{waiting_at};
 
 use coap_conn::Reason;
@@ -28,11 +28,11 @@ pub(crate) fn flush<W: Outlet, M: Monitor<()>>(
     requires { W.is_failed writer.old ≡ false }
     ensures ok { OnOk result (IsReportedFlush id server.old server.new
         (AddsBytes (W.written writer.old) (W.written writer.new))
-        (TellsMore (M.calls monitor.old) (M.calls monitor.new))) }
+        (FollowsMore (M.follows monitor.old) (M.follows monitor.new))) }
     ensures stop { IfOk result (λ stop. stop ≡ stop_on (session_of id server.new.sessions)) }
     ensures part { OnErr result (IsCutFlush id server.old
         (AddsBytes (W.written writer.old) (W.written writer.new))
-        (TellsMore (M.calls monitor.old) (M.calls monitor.new))) }
+        (FollowsMore (M.follows monitor.old) (M.follows monitor.new))) }
     ensures failure { W.is_failed writer.new ≡ is_err result }
 {
     let Some(at) = server.index_of(id) else {
@@ -66,11 +66,11 @@ pub(crate) fn flush_at<W: Outlet, M: Monitor<()>>(
     // The monitor receives the calls that remove the written bytes from the queue.
     ensures ok { OnOk result (IsReportedFlush id server.old server.new
         (AddsBytes (W.written writer.old) (W.written writer.new))
-        (TellsMore (M.calls monitor.old) (M.calls monitor.new))) }
+        (FollowsMore (M.follows monitor.old) (M.follows monitor.new))) }
     ensures stop { IfOk result (λ stop. stop ≡ stop_on (session_of id server.new.sessions)) }
     ensures part { OnErr result (IsCutFlush id server.old
         (AddsBytes (W.written writer.old) (W.written writer.new))
-        (TellsMore (M.calls monitor.old) (M.calls monitor.new))) }
+        (FollowsMore (M.follows monitor.old) (M.follows monitor.new))) }
     ensures failure { W.is_failed writer.new ≡ is_err result }
     ensures lies { OnOk result (LiesAt id at server.new.sessions) }
 {
@@ -112,7 +112,7 @@ fn flush_once<W: Outlet, M: Monitor<()>>(
         (waiting_at id server.old)) }
     ensures failure { W.is_failed writer.new ≡ is_err result }
     // The monitor receives the number of bytes that were written.
-    ensures told { IfOk result (λ f. TellsMore (M.calls monitor.old) (M.calls monitor.new)
+    ensures told { IfOk result (λ f. FollowsMore (M.follows monitor.old) (M.follows monitor.new)
         (flush_calls id server.old f.waited)) }
     ensures untold { OnErr result (monitor.new ≡ monitor.old) }
     ensures lies { OnOk result (LiesAt id at server.new.sessions) }
@@ -147,7 +147,7 @@ fn write_queued<W: Outlet, M: Monitor<()>>(
     ensures part { OnErr result (WritesPart (W.written writer.old) (W.written writer.new)
         (waiting_at id server.old)) }
     ensures failure { W.is_failed writer.new ≡ is_err result }
-    ensures told { IfOk result (λ waited. TellsMore (M.calls monitor.old) (M.calls monitor.new)
+    ensures told { IfOk result (λ waited. FollowsMore (M.follows monitor.old) (M.follows monitor.new)
         (flush_calls id server.old waited)) }
     ensures untold { OnErr result (monitor.new ≡ monitor.old) }
 {

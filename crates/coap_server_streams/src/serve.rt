@@ -4,7 +4,7 @@ ghost use Rattle.std.specs.Prelude.{◌≡◌, ◌+◌, ◌<◌, ◌≤◌, ◌^
 ghost use Rattle.coap_server_streams.specs.Prelude.{AllByRecursion, end_reason, AreInRange, ConfigValues, session_of};
 ghost use Rattle.coap_server_streams.specs.Prelude.{stop_on, count_of, is_cut, HasGiven, AddsBytes, only_id, stream_of};
 ghost use Rattle.coap_server_streams.specs.Prelude.{stdio_output, IsRunningAt, IsTurn, IsStdioRun, is_read_fault};
-ghost use Rattle.coap_server_streams.specs.Prelude.{is_write_fault, AcceptedCall, TellsMore, IsReportedRun};
+ghost use Rattle.coap_server_streams.specs.Prelude.{is_write_fault, AcceptedCall, FollowsMore, IsReportedRun};
 ghost use Rattle.coap_server_streams.specs.Prelude.{HasReportedEnd};
 ghost use Rattle.coap_server_streams.specs.streams.StdioProgress.{IsServed};
 
@@ -106,7 +106,8 @@ pub fn serve_one<R: Source, W: Outlet>(
 ///
 /// The first call opens the connection. Each `take` is a call, also one for which allocation fails: the bytes before the
 /// last one of its message are accepted. Each successful write of all queued bytes is a call, and before each `take` no
-/// byte is queued. If the end of input ends the run, that is the last call.
+/// byte is queued. If the end of input ends the run, that is the last call. The monitor also receives the end of each
+/// turn, that is, of the processing of each read.
 ///
 /// # Errors
 ///
@@ -138,7 +139,7 @@ pub fn serve_one_with<R: Source, W: Outlet, M: Monitor<()>>(
         × AllByRecursion (λ p. length p ≤ 4096) pieces
         × AddsBytes (W.written writer.old) (W.written writer.new) output
         × IsStdioRun config.now pieces output result
-        × IsReportedRun config.now pieces output (TellsMore (M.calls monitor.old) (M.calls monitor.new)) result }
+        × IsReportedRun config.now pieces output (FollowsMore (M.follows monitor.old) (M.follows monitor.new)) result }
     // The result is `Read` if and only if the reader has failed, and `Write` if and only if the writer has failed.
     ensures read { R.is_failed reader.new ≡ is_read_fault result }
     ensures write { W.is_failed writer.new ≡ is_write_fault result }
@@ -167,17 +168,17 @@ fn run<R: Source, W: Outlet, M: Monitor<()>>(
 ) -> Result<Report, IoFault>
     requires reader_works { R.is_failed reader.old ≡ false }
     requires writer_works { W.is_failed writer.old ≡ false }
-    requires stands { (first : Option (List AcceptedCall))
-        × IsRunningAt config.now server.old id [] (TellsMore first (M.calls monitor.old)) }
-    ensures run { (first : Option (List AcceptedCall)) →
-        IsRunningAt config.now server.old id [] (TellsMore first (M.calls monitor.old)) →
+    requires stands { (first : M)
+        × IsRunningAt config.now server.old id [] (FollowsMore (M.follows first) (M.follows monitor.old)) }
+    ensures run { (first : M) →
+        IsRunningAt config.now server.old id [] (FollowsMore (M.follows first) (M.follows monitor.old)) →
         (pieces : List (List ℕ)) × (output : List ℕ)
         × HasGiven (R.told reader.old) (R.told reader.new) pieces
         × AllByRecursion (λ p. length p ≤ 4096) pieces
         × AddsBytes (W.written writer.old) (W.written writer.new) output
         × IsStdioRun config.now pieces (stdio_output config.now [] ++ output) result
         × IsReportedRun config.now pieces (stdio_output config.now [] ++ output)
-        (TellsMore first (M.calls monitor.new)) result }
+        (FollowsMore (M.follows first) (M.follows monitor.new)) result }
     ensures read { R.is_failed reader.new ≡ is_read_fault result }
     ensures write { W.is_failed writer.new ≡ is_write_fault result }
 {
@@ -186,6 +187,7 @@ fn run<R: Source, W: Outlet, M: Monitor<()>>(
     let mut messages = 0;
     for _ in 0..config.turns() {
         let turn = take_turn(reader, writer, server, id, &mut buffer, monitor)?;
+        monitor.turn_ended();
         read += turn.read as u64;
         messages += turn.messages;
         if let Some(reason) = turn.stop {
@@ -210,13 +212,13 @@ fn take_turn<R: Source, W: Outlet, M: Monitor<()>>(
 ) -> Result<Turn, IoFault>
     requires reader_works { R.is_failed reader.old ≡ false }
     requires writer_works { W.is_failed writer.old ≡ false }
-    requires stands { (first : Option (List AcceptedCall)) × (c : ConfigValues) × (bytes : List ℕ)
-        × IsRunningAt c server.old id bytes (TellsMore first (M.calls monitor.old)) }
+    requires stands { (first : M) × (c : ConfigValues) × (bytes : List ℕ)
+        × IsRunningAt c server.old id bytes (FollowsMore (M.follows first) (M.follows monitor.old)) }
     requires room { length buffer.old ≡ 4096 }
-    ensures turn { (first : Option (List AcceptedCall)) (c : ConfigValues) (bytes : List ℕ) →
-        IsRunningAt c server.old id bytes (TellsMore first (M.calls monitor.old)) → IsTurn c bytes server.new
+    ensures turn { (first : M) (c : ConfigValues) (bytes : List ℕ) →
+        IsRunningAt c server.old id bytes (FollowsMore (M.follows first) (M.follows monitor.old)) → IsTurn c bytes server.new
         (HasGiven (R.told reader.old) (R.told reader.new))
-        (AddsBytes (W.written writer.old) (W.written writer.new)) (TellsMore first (M.calls monitor.new)) result }
+        (AddsBytes (W.written writer.old) (W.written writer.new)) (FollowsMore (M.follows first) (M.follows monitor.new)) result }
     ensures few { IfOk result (λ t. t.read ≤ 4096) }
     ensures few_messages { IfOk result (λ t. t.messages ≤ t.read) }
     ensures read { R.is_failed reader.new ≡ is_read_fault result }
@@ -255,12 +257,12 @@ fn serve_piece<W: Outlet, M: Monitor<()>>(
     monitor: &mut M,
 ) -> Result<u64, IoFault>
     requires works { W.is_failed writer.old ≡ false }
-    requires stands { (first : Option (List AcceptedCall)) × (c : ConfigValues) × (bytes : List ℕ)
-        × IsRunningAt c server.old id bytes (TellsMore first (M.calls monitor.old)) }
-    ensures served { (first : Option (List AcceptedCall)) (c : ConfigValues) (bytes : List ℕ) →
-        IsRunningAt c server.old id bytes (TellsMore first (M.calls monitor.old)) →
+    requires stands { (first : M) × (c : ConfigValues) × (bytes : List ℕ)
+        × IsRunningAt c server.old id bytes (FollowsMore (M.follows first) (M.follows monitor.old)) }
+    ensures served { (first : M) (c : ConfigValues) (bytes : List ℕ) →
+        IsRunningAt c server.old id bytes (FollowsMore (M.follows first) (M.follows monitor.old)) →
         IsServed c bytes piece.now server.new (AddsBytes (W.written writer.old) (W.written writer.new))
-        (TellsMore first (M.calls monitor.new)) result }
+        (FollowsMore (M.follows first) (M.follows monitor.new)) result }
     ensures few { IfOk result (λ messages. messages ≤ length piece.now) }
     ensures failure { W.is_failed writer.new ≡ is_write_fault result }
 {
@@ -316,14 +318,14 @@ fn handled(what: Handled) -> u64
 
 /// Reports the end of input to a connection, and returns the reason why it processes no further message.
 fn end<M: Monitor<()>>(server: &mut Server, id: ConnId, monitor: &mut M) -> Option<Reason>
-    requires stands { (first : Option (List AcceptedCall)) × (c : ConfigValues) × (bytes : List ℕ)
-        × IsRunningAt c server.old id bytes (TellsMore first (M.calls monitor.old)) }
-    ensures reason { (first : Option (List AcceptedCall)) (c : ConfigValues) (bytes : List ℕ) →
-        IsRunningAt c server.old id bytes (TellsMore first (M.calls monitor.old)) →
+    requires stands { (first : M) × (c : ConfigValues) × (bytes : List ℕ)
+        × IsRunningAt c server.old id bytes (FollowsMore (M.follows first) (M.follows monitor.old)) }
+    ensures reason { (first : M) (c : ConfigValues) (bytes : List ℕ) →
+        IsRunningAt c server.old id bytes (FollowsMore (M.follows first) (M.follows monitor.old)) →
         result ≡ Some (end_reason (is_cut (stream_of c bytes).rest)) }
-    ensures told { (first : Option (List AcceptedCall)) (c : ConfigValues) (bytes : List ℕ) →
-        IsRunningAt c server.old id bytes (TellsMore first (M.calls monitor.old)) →
-        HasReportedEnd c (TellsMore first (M.calls monitor.new)) bytes (length (stdio_output c bytes)) }
+    ensures told { (first : M) (c : ConfigValues) (bytes : List ℕ) →
+        IsRunningAt c server.old id bytes (FollowsMore (M.follows first) (M.follows monitor.old)) →
+        HasReportedEnd c (FollowsMore (M.follows first) (M.follows monitor.new)) bytes (length (stdio_output c bytes)) }
 {
     let Ok(()) = server.ended(id) else {
         unreachable!()

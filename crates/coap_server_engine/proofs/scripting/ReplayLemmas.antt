@@ -10,16 +10,17 @@ use Rattle.coap_server_engine.specs.Prelude.{event_value, EventResult, fed_turns
 use Rattle.coap_server_engine.specs.Prelude.{IsRefusedAt, IsCutAt, where_there, took_turns, took, events_ran, ShowsMore}
 use Rattle.coap_server_engine.specs.Prelude.{ShowsPart, events_made, ShowsRefusedAt, AddsBytes, WritesPart, SessionValue}
 use Rattle.coap_server_engine.specs.Prelude.{InResult, ServerValue, server_taken, count_taken, is_there, session_of, IsNotTaken, IsRun}
-use Rattle.coap_server_engine.specs.Prelude.{IsDrainable, Took, Drained, OutputLine, Shows, AcceptedCall, TellsMore, TellsPartlyFed}
+use Rattle.coap_server_engine.specs.Prelude.{IsDrainable, Took, Drained, OutputLine, Shows, AcceptedCall, FollowsMore, Following, TellsPartlyFed}
 use Rattle.coap_script.specs.declared.event.Event.{Event}
 use Rattle.coap_server_engine.specs.script.Replay.{behind}
 use Rattle.coap_server_engine.specs.values.InResults.{goes_on}
-use Rattle.coap_io.proofs.streams.DeviceLemmas.{bytes_then, told_none, told_then}
+use Rattle.coap_io.proofs.streams.DeviceLemmas.{bytes_then}
 use Rattle.coap_server_engine.proofs.scripting.ShownLemmas.{shows_same, shows_then, shows_as, events_ran_on}
 use Rattle.coap_server_engine.proofs.world.ShowLaws.{refused_on}
 use Rattle.coap_server_session.proofs.values.TakenLemmas.{refused_within}
 use Rattle.coap_model.specs.world.Events as world
 use Rattle.coap_model.specs.declared.answers.TakeFault.TheVariants as taking
+use Rattle.coap_server_engine.proofs.scripting.FollowLemmas.{followed_none, followed_then}
 
 -- ---- one event
 
@@ -91,8 +92,8 @@ abbrev pub ShowsTake : ServerValue → ℕ → List ℕ → ServerValue → Type
 ShowsTake now id left after = ShowsMore now after (where_there (session_of id now.sessions) (λ s. Took id (take (count_taken now id left) left)))
 
 -- A monitor received one more take.
-abbrev pub TellsTake : Option (List AcceptedCall) → Option (List AcceptedCall) → ServerValue → ℕ → List ℕ → Type 0
-TellsTake b c now id left = TellsMore b c (where_there (session_of id now.sessions) (λ s. Took id (take (count_taken now id left) left)))
+abbrev pub TellsTake : Following → Following → ServerValue → ℕ → List ℕ → Type 0
+TellsTake b c now id left = FollowsMore b c (where_there (session_of id now.sessions) (λ s. Took id (take (count_taken now id left) left)))
 
 module _ (v : ServerValue) (id : ℕ) (bytes : List ℕ) (now : ServerValue) (taken : ℕ) (feeds : Feeds v id bytes now taken) (left : taken < length bytes) where
   turn_more_feeds : fed_turns (feeds.turns + 1) v id bytes ≡ record { server = server_taken now id (drop taken bytes); count = taken + count_taken now id (drop taken bytes); done = count_taken now id (drop taken bytes) == 0 }
@@ -105,10 +106,10 @@ module _ (v : ServerValue) (id : ℕ) (bytes : List ℕ) (now : ServerValue) (ta
       rw (add-one, feeds.so_far, lt-ltb taken (length bytes) left) (shows_then v now after (took_turns feeds.turns v id bytes) _ feeds.shows more)
 
   -- A monitor received the takes so far, and then one more.
-  told_more : (a b c : Option (List AcceptedCall)) → TellsMore a b (took_turns feeds.turns v id bytes) → TellsTake b c now id (drop taken bytes) → TellsMore a c (took_turns (feeds.turns + 1) v id bytes)
+  told_more : (a b c : Following) → FollowsMore a b (took_turns feeds.turns v id bytes) → TellsTake b c now id (drop taken bytes) → FollowsMore a c (took_turns (feeds.turns + 1) v id bytes)
   unfolding took_turns
   told_more a b c so_far more =
-      rw (add-one, feeds.so_far, lt-ltb taken (length bytes) left) (told_then a b c (took_turns feeds.turns v id bytes) _ so_far more)
+      rw (add-one, feeds.so_far, lt-ltb taken (length bytes) left) (followed_then a b c (took_turns feeds.turns v id bytes) _ so_far more)
 
   -- A take accepted some bytes.
   pub feeds_more : (k : ℕ) (after : ServerValue) → k ≤ length (drop taken bytes) → k ≡ count_taken now id (drop taken bytes) → k ≢ 0 → after ≡ server_taken now id (drop taken bytes) → ShowsTake now id (drop taken bytes) after → Feeds v id bytes after (taken + k)
@@ -120,8 +121,8 @@ module _ (v : ServerValue) (id : ℕ) (bytes : List ℕ) (now : ServerValue) (ta
     shows = shows_more after more;
   }
 
-  pub feeds_told : (a b c : Option (List AcceptedCall)) (k : ℕ) (after : ServerValue) (within : k ≤ length (drop taken bytes)) (counted : k ≡ count_taken now id (drop taken bytes)) (some : k ≢ 0) (is : after ≡ server_taken now id (drop taken bytes)) (more : ShowsTake now id (drop taken bytes) after)
-      → TellsMore a b (took_turns feeds.turns v id bytes) → TellsTake b c now id (drop taken bytes) → TellsMore a c (took_turns (feeds_more k after within counted some is more).turns v id bytes)
+  pub feeds_told : (a b c : Following) (k : ℕ) (after : ServerValue) (within : k ≤ length (drop taken bytes)) (counted : k ≡ count_taken now id (drop taken bytes)) (some : k ≢ 0) (is : after ≡ server_taken now id (drop taken bytes)) (more : ShowsTake now id (drop taken bytes) after)
+      → FollowsMore a b (took_turns feeds.turns v id bytes) → TellsTake b c now id (drop taken bytes) → FollowsMore a c (took_turns (feeds_more k after within counted some is more).turns v id bytes)
   unfolding feeds_more
   feeds_told a b c k after within counted some is more so_far tells = told_more a b c so_far tells
 
@@ -139,8 +140,8 @@ module _ (v : ServerValue) (id : ℕ) (bytes : List ℕ) (now : ServerValue) (ta
   pub stopped_shows : (after : ServerValue) → count_taken now id (drop taken bytes) ≡ 0 → after ≡ server_taken now id (drop taken bytes) → ShowsTake now id (drop taken bytes) after → ShowsMore v after (took v id bytes)
   stopped_shows after none is more = shows_as v after _ _ (sym (stops_there after none is).1) (shows_more after more)
 
-  pub stopped_told : (a b c : Option (List AcceptedCall)) (after : ServerValue) → count_taken now id (drop taken bytes) ≡ 0 → after ≡ server_taken now id (drop taken bytes)
-      → TellsMore a b (took_turns feeds.turns v id bytes) → TellsTake b c now id (drop taken bytes) → TellsMore a c (took v id bytes)
+  pub stopped_told : (a b c : Following) (after : ServerValue) → count_taken now id (drop taken bytes) ≡ 0 → after ≡ server_taken now id (drop taken bytes)
+      → FollowsMore a b (took_turns feeds.turns v id bytes) → TellsTake b c now id (drop taken bytes) → FollowsMore a c (took v id bytes)
   stopped_told a b c after none is so_far tells = rw (stops_there after none is).1 (told_more a b c so_far tells)
 
   -- Allocation failed.
@@ -152,14 +153,14 @@ module _ (v : ServerValue) (id : ℕ) (bytes : List ℕ) (now : ServerValue) (ta
     refused = rw feeds.so_far refused;
   }
 
-  pub short_told : (a b c : Option (List AcceptedCall)) (count : ℕ) (after : ServerValue) → IsNotTaken now id (drop taken bytes) (taking.Memory count) after → ShowsMore now after (Took id (take count (drop taken bytes)) ∷ [])
-      → TellsMore a b (took_turns feeds.turns v id bytes) → TellsMore b c (Took id (take count (drop taken bytes)) ∷ []) → TellsPartlyFed (TellsMore a c) v id bytes after
+  pub short_told : (a b c : Following) (count : ℕ) (after : ServerValue) → IsNotTaken now id (drop taken bytes) (taking.Memory count) after → ShowsMore now after (Took id (take count (drop taken bytes)) ∷ [])
+      → FollowsMore a b (took_turns feeds.turns v id bytes) → FollowsMore b c (Took id (take count (drop taken bytes)) ∷ []) → TellsPartlyFed (FollowsMore a c) v id bytes after
   unfolding short
   short_told a b c count after refused more so_far tells = record {
     more = _;
     part = record { in_result = short count after refused; made = rw feeds.so_far };
     shows = shows_then v now after (took_turns feeds.turns v id bytes) _ feeds.shows more;
-    tells = told_then a b c (took_turns feeds.turns v id bytes) _ so_far tells;
+    tells = followed_then a b c (took_turns feeds.turns v id bytes) _ so_far tells;
   }
 
 -- No byte is left.
@@ -173,7 +174,7 @@ module _ (v : ServerValue) (id : ℕ) (bytes : List ℕ) (now : ServerValue) (ta
   pub used_up_shows : ShowsMore v now (took v id bytes)
   used_up_shows = shows_as v now _ _ (sym all_used.1) feeds.shows
 
-  pub used_up_told : (a b : Option (List AcceptedCall)) → TellsMore a b (took_turns feeds.turns v id bytes) → TellsMore a b (took v id bytes)
+  pub used_up_told : (a b : Following) → FollowsMore a b (took_turns feeds.turns v id bytes) → FollowsMore a b (took v id bytes)
   used_up_told a b tells = rw all_used.1 tells
 
 -- No connection has this id.
@@ -207,15 +208,15 @@ module _ (v : ServerValue) (id : ℕ) (none : session_of id v.sessions ≡ None)
             stopped_shows v id bytes v 0 (feeds_nothing bytes) left v (takes_nothing rest) (stays_as_it_is rest) (rw none (shows_same v v refl)),
           )
 
-  pub told_nothing : (a : Option (List AcceptedCall)) (bytes : List ℕ) → TellsMore a a (took v id bytes)
+  pub told_nothing : (a : Following) (bytes : List ℕ) → FollowsMore a a (took v id bytes)
   unfolding took_turns feeds_nothing
   told_nothing a bytes = told_cases (length bytes) refl
     where
-      told_cases : (n : ℕ) → length bytes ≡ n → TellsMore a a (took v id bytes)
-      told_cases zero is = used_up_told v id bytes v 0 (feeds_nothing bytes) (omega (arith, is)) a a (told_none a)
+      told_cases : (n : ℕ) → length bytes ≡ n → FollowsMore a a (took v id bytes)
+      told_cases zero is = used_up_told v id bytes v 0 (feeds_nothing bytes) (omega (arith, is)) a a (followed_none a)
       told_cases (suc n) is =
           let rest = drop 0 bytes in
-          stopped_told v id bytes v 0 (feeds_nothing bytes) (omega (arith, is)) a a a v (takes_nothing rest) (stays_as_it_is rest) (told_none a) (rw none (told_none a))
+          stopped_told v id bytes v 0 (feeds_nothing bytes) (omega (arith, is)) a a a v (takes_nothing rest) (stays_as_it_is rest) (followed_none a) (rw none (followed_none a))
 
 -- ---- several events
 

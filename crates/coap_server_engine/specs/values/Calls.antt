@@ -1,5 +1,5 @@
 -- Defined by this project: the calls that a monitor receives, as events of a server.
-use Rattle.std.specs.Prelude.{◌+◌, List, length, ℕ}
+use Rattle.std.specs.Prelude.{◌+◌, ◌++◌, List, length, ℕ}
 use Rattle.coap_model.specs.world.Events.{AcceptedCall}
 use Rattle.coap_model.specs.world.Events as event
 use Rattle.coap_server_engine.specs.declared.monitor.Call.{Call}
@@ -18,6 +18,14 @@ call_value (call.Ended id) = event.Ended id
 call_value (call.Released id) = event.Released id
 call_value (call.Announced id size) = event.Announced id size
 call_value (call.Dropped id) = event.Dropped id
+
+-- A statement of a monitor: a relation of the text that it had before, and the calls that it received since.
+abbrev pub Following : Type 1
+Following = List ℕ → List AcceptedCall → Type 0
+
+-- After the calls that it had received before, a monitor has received these.
+unfoldable pub FollowsMore : Following → Following → List AcceptedCall → Type 0
+FollowsMore before after more = (start : List ℕ) (calls : List AcceptedCall) → before start calls → after start (calls ++ more)
 
 -- Holds if an allocation failed in a take. The server shows the events of the takes before it, and of the bytes which
 -- the failing take accepted. `told` holds of these events.

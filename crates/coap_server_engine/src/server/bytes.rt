@@ -16,7 +16,7 @@ impl Server {
     ghost use Rattle.coap_server_engine.specs.Prelude.{server_taken, server_written, can_take_on, handled_by};
     ghost use Rattle.coap_server_engine.specs.Prelude.{IsNotTaken, written_refusal, front_of, stop_on, LiesAt};
     ghost use Rattle.coap_server_engine.specs.Prelude.{AcceptedCall, Took, Wrote, takes, handled_in, Shows};
-    ghost use Rattle.coap_server_engine.specs.Prelude.{ShowsRefused, IsRefusedFor, TellsMore, TellsPartlyFed};
+    ghost use Rattle.coap_server_engine.specs.Prelude.{ShowsRefused, IsRefusedFor, FollowsMore, TellsPartlyFed};
     ghost use Rattle.coap_server_engine.specs.contracts.server.Server.{the_row};
 
     /// Returns `true` if a connection accepts bytes.
@@ -156,9 +156,9 @@ impl Server {
         ensures within { IfOk result (λ n. n ≤ length bytes.now) }
         ensures after { OnOk result (self.new ≡ (in_result self.old id bytes.now).server) }
         ensures shows { OnOk result (ShowsMore self.old self.new (took self.old id bytes.now)) }
-        ensures told { OnOk result (TellsMore (M.calls monitor.old) (M.calls monitor.new) (took self.old id bytes.now)) }
+        ensures told { OnOk result (FollowsMore (M.follows monitor.old) (M.follows monitor.new) (took self.old id bytes.now)) }
         ensures err { OnErr result (IsPartialIn self.old id bytes.now self.new) }
-        ensures told_partly { OnErr result (TellsPartlyFed (TellsMore (M.calls monitor.old) (M.calls monitor.new))
+        ensures told_partly { OnErr result (TellsPartlyFed (FollowsMore (M.follows monitor.old) (M.follows monitor.new))
             self.old id bytes.now self.new) }
     {
         let Some(at) = find(&self.sessions, id) else {

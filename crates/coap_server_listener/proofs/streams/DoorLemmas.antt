@@ -1,18 +1,18 @@
 -- The traces of clock and listener in a run, turn by turn.
-use Rattle.std.proofs.Common.{◌≡◌, ℕ, ◌+◌, ◌<◌, Bool, false, List, [], ◌∷◌, ◌++◌, length, Option, Result, Ok, Err, OnOk, OnErr, refl, ap, ◌∙◌, arith, inr}
-use Rattle.coap_server_listener.specs.Prelude.{is_none, ConfigValues, Peer, IoFault, Memory, Wait, open_refusal, ServerValue}
-use Rattle.coap_server_listener.specs.Prelude.{OneMore, HasTurnedSo, IsCutRun, EndsWith, moved_to, waited_behind}
-use Rattle.coap_server_listener.specs.Prelude.{IsTurnOf, IsAskedOnce, asked_by, TellsMore, DoorCall, IsMemory, IsMemoryOrTurns, WireTrace}
-use Rattle.coap_server_listener.specs.Prelude.{AcceptedCall, Ticked, HasTurned, ShowsMore, Shows, opening}
+use Rattle.std.proofs.Common.{◌≡◌, ℕ, ◌+◌, ◌<◌, Bool, false, List, [], ◌∷◌, ◌++◌, length, Option, Result, Ok, Err, OnOk, OnErr, refl, sym, ap, ◌∙◌, arith, le-leb, inl, inr}
+use Rattle.coap_server_listener.specs.Prelude.{is_none, ConfigValues, Peer, IoFault, Memory, Read, Turns, Write, Wait, open_refusal, ServerValue}
+use Rattle.coap_server_listener.specs.Prelude.{OneMore, HasTurnedSo, IsCutRun, EndsWith, IsDoorRun, Unrecorded, moved_to, ticked_calls, waited_behind}
+use Rattle.coap_server_listener.specs.Prelude.{IsTurnOf, IsAskedOnce, asked_by, TellsMore, FollowsMore, Following, DoorCall, IsMemory, IsMemoryOrTurns, WireTrace}
+use Rattle.coap_server_listener.specs.Prelude.{AcceptedCall, AreSettled, SessionValue, server_ticked, HasTurned, ShowsMore, Shows, opening}
+use Rattle.std.proofs.lemmas.Bool.Decides.{nat_tests}
 use Rattle.std.proofs.lemmas.List.{append-nil, length-append}
 use Rattle.coap_io.proofs.streams.DeviceLemmas.{told_then}
+use Rattle.coap_server_engine.proofs.values.ServerLemmas.{all_settled_stay}
+use Rattle.coap_server_engine.proofs.scripting.FollowLemmas.{followed_then}
 
 -- ---- the calls that a monitor received
 
 -- The record of a monitor, if it has one.
-abbrev pub Calls : Type 0
-Calls = Option (List AcceptedCall)
-
 -- The server shows the calls that a monitor received.
 pub record HasShown (told : List AcceptedCall → Type 0) (v : ServerValue) : Type 0 where
   pub events : List AcceptedCall
@@ -20,33 +20,42 @@ pub record HasShown (told : List AcceptedCall → Type 0) (v : ServerValue) : Ty
   pub tells : told events
 
 -- After one more part of the run, the server shows the calls of both.
-pub shown_further : (a b c : Calls) (v w : ServerValue) (more : List AcceptedCall) → HasShown (TellsMore a b) v → ShowsMore v w more → TellsMore b c more → HasShown (TellsMore a c) w
+pub shown_further : (a b c : Following) (v w : ServerValue) (more : List AcceptedCall) → HasShown (FollowsMore a b) v → ShowsMore v w more → FollowsMore b c more → HasShown (FollowsMore a c) w
 shown_further a b c v w more so_far shows tells = record {
   events = so_far.events ++ more;
   shows = shows so_far.events so_far.shows;
-  tells = told_then a b c so_far.events more so_far.tells tells;
+  tells = followed_then a b c so_far.events more so_far.tells tells;
 }
 
 -- The time was set, or it was earlier and nothing changed.
-pub shown_ticked : {T E M : Type 0} (calls : M → Calls) (m n : M) (r : Result T E) (a : Calls) (v w : ServerValue) (now : ℕ) → HasShown (TellsMore a (calls m)) v
-    → OnOk r (ShowsMore v w (Ticked now ∷ [])) → OnOk r (TellsMore (calls m) (calls n) (Ticked now ∷ [])) → OnErr r ((w ≡ v) × (n ≡ m)) → HasShown (TellsMore a (calls n)) w
-shown_ticked calls m n (Ok x) a v w now so_far shows tells err = shown_further a (calls m) (calls n) v w (Ticked now ∷ []) so_far shows tells
+pub shown_ticked : {T E M : Type 0} (calls : M → Following) (m n : M) (r : Result T E) (a : Following) (v w : ServerValue) (now : ℕ) → HasShown (FollowsMore a (calls m)) v
+    → OnOk r (ShowsMore v w (ticked_calls v now)) → OnOk r (FollowsMore (calls m) (calls n) (ticked_calls v now)) → OnErr r ((w ≡ v) × (n ≡ m)) → HasShown (FollowsMore a (calls n)) w
+shown_ticked calls m n (Ok x) a v w now so_far shows tells err = shown_further a (calls m) (calls n) v w (ticked_calls v now) so_far shows tells
 shown_ticked calls m n (Err e) a v w now so_far shows tells err = rw (err.0, err.1) so_far
 
+-- The server has this time already.
+pub same_time : (v : ServerValue) (now : ℕ) → AreSettled v.host v.sessions → now ≡ v.host.now → v ≡ moved_to v now
+same_time v now settled is =
+    let same : v ≡ server_ticked v v.host.now = sym (ap (λ (es : List (ℕ × SessionValue)). record v { sessions = es }) (all_settled_stay v.host v.sessions settled)) in
+    rw (is, le-leb v.host.now v.host.now (omega arith)) same
+
+pub none_ticked : (v : ServerValue) (now : ℕ) → now ≡ v.host.now → ticked_calls v now ≡ []
+none_ticked v now is = grind (arith, nat_tests)
+
 -- A turn was made.
-pub shown_turned : (a b c d : Calls) (v w : ServerValue) → HasShown (TellsMore a b) v → HasTurned (TellsMore b c) v w → TellsMore c d [] → HasShown (TellsMore a d) w
+pub shown_turned : (a b c d : Following) (v w : ServerValue) → HasShown (FollowsMore a b) v → HasTurned (FollowsMore b c) v w → FollowsMore c d [] → HasShown (FollowsMore a d) w
 shown_turned a b c d v w so_far turned ends =
     let after = shown_further a b c v w (opening v turned.opens ++ turned.events) so_far turned.shows turned.tells in
-    record { events = after.events; shows = after.shows; tells = rw (← append-nil after.events) (told_then a c d after.events [] after.tells ends) }
+    record { events = after.events; shows = after.shows; tells = rw (← append-nil after.events) (followed_then a c d after.events [] after.tells ends) }
 
 -- A turn was cut.
-pub turn_cut : (a b c : Calls) (v w : ServerValue) (so_far : HasShown (TellsMore a b) v) → HasTurned (TellsMore b c) v w → HasTurned (λ more. TellsMore a c (so_far.events ++ more)) v w
+pub turn_cut : (a b c : Following) (v w : ServerValue) (so_far : HasShown (FollowsMore a b) v) → HasTurned (FollowsMore b c) v w → HasTurned (λ more. FollowsMore a c (so_far.events ++ more)) v w
 turn_cut a b c v w so_far turned = record {
   opens = turned.opens;
   events = turned.events;
   serving = turned.serving;
   shows = turned.shows;
-  tells = told_then a b c so_far.events (opening v turned.opens ++ turned.events) so_far.tells turned.tells;
+  tells = followed_then a b c so_far.events (opening v turned.opens ++ turned.events) so_far.tells turned.tells;
 }
 
 -- ---- progress of a run
@@ -127,3 +136,46 @@ module _ {W : Type 0} (readable writable : W → Option Bool) (trace : W → Wir
 pub memory_ends : (T : Type 0) (fault : IoFault) → IsMemory fault → IsMemoryOrTurns {T = T} (Err fault)
 memory_ends T Memory is = tt
 memory_ends T fault is = absurd is
+
+-- ---- a run without a monitor
+
+-- A run with a monitor is a run.
+pub unrecorded_run : {T W : Type 0} (readable writable : W → Option Bool) (trace : W → WireTrace) (c : ConfigValues) (clock : List ℕ → Type 0) (door : List (DoorCall W) → Type 0) (monitor : List AcceptedCall → Type 0) (r : Result T IoFault)
+    → IsDoorRun readable writable trace c clock door monitor r → IsDoorRun readable writable trace c clock door Unrecorded r
+unrecorded_run readable writable trace c clock door monitor (Ok x) run = absurd run
+unrecorded_run readable writable trace c clock door monitor (Err Read) run = absurd run
+unrecorded_run readable writable trace c clock door monitor (Err Write) run = absurd run
+unrecorded_run readable writable trace c clock door monitor (Err Memory) (inl none) = inl (none.0, none.1, tt)
+unrecorded_run readable writable trace c clock door monitor (Err Memory) (inr cut) = inr (record {
+  moments = cut.moments;
+  calls = cut.calls;
+  server = cut.server;
+  entries = cut.entries;
+  wait = cut.wait;
+  turns = cut.turns;
+  few = cut.few;
+  moment = cut.moment;
+  handed = cut.handed;
+  clock_tells = cut.clock_tells;
+  door_tells = cut.door_tells;
+  before = cut.before;
+  shown = cut.shown;
+  last = cut.last;
+  cut = record { opens = cut.cut.opens; events = cut.cut.events; serving = cut.cut.serving; shows = cut.cut.shows; tells = tt };
+})
+unrecorded_run readable writable trace c clock door monitor (Err Turns) run = record {
+  server = run.server;
+  entries = run.entries;
+  wait = run.wait;
+  turned = record {
+    moments = run.turned.moments;
+    calls = run.turned.calls;
+    turns = run.turned.turns;
+    clock_tells = run.turned.clock_tells;
+    door_tells = run.turned.door_tells;
+    events = run.turned.events;
+    shows = run.turned.shows;
+    monitor_tells = tt;
+  };
+  all = run.all;
+}

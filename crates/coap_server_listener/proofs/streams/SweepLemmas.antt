@@ -7,14 +7,14 @@ use Rattle.coap_server_listener.specs.Prelude.{AllByRecursion, IsDistinct, keys_
 use Rattle.coap_server_listener.specs.Prelude.{AcceptedCall, Released, Dropped, ShowsMore, ServerValue, AreSettled, AreNoted, IsNoted}
 use Rattle.coap_server_listener.specs.Prelude.{server_released, server_dropped, released_refusal, status_of, recorded}
 use Rattle.coap_server_listener.specs.Prelude.{silence_action, activities_after, acted, drop_one, Sweep, swept, swept_one, HasSwept, HasSweptAt}
-use Rattle.coap_server_listener.specs.Prelude.{TellsMore}
+use Rattle.coap_server_listener.specs.Prelude.{FollowsMore, Following}
 use Rattle.coap_server_listener.specs.declared.door.silence.SilenceAction.TheVariants.{Keep, Release}
-use Rattle.coap_io.proofs.streams.DeviceLemmas.{told_none, told_then}
 use Rattle.coap_server_engine.proofs.scripting.ShownLemmas.{shows_same, shows_then}
 use Rattle.coap_server_listener.proofs.streams.AgendaLemmas.{some_at_index, next_first, front_stays}
 use Rattle.coap_server_listener.proofs.streams.NoteLemmas.{stays_noted, released_on, dropped_on, others_become}
 use Rattle.coap_server_listener.proofs.streams.PeerLemmas.{set_there, before_written, beside_written}
 use Rattle.coap_server_listener.proofs.streams.RemovalLemmas.{recorded_there, all_recorded}
+use Rattle.coap_server_engine.proofs.scripting.FollowLemmas.{followed_none, followed_then}
 
 -- ---- the entries before and after an index
 
@@ -97,12 +97,12 @@ module _ {W : Type 0} (told : List AcceptedCall → Type 0) (now : ℕ) (v after
       rw (at.1, ← is_so) (rw at.1 at part)
 
 -- The connection stays.
-pub kept_here : {W : Type 0} (a : Option (List AcceptedCall)) (now : ℕ) (v : ServerValue) (all : List (ℕ × Activity)) (es : List (ℕ × Peer W)) (i : ℕ) → i < length es
-    → IfSome (slice_get es i) (λ e. HasSweptAt (TellsMore a a) (acted Keep (released_refusal v e.0) now v all e) v es i v all es (i + 1))
+pub kept_here : {W : Type 0} (a : Following) (now : ℕ) (v : ServerValue) (all : List (ℕ × Activity)) (es : List (ℕ × Peer W)) (i : ℕ) → i < length es
+    → IfSome (slice_get es i) (λ e. HasSweptAt (FollowsMore a a) (acted Keep (released_refusal v e.0) now v all e) v es i v all es (i + 1))
 kept_here a now v all es i within =
     let at = some_at_index es i within in
     rw at.1 (record {
-      has = record { server = refl; activities = refl; shows = shows_same v v refl; tells = told_none a };
+      has = record { server = refl; activities = refl; shows = shows_same v v refl; tells = followed_none a };
       front = front_kept es i at.0 at.1;
       back = refl;
     })
@@ -141,12 +141,12 @@ pub record IsSweptTo {W : Type 0} (told : List AcceptedCall → Type 0) (s : Swe
   pub entries : front ++ (swept idle now v all rest).entries ≡ s.entries
   pub made : events ++ (swept idle now v all rest).events ≡ s.events
 
-pub none_swept : {W : Type 0} (a : Option (List AcceptedCall)) (idle now : ℕ) (v : ServerValue) (all : List (ℕ × Activity)) (es : List (ℕ × Peer W)) → IsSweptTo (TellsMore a a) (swept idle now v all es) idle now v v all (take 0 es) (drop 0 es)
-none_swept a idle now v all es = record { events = []; shows = shows_same v v refl; tells = told_none a; server = refl; activities = refl; entries = refl; made = refl }
+pub none_swept : {W : Type 0} (a : Following) (idle now : ℕ) (v : ServerValue) (all : List (ℕ × Activity)) (es : List (ℕ × Peer W)) → IsSweptTo (FollowsMore a a) (swept idle now v all es) idle now v v all (take 0 es) (drop 0 es)
+none_swept a idle now v all es = record { events = []; shows = shows_same v v refl; tells = followed_none a; server = refl; activities = refl; entries = refl; made = refl }
 
-pub one_more_swept : {W : Type 0} (a b c : Option (List AcceptedCall)) (s : Sweep W) (idle now : ℕ) (u v w : ServerValue) (all later : List (ℕ × Activity)) (es left : List (ℕ × Peer W)) (i at : ℕ) → i < length es
-    → IsSweptTo (TellsMore a b) s idle now u v all (take i es) (drop i es) → IfSome (slice_get es i) (λ e. HasSweptAt (TellsMore b c) (swept_one idle now v all e) v es i w later left at)
-    → IsSweptTo (TellsMore a c) s idle now u w later (take at left) (drop at left)
+pub one_more_swept : {W : Type 0} (a b c : Following) (s : Sweep W) (idle now : ℕ) (u v w : ServerValue) (all later : List (ℕ × Activity)) (es left : List (ℕ × Peer W)) (i at : ℕ) → i < length es
+    → IsSweptTo (FollowsMore a b) s idle now u v all (take i es) (drop i es) → IfSome (slice_get es i) (λ e. HasSweptAt (FollowsMore b c) (swept_one idle now v all e) v es i w later left at)
+    → IsSweptTo (FollowsMore a c) s idle now u w later (take at left) (drop at left)
 unfolding swept
 one_more_swept a b c s idle now u v w all later es left i at within so_far part =
     let there = some_at_index es i within in
@@ -155,7 +155,7 @@ one_more_swept a b c s idle now u v w all later es left i at within so_far part 
     rw (one.front, one.back, one.has.server, one.has.activities) (record {
       events = before.events ++ (swept_one idle now v all there.0).events;
       shows = shows_then u v _ before.events _ before.shows (rw one.has.server at one.has.shows);
-      tells = told_then a b c before.events _ before.tells one.has.tells;
+      tells = followed_then a b c before.events _ before.tells one.has.tells;
       server = before.server;
       activities = before.activities;
       entries = rw append_assoc before.entries;

@@ -3,14 +3,14 @@ use Rattle.std.proofs.Common.{◌≡◌, ℕ, ◌+◌, ◌<◌, Bool, false, Lis
 use Rattle.coap_server_listener.specs.Prelude.{is_none, ConfigValues, Peer, IoFault, Memory, Wait, open_refusal, ServerValue}
 use Rattle.coap_server_listener.specs.Prelude.{OneSoFar, HasTimedTurns, IsCutTimedRun, TimedEndsWith, moved_to, waited_behind}
 use Rattle.coap_server_listener.specs.Prelude.{AreEnded, HasEnded, is_sweep_due, short_wait}
-use Rattle.coap_server_listener.specs.Prelude.{IsTurnOf, IsAskedOnce, asked_by, TellsMore, DoorCall, IsMemory, WireTrace}
+use Rattle.coap_server_listener.specs.Prelude.{IsTurnOf, IsAskedOnce, asked_by, TellsMore, FollowsMore, Following, DoorCall, IsMemory, WireTrace}
 use Rattle.coap_server_listener.specs.Prelude.{AcceptedCall, HasTurned}
 use Rattle.std.proofs.lemmas.List.{length-append}
 use Rattle.coap_io.proofs.streams.DeviceLemmas.{told_then}
-use Rattle.coap_server_listener.proofs.streams.DoorLemmas.{Calls, HasShown, shown_further}
+use Rattle.coap_server_listener.proofs.streams.DoorLemmas.{HasShown, shown_further}
 
 -- The calls of a sweep, if there was one, after those before it.
-pub shown_ended : (a b c : Calls) (v w : ServerValue) → HasShown (TellsMore a b) v → HasEnded (TellsMore b c) v w → HasShown (TellsMore a c) w
+pub shown_ended : (a b c : Following) (v w : ServerValue) → HasShown (FollowsMore a b) v → HasEnded (FollowsMore b c) v w → HasShown (FollowsMore a c) w
 shown_ended a b c v w so_far ended = shown_further a b c v w ended.events so_far ended.shows ended.tells
 
 module _ {W : Type 0} (readable writable : W → Option Bool) (trace : W → WireTrace) (c : ConfigValues) (idle : ℕ) where

@@ -1,6 +1,6 @@
 -- Defined by this project: a run over the connections of a listener, as whole turns that match the traces of clock and
 -- listener.
-use Rattle.std.specs.Prelude.{◌≡◌, ◌≤◌, ◌⊎◌, ℕ, ◌+◌, nat_le, nat_lt, Bool, List, [], ◌∷◌, ◌++◌, length, Option, Result, Ok, Err, is_none, if◌then◌else◌}
+use Rattle.std.specs.Prelude.{◌≡◌, ◌≤◌, ◌⊎◌, ℕ, ◌+◌, ◌==◌, nat_le, nat_lt, Bool, List, [], ◌∷◌, ◌++◌, length, Option, Result, Ok, Err, is_none, if◌then◌else◌}
 use Rattle.coap_model.specs.Configs.{ConfigValues}
 use Rattle.coap_server_listener.specs.declared.door.peer.Peer.{Peer}
 use Rattle.coap_server_engine.specs.declared.io_fault.IoFault.{IoFault}
@@ -10,7 +10,7 @@ use Rattle.coap_io.specs.declared.wire.Wait.TheVariants.{No}
 use Rattle.coap_server_engine.specs.values.ServerAnswers.{open_refusal}
 use Rattle.coap_server_engine.specs.values.Servers.{ServerValue, new_server, server_ticked}
 use Rattle.coap_server_listener.specs.streams.Serving.{asked_by, HasTurned, IsTurnOf}
-use Rattle.coap_model.specs.world.Events.{AcceptedCall}
+use Rattle.coap_model.specs.world.Events.{AcceptedCall, Ticked}
 use Rattle.coap_server_engine.specs.world.Shows.{Shows}
 use Rattle.coap_io.specs.streams.DeviceTraces.{DoorCall, Waited}
 use Rattle.coap_io.specs.streams.Wires.{WireTrace}
@@ -18,6 +18,10 @@ use Rattle.coap_io.specs.streams.Wires.{WireTrace}
 -- The server after its clock returned this time. An earlier time changes nothing.
 abbrev pub moved_to : ServerValue → (moment : ℕ) → ServerValue
 moved_to v moment = if nat_le v.host.now moment then server_ticked v moment else v
+
+-- The call that sets the time of the server, if it changes.
+abbrev pub ticked_calls : ServerValue → (moment : ℕ) → List AcceptedCall
+ticked_calls v moment = if moment == v.host.now then [] else Ticked moment ∷ []
 
 -- The call of a listener after a turn: it waits, and learns whether another connection may be opened. There is none
 -- before the first turn.

@@ -2,6 +2,7 @@
 
 ghost use Rattle.std.specs.Prelude.{◌≡◌, ◌≢◌, false, [], length, is_some, OnOk, OnErr, IfOk, IfErr};
 ghost use Rattle.coap_server_listener.specs.Prelude.{IsPartialIn, in_result, AddsBytes, HasServed, TellsMore};
+ghost use Rattle.coap_server_listener.specs.Prelude.{FollowsMore};
 ghost use Rattle.coap_server_listener.specs.Prelude.{IsServedOnce, trace_by, IsLaidOut, is_heard, server_heard};
 ghost use Rattle.coap_server_listener.specs.Prelude.{server_wrote, waiting_once, rest_left, is_over_in, has_failed};
 ghost use Rattle.coap_server_listener.specs.Prelude.{course_of, wants_of, IsWithin, IsMemory, IsOneWrite, bytes_passed};
@@ -93,7 +94,7 @@ pub(super) fn serve_peer<W: Wire, M: Monitor<W>>(
     ensures part { IfOk result (λ course. IsServedOnce may_read may_write server.old id peer.old.rest
         (trace_by W.given W.written W.answers W.rooms peer.old.wire) server.new peer.new.rest
         (trace_by W.given W.written W.answers W.rooms peer.new.wire) course) }
-    ensures shows { HasServed (TellsMore (M.calls monitor.old) (M.calls monitor.new))
+    ensures shows { HasServed (FollowsMore (M.follows monitor.old) (M.follows monitor.new))
         server.old server.new }
     ensures wants { IfOk result (λ course. course ≡ Open → peer.new.wants ≡ wants_of server.new id peer.new.rest) }
     ensures fault { IfErr result IsMemory }
@@ -143,7 +144,7 @@ fn read_wire<W: Wire, M: Monitor<W>>(
     monitor: &mut M,
 ) -> Got
     ensures server { server.new ≡ server_heard server.old id result }
-    ensures shows { HasServed (TellsMore (M.calls monitor.old) (M.calls monitor.new))
+    ensures shows { HasServed (FollowsMore (M.follows monitor.old) (M.follows monitor.new))
         server.old server.new }
     // If a read is due, the wire is read once, into a buffer of 16,384 bytes, and `peer.rest` has the bytes of that
     // read.
@@ -180,7 +181,7 @@ fn take_buffered<W, M: Monitor<W>>(
     monitor: &mut M,
 ) -> Result<(), IoFault>
     ensures server { OnOk result (server.new ≡ (in_result server.old id rest.old).server) }
-    ensures shows { HasServed (TellsMore (M.calls monitor.old) (M.calls monitor.new))
+    ensures shows { HasServed (FollowsMore (M.follows monitor.old) (M.follows monitor.new))
         server.old server.new }
     ensures rest { OnOk result (rest.new ≡ rest_left server.old id rest.old) }
     ensures fault { IfErr result IsMemory }
@@ -207,7 +208,7 @@ fn write_once<W: Wire, M: Monitor<W>>(
     monitor: &mut M,
 ) -> Got
     ensures server { server.new ≡ server_wrote server.old id result }
-    ensures shows { HasServed (TellsMore (M.calls monitor.old) (M.calls monitor.new))
+    ensures shows { HasServed (FollowsMore (M.follows monitor.old) (M.follows monitor.new))
         server.old server.new }
     ensures within { IsWithin (length (waiting_once may_write id server.old)) result }
     ensures idle { waiting_once may_write id server.old ≡ [] → (wire.new ≡ wire.old) × (result ≡ Later) }

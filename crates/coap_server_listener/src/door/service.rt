@@ -35,7 +35,8 @@ impl<W: Wire + Ready + Drop> Service<W> {
     ghost use Rattle.std.specs.Prelude.{◌+◌, ◌++◌, ◌∷◌, true, List, [], is_none, is_ok, nat_le, IfErr, IfOk, OnErr};
     ghost use Rattle.std.specs.Prelude.{OnOk, Err, nat_eq};
     ghost use Rattle.coap_server_listener.specs.Prelude.{RefusedBy, RefusedOrMemory, put_refusal, remove_refusal};
-    ghost use Rattle.coap_server_listener.specs.Prelude.{HasTurned, IsAskedOnce, IsTurnOf, moved_to, TellsMore};
+    ghost use Rattle.coap_server_listener.specs.Prelude.{HasTurned, IsAskedOnce, IsTurnOf, moved_to, ticked_calls};
+    ghost use Rattle.coap_server_listener.specs.Prelude.{FollowsMore, TellsMore};
     ghost use Rattle.coap_server_listener.specs.Prelude.{trace_by, IsMemory, open_refusal, new_server, server_put};
     ghost use Rattle.coap_server_listener.specs.Prelude.{server_removed, server_ticked, AcceptedCall, Ticked, Stored};
     ghost use Rattle.coap_server_listener.specs.Prelude.{Removed, Shows, Unrecorded, Released, Dropped};
@@ -92,7 +93,7 @@ impl<W: Wire + Ready + Drop> Service<W> {
         self.server.tick(now)
     }
 
-    /// Sets the time as `tick` does. If it succeeds, the monitor receives the call.
+    /// Sets the time as `tick` does. If the time has changed, the monitor receives the call.
     ///
     /// # Errors
     ///
@@ -101,12 +102,16 @@ impl<W: Wire + Ready + Drop> Service<W> {
         ensures answer { is_ok result ≡ nat_le self.old.server.host.now now }
         ensures moved { self.new.server ≡ moved_to self.old.server now }
         ensures shows { OnOk result ((events : List AcceptedCall) → Shows self.old.server events →
-            Shows self.new.server (events ++ Ticked now ∷ [])) }
-        ensures told { OnOk result (TellsMore (M.calls monitor.old) (M.calls monitor.new) (Ticked now ∷ [])) }
+            Shows self.new.server (events ++ ticked_calls self.old.server now)) }
+        ensures told { OnOk result (FollowsMore (M.follows monitor.old) (M.follows monitor.new)
+            (ticked_calls self.old.server now)) }
         ensures err { OnErr result ((self.new.server ≡ self.old.server) × (monitor.new ≡ monitor.old)) }
         ensures peers { self.new.peers ≡ self.old.peers }
         ensures spent { self.new.is_spent ≡ self.old.is_spent }
     {
+        if now == self.server.stamp().moment {
+            return Ok(());
+        }
         self.tick(now)?;
         monitor.accepted(Call::Ticked(now), &self.server);
         Ok(())
@@ -135,6 +140,34 @@ impl<W: Wire + Ready + Drop> Service<W> {
         self.server.put(path, format, bytes)
     }
 
+    /// Stores a representation as `put` does. If it succeeds, the monitor receives the call.
+    ///
+    /// # Errors
+    ///
+    /// Those of `Server::put`. The server is unchanged.
+    pub fn put_with<M: Monitor<W>>(
+        &mut self,
+        path: &PathKey,
+        format: Option<u16>,
+        bytes: &[u8],
+        monitor: &mut M,
+    ) -> Result<u64, StoreFault>
+        ensures answer { RefusedOrMemory result (put_refusal self.old.server.host.store path.now bytes.now) }
+        ensures version { IfOk result (λ version. version ≡ self.old.server.host.store.versions + 1) }
+        ensures ok { OnOk result (self.new.server ≡ server_put self.old.server path.now format bytes.now) }
+        ensures shows { OnOk result ((events : List AcceptedCall) → Shows self.old.server events →
+            Shows self.new.server (events ++ Stored path.now format bytes.now ∷ [])) }
+        ensures told { OnOk result (FollowsMore (M.follows monitor.old) (M.follows monitor.new)
+            (Stored path.now format bytes.now ∷ [])) }
+        ensures err { OnErr result ((self.new.server ≡ self.old.server) × (monitor.new ≡ monitor.old)) }
+        ensures peers { self.new.peers ≡ self.old.peers }
+        ensures spent { self.new.is_spent ≡ self.old.is_spent }
+    {
+        let version = self.put(path, format, bytes)?;
+        monitor.accepted(Call::Stored(path, format, bytes), &self.server);
+        Ok(version)
+    }
+
     /// Removes the resource at a path as `Server::remove` does. Its observers are notified.
     ///
     /// # Errors
@@ -150,6 +183,31 @@ impl<W: Wire + Ready + Drop> Service<W> {
         ensures spent { self.new.is_spent ≡ self.old.is_spent }
     {
         self.server.remove(path)
+    }
+
+    /// Removes the resource at a path as `remove` does. If it succeeds, the monitor receives the call.
+    ///
+    /// # Errors
+    ///
+    /// Those of `Server::remove`. The server is unchanged.
+    pub fn remove_with<M: Monitor<W>>(
+        &mut self,
+        path: &PathKey,
+        monitor: &mut M,
+    ) -> Result<(), StoreFault>
+        ensures answer { RefusedBy result (remove_refusal self.old.server.host.store path.now) }
+        ensures ok { OnOk result (self.new.server ≡ server_removed self.old.server path.now) }
+        ensures shows { OnOk result ((events : List AcceptedCall) → Shows self.old.server events →
+            Shows self.new.server (events ++ Removed path.now ∷ [])) }
+        ensures told { OnOk result (FollowsMore (M.follows monitor.old) (M.follows monitor.new)
+            (Removed path.now ∷ [])) }
+        ensures err { OnErr result ((self.new.server ≡ self.old.server) × (monitor.new ≡ monitor.old)) }
+        ensures peers { self.new.peers ≡ self.old.peers }
+        ensures spent { self.new.is_spent ≡ self.old.is_spent }
+    {
+        self.remove(path)?;
+        monitor.accepted(Call::Removed(path), &self.server);
+        Ok(())
     }
 
     /// Returns the status of a connection, or `None` if no connection has this number.
@@ -193,7 +251,7 @@ impl<W: Wire + Ready + Drop> Service<W> {
         ensures ok { OnOk result (self.new.server ≡ server_released self.old.server id) }
         ensures shows { OnOk result ((events : List AcceptedCall) → Shows self.old.server events →
             Shows self.new.server (events ++ Released id ∷ [])) }
-        ensures told { OnOk result (TellsMore (M.calls monitor.old) (M.calls monitor.new) (Released id ∷ [])) }
+        ensures told { OnOk result (FollowsMore (M.follows monitor.old) (M.follows monitor.new) (Released id ∷ [])) }
         // The interest of the connection is recorded anew, and no wire is touched.
         ensures peers { OnOk result (self.new.peers.entries
             ≡ recorded_on self.new.server id self.old.peers.entries) }
@@ -236,7 +294,7 @@ impl<W: Wire + Ready + Drop> Service<W> {
         ensures ok { OnOk result (self.new.server ≡ server_dropped self.old.server id) }
         ensures shows { OnOk result ((events : List AcceptedCall) → Shows self.old.server events →
             Shows self.new.server (events ++ Dropped id ∷ [])) }
-        ensures told { OnOk result (TellsMore (M.calls monitor.old) (M.calls monitor.new) (Dropped id ∷ [])) }
+        ensures told { OnOk result (FollowsMore (M.follows monitor.old) (M.follows monitor.new) (Dropped id ∷ [])) }
         ensures peers { OnOk result (self.new.peers.entries
             ≡ shift_remove_entry (nat_eq id) self.old.peers.entries) }
         ensures err { OnErr result ((self.new.server ≡ self.old.server) × (self.new.peers ≡ self.old.peers)
@@ -261,7 +319,7 @@ impl<W: Wire + Ready + Drop> Service<W> {
     /// After an allocation failed in a turn, nothing happens.
     pub fn end_silent<M: Monitor<W>>(&mut self, idle: u32, now: u64, watch: &mut SilenceWatch<M>)
         ensures has { self.old.is_spent ≡ false → HasSwept
-            (TellsMore (M.calls watch.old.monitor) (M.calls watch.new.monitor))
+            (FollowsMore (M.follows watch.old.monitor) (M.follows watch.new.monitor))
             (swept idle now self.old.server watch.old.activities.entries self.old.peers.entries) self.old.server
             self.new.server watch.new.activities.entries }
         ensures entries { self.old.is_spent ≡ false → self.new.peers.entries
@@ -335,7 +393,7 @@ impl<W: Wire + Ready + Drop> Service<W> {
         monitor: &mut M,
     ) -> Result<Wait, IoFault>
         // The events of a turn are at most one opened connection, followed by events of served connections.
-        ensures shows { HasTurned (TellsMore (M.calls monitor.old) (M.calls monitor.new))
+        ensures shows { HasTurned (FollowsMore (M.follows monitor.old) (M.follows monitor.new))
             self.old.server self.new.server }
         // The listener is asked once if another connection may be opened, and not otherwise.
         ensures asks { self.old.is_spent ≡ false

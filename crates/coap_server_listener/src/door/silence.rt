@@ -1,7 +1,7 @@
 //! The rule that ends silent connections, and the times that it needs.
 
 ghost use Rattle.std.specs.Prelude.{◌≡◌, ◌∷◌, ◌⊎◌, [], IfOk, nat_eq};
-ghost use Rattle.coap_server_listener.specs.Prelude.{TellsMore, Opened, AcceptedCall, call_value, activities_after};
+ghost use Rattle.coap_server_listener.specs.Prelude.{FollowsMore, Opened, AcceptedCall, call_value, activities_after};
 ghost use Rattle.coap_server_listener.specs.Prelude.{changed_by, silence_action as action_of, quiet_action as quiet};
 ghost use Rattle.coap_server_listener.specs.Prelude.{moved_by};
 
@@ -170,10 +170,10 @@ impl<M: Drop> SilenceWatch<M> {
 }
 
 impl<W, M: Monitor<W>> Monitor<W> for SilenceWatch<M> {
-    ghost calls = { λ watch. M.calls watch.monitor };
+    ghost follows = { λ watch. M.follows watch.monitor };
 
     fn opened(&mut self, id: ConnId, wire: &W, server: &Server)
-        ensures told { TellsMore (M.calls self.old.monitor) (M.calls self.new.monitor) (Opened id ∷ []) }
+        ensures told { FollowsMore (M.follows self.old.monitor) (M.follows self.new.monitor) (Opened id ∷ []) }
         // Nothing is recorded if an allocation fails.
         ensures activities { (self.new.activities.entries
             ≡ activities_after self.old.now self.old.activities.entries (Opened id))
@@ -185,7 +185,7 @@ impl<W, M: Monitor<W>> Monitor<W> for SilenceWatch<M> {
     }
 
     fn accepted(&mut self, call: Call<'_>, server: &Server)
-        ensures told { TellsMore (M.calls self.old.monitor) (M.calls self.new.monitor) (call_value call.entry ∷ []) }
+        ensures told { FollowsMore (M.follows self.old.monitor) (M.follows self.new.monitor) (call_value call.entry ∷ []) }
         ensures activities { self.new.activities.entries
             ≡ activities_after self.old.now self.old.activities.entries (call_value call.entry) }
         ensures now { self.new.now ≡ self.old.now }
@@ -195,7 +195,7 @@ impl<W, M: Monitor<W>> Monitor<W> for SilenceWatch<M> {
     }
 
     fn turn_ended(&mut self)
-        ensures told { TellsMore (M.calls self.old.monitor) (M.calls self.new.monitor) [] }
+        ensures told { FollowsMore (M.follows self.old.monitor) (M.follows self.new.monitor) [] }
         ensures activities { self.new.activities ≡ self.old.activities }
         ensures now { self.new.now ≡ self.old.now }
     {

@@ -1,7 +1,7 @@
 //! The sweep, which releases or drops silent connections.
 
 ghost use Rattle.std.specs.Prelude.{◌≡◌, ◌<◌, ◌≤◌, ◌+◌, ◌-◌, ◌^◌, Some, length, true, slice_get, IfSome};
-ghost use Rattle.coap_server_listener.specs.Prelude.{AreNoted, AreSettled, HasSwept, HasSweptAt, TellsMore, acted};
+ghost use Rattle.coap_server_listener.specs.Prelude.{AreNoted, AreSettled, HasSwept, HasSweptAt, FollowsMore, acted};
 ghost use Rattle.coap_server_listener.specs.Prelude.{drop_one, is_there, keys_of, released_refusal, session_of, swept};
 ghost use Rattle.coap_server_listener.specs.Prelude.{swept_one};
 ghost use Rattle.coap_server_listener.specs.declared.door.silence.SilenceAction.TheVariants.{Release};
@@ -20,7 +20,7 @@ pub(super) fn sweep<W: Drop, M: Monitor<W>>(
     watch: &mut SilenceWatch<M>,
 )
     requires { AreNoted server.old peers.old.entries }
-    ensures has { HasSwept (TellsMore (M.calls watch.old.monitor) (M.calls watch.new.monitor))
+    ensures has { HasSwept (FollowsMore (M.follows watch.old.monitor) (M.follows watch.new.monitor))
         (swept idle watch.old.now server.old watch.old.activities.entries peers.old.entries) server.old server.new
         watch.new.activities.entries }
     ensures entries { peers.new.entries
@@ -46,7 +46,7 @@ fn sweep_at<W: Drop, M: Monitor<W>>(
     requires fits { length peers.old.entries < 2 ^ 64 }
     requires noted { AreNoted server.old peers.old.entries }
     ensures part { IfSome (slice_get peers.old.entries at) (λ e.
-        HasSweptAt (TellsMore (M.calls watch.old.monitor) (M.calls watch.new.monitor))
+        HasSweptAt (FollowsMore (M.follows watch.old.monitor) (M.follows watch.new.monitor))
         (swept_one idle watch.old.now server.old watch.old.activities.entries e) server.old peers.old.entries at
         server.new watch.new.activities.entries peers.new.entries result) }
     ensures noted { AreNoted server.new peers.new.entries }
@@ -84,7 +84,7 @@ fn release_at<W: Drop, M: Monitor<W>>(
     requires exists { is_there (session_of id server.old.sessions) ≡ true }
     requires noted { AreNoted server.old peers.old.entries }
     ensures part { IfSome (slice_get peers.old.entries at) (λ e.
-        HasSweptAt (TellsMore (M.calls watch.old.monitor) (M.calls watch.new.monitor))
+        HasSweptAt (FollowsMore (M.follows watch.old.monitor) (M.follows watch.new.monitor))
         (acted Release (released_refusal server.old e.0) watch.old.now server.old watch.old.activities.entries e)
         server.old peers.old.entries at server.new watch.new.activities.entries peers.new.entries result) }
     ensures noted { AreNoted server.new peers.new.entries }
@@ -113,7 +113,7 @@ fn drop_at<W: Drop, M: Monitor<W>>(
     requires exists { is_there (session_of id server.old.sessions) ≡ true }
     requires noted { AreNoted server.old peers.old.entries }
     ensures part { IfSome (slice_get peers.old.entries at) (λ e.
-        HasSweptAt (TellsMore (M.calls watch.old.monitor) (M.calls watch.new.monitor))
+        HasSweptAt (FollowsMore (M.follows watch.old.monitor) (M.follows watch.new.monitor))
         (drop_one watch.old.now server.old watch.old.activities.entries e) server.old peers.old.entries at
         server.new watch.new.activities.entries peers.new.entries result) }
     ensures noted { AreNoted server.new peers.new.entries }

@@ -3,7 +3,8 @@
 ghost use Rattle.std.specs.Prelude.{◌≡◌, ◌≢◌, ℕ, ◌<◌, ◌≤◌, ◌+◌, ◌-◌, ◌^◌, ◌||◌, Bool, false, Ok, Some, length, is_none};
 ghost use Rattle.std.specs.Prelude.{map, remove, slice_get, take, IfSome, IfOk, IfErr, OnOk, OnErr};
 ghost use Rattle.coap_server_listener.specs.Prelude.{keys_of, AreNoted, HasServed, HasTurned, HasGoneOn, IsRound};
-ghost use Rattle.coap_server_listener.specs.Prelude.{IsOpening, IsAskedOnce, IsTurnOf, asked_by, TellsMore, trace_by};
+ghost use Rattle.coap_server_listener.specs.Prelude.{IsOpening, IsAskedOnce, IsTurnOf, asked_by, TellsMore};
+ghost use Rattle.coap_server_listener.specs.Prelude.{FollowsMore, trace_by};
 ghost use Rattle.coap_server_listener.specs.Prelude.{IsServed, IsAgendaOf, concerns_earlier, end_of, wants_of};
 ghost use Rattle.coap_server_listener.specs.Prelude.{IsMemory, stamp_of, open_refusal, AreSettled, server_dropped};
 ghost use Rattle.coap_server_listener.specs.Prelude.{AreAsleep};
@@ -33,7 +34,7 @@ pub(super) fn take_turn<D: Door, M: Monitor<D::Wire>>(
 ) -> Result<Wait, IoFault>
     requires noted { AreNoted server.old peers.old.entries }
     requires asleep { AreAsleep D.Wire.readable D.Wire.writable awake.old peers.old.entries }
-    ensures shows { HasTurned (TellsMore (M.calls monitor.old) (M.calls monitor.new))
+    ensures shows { HasTurned (FollowsMore (M.follows monitor.old) (M.follows monitor.new))
         server.old server.new }
     // The listener is asked once if another connection may be opened, and not otherwise.
     ensures asks { IsAskedOnce (TellsMore (D.calls door.old) (D.calls door.new)) server.old }
@@ -69,7 +70,7 @@ fn accept<D: Door, M: Monitor<D::Wire>>(
 ) -> Result<bool, IoFault>
     requires noted { AreNoted server.old peers.old.entries }
     requires asleep { AreAsleep D.Wire.readable D.Wire.writable awake.old peers.old.entries }
-    ensures shows { HasTurned (TellsMore (M.calls monitor.old) (M.calls monitor.new))
+    ensures shows { HasTurned (FollowsMore (M.follows monitor.old) (M.follows monitor.new))
         server.old server.new }
     ensures noted { OnOk result (AreNoted server.new peers.new.entries) }
     ensures asleep { OnOk result (AreAsleep D.Wire.readable D.Wire.writable awake.new peers.new.entries) }
@@ -118,7 +119,7 @@ fn serve_each<W: Wire + Ready + Drop, M: Monitor<W>>(
 ) -> Result<NextWakeup, IoFault>
     requires noted { AreNoted server.old peers.old.entries }
     requires asleep { AreAsleep W.readable W.writable awake.old peers.old.entries }
-    ensures shows { HasServed (TellsMore (M.calls monitor.old) (M.calls monitor.new))
+    ensures shows { HasServed (FollowsMore (M.follows monitor.old) (M.follows monitor.new))
         server.old server.new }
     // Each connection in order is served, except those that are idle, and the result is the work that remains.
     ensures round { IfOk result (λ agenda. IsRound W.readable W.writable
@@ -153,7 +154,7 @@ fn serve_next<W: Wire + Ready + Drop, M: Monitor<W>>(
     requires fits { length peers.old.entries < 2 ^ 64 }
     requires noted { AreNoted server.old peers.old.entries }
     requires asleep { AreAsleep W.readable W.writable awake.old peers.old.entries }
-    ensures shows { HasServed (TellsMore (M.calls monitor.old) (M.calls monitor.new))
+    ensures shows { HasServed (FollowsMore (M.follows monitor.old) (M.follows monitor.new))
         server.old server.new }
     // The connection was served, and the others are unchanged.
     ensures part { IfOk result (λ later. HasGoneOn W.readable W.writable
@@ -211,7 +212,7 @@ fn serve_at<W: Wire + Ready, M: Monitor<W>>(
     requires there { at < length peers.old.entries }
     requires settled { AreSettled server.old.host server.old.sessions }
     requires noted { AreNoted server.old peers.old.entries }
-    ensures shows { HasServed (TellsMore (M.calls monitor.old) (M.calls monitor.new))
+    ensures shows { HasServed (FollowsMore (M.follows monitor.old) (M.follows monitor.new))
         server.old server.new }
     ensures part { IfSome (slice_get peers.old.entries at)
         (λ was. IfSome (slice_get peers.new.entries at)
@@ -247,7 +248,7 @@ fn drop_at<W: Wire + Drop, M: Monitor<W>>(
     requires there { at < length peers.old.entries }
     requires settled { AreSettled server.old.host server.old.sessions }
     requires noted { AreNoted server.old (remove peers.old.entries at) }
-    ensures shows { HasServed (TellsMore (M.calls monitor.old) (M.calls monitor.new))
+    ensures shows { HasServed (FollowsMore (M.follows monitor.old) (M.follows monitor.new))
         server.old server.new }
     ensures noted { AreNoted server.new peers.new.entries }
     ensures peers { peers.new.entries ≡ remove peers.old.entries at }

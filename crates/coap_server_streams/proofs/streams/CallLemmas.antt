@@ -1,5 +1,5 @@
 -- The calls of a run, one after the other, and the report of them to a monitor.
-use Rattle.std.proofs.Common.{◌≡◌, ℕ, ◌+◌, List, [], ◌∷◌, ◌++◌, length, Option, None, refl, sym, ap, subst, ◌∙◌, append_assoc, arith}
+use Rattle.std.proofs.Common.{◌≡◌, ℕ, ◌+◌, List, [], ◌∷◌, ◌++◌, length, None, refl, sym, ap, subst, ◌∙◌, append_assoc, arith}
 use Rattle.std.proofs.lemmas.Bool.{eq-eqb}
 use Rattle.std.proofs.lemmas.List.{append-nil}
 use Rattle.coap_server_streams.specs.Prelude.{ConfigValues, ServerValue, AcceptedCall, Opened, Took, Wrote, only_id, outcome}
@@ -10,9 +10,6 @@ use Rattle.coap_model.proofs.world.EntryLemmas.{all_append}
 use Rattle.coap_model.proofs.world.StepLaws.{taken_then, taken_here}
 
 -- The record of a monitor, if it has one.
-abbrev pub Calls : Type 0
-Calls = Option (List AcceptedCall)
-
 -- ---- transfers
 
 written_then : (id : ℕ) (es : List AcceptedCall) (e : AcceptedCall) → written_on id (es ++ e ∷ []) ≡ written_on id es + written_in id e

@@ -10,8 +10,7 @@ use Rattle.coap_server_streams.specs.Prelude.{more_in, more_at, flush_turns, IsF
 use Rattle.coap_server_streams.specs.Prelude.{settled, World, side_of, AcceptedCall, Wrote, stream_on, steps_by, world_after}
 use Rattle.coap_server_streams.specs.Prelude.{spelled_on, Shows, session_shown, only_id, stream_of, more_of, written_times}
 use Rattle.coap_server_streams.specs.Prelude.{flushed, world_for, Outcome, stdio_output, IsAtBytes, AreTransfers, HasReported}
-use Rattle.coap_server_streams.specs.Prelude.{IsReportedFlush, TellsMore, calls_of_flush}
-use Rattle.coap_io.proofs.streams.DeviceLemmas.{told_then}
+use Rattle.coap_server_streams.specs.Prelude.{IsReportedFlush, FollowsMore, Following, calls_of_flush}
 use Rattle.coap_server_streams.proofs.streams.CallLemmas.{transfers_written, all_transferred}
 use Rattle.coap_model.specs.world.World as world
 use Rattle.coap_model.proofs.world.StepLaws.{world_step, spelled_same}
@@ -23,6 +22,7 @@ use Rattle.coap_model.proofs.world.GoingOn.{GoesOn, as_before, written_goes_on, 
 use Rattle.coap_model.proofs.world.GrowLaws.{front_written, same_front, none_waits_all_written, written_all, settled_grows}
 use Rattle.coap_model.proofs.world.WalkLaws.{written_between}
 use Rattle.coap_model.proofs.world.AcrossLaws.{written_there}
+use Rattle.coap_server_engine.proofs.scripting.FollowLemmas.{followed_then}
 
 -- The server after some iterations of a flush shows this world, and these bytes were written. `more` are the calls of
 -- these iterations.
@@ -229,10 +229,10 @@ module _ (c : ConfigValues) (v : ServerValue) (s : Connection) (bytes : List ℕ
   pub turns_said : (stdio_output c bytes ≡ front_written s ++ (flush_turns (suc (more_at id v)) id v).text)
   turns_said = (turns_stand (suc (more_at id v)) (λ _. Unit {0}) tt (omega arith) (inr refl)).1
 
-pub flush_stands : (c : ConfigValues) (v : ServerValue) (s : Connection) (bytes : List ℕ) (a m n : Option (List AcceptedCall)) → LeadsTo c v s bytes (TellsMore a m) → (after : ServerValue) (wrote : List ℕ → Type 0) → IsReportedFlush (only_id c) v after wrote (TellsMore m n)
-    → StandsBehind c bytes (front_written s) after wrote (TellsMore a n)
+pub flush_stands : (c : ConfigValues) (v : ServerValue) (s : Connection) (bytes : List ℕ) (a m n : Following) → LeadsTo c v s bytes (FollowsMore a m) → (after : ServerValue) (wrote : List ℕ → Type 0) → IsReportedFlush (only_id c) v after wrote (FollowsMore m n)
+    → StandsBehind c bytes (front_written s) after wrote (FollowsMore a n)
 flush_stands c v s bytes a m n leads after wrote report =
     let did = report.flushed in
     let calls : List AcceptedCall = calls_of_flush did.turns (only_id c) v in
-    let both = turns_stand c v s bytes (TellsMore a m) leads did.turns (TellsMore a n) (told_then a m n leads.events calls leads.tells report.tells) did.within (rw did.server at did.done) in
+    let both = turns_stand c v s bytes (FollowsMore a m) leads did.turns (FollowsMore a n) (followed_then a m n leads.events calls leads.tells report.tells) did.within (rw did.server at did.done) in
     rw did.server (record { stands = both.0; text = (flush_turns did.turns (only_id c) v).text; says = both.1; written = did.written })

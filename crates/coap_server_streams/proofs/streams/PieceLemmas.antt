@@ -4,11 +4,10 @@ use Rattle.std.proofs.lemmas.Bool.{eqb-true, eqb-false}
 use Rattle.std.proofs.lemmas.List.{append-nil, length-append, take-append-drop, nil_from_length}
 use Rattle.coap_server_streams.specs.Prelude.{Reason, ConfigValues, ServerValue, session_of, stop_on, IsNotTaken}
 use Rattle.coap_server_streams.specs.Prelude.{AddsBytes, world_for, Outcome, outcome, IsRunningAt, Says, IsWhole, IsCut}
-use Rattle.coap_server_streams.specs.Prelude.{IsRefused, AcceptedCall, TellsMore, ShowsRefused, Shows, Took, stdio_output}
+use Rattle.coap_server_streams.specs.Prelude.{IsRefused, AcceptedCall, FollowsMore, Following, ShowsRefused, Shows, Took, stdio_output}
 use Rattle.coap_model.specs.declared.answers.TakeFault.TheVariants as taking
 use Rattle.coap_io.proofs.streams.DeviceLemmas.{bytes_none, bytes_then}
 use Rattle.coap_model.proofs.streams.OutputLaws.{output_grows, stopped_output, stopped_outcome}
-use Rattle.coap_server_streams.proofs.streams.CallLemmas.{Calls}
 use Rattle.coap_server_streams.proofs.streams.TakeLemmas.{front_of_nothing, FrontServed, front_refused, front_reported}
 
 -- A prefix of a chunk was processed and this rest is left. `x` and `y` are the records of the outlet before the chunk
@@ -33,12 +32,12 @@ serves_none c v id bytes piece x monitor goes = record {
   counted = omega (arith, ap (λ (b : List ℕ). (outcome c b).messages) (append-nil bytes));
 }
 
-module _ (c : ConfigValues) (id : ℕ) (bytes piece : List ℕ) (v : ServerValue) (rest : List ℕ) (x y : Option (List ℕ)) (a m : Calls) (messages : ℕ) (so_far : Serves c id bytes piece v rest x y (TellsMore a m) messages) where
+module _ (c : ConfigValues) (id : ℕ) (bytes piece : List ℕ) (v : ServerValue) (rest : List ℕ) (x y : Option (List ℕ)) (a m : Following) (messages : ℕ) (so_far : Serves c id bytes piece v rest x y (FollowsMore a m) messages) where
   abbrev here : List ℕ
   here = bytes ++ so_far.taken
 
   -- Nothing is left.
-  pub served_all : rest ≡ [] → IsWhole c bytes piece v (AddsBytes x y) (TellsMore a m) messages
+  pub served_all : rest ≡ [] → IsWhole c bytes piece v (AddsBytes x y) (FollowsMore a m) messages
   served_all none =
       rw (so_far.all, none, append-nil)
       (record { stands = so_far.goes.stands; text = so_far.text; says = so_far.says; written = so_far.written; counted = so_far.counted })
@@ -124,8 +123,8 @@ module _ (c : ConfigValues) (id : ℕ) (bytes piece : List ℕ) (v : ServerValue
         }
 
   -- An allocation failed for a message in the rest.
-  pub piece_refused : (after : ServerValue) (n : ℕ) (k : Calls) → IsNotTaken v id rest (taking.Memory n) after → ((events : List AcceptedCall) → Shows v events → ShowsRefused events id rest (taking.Memory n) after) → TellsMore m k (Took id (take n rest) ∷ [])
-      → IsRefused c bytes piece (AddsBytes x y) (TellsMore a k)
+  pub piece_refused : (after : ServerValue) (n : ℕ) (k : Following) → IsNotTaken v id rest (taking.Memory n) after → ((events : List AcceptedCall) → Shows v events → ShowsRefused events id rest (taking.Memory n) after) → FollowsMore m k (Took id (take n rest) ∷ [])
+      → IsRefused c bytes piece (AddsBytes x y) (FollowsMore a k)
   piece_refused after n k not shows told =
       let last = front_refused c v id here rest a m so_far.goes n not.0 in
       record {

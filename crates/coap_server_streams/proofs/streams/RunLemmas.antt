@@ -3,7 +3,7 @@ use Rattle.std.proofs.Common.{◌≡◌, ◌≢◌, ℕ, ◌≤◌, List, [], �
 use Rattle.std.proofs.lemmas.List.{length-take-le, append-nil, length-append}
 use Rattle.std.proofs.lemmas.List.Folds.{concat-append}
 use Rattle.coap_server_streams.specs.Prelude.{concat, AllByRecursion, Reason, end_reason, AreInRange, stop_of, Stream}
-use Rattle.coap_server_streams.specs.Prelude.{ConfigValues, IoFault, Read, Write, Memory, Turns, Report, Turn, TellsMore}
+use Rattle.coap_server_streams.specs.Prelude.{ConfigValues, IoFault, Read, Write, Memory, Turns, Report, Turn, FollowsMore, Following}
 use Rattle.coap_server_streams.specs.Prelude.{IsReportedFlush, IsCutFlush, HasReportedEnd, HasReportedCut, EndsReport}
 use Rattle.coap_server_streams.specs.Prelude.{IsReportedRun}
 use Rattle.coap_server_streams.specs.Prelude.{ServerValue, session_of, new_server, server_opened, is_there}
@@ -19,11 +19,12 @@ use Rattle.coap_model.proofs.world.EntryLemmas.{all_append}
 use Rattle.coap_model.proofs.world.BecameLaws.{HasStopped, settled_handles_none}
 use Rattle.coap_server_engine.proofs.world.ShowLaws.{side_there}
 use Rattle.coap_model.proofs.world.StepLaws.{world_first, world_step}
-use Rattle.coap_io.proofs.streams.DeviceLemmas.{bytes_none, bytes_then, given_none, given_then, told_none, told_then}
+use Rattle.coap_io.proofs.streams.DeviceLemmas.{bytes_none, bytes_then, given_none, given_then}
 use Rattle.coap_model.proofs.streams.OutputLaws.{world_for_written, world_for_none, takes_unless_stopped, outcome_at_first, opened_alone, nothing_yet}
 use Rattle.coap_server_streams.proofs.streams.FlushShown.{LeadsTo, flush_stands}
-use Rattle.coap_server_streams.proofs.streams.CallLemmas.{Calls, transfers_opened, whole_transfers, running_reported, stopped_reported}
+use Rattle.coap_server_streams.proofs.streams.CallLemmas.{transfers_opened, whole_transfers, running_reported, stopped_reported}
 use Rattle.coap_server_streams.proofs.streams.TakeLemmas.{cut_flush_leads, stop_told, session_going}
+use Rattle.coap_server_engine.proofs.scripting.FollowLemmas.{followed_none, followed_then}
 
 -- ---- a turn
 
@@ -242,8 +243,8 @@ pub greeted : (c : ConfigValues) (a d : DeviceTrace) (x y z : Option (List ℕ))
 greeted c a d x y z monitor result wrote ran = (ran.0, stdio_output c [] ++ ran.1, ran.2, ran.3, bytes_then x y z (stdio_output c []) ran.1 wrote ran.4, ran.5, ran.6)
 
 -- A run that did not begin.
-pub not_begun : (c : ConfigValues) (a : DeviceTrace) (x : Option (List ℕ)) (m : Calls) → Ran c [] a a x x (TellsMore m m) (Err Memory)
-not_begun c a x m = ([], [], given_none a, tt, bytes_none x, inl (refl, refl), inl ((refl, refl), told_none m))
+pub not_begun : (c : ConfigValues) (a : DeviceTrace) (x : Option (List ℕ)) (m : Following) → Ran c [] a a x x (FollowsMore m m) (Err Memory)
+not_begun c a x m = ([], [], given_none a, tt, bytes_none x, inl (refl, refl), inl ((refl, refl), followed_none m))
 
 -- ---- the beginning of a run: a connection is opened, and the server's CSM is written
 
@@ -256,11 +257,11 @@ pub record Opens (c : ConfigValues) (new v : ServerValue) (id : ℕ) : Type 0 wh
   pub ranges : AreInRange new.config.limits
   pub shows : (events : List AcceptedCall) → Shows new events → Shows v (events ++ Opened id ∷ [])
 
-module _ (c : ConfigValues) (new v : ServerValue) (id : ℕ) (opens : Opens c new v id) (a m : Calls) (told : TellsMore a m (Opened id ∷ [])) where
+module _ (c : ConfigValues) (new v : ServerValue) (id : ℕ) (opens : Opens c new v id) (a m : Following) (told : FollowsMore a m (Opened id ∷ [])) where
   number : id ≡ only_id c
   number = rw opens.new_is at opens.id_is
 
-  opening_leads : LeadsTo c v (new_side c.limits) [] (TellsMore a m)
+  opening_leads : LeadsTo c v (new_side c.limits) [] (FollowsMore a m)
   unfolding steps_by
   opening_leads =
       let n : ℕ = only_id c in
@@ -277,16 +278,16 @@ module _ (c : ConfigValues) (new v : ServerValue) (id : ℕ) (opens : Opens c ne
       }
 
   -- The state in which a run begins.
-  pub goes_at_first : (k : Calls) (after : ServerValue) (wrote : List ℕ → Type 0) → IsReportedFlush id v after wrote (TellsMore m k) → IsRunningAt c after id [] (TellsMore a k) × wrote (stdio_output c [])
+  pub goes_at_first : (k : Following) (after : ServerValue) (wrote : List ℕ → Type 0) → IsReportedFlush id v after wrote (FollowsMore m k) → IsRunningAt c after id [] (FollowsMore a k) × wrote (stdio_output c [])
   goes_at_first k after wrote did =
       let now = flush_stands c v (new_side c.limits) [] a m k opening_leads after wrote (rw number at did) in
       (record { number = number; ranges = rw opens.new_is at opens.ranges; stands = now.stands; going = (outcome_at_first c).1 }, rw now.says now.written)
 
   -- The bytes queued on a new connection were not written in full.
-  pub cut_at_first : (k : Calls) (b : DeviceTrace) (x z : Option (List ℕ)) → IsCutFlush id v (AddsBytes x z) (TellsMore m k) → Ran c [] b b x z (TellsMore a k) (Err Write)
+  pub cut_at_first : (k : Following) (b : DeviceTrace) (x z : Option (List ℕ)) → IsCutFlush id v (AddsBytes x z) (FollowsMore m k) → Ran c [] b b x z (FollowsMore a k) (Err Write)
   cut_at_first k b x z did =
       let cut = cut_flush_leads c v (new_side c.limits) [] a m k opening_leads x z (rw number at did) in
-      ([], cut.part, given_none b, tt, cut.written, (omega arith, inl refl, record { missing = cut.missing; some = cut.some; written = sym cut.says }), subst (λ (n : ℕ). HasReportedCut c (TellsMore a k) [] n) (omega arith) cut.reported)
+      ([], cut.part, given_none b, tt, cut.written, (omega arith, inl refl, record { missing = cut.missing; some = cut.some; written = sym cut.says }), subst (λ (n : ℕ). HasReportedCut c (FollowsMore a k) [] n) (omega arith) cut.reported)
 
 -- ---- the end of input
 
@@ -309,7 +310,7 @@ end_stops c v v1 id bytes monitor goes config shows =
     ∙ ap (λ (s : Stream × ℕ). Some (end_reason (is_cut s.0.rest))) (goes.stands.spelled goes.going))
 
 -- The monitor received the end of input after all other calls.
-pub end_reported : (c : ConfigValues) (v v1 : ServerValue) (id : ℕ) (bytes : List ℕ) (a m k : Calls) → IsRunningAt c v id bytes (TellsMore a m) → v1.config ≡ v.config → ((events : List AcceptedCall) → Shows v events → Shows v1 (events ++ Ended id ∷ [])) → TellsMore m k (Ended id ∷ []) → HasReportedEnd c (TellsMore a k) bytes (length (stdio_output c bytes))
+pub end_reported : (c : ConfigValues) (v v1 : ServerValue) (id : ℕ) (bytes : List ℕ) (a m k : Following) → IsRunningAt c v id bytes (FollowsMore a m) → v1.config ≡ v.config → ((events : List AcceptedCall) → Shows v events → Shows v1 (events ++ Ended id ∷ [])) → FollowsMore m k (Ended id ∷ []) → HasReportedEnd c (FollowsMore a k) bytes (length (stdio_output c bytes))
 end_reported c v v1 id bytes a m k goes config shows told =
     let es : List AcceptedCall = goes.stands.events in
     record {
@@ -318,9 +319,55 @@ end_reported c v v1 id bytes a m k goes config shows told =
       before = es;
       transfers = whole_transfers c bytes es goes.stands.transfers goes.going;
       shows = rw goes.number at (shows es goes.stands.shows);
-      monitor_tells = told_then a m k es (Ended (only_id c) ∷ []) goes.stands.tells (rw goes.number at told);
+      monitor_tells = followed_then a m k es (Ended (only_id c) ∷ []) goes.stands.tells (rw goes.number at told);
     }
 
 -- The connection exists.
-pub not_there : (c : ConfigValues) (v : ServerValue) (id : ℕ) (bytes : List ℕ) (a m : Calls) → IsRunningAt c v id bytes (TellsMore a m) → false ≡ is_there (session_of id v.sessions) → ⊥
+pub not_there : (c : ConfigValues) (v : ServerValue) (id : ℕ) (bytes : List ℕ) (a m : Following) → IsRunningAt c v id bytes (FollowsMore a m) → false ≡ is_there (session_of id v.sessions) → ⊥
 not_there c v id bytes a m goes none = let bad : false ≡ true = none ∙ ap is_there (session_going c v id bytes a m goes).1 in cc
+
+-- ---- the end of a turn
+
+-- A monitor received no further call.
+followed_stays : (a b d : Following) (xs : List AcceptedCall) → FollowsMore a b xs → FollowsMore b d [] → FollowsMore a d xs
+followed_stays a b d xs told more = rw append-nil at (followed_then a b d xs [] told more)
+
+-- A monitor received the end of a turn.
+pub turn_passed : (c : ConfigValues) (bytes : List ℕ) (after : ServerValue) (gave : List (List ℕ) → Type 0) (wrote : List ℕ → Type 0) (a b d : Following) (t : Turn)
+    → IsTurn c bytes after gave wrote (FollowsMore a b) (Ok t) → FollowsMore b d [] → IsTurn c bytes after gave wrote (FollowsMore a d) (Ok t)
+turn_passed c front after gave wrote a b d t (inl e) more = inl (record {
+  given = e.given;
+  written = e.written;
+  read = e.read;
+  messages = e.messages;
+  reason = e.reason;
+  reported = record {
+    server = e.reported.server;
+    config = e.reported.config;
+    before = e.reported.before;
+    transfers = e.reported.transfers;
+    shows = e.reported.shows;
+    monitor_tells = followed_stays a b d (e.reported.before ++ Ended (only_id c) ∷ []) e.reported.monitor_tells more;
+  };
+})
+turn_passed c front after gave wrote a b d t (inr p) more = inr (record {
+  piece = p.piece;
+  has = p.has;
+  served = record {
+    stands = record {
+      config = p.served.stands.config;
+      events = p.served.stands.events;
+      shows = p.served.stands.shows;
+      world = p.served.stands.world;
+      spelled = p.served.stands.spelled;
+      transfers = p.served.stands.transfers;
+      tells = followed_stays a b d p.served.stands.events p.served.stands.tells more;
+    };
+    text = p.served.text;
+    says = p.served.says;
+    written = p.served.written;
+    counted = p.served.counted;
+  };
+  read = p.read;
+  reason = p.reason;
+})

@@ -5,7 +5,7 @@ use Rattle.std.proofs.lemmas.List.{append-nil, length-append}
 use Rattle.coap_server_streams.specs.Prelude.{Stream, split_on, LimitValues, ConfigValues, SessionValue, ServerValue}
 use Rattle.coap_server_streams.specs.Prelude.{session_of, server_taken, stop_on, RefusesPieceOn, waiting_at}
 use Rattle.coap_server_streams.specs.Prelude.{more_at, flush_turns, IsReportedFlush, IsCutFlush, calls_of_flush, Taken, AddsBytes}
-use Rattle.coap_server_streams.specs.Prelude.{TellsMore, HasReported, HasReportedCut, waiting_of, AreTransfers}
+use Rattle.coap_server_streams.specs.Prelude.{FollowsMore, Following, HasReported, HasReportedCut, waiting_of, AreTransfers}
 use Rattle.coap_server_streams.specs.Prelude.{only_id, stream_of, flushed, flushed_after, world_for, Outcome, outcome_on}
 use Rattle.coap_server_streams.specs.Prelude.{outcome, stdio_output, IsLastByte, IsAtBytes, IsRunningAt, Says, IsWhole, IsCut, Connection}
 use Rattle.coap_server_streams.specs.Prelude.{has_room, handles, World, Step, side_of, step, AcceptedCall, Took, stream_on, beyond}
@@ -24,10 +24,10 @@ use Rattle.coap_server_engine.proofs.world.HandledLaws.{messages_counted, one_st
 use Rattle.coap_model.proofs.world.GrowLaws.{SideGrows, front_written, same_front, none_waits_all_written, took_grows}
 use Rattle.coap_model.proofs.streams.FlushLaws.{from_there_on, quiet_flush, flush_leaves}
 use Rattle.coap_model.proofs.streams.OutputLaws.{world_for_written, world_goes_on, outcome_there, takes_unless_stopped, spelled_more, steps_taken}
-use Rattle.coap_io.proofs.streams.DeviceLemmas.{told_then}
-use Rattle.coap_server_streams.proofs.streams.CallLemmas.{Calls, whole_transfers, transfers_taken}
+use Rattle.coap_server_streams.proofs.streams.CallLemmas.{whole_transfers, transfers_taken}
 use Rattle.coap_server_streams.proofs.streams.FlushShown.{LeadsTo, turns_said, turns_reported, flush_stands}
 use Rattle.coap_server_engine.proofs.scripting.ShownLemmas.{config_stays}
+use Rattle.coap_server_engine.proofs.scripting.FollowLemmas.{followed_then}
 
 -- ---- more iterations write more
 
@@ -58,19 +58,19 @@ pub record CutLeads (c : ConfigValues) (s : Connection) (bytes : List ℕ) (x y 
   pub written : AddsBytes x y part
   pub reported : HasReportedCut c monitor bytes (length (front_written s) + length part)
 
-pub cut_flush_leads : (c : ConfigValues) (v : ServerValue) (s : Connection) (bytes : List ℕ) (a m n : Calls) → LeadsTo c v s bytes (TellsMore a m) → (x y : Option (List ℕ)) → IsCutFlush (only_id c) v (AddsBytes x y) (TellsMore m n) → CutLeads c s bytes x y (TellsMore a n)
+pub cut_flush_leads : (c : ConfigValues) (v : ServerValue) (s : Connection) (bytes : List ℕ) (a m n : Following) → LeadsTo c v s bytes (FollowsMore a m) → (x y : Option (List ℕ)) → IsCutFlush (only_id c) v (AddsBytes x y) (FollowsMore m n) → CutLeads c s bytes x y (FollowsMore a n)
 cut_flush_leads c v s bytes a m n leads x y did =
     let id : ℕ = only_id c in
     let all : ℕ = suc (more_at id v) in
     let text : List ℕ = (flush_turns did.turns id v).text in
     let more = text_grows id v (suc did.turns) all (omega (arith, did.within)) in
     let calls : List AcceptedCall = calls_of_flush did.turns id v in
-    let reported = turns_reported c v s bytes (TellsMore a m) leads did.turns (TellsMore a n) (told_then a m n leads.events calls leads.tells did.tells) in
+    let reported = turns_reported c v s bytes (FollowsMore a m) leads did.turns (FollowsMore a n) (followed_then a m n leads.events calls leads.tells did.tells) in
     record {
       part = text ++ did.part;
       missing = did.missing ++ more.0;
       some = λ none. did.some (front_of_nothing did.missing more.0 none);
-      says = cc (turns_said c v s bytes (TellsMore a m) leads, more.1, further_text id v did.turns, did.all, append_assoc text did.part did.missing, append_assoc (text ++ did.part) did.missing more.0);
+      says = cc (turns_said c v s bytes (FollowsMore a m) leads, more.1, further_text id v did.turns, did.all, append_assoc text did.part did.missing, append_assoc (text ++ did.part) did.missing more.0);
       written = did.written;
       reported = record {
         taken = bytes;
@@ -123,7 +123,7 @@ pub record WasTaken (v after : ServerValue) (id : ℕ) (piece : List ℕ) (t : T
   pub says : (events : List AcceptedCall) → Shows v events → t.handled ≡ handled_in v.config events (Took id (take t.bytes piece)) id
   pub shows : (events : List AcceptedCall) → Shows v events → Shows after (events ++ Took id (take t.bytes piece) ∷ [])
 
-module _ (v : ServerValue) (bytes : List ℕ) (a m : Calls) (goes : IsRunningAt v.config v (only_id v.config) bytes (TellsMore a m)) where
+module _ (v : ServerValue) (bytes : List ℕ) (a m : Following) (goes : IsRunningAt v.config v (only_id v.config) bytes (FollowsMore a m)) where
   abbrev c : ConfigValues
   c = v.config
 
@@ -189,15 +189,15 @@ module _ (v : ServerValue) (bytes : List ℕ) (a m : Calls) (goes : IsRunningAt 
       }
 
   -- The report of this call, which accepted the first `n` bytes.
-  refused_reported : (piece : List ℕ) (n : ℕ) (v1 : ServerValue) (k : Calls) → FrontRefused c bytes piece n → v1 ≡ server_taken v id (take n piece) → Shows v1 (es ++ Took id (take n piece) ∷ []) → TellsMore m k (Took id (take n piece) ∷ [])
-      → HasReported c (TellsMore a k) (bytes ++ take n piece) (length (stdio_output c (bytes ++ take n piece)))
+  refused_reported : (piece : List ℕ) (n : ℕ) (v1 : ServerValue) (k : Following) → FrontRefused c bytes piece n → v1 ≡ server_taken v id (take n piece) → Shows v1 (es ++ Took id (take n piece) ∷ []) → FollowsMore m k (Took id (take n piece) ∷ [])
+      → HasReported c (FollowsMore a k) (bytes ++ take n piece) (length (stdio_output c (bytes ++ take n piece)))
   refused_reported piece n v1 k refused is shows told = record {
     server = v1;
     config = ap (λ (u : ServerValue). u.config) is ∙ config_stays v id (take n piece);
     events = es ++ Took id (take n piece) ∷ [];
     shows = shows;
     transfers = rw (refused.says, append-nil (stdio_output c bytes)) (transfers_taken c id bytes (take n piece) (length (stdio_output c bytes)) es waits_before transfers_before);
-    monitor_tells = told_then a m k es (Took id (take n piece) ∷ []) goes.stands.tells told;
+    monitor_tells = followed_then a m k es (Took id (take n piece) ∷ []) goes.stands.tells told;
   }
 
   -- ---- the call of take
@@ -209,7 +209,7 @@ module _ (v : ServerValue) (bytes : List ℕ) (a m : Calls) (goes : IsRunningAt 
       let count = takes_there c es id piece before was_there ∙ ap (λ (b : Bool). cond b (front_of (size_on M id es) (stream_on M id es).rest piece) 0) handling in
       omega (arith, front, count, took.takes_so es goes.stands.shows)
 
-  module _ (piece : List ℕ) (v1 : ServerValue) (t : Taken) (took : WasTaken v v1 id piece t) (k : Calls) (told : TellsMore m k (Took id (take t.bytes piece) ∷ [])) where
+  module _ (piece : List ℕ) (v1 : ServerValue) (t : Taken) (took : WasTaken v v1 id piece t) (k : Following) (told : FollowsMore m k (Took id (take t.bytes piece) ∷ [])) where
     abbrev T : List ℕ
     T = take t.bytes piece
 
@@ -240,7 +240,7 @@ module _ (v : ServerValue) (bytes : List ℕ) (a m : Calls) (goes : IsRunningAt 
     said_before =
         cc (same_front before grown.0 (side_is c es id before was_there).is_history grown.2, none_waits_all_written before (world_for_written c bytes).waits, outcome_before)
 
-    leads : LeadsTo c v1 grown.0 (bytes ++ T) (TellsMore a k)
+    leads : LeadsTo c v1 grown.0 (bytes ++ T) (FollowsMore a k)
     leads = record {
       config = ap (λ (u : ServerValue). u.config) took.after_is ∙ config_stays v id piece;
       events = es ++ Took id T ∷ [];
@@ -249,11 +249,11 @@ module _ (v : ServerValue) (bytes : List ℕ) (a m : Calls) (goes : IsRunningAt 
       flushes = flushed_world;
       spelled = spelled_more c es bytes T (goes.stands.spelled goes.going);
       transfers = rw said_before (transfers_taken c id bytes T (length (stdio_output c bytes)) es waits_before transfers_before);
-      tells = told_then a m k es (Took id T ∷ []) goes.stands.tells told;
+      tells = followed_then a m k es (Took id T ∷ []) goes.stands.tells told;
     }
 
     -- The call and its flush did everything that is defined for the bytes accepted.
-    front_served_by : (after : ServerValue) (wrote : List ℕ → Type 0) (messages : ℕ) (n : Calls) → messages ≡ count_of t.handled → IsReportedFlush id v1 after wrote (TellsMore k n) → FrontServed c id bytes T after wrote (TellsMore a n) messages
+    front_served_by : (after : ServerValue) (wrote : List ℕ → Type 0) (messages : ℕ) (n : Following) → messages ≡ count_of t.handled → IsReportedFlush id v1 after wrote (FollowsMore k n) → FrontServed c id bytes T after wrote (FollowsMore a n) messages
     front_served_by after wrote messages n counted did =
         let now = flush_stands c v1 grown.0 (bytes ++ T) a k n leads after wrote did in
         let there = subst (λ (b : List ℕ). side_of id (world_after c (es ++ Took id b ∷ [])).sides ≡ Some grown.0) bytes_are grown.1 in
@@ -265,13 +265,13 @@ module _ (v : ServerValue) (bytes : List ℕ) (a m : Calls) (goes : IsRunningAt 
             text = now.text;
             says = rw (← said_before) now.says;
             written = now.written;
-            counted = omega (arith, flush_counts c v1 grown.0 (bytes ++ T) (TellsMore a k) leads, all, ap count_of told, ap (λ (o : Outcome). o.messages) outcome_before, counted);
+            counted = omega (arith, flush_counts c v1 grown.0 (bytes ++ T) (FollowsMore a k) leads, all, ap count_of told, ap (λ (o : Outcome). o.messages) outcome_before, counted);
           };
-          stop = stop_told c after (bytes ++ T) (TellsMore a n) now.stands;
+          stop = stop_told c after (bytes ++ T) (FollowsMore a n) now.stands;
         }
 
     -- A write failed: a part of the output defined for the bytes accepted was written.
-    front_cut_by : (x y : Option (List ℕ)) (n : Calls) → IsCutFlush id v1 (AddsBytes x y) (TellsMore k n) → IsCut c bytes T (AddsBytes x y) (TellsMore a n)
+    front_cut_by : (x y : Option (List ℕ)) (n : Following) → IsCutFlush id v1 (AddsBytes x y) (FollowsMore k n) → IsCut c bytes T (AddsBytes x y) (FollowsMore a n)
     front_cut_by x y n did =
         let cut = cut_flush_leads c v1 grown.0 (bytes ++ T) a k n leads x y did in
         record { part = cut.part; missing = cut.missing; some = cut.some; says = cc (cut.says, said_before); written = cut.written; reported = rw said_before at cut.reported }
@@ -285,45 +285,45 @@ module _ (c : ConfigValues) (v : ServerValue) (id : ℕ) (bytes : List ℕ) (mon
       subst (P c) (sym goes.number)
       (subst (λ (k : ConfigValues). IsRunningAt k v (only_id k) bytes monitor → P k (only_id k)) goes.stands.config holds (subst (λ (n : ℕ). IsRunningAt c v n bytes monitor) goes.number goes))
 
-module _ (c : ConfigValues) (v : ServerValue) (id : ℕ) (bytes : List ℕ) (a m : Calls) (goes : IsRunningAt c v id bytes (TellsMore a m)) where
+module _ (c : ConfigValues) (v : ServerValue) (id : ℕ) (bytes : List ℕ) (a m : Following) (goes : IsRunningAt c v id bytes (FollowsMore a m)) where
   -- The connection exists.
   pub session_going : (s : SessionValue) × (session_of id v.sessions ≡ Some s)
-  session_going = by_any_name c v id bytes (TellsMore a m) goes (λ k n. (s : SessionValue) × (session_of n v.sessions ≡ Some s)) (λ so. (_, session_was v bytes a m so))
+  session_going = by_any_name c v id bytes (FollowsMore a m) goes (λ k n. (s : SessionValue) × (session_of n v.sessions ≡ Some s)) (λ so. (_, session_was v bytes a m so))
 
-module _ (c : ConfigValues) (v : ServerValue) (id : ℕ) (bytes piece : List ℕ) (a m : Calls) (goes : IsRunningAt c v id bytes (TellsMore a m)) where
+module _ (c : ConfigValues) (v : ServerValue) (id : ℕ) (bytes piece : List ℕ) (a m : Following) (goes : IsRunningAt c v id bytes (FollowsMore a m)) where
   pub is_not_missing : session_of id v.sessions ≡ None → ⊥
   is_not_missing none = let there = (session_going c v id bytes a m goes).1 in cc
 
   pub front_refused : (n : ℕ) → RefusesPieceOn v piece n (session_of id v.sessions) → FrontRefused c bytes piece n
   front_refused n =
-      by_any_name c v id bytes (TellsMore a m) goes (λ k j. RefusesPieceOn v piece n (session_of j v.sessions) → FrontRefused k bytes piece n)
+      by_any_name c v id bytes (FollowsMore a m) goes (λ k j. RefusesPieceOn v piece n (session_of j v.sessions) → FrontRefused k bytes piece n)
       (λ so refused. (let there = session_was v bytes a m so in front_refused_by v bytes a m so piece n (refuses_last v so.stands.events _ piece n _ so.stands.shows there (rw there at refused))))
 
   -- The monitor received the call for which an allocation failed.
-  pub front_reported : (n : ℕ) (v1 : ServerValue) (k : Calls) → FrontRefused c bytes piece n → v1 ≡ server_taken v id (take n piece) → ((events : List AcceptedCall) → Shows v events → Shows v1 (events ++ Took id (take n piece) ∷ []))
-      → TellsMore m k (Took id (take n piece) ∷ []) → HasReported c (TellsMore a k) (bytes ++ take n piece) (length (stdio_output c (bytes ++ take n piece)))
+  pub front_reported : (n : ℕ) (v1 : ServerValue) (k : Following) → FrontRefused c bytes piece n → v1 ≡ server_taken v id (take n piece) → ((events : List AcceptedCall) → Shows v events → Shows v1 (events ++ Took id (take n piece) ∷ []))
+      → FollowsMore m k (Took id (take n piece) ∷ []) → HasReported c (FollowsMore a k) (bytes ++ take n piece) (length (stdio_output c (bytes ++ take n piece)))
   front_reported n v1 k =
-      by_any_name c v id bytes (TellsMore a m) goes
+      by_any_name c v id bytes (FollowsMore a m) goes
       (λ d j. FrontRefused d bytes piece n → v1 ≡ server_taken v j (take n piece) → ((events : List AcceptedCall) → Shows v events → Shows v1 (events ++ Took j (take n piece) ∷ []))
-      → TellsMore m k (Took j (take n piece) ∷ []) → HasReported d (TellsMore a k) (bytes ++ take n piece) (length (stdio_output d (bytes ++ take n piece))))
+      → FollowsMore m k (Took j (take n piece) ∷ []) → HasReported d (FollowsMore a k) (bytes ++ take n piece) (length (stdio_output d (bytes ++ take n piece))))
       (λ so refused is shows told. refused_reported v bytes a m so piece n v1 k refused is (shows so.stands.events so.stands.shows) told)
 
   module _ (v1 : ServerValue) (t : Taken) (took : WasTaken v v1 id piece t) where
-    pub front_served : (k n : Calls) (after : ServerValue) (wrote : List ℕ → Type 0) (messages : ℕ) → TellsMore m k (Took id (take t.bytes piece) ∷ []) → messages ≡ count_of t.handled → IsReportedFlush id v1 after wrote (TellsMore k n)
-        → FrontServed c id bytes (take t.bytes piece) after wrote (TellsMore a n) messages
+    pub front_served : (k n : Following) (after : ServerValue) (wrote : List ℕ → Type 0) (messages : ℕ) → FollowsMore m k (Took id (take t.bytes piece) ∷ []) → messages ≡ count_of t.handled → IsReportedFlush id v1 after wrote (FollowsMore k n)
+        → FrontServed c id bytes (take t.bytes piece) after wrote (FollowsMore a n) messages
     front_served k n after wrote messages told counted did =
-        by_any_name c v id bytes (TellsMore a m) goes
-        (λ d j. WasTaken v v1 j piece t → TellsMore m k (Took j (take t.bytes piece) ∷ []) → IsReportedFlush j v1 after wrote (TellsMore k n) → FrontServed d j bytes (take t.bytes piece) after wrote (TellsMore a n) messages)
+        by_any_name c v id bytes (FollowsMore a m) goes
+        (λ d j. WasTaken v v1 j piece t → FollowsMore m k (Took j (take t.bytes piece) ∷ []) → IsReportedFlush j v1 after wrote (FollowsMore k n) → FrontServed d j bytes (take t.bytes piece) after wrote (FollowsMore a n) messages)
         (λ so taken tells. front_served_by v bytes a m so piece v1 t taken k tells after wrote messages n counted) took told did
 
-    pub front_cut : (k n : Calls) (x y : Option (List ℕ)) → TellsMore m k (Took id (take t.bytes piece) ∷ []) → IsCutFlush id v1 (AddsBytes x y) (TellsMore k n) → IsCut c bytes (take t.bytes piece) (AddsBytes x y) (TellsMore a n)
+    pub front_cut : (k n : Following) (x y : Option (List ℕ)) → FollowsMore m k (Took id (take t.bytes piece) ∷ []) → IsCutFlush id v1 (AddsBytes x y) (FollowsMore k n) → IsCut c bytes (take t.bytes piece) (AddsBytes x y) (FollowsMore a n)
     front_cut k n x y =
-        by_any_name c v id bytes (TellsMore a m) goes
-        (λ d j. WasTaken v v1 j piece t → TellsMore m k (Took j (take t.bytes piece) ∷ []) → IsCutFlush j v1 (AddsBytes x y) (TellsMore k n) → IsCut d bytes (take t.bytes piece) (AddsBytes x y) (TellsMore a n))
+        by_any_name c v id bytes (FollowsMore a m) goes
+        (λ d j. WasTaken v v1 j piece t → FollowsMore m k (Took j (take t.bytes piece) ∷ []) → IsCutFlush j v1 (AddsBytes x y) (FollowsMore k n) → IsCut d bytes (take t.bytes piece) (AddsBytes x y) (FollowsMore a n))
         (λ so taken tells. front_cut_by v bytes a m so piece v1 t taken k tells x y n) took
 
     pub front_some : 0 < length piece → 1 ≤ t.bytes
-    front_some = by_any_name c v id bytes (TellsMore a m) goes (λ d j. WasTaken v v1 j piece t → 0 < length piece → 1 ≤ t.bytes) (λ so taken. front_some_by v bytes a m so piece v1 t taken) took
+    front_some = by_any_name c v id bytes (FollowsMore a m) goes (λ d j. WasTaken v v1 j piece t → 0 < length piece → 1 ≤ t.bytes) (λ so taken. front_some_by v bytes a m so piece v1 t taken) took
 
 -- A call of `take` processes at most one message.
 pub handled_few : (what : Handled) → count_of what ≤ 1

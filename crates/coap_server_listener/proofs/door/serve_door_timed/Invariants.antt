@@ -1,4 +1,4 @@
-use Rattle.coap_server_listener.specs.Prelude.{TellsMore, trace_by}
+use Rattle.coap_server_listener.specs.Prelude.{TellsMore, FollowsMore, trace_by}
 use Rattle.coap_server_listener.proofs.streams.TimedLemmas.{HasTimedTo}
 use Rattle.coap_server_listener.proofs.door.serve_door_timed.Given as goal
 
@@ -9,5 +9,5 @@ invariant-loop-turn g l =
     (trace_by g.D.Wire.Wire.given g.D.Wire.Wire.written g.D.Wire.Wire.answers g.D.Wire.Wire.rooms) l.fn.config l.fn.idle
     (TellsMore (g.C.Clock.moments l.fn.clock) (g.C.Clock.moments l.clock)) (TellsMore (g.U.Clock.moments l.fn.uptime) (g.U.Clock.moments l.uptime))
     (TellsMore (g.D.Door.calls l.fn.door) (g.D.Door.calls l.door))
-    (TellsMore (g.M.Monitor.calls l.fn.watch.monitor) (g.M.Monitor.calls l.watch.monitor))
+    (FollowsMore (g.M.Monitor.follows l.fn.watch.monitor) (g.M.Monitor.follows l.watch.monitor))
     l.last l.service.server l.service.peers.entries l.service.is_spent l.wait l.turn

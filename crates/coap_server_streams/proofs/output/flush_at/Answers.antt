@@ -6,11 +6,11 @@ use Rattle.coap_server_streams.proofs.output.flush_at.Goals as goal
 pub returns-in_err-first-clause-part : goal.returns-in_err-first-clause-part
 returns-in_err-first-clause-part g c =
     on_any_fault c.from_residual.result _
-    (rw c.in_err-first.ensures.untold (report_cut c.args.id c.args.server.now 0 c.args.server.now _ _ _ _ _ (report_begins _ _ _ (g.M.Monitor.calls c.args.monitor.now)) (omega arith) c.in_err-first.ensures.part))
+    (rw c.in_err-first.ensures.untold (report_cut c.args.id c.args.server.now 0 c.args.server.now _ _ _ _ _ (report_begins _ _ _ (g.M.Monitor.follows c.args.monitor.now)) (omega arith) c.in_err-first.ensures.part))
 
 pub loop-init : goal.loop-init
 loop-init g c = record {
-  flushing = report_more c.args.id c.args.server.now 0 c.args.server.now _ _ _ _ _ _ c.flush_once.new.server 1 c.in_ok-first.first.waited (report_begins _ _ _ (g.M.Monitor.calls c.args.monitor.now)) (omega arith) refl c.in_ok-first.ensures.ok c.in_ok-first.ensures.told;
+  flushing = report_more c.args.id c.args.server.now 0 c.args.server.now _ _ _ _ _ _ c.flush_once.new.server 1 c.in_ok-first.first.waited (report_begins _ _ _ (g.M.Monitor.follows c.args.monitor.now)) (omega arith) refl c.in_ok-first.ensures.ok c.in_ok-first.ensures.told;
   stop = c.in_ok-first.ensures.stop;
   works = c.in_ok-first.ensures.failure;
   lies = c.in_ok-first.ensures.lies;

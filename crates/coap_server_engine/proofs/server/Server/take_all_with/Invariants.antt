@@ -1,11 +1,11 @@
 use Rattle.std.proofs.Common.{length, ◌-◌}
-use Rattle.coap_server_engine.specs.Prelude.{LiesAt, TellsMore, took_turns}
+use Rattle.coap_server_engine.specs.Prelude.{LiesAt, FollowsMore, took_turns}
 use Rattle.coap_server_engine.proofs.scripting.ReplayLemmas.{Feeds}
 use Rattle.coap_server_engine.proofs.server.Server.take_all_with.Given as goal
 
 abbrev pub invariant-loop-taken : goal.invariant-loop-taken
 invariant-loop-taken g l = (feeds : Feeds l.fn.self l.id l.bytes l.self l.taken) × LiesAt l.id l.at l.self.sessions
-    × TellsMore (g.M.Monitor.calls l.fn.monitor) (g.M.Monitor.calls l.monitor) (took_turns feeds.turns l.fn.self l.id l.bytes)
+    × FollowsMore (g.M.Monitor.follows l.fn.monitor) (g.M.Monitor.follows l.monitor) (took_turns feeds.turns l.fn.self l.id l.bytes)
 
 abbrev pub decreases-loop-taken : goal.decreases-loop-taken
 decreases-loop-taken g l = length l.bytes - l.taken

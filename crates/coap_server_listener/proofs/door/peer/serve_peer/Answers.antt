@@ -5,14 +5,14 @@ use Rattle.coap_server_listener.proofs.streams.ServingLemmas.{served_further}
 use Rattle.coap_server_listener.proofs.door.peer.serve_peer.Goals as goal
 
 pub returns-in_err-take_buffered-clause-shows : goal.returns-in_err-take_buffered-clause-shows
-returns-in_err-take_buffered-clause-shows g c = served_further (g.M.Monitor.calls c.args.monitor.now) (g.M.Monitor.calls c.read_wire-heard.new.monitor) (g.M.Monitor.calls c.take_buffered.new.monitor) c.read_wire-heard.ensures.shows c.take_buffered.ensures.shows
+returns-in_err-take_buffered-clause-shows g c = served_further (g.M.Monitor.follows c.args.monitor.now) (g.M.Monitor.follows c.read_wire-heard.new.monitor) (g.M.Monitor.follows c.take_buffered.new.monitor) c.read_wire-heard.ensures.shows c.take_buffered.ensures.shows
 
 pub returns-clause-shows : goal.returns-clause-shows
 returns-clause-shows g c =
-    let first = g.M.Monitor.calls c.args.monitor.now in
-    let taken = g.M.Monitor.calls c.take_buffered.new.monitor in
-    served_further first taken (g.M.Monitor.calls c.write_once-wrote.new.monitor)
-    (served_further first (g.M.Monitor.calls c.read_wire-heard.new.monitor) taken c.read_wire-heard.ensures.shows c.take_buffered.ensures.shows) c.write_once-wrote.ensures.shows
+    let first = g.M.Monitor.follows c.args.monitor.now in
+    let taken = g.M.Monitor.follows c.take_buffered.new.monitor in
+    served_further first taken (g.M.Monitor.follows c.write_once-wrote.new.monitor)
+    (served_further first (g.M.Monitor.follows c.read_wire-heard.new.monitor) taken c.read_wire-heard.ensures.shows c.take_buffered.ensures.shows) c.write_once-wrote.ensures.shows
 
 pub returns-clause-part : goal.returns-clause-part
 returns-clause-part g c =

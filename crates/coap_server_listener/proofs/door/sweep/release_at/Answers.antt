@@ -1,17 +1,17 @@
 use Rattle.std.proofs.Common.{arith}
-use Rattle.coap_server_listener.specs.Prelude.{TellsMore}
+use Rattle.coap_server_listener.specs.Prelude.{FollowsMore}
 use Rattle.coap_server_listener.proofs.streams.SweepLemmas.{released_here, refused_here, noted_where_recorded, as_many_recorded}
 use Rattle.coap_server_listener.proofs.door.sweep.release_at.Goals as goal
 
 pub returns-in_default-clause-part : goal.returns-in_default-clause-part
 returns-in_default-clause-part g c =
-    refused_here (TellsMore (g.M.Monitor.calls c.args.watch.now.monitor) (g.M.Monitor.calls c.drop_at.new.watch.monitor)) c.args.watch.now.now c.args.server.now c.drop_at.new.server c.args.watch.now.activities.entries c.drop_at.new.watch.activities.entries
+    refused_here (FollowsMore (g.M.Monitor.follows c.args.watch.now.monitor) (g.M.Monitor.follows c.drop_at.new.watch.monitor)) c.args.watch.now.now c.args.server.now c.drop_at.new.server c.args.watch.now.activities.entries c.drop_at.new.watch.activities.entries
     c.args.peers.now.entries c.drop_at.new.peers.entries c.args.at c.args.id c.requires.there c.requires.number c.drop_at.result (c.in_default.field-0, c.in_default.ensures.answer)
     (rw c.in_default.ensures.err at c.drop_at.ensures.part)
 
 pub returns-clause-part : goal.returns-clause-part
 returns-clause-part g c =
-    released_here (TellsMore (g.M.Monitor.calls c.args.watch.now.monitor) (g.M.Monitor.calls c.accepted.new.self.monitor)) c.args.watch.now.now c.args.server.now c.release.new.self c.args.watch.now.activities.entries c.accepted.new.self.activities.entries
+    released_here (FollowsMore (g.M.Monitor.follows c.args.watch.now.monitor) (g.M.Monitor.follows c.accepted.new.self.monitor)) c.args.watch.now.now c.args.server.now c.release.new.self c.args.watch.now.activities.entries c.accepted.new.self.activities.entries
     c.args.peers.now.entries c.record_at.new.peers.entries c.args.at c.args.id c.requires.there c.requires.number c.in-Ok.ensures.ok c.accepted.ensures.activities c.record_at.ensures.recorded
     c.in-Ok.ensures.shows c.accepted.ensures.told c.in-Ok.ensures.answer
 

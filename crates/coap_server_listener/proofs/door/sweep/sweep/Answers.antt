@@ -1,12 +1,12 @@
 use Rattle.std.proofs.Common.{arith, refl, ◌≤◌, ◌∙◌, length}
 use Rattle.coap_server_listener.proofs.streams.SweepLemmas.{none_swept, one_more_swept, all_swept}
-use Rattle.coap_server_listener.specs.Prelude.{TellsMore, swept}
+use Rattle.coap_server_listener.specs.Prelude.{FollowsMore, swept}
 use Rattle.coap_server_listener.proofs.door.sweep.sweep.Goals as goal
 
 pub loop-at-init : goal.loop-at-init
 loop-at-init g c = (
   omega arith,
-  none_swept (g.M.Monitor.calls c.args.watch.now.monitor) c.args.idle c.args.watch.now.now c.args.server.now c.args.watch.now.activities.entries c.args.peers.now.entries,
+  none_swept (g.M.Monitor.follows c.args.watch.now.monitor) c.args.idle c.args.watch.now.now c.args.server.now c.args.watch.now.activities.entries c.args.peers.now.entries,
   c.requires,
   refl,
 )
@@ -15,7 +15,7 @@ pub loop-at-preserved : goal.loop-at-preserved
 loop-at-preserved g c =
     let now = c.loop-at.invariant.3 in (
       c.sweep_at-at.ensures.within,
-      one_more_swept (g.M.Monitor.calls c.args.watch.now.monitor) (g.M.Monitor.calls c.loop-at.watch.monitor) (g.M.Monitor.calls c.sweep_at-at.new.watch.monitor)
+      one_more_swept (g.M.Monitor.follows c.args.watch.now.monitor) (g.M.Monitor.follows c.loop-at.watch.monitor) (g.M.Monitor.follows c.sweep_at-at.new.watch.monitor)
           (swept c.args.idle c.args.watch.now.now c.args.server.now c.args.watch.now.activities.entries c.args.peers.now.entries) c.args.idle c.args.watch.now.now c.args.server.now c.loop-at.server c.sweep_at-at.new.server
           c.loop-at.watch.activities.entries c.sweep_at-at.new.watch.activities.entries c.loop-at.peers.entries c.sweep_at-at.new.peers.entries c.loop-at.at c.sweep_at-at.result
           (omega (arith, c.loop-at-test.true, c.len.ensures.len)) c.loop-at.invariant.1 (rw now at c.sweep_at-at.ensures.part),
@@ -26,11 +26,11 @@ loop-at-preserved g c =
 pub returns-clause-has : goal.returns-clause-has
 returns-clause-has g c =
     let most : length c.loop-at.peers.entries ≤ c.loop-at.at = omega (arith, c.loop-at-test.false, c.len.ensures.len) in
-    (all_swept (TellsMore (g.M.Monitor.calls c.args.watch.now.monitor) (g.M.Monitor.calls c.loop-at.watch.monitor)) (swept c.args.idle c.args.watch.now.now c.args.server.now c.args.watch.now.activities.entries c.args.peers.now.entries)
+    (all_swept (FollowsMore (g.M.Monitor.follows c.args.watch.now.monitor) (g.M.Monitor.follows c.loop-at.watch.monitor)) (swept c.args.idle c.args.watch.now.now c.args.server.now c.args.watch.now.activities.entries c.args.peers.now.entries)
     c.args.idle c.args.watch.now.now c.args.server.now c.loop-at.server c.loop-at.watch.activities.entries c.loop-at.peers.entries c.loop-at.at most c.loop-at.invariant.1).0
 
 pub returns-clause-entries : goal.returns-clause-entries
 returns-clause-entries g c =
     let most : length c.loop-at.peers.entries ≤ c.loop-at.at = omega (arith, c.loop-at-test.false, c.len.ensures.len) in
-    (all_swept (TellsMore (g.M.Monitor.calls c.args.watch.now.monitor) (g.M.Monitor.calls c.loop-at.watch.monitor)) (swept c.args.idle c.args.watch.now.now c.args.server.now c.args.watch.now.activities.entries c.args.peers.now.entries)
+    (all_swept (FollowsMore (g.M.Monitor.follows c.args.watch.now.monitor) (g.M.Monitor.follows c.loop-at.watch.monitor)) (swept c.args.idle c.args.watch.now.now c.args.server.now c.args.watch.now.activities.entries c.args.peers.now.entries)
     c.args.idle c.args.watch.now.now c.args.server.now c.loop-at.server c.loop-at.watch.activities.entries c.loop-at.peers.entries c.loop-at.at most c.loop-at.invariant.1).1

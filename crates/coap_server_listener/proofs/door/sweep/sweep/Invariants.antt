@@ -1,5 +1,5 @@
 use Rattle.std.proofs.Common.{◌≡◌, ◌-◌, ◌≤◌, length, take, drop}
-use Rattle.coap_server_listener.specs.Prelude.{AreNoted, TellsMore, swept}
+use Rattle.coap_server_listener.specs.Prelude.{AreNoted, FollowsMore, swept}
 use Rattle.coap_server_listener.proofs.streams.SweepLemmas.{IsSweptTo}
 use Rattle.coap_server_listener.proofs.door.sweep.sweep.Given as goal
 
@@ -7,7 +7,7 @@ use Rattle.coap_server_listener.proofs.door.sweep.sweep.Given as goal
 abbrev pub invariant-loop-at : goal.invariant-loop-at
 invariant-loop-at g l =
     (l.at ≤ length l.peers.entries)
-    × IsSweptTo (TellsMore (g.M.Monitor.calls l.fn.watch.monitor) (g.M.Monitor.calls l.watch.monitor)) (swept l.fn.idle l.fn.watch.now l.fn.server l.fn.watch.activities.entries l.fn.peers.entries) l.fn.idle l.fn.watch.now l.fn.server l.server
+    × IsSweptTo (FollowsMore (g.M.Monitor.follows l.fn.watch.monitor) (g.M.Monitor.follows l.watch.monitor)) (swept l.fn.idle l.fn.watch.now l.fn.server l.fn.watch.activities.entries l.fn.peers.entries) l.fn.idle l.fn.watch.now l.fn.server l.server
     l.watch.activities.entries (take l.at l.peers.entries) (drop l.at l.peers.entries)
     × AreNoted l.server l.peers.entries × (l.watch.now ≡ l.fn.watch.now)
 

@@ -1,5 +1,5 @@
 use Rattle.std.proofs.Common.{refl, sym, ◌≡◌, ◌∙◌, nat_eq, ◌+◌}
-use Rattle.coap_server_listener.specs.Prelude.{TellsMore, lookup}
+use Rattle.coap_server_listener.specs.Prelude.{FollowsMore, lookup}
 use Rattle.coap_server_listener.specs.declared.door.silence.SilenceAction.TheVariants.{Keep}
 use Rattle.coap_server_listener.proofs.streams.SweepLemmas.{acted_here, kept_here, its_number}
 use Rattle.coap_server_listener.proofs.door.sweep.sweep_at.Goals as goal
@@ -12,13 +12,13 @@ drop_at-requires-clause-number g c = its_number c.args.peers.now.entries c.args.
 
 pub returns-in_default-status-clause-part : goal.returns-in_default-status-clause-part
 returns-in_default-status-clause-part g c =
-    acted_here (TellsMore (g.M.Monitor.calls c.args.watch.now.monitor) (g.M.Monitor.calls c.args.watch.now.monitor)) c.args.watch.now.now c.args.server.now c.args.server.now c.args.watch.now.activities.entries c.args.watch.now.activities.entries
+    acted_here (FollowsMore (g.M.Monitor.follows c.args.watch.now.monitor) (g.M.Monitor.follows c.args.watch.now.monitor)) c.args.watch.now.now c.args.server.now c.args.server.now c.args.watch.now.activities.entries c.args.watch.now.activities.entries
     c.args.peers.now.entries c.args.peers.now.entries c.args.at c.in-Some.id.now c.requires.there (its_number c.args.peers.now.entries c.args.at (c.in-Some.id.now, c.in-Some.field-0-1.now) (sym c.in-Some.ensures.entry))
-    c.args.idle Keep (c.args.at + 1) (rw (← c.status.ensures, c.in_default-status.is) refl) (kept_here (g.M.Monitor.calls c.args.watch.now.monitor) c.args.watch.now.now c.args.server.now c.args.watch.now.activities.entries c.args.peers.now.entries c.args.at c.requires.there)
+    c.args.idle Keep (c.args.at + 1) (rw (← c.status.ensures, c.in_default-status.is) refl) (kept_here (g.M.Monitor.follows c.args.watch.now.monitor) c.args.watch.now.now c.args.server.now c.args.watch.now.activities.entries c.args.peers.now.entries c.args.at c.requires.there)
 
 pub returns-in-Keep-clause-part : goal.returns-in-Keep-clause-part
 returns-in-Keep-clause-part g c =
     let act : c.copied-activity.result ≡ lookup (nat_eq c.in-Some.id.now) c.args.watch.now.activities.entries = c.copied-activity.ensures ∙ c.get.ensures.value in
-    acted_here (TellsMore (g.M.Monitor.calls c.args.watch.now.monitor) (g.M.Monitor.calls c.args.watch.now.monitor)) c.args.watch.now.now c.args.server.now c.args.server.now c.args.watch.now.activities.entries c.args.watch.now.activities.entries
+    acted_here (FollowsMore (g.M.Monitor.follows c.args.watch.now.monitor) (g.M.Monitor.follows c.args.watch.now.monitor)) c.args.watch.now.now c.args.server.now c.args.server.now c.args.watch.now.activities.entries c.args.watch.now.activities.entries
     c.args.peers.now.entries c.args.peers.now.entries c.args.at c.in-Some.id.now c.requires.there (its_number c.args.peers.now.entries c.args.at (c.in-Some.id.now, c.in-Some.field-0-1.now) (sym c.in-Some.ensures.entry))
-    c.args.idle Keep (c.args.at + 1) (rw (← c.status.ensures, c.in-Some-status.is, ← act) (sym c.in-Keep.is ∙ c.silence_action.ensures)) (kept_here (g.M.Monitor.calls c.args.watch.now.monitor) c.args.watch.now.now c.args.server.now c.args.watch.now.activities.entries c.args.peers.now.entries c.args.at c.requires.there)
+    c.args.idle Keep (c.args.at + 1) (rw (← c.status.ensures, c.in-Some-status.is, ← act) (sym c.in-Keep.is ∙ c.silence_action.ensures)) (kept_here (g.M.Monitor.follows c.args.watch.now.monitor) c.args.watch.now.now c.args.server.now c.args.watch.now.activities.entries c.args.peers.now.entries c.args.at c.requires.there)

@@ -19,7 +19,7 @@ loop-seen-init g c =
       },
       c.requires.noted,
       c.stamp.ensures.settled,
-      none_served (g.M.Monitor.calls c.args.monitor.now) c.args.server.now c.args.server.now refl,
+      none_served (g.M.Monitor.follows c.args.monitor.now) c.args.server.now c.args.server.now refl,
       rw c.stamp.ensures.stamp at c.skip_idle-seen.ensures.next,
       c.skip_idle-seen.ensures.asleep,
     )
@@ -40,13 +40,13 @@ loop-seen-preserved g c =
       },
       c.in_ok-served.ensures.noted,
       c.stamp-in-loop-seen.ensures.settled,
-      served_further (g.M.Monitor.calls c.args.monitor.now) (g.M.Monitor.calls c.loop-seen.monitor) (g.M.Monitor.calls c.serve_next.new.monitor) c.loop-seen.invariant.4 c.serve_next.ensures.shows,
+      served_further (g.M.Monitor.follows c.args.monitor.now) (g.M.Monitor.follows c.loop-seen.monitor) (g.M.Monitor.follows c.serve_next.new.monitor) c.loop-seen.invariant.4 c.serve_next.ensures.shows,
       rw c.stamp-in-loop-seen.ensures.stamp at c.skip_idle-seen-in-loop-seen.ensures.next,
       c.skip_idle-seen-in-loop-seen.ensures.asleep,
     )
 
 pub returns-in_err-served-clause-shows : goal.returns-in_err-served-clause-shows
-returns-in_err-served-clause-shows g c = served_further (g.M.Monitor.calls c.args.monitor.now) (g.M.Monitor.calls c.loop-seen.monitor) (g.M.Monitor.calls c.serve_next.new.monitor) c.loop-seen.invariant.4 c.serve_next.ensures.shows
+returns-in_err-served-clause-shows g c = served_further (g.M.Monitor.follows c.args.monitor.now) (g.M.Monitor.follows c.loop-seen.monitor) (g.M.Monitor.follows c.serve_next.new.monitor) c.loop-seen.invariant.4 c.serve_next.ensures.shows
 
 pub returns-clause-round : goal.returns-clause-round
 returns-clause-round g c =

@@ -51,7 +51,7 @@ returns-in-Open-clause-part g c =
     c.requires.there c.serve_at.ensures.same c.serve_at.ensures.before c.serve_at.ensures.beside c.in_ok-course.course c.in_ok-course.ensures.part c.in-Open.is
 
 pub returns-in-Over-clause-shows : goal.returns-in-Over-clause-shows
-returns-in-Over-clause-shows g c = served_further (g.M.Monitor.calls c.args.monitor.now) (g.M.Monitor.calls c.serve_at.new.monitor) (g.M.Monitor.calls c.drop_at.new.monitor) c.serve_at.ensures.shows c.drop_at.ensures.shows
+returns-in-Over-clause-shows g c = served_further (g.M.Monitor.follows c.args.monitor.now) (g.M.Monitor.follows c.serve_at.new.monitor) (g.M.Monitor.follows c.drop_at.new.monitor) c.serve_at.ensures.shows c.drop_at.ensures.shows
 
 pub returns-in-Open-clause-asleep : goal.returns-in-Open-clause-asleep
 returns-in-Open-clause-asleep g c =

@@ -3,10 +3,10 @@ use Rattle.coap_server_listener.proofs.streams.ServingLemmas.{turned_further}
 use Rattle.coap_server_listener.proofs.door.turn.take_turn.Goals as goal
 
 pub returns-in_err-agenda-clause-shows : goal.returns-in_err-agenda-clause-shows
-returns-in_err-agenda-clause-shows g c = turned_further (g.M.Monitor.calls c.args.monitor.now) (g.M.Monitor.calls c.accept.new.monitor) (g.M.Monitor.calls c.serve_each.new.monitor) c.accept.ensures.shows c.serve_each.ensures.shows
+returns-in_err-agenda-clause-shows g c = turned_further (g.M.Monitor.follows c.args.monitor.now) (g.M.Monitor.follows c.accept.new.monitor) (g.M.Monitor.follows c.serve_each.new.monitor) c.accept.ensures.shows c.serve_each.ensures.shows
 
 pub returns-clause-shows : goal.returns-clause-shows
-returns-clause-shows g c = turned_further (g.M.Monitor.calls c.args.monitor.now) (g.M.Monitor.calls c.accept.new.monitor) (g.M.Monitor.calls c.serve_each.new.monitor) c.accept.ensures.shows c.serve_each.ensures.shows
+returns-clause-shows g c = turned_further (g.M.Monitor.follows c.args.monitor.now) (g.M.Monitor.follows c.accept.new.monitor) (g.M.Monitor.follows c.serve_each.new.monitor) c.accept.ensures.shows c.serve_each.ensures.shows
 
 pub returns-clause-turn : goal.returns-clause-turn
 returns-clause-turn g c =

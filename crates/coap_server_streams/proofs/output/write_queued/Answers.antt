@@ -1,0 +1,10 @@
+use Rattle.coap_server_engine.proofs.scripting.FollowLemmas.{followed_none}
+use Rattle.coap_server_streams.proofs.output.write_queued.Goals as goal
+
+-- The connection does not exist.
+pub returns-in_default-clause-told : goal.returns-in_default-clause-told
+returns-in_default-clause-told g c = followed_none (g.M.Monitor.follows c.args.monitor.now)
+
+-- No byte is queued.
+pub returns-then-count-eq0-clause-told : goal.returns-then-count-eq0-clause-told
+returns-then-count-eq0-clause-told g c = followed_none (g.M.Monitor.follows c.args.monitor.now)
