@@ -4,3 +4,4 @@ pub mod WordLaws
 pub mod LineLaws
 pub mod WriteLemmas
 pub mod RecordLemmas
+pub mod ReplayLaws

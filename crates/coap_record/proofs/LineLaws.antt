@@ -13,7 +13,7 @@ use Rattle.coap_record.specs.Prelude.{bytes_text, word_line, script_of, said_by_
 use Rattle.coap_record.specs.Prelude.{says_nothing, newline, space, words_of, AcceptedCall, Path}
 use Rattle.coap_record.specs.Prelude.{path_word, format_word, took_line, drain_line, stored_line, removed_line, announced_line}
 use Rattle.coap_record.specs.Prelude.{line_of, lines_of, events_said, all_events_said, IsInRange, IsNumber, AreBytes}
-use Rattle.coap_record.specs.Prelude.{IsPathOfBytes, IsFormat}
+use Rattle.coap_record.specs.Prelude.{IsPathOfBytes, IsFormat, is_printable}
 use Rattle.coap_record.proofs.WordLaws.{word_byte, IsWord, all_fail, all_pass, both_words, number_word, number_back}
 use Rattle.coap_record.proofs.WordLaws.{format_is_word, format_back, bytes_word, bytes_back, payload_word, payload_back}
 use Rattle.coap_record.proofs.WordLaws.{path_is_word, path_back}
@@ -172,3 +172,10 @@ pub line_read_back : (c : AcceptedCall) → IsInRange c → script_of (line_of c
 unfolding said_by_parts
 line_read_back c is =
     ap script_of (sym (append-nil (line_of c))) ∙ call_said c is [] [] refl ∙ ap (λ all. Ok all) (append-nil (events_said c))
+
+-- A comment of printable text, and the text after it.
+pub comment_read_back : (text more : List ℕ) (es : List ScriptEventValue) → list_all is_printable text ≡ true → script_of more ≡ Ok es → script_of (35 ∷ (text ++ newline ∷ more)) ≡ Ok es
+comment_read_back text more es printable read = comment_said text (all_pass is_printable line_byte of_printable text printable) more es read
+  where
+    of_printable : (b : ℕ) → is_printable b ≡ true → line_byte b ≡ true
+    of_printable b passes = grind (arith, nat_tests)

@@ -25,24 +25,31 @@ unfoldable pub use Rattle.coap_store.specs.State.{key_for}
 pub use Rattle.coap_text.specs.Words.{is_hyphen, parts}
 unfoldable pub use Rattle.coap_text.specs.Words.{decimal_value, hex_value}
 -- ---- coap_script
-pub use Rattle.coap_script.specs.script.Events.{ScriptEventValue}
+pub use Rattle.coap_script.specs.script.Events.{ScriptEventValue, Drain}
 unfoldable pub use Rattle.coap_script.specs.script.Events.{drain_event, event_alone, event_of, event_with_one}
 unfoldable pub use Rattle.coap_script.specs.script.Events.{event_with_two, in_event, number_event, put_event}
 unfoldable pub use Rattle.coap_script.specs.script.Events.{remove_event}
-pub use Rattle.coap_script.specs.script.Lines.{bytes_text, tick_line, word_line}
+pub use Rattle.coap_script.specs.script.Lines.{bytes_text, tick_line, word_line, out_line}
 pub use Rattle.coap_script.specs.script.Script.{script_of, said_behind, said_by_line}
 unfoldable pub use Rattle.coap_script.specs.script.Script.{event_in, events_in, said_by_parts, says_nothing}
 pub use Rattle.coap_script.specs.script.Words.{newline, space, slash, words_of}
 unfoldable pub use Rattle.coap_script.specs.script.Words.{format_value, path_value}
 unfoldable pub use Rattle.coap_script.specs.script.Words.{payload_value, segments_of}
 -- ---- coap_model
-pub use Rattle.coap_model.specs.world.Events.{AcceptedCall}
+pub use Rattle.coap_model.specs.world.Events.{AcceptedCall, Wrote}
+unfoldable pub use Rattle.coap_model.specs.world.Events.{world_after}
+unfoldable pub use Rattle.coap_model.specs.world.World.{side_of}
+pub use Rattle.coap_model.specs.streams.Output.{waiting_of}
 -- ---- coap_server_engine
 pub use Rattle.coap_server_engine.specs.values.Calls.{call_value}
+unfoldable pub use Rattle.coap_server_engine.specs.values.Calls.{FollowsMore}
+pub use Rattle.coap_server_engine.specs.values.Servers.{ServerValue, new_server}
+pub use Rattle.coap_server_engine.specs.world.Shows.{Shows}
+unfoldable pub use Rattle.coap_server_engine.specs.script.Replay.{replayed, event_ran}
 -- ---- this crate
 pub use Rattle.coap_record.specs.RecordLines.{format_word, drain_line, stored_line, removed_line, announced_line}
 unfoldable pub use Rattle.coap_record.specs.RecordLines.{path_word, took_line, line_of, lines_of}
 unfoldable pub use Rattle.coap_record.specs.SaidEvents.{events_said, all_events_said, IsInRange}
-pub use Rattle.coap_record.specs.SaidEvents.{IsNumber, AreBytes, IsPathOfBytes, IsFormat}
+pub use Rattle.coap_record.specs.SaidEvents.{IsNumber, AreBytes, IsPathOfBytes, IsFormat, CanReplay}
 pub use Rattle.coap_record.specs.Writes.{WritesText, WritesUpTo, room_in}
-pub use Rattle.coap_record.specs.Records.{IsRecordOf}
+pub use Rattle.coap_record.specs.Records.{IsRecordOf, is_printable}

@@ -1,5 +1,5 @@
 -- Defined by this project: the text of a record after calls.
-use Rattle.std.specs.Prelude.{◌≡◌, Bool, true, false, ℕ, List, ◌++◌, Option, Some, None}
+use Rattle.std.specs.Prelude.{◌≡◌, Bool, true, false, ℕ, List, ◌++◌, Option, Some, None, nat_le, nat_lt, ◌&&◌}
 use Rattle.coap_model.specs.world.Events.{AcceptedCall}
 use Rattle.coap_record.specs.RecordLines.{lines_of}
 
@@ -9,3 +9,7 @@ abbrev pub IsRecordOf : List ℕ → Bool → Option (List ℕ) → List Accepte
 IsRecordOf header has_failed None calls = ⊥
 IsRecordOf header false (Some text) calls = text ≡ header ++ lines_of calls
 IsRecordOf header true (Some text) calls = (missing : List ℕ) × (header ++ lines_of calls ≡ text ++ missing)
+
+-- `true` for a printable character of ASCII.
+abbrev pub is_printable : ℕ → Bool
+is_printable b = nat_le 32 b && nat_lt b 127

@@ -59,3 +59,8 @@ IsInRange (Ended id) = IsNumber id
 IsInRange (Released id) = IsNumber id
 IsInRange (Announced id size) = IsNumber id × IsNumber size
 IsInRange (Dropped id) = IsNumber id
+
+-- A script can make this call again. Only an announced message size has no event.
+abbrev pub CanReplay : AcceptedCall → Type 0
+CanReplay (Announced id size) = ⊥
+CanReplay c = Unit {0}

@@ -40,6 +40,8 @@ fn write_queue<O: Outlet>(outlet: &mut O, queue: &mut OutQueue) -> Result<(), Wr
 pub struct BufferedOutlet<O> {
     outlet: O,
     queue: OutQueue,
+    /// Number of bytes that `write` accepted, at most 2^64 - 1.
+    count: u64,
     ghost sized: { 0 < room_in queue },
 }
 
@@ -61,9 +63,21 @@ impl<O: Outlet + Drop> BufferedOutlet<O> {
         requires high { bytes ≤ LARGEST_QUEUE }
         ensures outlet { IfOk result (λ b. b.outlet ≡ outlet) }
         ensures none { IfOk result (λ b. b.queue.waiting ≡ []) }
+        ensures count { IfOk result (λ b. b.count ≡ 0) }
     {
         let queue = OutQueue::new(alloc, bytes)?;
-        Ok(BufferedOutlet { outlet, queue })
+        Ok(BufferedOutlet {
+            outlet,
+            queue,
+            count: 0,
+        })
+    }
+
+    /// Returns the number of bytes that were written to this outlet, at most 2^64 - 1.
+    pub fn count(&self) -> u64
+        ensures { result ≡ self.now.count }
+    {
+        self.count
     }
 
     /// Returns the other outlet.
@@ -88,19 +102,30 @@ impl<O: Outlet + Drop> BufferedOutlet<O> {
             (O.written self.new.outlet) }
         ensures all { OnOk result (self.new.queue.waiting ≡ []) }
         ensures failure { O.is_failed self.new.outlet ≡ is_err result }
+        ensures count { self.new.count ≡ self.old.count }
     {
         write_queue(&mut self.outlet, &mut self.queue)
     }
 }
 
 impl<O: Outlet + Drop> Outlet for BufferedOutlet<O> {
-    ghost use Rattle.coap_record.specs.Prelude.{append_known};
+    ghost use Rattle.std.specs.Prelude.{◌+◌, ◌≤◌, ◌||◌, length, take, min, IfSome, IfNone};
+    ghost use Rattle.coap_record.specs.Prelude.{append_known, AddsBytes, is_failed_write};
 
     ghost written = { λ b. append_known (O.written b.outlet) b.queue.waiting };
 
     ghost is_failed = { λ b. O.is_failed b.outlet };
 
-    fn write(&mut self, bytes: &[u8]) -> Option<usize> {
+    fn write(&mut self, bytes: &[u8]) -> Option<usize>
+        ensures within { IfSome result (λ n. n ≤ length bytes.now) }
+        ensures taken { IfSome result (λ n. AddsBytes (append_known (O.written self.old.outlet) self.old.queue.waiting)
+            (append_known (O.written self.new.outlet) self.new.queue.waiting) (take n bytes.now)) }
+        ensures nothing { IfNone result (AddsBytes (append_known (O.written self.old.outlet) self.old.queue.waiting)
+            (append_known (O.written self.new.outlet) self.new.queue.waiting) []) }
+        ensures failure { O.is_failed self.new.outlet
+            ≡ (O.is_failed self.old.outlet || is_failed_write result bytes.now) }
+        ensures count { IfSome result (λ n. self.new.count ≡ min (self.old.count + n) 18446744073709551615) }
+    {
         if self.outlet.failed() {
             return None;
         }
@@ -109,6 +134,7 @@ impl<O: Outlet + Drop> Outlet for BufferedOutlet<O> {
         }
         let count = bytes.len().min(self.queue.free());
         self.queue.append(&bytes[..count]);
+        self.count = self.count.saturating_add(count as u64);
         Some(count)
     }
 

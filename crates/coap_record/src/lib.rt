@@ -1,8 +1,8 @@
 //! Records of the calls that a server accepted, as scripts that make the same calls again.
 //!
 //! - `write_call` and `write_opened` write the line of a call to an outlet. They allocate nothing.
-//! - `Recorder` is a monitor that writes these lines to a `BufferedOutlet`, and passes them on at the end of each turn.
-//!   `LimitedOutlet` limits their number of bytes.
+//! - `Recorder` is a monitor that writes these lines to a `BufferedOutlet`, up to a limit, and passes them on at the end of
+//!   each turn. `MonitorPair` passes each call on to two monitors, such as a recorder and a log.
 //! - `read_range` gives the range of a call's values, which the theorem asks for.
 //! - `laws` has the theorem on lines: the script reader reads the line of a call back as the event of the call.
 //!
@@ -15,14 +15,14 @@
 
 mod buffered;
 pub mod laws;
-mod limited;
 mod lines;
+mod pair;
 mod pieces;
 mod ranges;
 mod recorder;
 
 pub use buffered::BufferedOutlet;
-pub use limited::LimitedOutlet;
 pub use lines::{write_call, write_opened};
+pub use pair::MonitorPair;
 pub use ranges::read_range;
 pub use recorder::Recorder;

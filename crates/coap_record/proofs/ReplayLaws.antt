@@ -1,0 +1,202 @@
+-- A replay of the events of a record leaves the server that accepted the calls.
+use Rattle.std.proofs.Common.{◌≡◌, ℕ, ◌+◌, ◌<◌, ◌≤◌, false, List, [], ◌∷◌, ◌++◌, length, take, take_all, Option, Some, None, Ok, refl, sym, ap, ◌∙◌, append_assoc, append-nil, arith, All, lt-ltb}
+use Rattle.std.proofs.lemmas.Bool.Decides.{nat_tests}
+use Rattle.std.proofs.lemmas.List.{length-map, length-take-le}
+use Rattle.std.proofs.lemmas.List.Elements.{All-head, All-tail}
+use Rattle.coap_wire.specs.Stream.{Stream}
+use Rattle.coap_conn.specs.Release.{release_refusal}
+use Rattle.coap_conn.specs.History.{link_of}
+use Rattle.coap_store.specs.Refusals.{put_refusal, remove_refusal}
+use Rattle.coap_script.specs.script.Events.{Drain}
+use Rattle.coap_script.specs.script.Lines.{out_line}
+use Rattle.coap_model.specs.Configs.{ConfigValues}
+use Rattle.coap_model.specs.streams.Output.{waiting_of}
+use Rattle.coap_model.specs.world.Connections.{Connection, waiting_on}
+use Rattle.coap_model.specs.world.World.{side_of}
+use Rattle.coap_model.specs.world.Events.{AcceptedCall, world_after, stream_on, takes, IsAccepted, AreAccepted, AreAcceptedBehind}
+use Rattle.coap_model.specs.world.Events as call
+use Rattle.coap_model.proofs.world.StepLaws.{world_same, streams_same, accepted_more}
+use Rattle.coap_model.proofs.world.TookLaws.{no_bytes_steps}
+use Rattle.coap_model.proofs.world.ReachedLaws.{on_one}
+use Rattle.coap_server_engine.specs.Prelude.{map, session_shown}
+use Rattle.coap_server_engine.specs.script.Replay.{event_ran, replayed, tick_refusal}
+use Rattle.coap_server_engine.specs.values.InResults.{in_result, fed_turns, goes_on}
+use Rattle.coap_server_engine.specs.values.ServerAnswers.{open_refusal, released_refusal}
+use Rattle.coap_server_engine.specs.values.Servers.{ServerValue, new_server, session_of, server_taken, count_taken}
+use Rattle.coap_server_engine.specs.world.Shows.{Shows, server_of, server_shown, place_shown}
+use Rattle.coap_server_engine.proofs.world.ShowLaws.{side_there, host_shown, takes_shown, shows_opened, shows_taken, shows_written}
+use Rattle.coap_server_engine.proofs.world.ShowLaws.{shows_ticked, shows_put, shows_removed, shows_ended, shows_released, shows_dropped}
+use Rattle.coap_server_engine.proofs.world.CallLaws.{new_shows}
+use Rattle.coap_server_engine.proofs.values.ServerLemmas.{opens}
+use Rattle.coap_server_engine.proofs.scripting.ShownLemmas.{config_stays}
+use Rattle.coap_server_engine.proofs.scripting.ReplayLemmas.{all_turns_made, replayed_on}
+use Rattle.coap_record.specs.Prelude.{events_said, all_events_said, CanReplay}
+
+-- ---- accepted bytes
+
+-- A call that accepted no byte.
+no_byte_shows : (v : ServerValue) (es : List AcceptedCall) (id : ℕ) → Shows v es → IsAccepted v.config es (call.Took id []) → Shows v (es ++ call.Took id [] ∷ [])
+unfolding server_of
+no_byte_shows v es id shows accepted =
+    let c : ConfigValues = v.config in
+    let e : AcceptedCall = call.Took id [] in
+    let none : (k : ℕ) → call.taken_in k e ≡ [] = λ k. grind (arith, nat_tests) in
+    record {
+      accepted = accepted_more c es e shows.accepted accepted;
+      same = shows.same ∙ sym (ap (server_shown c (es ++ e ∷ [])) (world_same c es e (no_bytes_steps c.limits.max_message id es))
+          ∙ ap (λ (streams : ℕ → Stream). record (server_shown c es (world_after c es)) { sessions = map (λ p. (p.id, session_shown (streams p.id).rest p.side)) (world_after c es).sides })
+          (streams_same c.limits.max_message es e none));
+      moment = shows.moment;
+    }
+
+-- The first take of an `in` accepts all its bytes, if it accepts that many.
+one_take : (v : ServerValue) (id : ℕ) (byte : ℕ) (bytes : List ℕ) → count_taken v id (byte ∷ bytes) ≡ length (byte ∷ bytes) → (in_result v id (byte ∷ bytes)).server ≡ server_taken v id (byte ∷ bytes)
+unfolding fed_turns
+one_take v id byte bytes counted =
+    let piece : List ℕ = byte ∷ bytes in
+    let over : goes_on piece (fed_turns 1 v id piece) ≡ false = rw counted (grind (arith, nat_tests)) in
+    let some : 0 < length piece = omega arith in
+    rw ((all_turns_made v id piece 1 over (length piece) (omega arith)).0, lt-ltb 0 (length piece) some) refl
+
+-- ---- one call
+
+-- The server `next` has the configuration of `v`, and shows these calls.
+abbrev pub ShowsLike : ServerValue → ServerValue → List AcceptedCall → Type 0
+ShowsLike v next es = Shows next es × (next.config ≡ v.config)
+
+-- The server after the events of a call shows the call.
+abbrev pub Replays : ServerValue → List AcceptedCall → AcceptedCall → Type 0
+Replays v es e = ShowsLike v (replayed v (events_said e)).server (es ++ e ∷ [])
+
+opened_replays : (v : ServerValue) (es : List AcceptedCall) (id : ℕ) → Shows v es → IsAccepted v.config es (call.Opened id) → Replays v es (call.Opened id)
+unfolding IsAccepted events_said replayed event_ran server_of
+opened_replays v es id shows accepted =
+    let c : ConfigValues = v.config in
+    let ids : v.ids ≡ (world_after c es).ids = ap (λ (u : ServerValue). u.ids) shows.same in
+    let next : id ≡ v.ids + 1 = omega (arith, ids, accepted.0) in
+    let few : length v.sessions < c.connections = omega (arith, accepted.2, ap (λ (u : ServerValue). length u.sessions) shows.same, length-map (world_after c es).sides (place_shown c.limits.max_message es)) in
+    let none : open_refusal v ≡ None = opens v few (λ spent. omega (arith, spent, next, accepted.1)) in
+    rw (none, next) (shows_opened v es shows (omega (arith, next, accepted.1)) few, refl)
+
+-- A session of the server for a connection of the model.
+record There (v : ServerValue) (es : List AcceptedCall) (id : ℕ) (P : Connection → Type 0) : Type 0 where
+  side : Connection
+  at : side_of id (world_after v.config es).sides ≡ Some side
+  holds : P side
+  session : session_of id v.sessions ≡ Some (session_shown (stream_on v.config.limits.max_message id es).rest side)
+
+there : (v : ServerValue) (es : List AcceptedCall) (id : ℕ) (P : Connection → Type 0) → Shows v es → call.OnSide id (world_after v.config es) P → There v es id P
+there v es id P shows on =
+    let one = on_one P (side_of id (world_after v.config es).sides) on in
+    record { side = one.0; at = one.1; holds = one.2; session = side_there v es id one.0 shows one.1 }
+
+took_replays : (v : ServerValue) (es : List AcceptedCall) (id : ℕ) (bytes : List ℕ) → Shows v es → IsAccepted v.config es (call.Took id bytes) → Replays v es (call.Took id bytes)
+unfolding IsAccepted events_said replayed event_ran
+took_replays v es id [] shows accepted = (no_byte_shows v es id shows accepted, refl)
+took_replays v es id (byte ∷ bytes) shows accepted =
+    let piece : List ℕ = byte ∷ bytes in
+    let here = there v es id (λ s. takes v.config es id piece ≡ length piece) shows accepted in
+    let counted : count_taken v id piece ≡ length piece = takes_shown v es id piece shows ∙ here.holds in
+    let taken = shows_taken v es id piece _ shows here.session in
+    rw (here.session, one_take v id byte bytes counted) (rw (counted, take_all (length piece) piece (omega arith)) at taken, config_stays v id piece)
+
+wrote_replays : (v : ServerValue) (es : List AcceptedCall) (id n : ℕ) → Shows v es → IsAccepted v.config es (call.Wrote id n) → Replays v es (call.Wrote id n)
+unfolding IsAccepted events_said replayed event_ran
+wrote_replays v es id n shows accepted =
+    let here = there v es id (λ s. n ≤ length (waiting_on s)) shows accepted in
+    rw (here.session, length-take-le n (waiting_on here.side) here.holds) (shows_written v es id n _ shows here.session here.holds, refl)
+
+ticked_replays : (v : ServerValue) (es : List AcceptedCall) (now : ℕ) → Shows v es → IsAccepted v.config es (call.Ticked now) → Replays v es (call.Ticked now)
+unfolding IsAccepted events_said replayed event_ran
+ticked_replays v es now shows accepted =
+    let later : v.host.now ≤ now = grind (arith, nat_tests, host_shown v es shows) in
+    let small : now ≤ 18446744073709551615 = grind (arith, nat_tests) in
+    let none : tick_refusal v now ≡ None = grind (arith, nat_tests) in
+    rw none (shows_ticked v es now shows later small, refl)
+
+stored_replays : (v : ServerValue) (es : List AcceptedCall) (path : List (List ℕ)) (format : Option ℕ) (bytes : List ℕ) → Shows v es → IsAccepted v.config es (call.Stored path format bytes) → Replays v es (call.Stored path format bytes)
+unfolding IsAccepted events_said replayed event_ran
+stored_replays v es path format bytes shows accepted =
+    let none : put_refusal v.host.store path bytes ≡ None = rw (host_shown v es shows) accepted in
+    rw none (shows_put v es path format bytes shows none, refl)
+
+removed_replays : (v : ServerValue) (es : List AcceptedCall) (path : List (List ℕ)) → Shows v es → IsAccepted v.config es (call.Removed path) → Replays v es (call.Removed path)
+unfolding IsAccepted events_said replayed event_ran
+removed_replays v es path shows accepted =
+    let none : remove_refusal v.host.store path ≡ None = rw (host_shown v es shows) accepted in
+    rw none (shows_removed v es path shows none, refl)
+
+ended_replays : (v : ServerValue) (es : List AcceptedCall) (id : ℕ) → Shows v es → IsAccepted v.config es (call.Ended id) → Replays v es (call.Ended id)
+unfolding IsAccepted events_said replayed event_ran
+ended_replays v es id shows accepted =
+    let here = there v es id (λ s. Unit {0}) shows accepted in
+    rw here.session (shows_ended v es id _ shows here.session, refl)
+
+released_replays : (v : ServerValue) (es : List AcceptedCall) (id : ℕ) → Shows v es → IsAccepted v.config es (call.Released id) → Replays v es (call.Released id)
+unfolding IsAccepted events_said replayed event_ran
+released_replays v es id shows accepted =
+    let here = there v es id (λ s. release_refusal (link_of s.history) ≡ None) shows accepted in
+    let none : released_refusal v id ≡ None = rw (here.session, here.holds) refl in
+    rw none (shows_released v es id _ shows here.session here.holds, refl)
+
+dropped_replays : (v : ServerValue) (es : List AcceptedCall) (id : ℕ) → Shows v es → IsAccepted v.config es (call.Dropped id) → Replays v es (call.Dropped id)
+unfolding IsAccepted events_said replayed event_ran
+dropped_replays v es id shows accepted =
+    let here = there v es id (λ s. Unit {0}) shows accepted in
+    rw here.session (shows_dropped v es id _ shows here.session, refl)
+
+call_replays : (v : ServerValue) (es : List AcceptedCall) (e : AcceptedCall) → Shows v es → IsAccepted v.config es e → CanReplay e → Replays v es e
+call_replays v es (call.Opened id) shows accepted can = opened_replays v es id shows accepted
+call_replays v es (call.Took id bytes) shows accepted can = took_replays v es id bytes shows accepted
+call_replays v es (call.Wrote id n) shows accepted can = wrote_replays v es id n shows accepted
+call_replays v es (call.Ticked now) shows accepted can = ticked_replays v es now shows accepted
+call_replays v es (call.Stored path format bytes) shows accepted can = stored_replays v es path format bytes shows accepted
+call_replays v es (call.Removed path) shows accepted can = removed_replays v es path shows accepted
+call_replays v es (call.Ended id) shows accepted can = ended_replays v es id shows accepted
+call_replays v es (call.Released id) shows accepted can = released_replays v es id shows accepted
+call_replays v es (call.Announced id size) shows accepted can = absurd can
+call_replays v es (call.Dropped id) shows accepted can = dropped_replays v es id shows accepted
+
+-- ---- all calls
+
+calls_replay : (v : ServerValue) (es cs : List AcceptedCall) → Shows v es → AreAcceptedBehind v.config es cs → All CanReplay cs → ShowsLike v (replayed v (all_events_said cs)).server (es ++ cs)
+unfolding AreAcceptedBehind all_events_said replayed
+calls_replay v es [] shows accepted can = rw append-nil (shows, refl)
+calls_replay v es (e ∷ cs) shows accepted can =
+    let one = call_replays v es e shows accepted.0 (All-head CanReplay e cs can) in
+    let next : ServerValue = (replayed v (events_said e)).server in
+    let rest = calls_replay next (es ++ e ∷ []) cs one.0 (rw one.1 accepted.1) (All-tail CanReplay e cs can) in
+    rw replayed_on (rw (append_assoc es (e ∷ []) cs) at rest.0, rest.1 ∙ one.1)
+
+-- A new server shows no calls.
+first_shows : (c : ConfigValues) → c.starts.moment ≤ 18446744073709551615 → Shows (new_server c) []
+first_shows c small = new_shows {F = Unit {0}} (Ok (new_server c)) c (omega (arith, small)) refl
+
+-- The server after the events of all calls is the one that accepted them.
+pub record_replays : (v : ServerValue) (cs : List AcceptedCall) → Shows v cs → All CanReplay cs → (replayed (new_server v.config) (all_events_said cs)).server ≡ v
+record_replays v cs shows can =
+    let all = calls_replay (new_server v.config) [] cs (first_shows v.config shows.moment) shows.accepted can in
+    all.0.same ∙ ap (λ c. server_of c cs) all.1 ∙ sym shows.same
+
+-- ---- written bytes
+
+-- The calls before others were accepted.
+front_accepted : (c : ConfigValues) (earlier es fs : List AcceptedCall) → AreAcceptedBehind c earlier (es ++ fs) → AreAcceptedBehind c earlier es × AreAcceptedBehind c (earlier ++ es) fs
+unfolding AreAcceptedBehind
+front_accepted c earlier [] fs all = (tt, rw append-nil all)
+front_accepted c earlier (e ∷ es) fs all =
+    let rest = front_accepted c (earlier ++ e ∷ []) es fs all.1 in
+    ((all.0, rest.0), rw (append_assoc earlier (e ∷ []) es) at rest.1)
+
+-- The line of a drain has the bytes that the call wrote.
+pub drained_alike : (v : ServerValue) (before behind : List AcceptedCall) (id n : ℕ) → Shows v (before ++ call.Wrote id n ∷ behind) → All CanReplay before
+    → (event_ran (replayed (new_server v.config) (all_events_said before)).server (Drain id (Some n))).text ≡ out_line id (take n (waiting_of (side_of id (world_after v.config before).sides)))
+unfolding AreAcceptedBehind IsAccepted event_ran
+drained_alike v before behind id n shows can =
+    let c : ConfigValues = v.config in
+    let parts = front_accepted c [] before (call.Wrote id n ∷ behind) shows.accepted in
+    let new : ServerValue = new_server c in
+    let front = calls_replay new [] before (first_shows c shows.moment) parts.0 can in
+    let now : ServerValue = (replayed new (all_events_said before)).server in
+    let here = there now before id (λ s. n ≤ length (waiting_on s)) front.0 (rw front.1 parts.1.0) in
+    rw here.session (rw front.1 at (ap (λ (s : Option Connection). out_line id (take n (waiting_of s))) (sym here.at)))
