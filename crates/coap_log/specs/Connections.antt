@@ -35,9 +35,13 @@ LogsAtATime level text before after = (nanos : ℕ) × LogsLine level nanos text
 
 -- ---- messages
 
+-- The text of the present message of a tap.
+abbrev pub tap_text : TapValue → List ℕ
+tap_text tap = head_text (take DESCRIBED tap.kept) tap.seen
+
 -- The line of the present message of a tap, after other text.
 abbrev pub message_line : List ℕ → TapValue → List ℕ
-message_line front tap = appended LINE_LENGTH [] (front ++ head_text (take DESCRIBED tap.kept) tap.seen)
+message_line front tap = appended LINE_LENGTH [] (front ++ tap_text tap)
 
 -- The present message of a tap is logged, if it is whole.
 abbrev pub LogsWhole : ℕ → List ℕ → TapValue → LogTrace → LogTrace → Bool → Type 0

@@ -57,8 +57,15 @@ fn message_line(front: &Line, tap: &Tap) -> Line
 {
     let mut line = Line::new();
     line.line(front);
-    describe_head(&mut line, described(tap.head()), tap.size());
+    append_message(&mut line, tap);
     line
+}
+
+/// Appends the present message of a tap, by its first bytes and its size, as `describe_head` does.
+pub fn append_message(line: &mut Line, tap: &Tap)
+    ensures { line.new ≡ appended LINE_LENGTH line.old (spec.tap_text tap.now) }
+{
+    describe_head(line, described(tap.head()), tap.size());
 }
 
 /// Returns the first bytes of a message, at most 2,048.

@@ -33,7 +33,7 @@ mod stderr;
 mod tap;
 mod writer;
 
-pub use connection::{append_counts, log_messages};
+pub use connection::{append_counts, append_message, log_messages};
 pub use glimpse::{describe_head, head_code};
 pub use limit::{Admission, LINES_A_SECOND, LineLimit};
 pub use log::Log;

@@ -112,3 +112,14 @@ payload_text payload =
 -- A message: its code, its token, its options and its payload.
 unfoldable pub message_text : Message → List ℕ
 message_text m = code_text m.code ++ token_text m.token ++ flat_map (option_text m.code) m.options ++ payload_text m.payload
+
+-- ---- representations
+
+-- A Content-Format with its name, or nothing if there is none.
+abbrev pub format_text : Option ℕ → List ℕ
+format_text None = []
+format_text (Some number) = codes " Content-Format=" ++ decimal number ++ remark (content_format_name number)
+
+-- A representation: its Content-Format and its bytes.
+abbrev pub representation_text : Option ℕ → List ℕ → List ℕ
+representation_text format bytes = format_text format ++ payload_text bytes

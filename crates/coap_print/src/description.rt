@@ -43,6 +43,26 @@ pub fn describe(line: &mut Line, message: &MessageRef)
     append_payload(line, message.payload());
 }
 
+/// Appends a representation to a line: its Content-Format, if it has one, and its bytes, as `describe` appends a payload.
+pub fn describe_representation(line: &mut Line, format: Option<u16>, bytes: &[u8])
+    ensures { line.new ≡ appended LINE_LENGTH line.old (spec.representation_text format bytes.now) }
+{
+    append_format(line, format);
+    append_payload(line, bytes);
+}
+
+/// Appends a Content-Format with its name, if there is one.
+fn append_format(line: &mut Line, format: Option<u16>)
+    ensures { line.new ≡ appended LINE_LENGTH line.old (spec.format_text format) }
+{
+    let Some(number) = format else {
+        return;
+    };
+    line.text(" Content-Format=");
+    line.number(u64::from(number));
+    append_remark(line, content_format_name(u32::from(number)));
+}
+
 /// Appends a code with its name.
 #[tactic(auto, using(crate::proofs::LineLaws::pieces), unfolding(crate::specs::Descriptions::code_text))]
 fn append_code(line: &mut Line, code: Code)
