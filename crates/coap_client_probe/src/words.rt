@@ -76,6 +76,27 @@ pub(crate) fn tell_fault(fault: &WordsFault, told: &mut RowLine) {
     }
 }
 
+/// Writes the values of a plan of `coap-server` that most command lines leave out: a log, a limit of silence, start
+/// values and a record.
+fn tell_rest(plan: &ServerPlan, told: &mut RowLine) {
+    if plan.log.number() != 0 {
+        let _ = write!(told, "log {:?} ", plan.log);
+    }
+    if plan.idle != 0 {
+        let _ = write!(told, "idle {} ", plan.idle);
+    }
+    let starts = &plan.starts;
+    if starts.moment != 0 || starts.versions != 0 || starts.ids != 0 {
+        told.word("starts");
+        told.number(starts.moment);
+        told.number(starts.versions);
+        told.number(starts.ids);
+    }
+    if let Some(name) = &plan.record {
+        let _ = write!(told, "record {name} {} ", plan.record_limit);
+    }
+}
+
 /// Writes a plan of `coap-server`.
 fn tell_server(plan: &ServerPlan, told: &mut RowLine) {
     let _ = match &plan.mode {
@@ -93,19 +114,7 @@ fn tell_server(plan: &ServerPlan, told: &mut RowLine) {
     told.number(plan.connections as u64);
     told.number(plan.dynamic_max as u64);
     told.number(plan.turns);
-    if plan.log.number() != 0 {
-        let _ = write!(told, "log {:?} ", plan.log);
-    }
-    if plan.idle != 0 {
-        let _ = write!(told, "idle {} ", plan.idle);
-    }
-    let starts = &plan.starts;
-    if starts.moment != 0 || starts.versions != 0 || starts.ids != 0 {
-        told.word("starts");
-        told.number(starts.moment);
-        told.number(starts.versions);
-        told.number(starts.ids);
-    }
+    tell_rest(plan, told);
 }
 
 /// Writes a plan of `coap-client`.

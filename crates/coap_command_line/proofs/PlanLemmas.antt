@@ -4,6 +4,8 @@ use Rattle.coap_command_line.specs.Prelude.{App, Kinds, Row, Text, fault_of, mat
 use Rattle.coap_command_line.specs.Prelude.{TellsClientPlan, TellsServerPlan, client_app, client_plan_in, client_plan_of}
 use Rattle.coap_command_line.specs.Prelude.{server_app, server_plan_in, server_plan_of, ClientPlan, ServerPlan, WordsFault}
 use Rattle.coap_command_line.specs.CommandLines.{unless_refused}
+use Rattle.coap_command_line.specs.ExplainWords.{explain_app, explain_plan_in, explain_plan_of, TellsExplainPlan}
+use Rattle.coap_command_line.specs.declared.arguments.explain.ExplainPlan.{ExplainPlan}
 use Rattle.coap_command_line.specs.PlanViews.{IsRefused}
 use Rattle.coap_command_line.specs.declared.arguments.WordsFault.TheVariants as faults
 
@@ -49,3 +51,15 @@ pub client_refused : (app : App) (words : List Text) (fault : WordsFault) → ap
 unfolding client_plan_of
 client_refused app words fault is h =
     turned_down (fault_of client_app words) (client_plan_in (matches_of client_app words)) fault (subst (λ (a : App). IsTurnedDown (fault_of a words) fault) is h)
+
+pub explain_told : (app : App) (words : List Text) (rows : List Row) (answer : Result ExplainPlan WordsFault) → app ≡ explain_app → fault_of app words ≡ []
+    → rows ≡ matches_of app words → TellsExplainPlan (explain_plan_in rows) answer → TellsExplainPlan (explain_plan_of words) answer
+unfolding explain_plan_of
+explain_told app words rows answer is taken found told =
+    subst (λ a. TellsExplainPlan a answer) (read_of_shape app explain_app words rows explain_plan_in is taken found) told
+
+pub explain_refused : (app : App) (words : List Text) (fault : WordsFault) → app ≡ explain_app → IsTurnedDown (fault_of app words) fault
+    → IsRefused (explain_plan_of words) fault
+unfolding explain_plan_of
+explain_refused app words fault is h =
+    turned_down (fault_of explain_app words) (explain_plan_in (matches_of explain_app words)) fault (subst (λ (a : App). IsTurnedDown (fault_of a words) fault) is h)

@@ -3,4 +3,5 @@ pub mod ServerWords
 pub mod ClientWords
 pub mod PlanViews
 pub mod Reasons
+pub mod ExplainWords
 pub mod Prelude

@@ -33,6 +33,8 @@ server_value plan = record {
   log = plan.log;
   idle = plan.idle;
   starts = plan.starts;
+  «record» = option_map string_bytes plan.record;
+  record_limit = plan.record_limit;
 }
 
 -- The number and the value of the extra option.

@@ -46,7 +46,8 @@ pub use Rattle.coap_command_line.specs.PlanViews.{TellsServerPlan, mode_value}
 pub use Rattle.coap_command_line.specs.ServerWords.{server_app, Listen, Script, Stdio, every_address}
 unfoldable pub use Rattle.coap_command_line.specs.ServerWords.{address_of, limits_said, server_plan_in, server_plan_of}
 unfoldable pub use Rattle.coap_command_line.specs.ServerWords.{values_said, excludes_mode, three_in, starts_in}
-unfoldable pub use Rattle.coap_command_line.specs.ServerWords.{starts_a_listener}
+unfoldable pub use Rattle.coap_command_line.specs.ServerWords.{starts_a_listener, file_name, records_to_output}
+unfoldable pub use Rattle.coap_command_line.specs.ServerWords.{excludes_record}
 pub use Rattle.coap_command_line.specs.ServerWords.{from_zero}
 -- ---- coap_command_line, declared
 pub use Rattle.coap_command_line.specs.declared.arguments.WordsFault.{WordsFault}

@@ -12,7 +12,7 @@ use Rattle.coap_wire.specs.declared.sizes.TheConstants.{BASE_MESSAGE_SIZE, LARGE
 use Rattle.coap_request.specs.declared.target.TargetFault.{TargetFault}
 use Rattle.coap_request.specs.declared.target.TargetFault.TheVariants as target
 use Rattle.coap_command_line.specs.CommandLines.{is_used, number_within, option_value}
-use Rattle.coap_command_line.specs.ServerWords.{server_app}
+use Rattle.coap_command_line.specs.ServerWords.{server_app, records_to_output}
 use Rattle.coap_command_line.specs.ClientWords.{client_app, uri_said}
 use Rattle.coap_command_line.specs.declared.arguments.WordsFault.{WordsFault}
 use Rattle.coap_command_line.specs.declared.arguments.WordsFault.TheVariants as faults
@@ -93,15 +93,35 @@ client_value rows name = row_text (row_in client_values name) (given_for name ro
 
 -- ---- options that exclude each other
 
--- The first two options of the server that exclude each other, or the one that a server which listens excludes.
+-- The text for the limit of a record without a record.
+abbrev pub limit_alone : Text
+limit_alone = codes "--record-limit can be used only with --record"
+
+-- The first option that a script excludes.
+unfoldable pub script_clash : List Row → Text
+script_clash rows =
+    if is_used (codes "--stdio") rows then codes "--stdio and --script cannot be used together"
+    else (if is_some (first_of (codes "--log") rows) then codes "--script and --log cannot be used together"
+    else (if is_some (first_of (codes "--idle") rows) then codes "--script and --idle cannot be used together"
+    else (if is_some (first_of (codes "--record") rows) then codes "--script and --record cannot be used together"
+    else limit_alone)))
+
+-- The first option that standard input and output exclude.
+unfoldable pub stdio_clash : List Row → Text
+stdio_clash rows =
+    if is_some (first_of (codes "--idle") rows) then codes "--stdio and --idle cannot be used together"
+    else (if records_to_output rows then codes "--stdio and --record - cannot be used together" else limit_alone)
+
+-- The first option that a server which listens excludes.
+unfoldable pub listener_clash : List Row → Text
+listener_clash rows =
+    if is_some (first_of (codes "--starts") rows) then codes "--starts can be used only with --stdio or --script" else limit_alone
+
+-- The first two options of the server that exclude each other, or the first one that needs another option.
 unfoldable pub server_clash : List Row → Text
 server_clash rows =
-    if is_some (first_of (codes "--script") rows)
-    then (if is_used (codes "--stdio") rows then codes "--stdio and --script cannot be used together"
-    else (if is_some (first_of (codes "--log") rows) then codes "--script and --log cannot be used together"
-    else codes "--script and --idle cannot be used together"))
-    else (if is_used (codes "--stdio") rows then codes "--stdio and --idle cannot be used together"
-    else codes "--starts can be used only with --stdio or --script")
+    if is_some (first_of (codes "--script") rows) then script_clash rows
+    else (if is_used (codes "--stdio") rows then stdio_clash rows else listener_clash rows)
 
 -- The text for an observation with a method other than get.
 unfoldable pub method_text : Text → Text

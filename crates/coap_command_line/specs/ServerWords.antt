@@ -1,5 +1,6 @@
 -- Defined by this project: the plan for the arguments of `coap-server`.
-use Rattle.std.specs.Prelude.{◌∷◌, [], ◌&&◌, ◌||◌, ℕ, Bool, true, false, not, List, Option, Some, None, is_some, Result, Ok, Err, codes, if◌then◌else◌}
+use Rattle.std.specs.Prelude.{◌∷◌, [], ◌&&◌, ◌||◌, ⊤, ℕ, Bool, true, false, not, List, Option, Some, None, is_some, Result, Ok, Err, bytes_eq, codes, if◌then◌else◌}
+use Rattle.std.specs.Option.{option_map_or}
 use Rattle.std.specs.Net.Reader.{read_ipv4, read_ipv6, whole_value}
 use Rattle.std.specs.declared.net.ip_addr.IpAddr.{IpAddr}
 use Rattle.std.specs.declared.net.ip_addr.IpAddr.TheVariants as ip
@@ -34,6 +35,8 @@ pub record ServerPlanValue : Type 0 where
   pub log : LogLevel
   pub idle : ℕ
   pub starts : StartCounts
+  pub «record» : Option Text
+  pub record_limit : ℕ
 
 -- ---- the options
 
@@ -48,7 +51,8 @@ server_app = record {
         ∷ word_option (codes "--max-message") ∷ word_option (codes "--max-sent") ∷ word_option (codes "--queue")
         ∷ word_option (codes "--pending") ∷ word_option (codes "--observers")
         ∷ word_option (codes "--connections") ∷ word_option (codes "--turns")
-        ∷ word_option (codes "--log") ∷ word_option (codes "--idle") ∷ word_option (codes "--starts") ∷ [];
+        ∷ word_option (codes "--log") ∷ word_option (codes "--idle") ∷ word_option (codes "--starts")
+        ∷ word_option (codes "--record") ∷ word_option (codes "--record-limit") ∷ [];
     has_version = true;
     no_binary_name = true;
   };
@@ -115,8 +119,13 @@ starts_in text = counts_in (three_in text)
 abbrev pub from_zero : StartCounts
 from_zero = record { moment = 0; versions = 0; ids = 0 }
 
--- The values of all options except those that choose a mode, or the name of the first option with an invalid text. The
--- order is that of the usage line.
+-- Nothing but that a text can be the name of a file, which an empty text cannot.
+unfoldable pub file_name : Text → Option ⊤
+file_name [] = None
+file_name (byte ∷ bytes) = Some tt
+
+-- The values of all options, or the name of the first option with an invalid text. The order is that of the usage line.
+-- The options that choose a mode and the name of the record have no value here.
 unfoldable pub values_said : List Row → Result ServerValues Text
 values_said rows = do
   address ← option_value (codes "-A") address_of every_address rows
@@ -128,7 +137,9 @@ values_said rows = do
   log ← option_value (codes "--log") level_in Nothing rows
   idle ← option_value (codes "--idle") (number_within 0 4294967295) 0 rows
   starts ← option_value (codes "--starts") starts_in from_zero rows
-  Ok (record { address = address; port = port; dynamic_max = dynamic_max; limits = limits; connections = connections; turns = turns; log = log; idle = idle; starts = starts })
+  named ← option_value (codes "--record") file_name tt rows
+  record_limit ← option_value (codes "--record-limit") (number_within 1 18446744073709551615) 1073741824 rows
+  Ok (record { address = address; port = port; dynamic_max = dynamic_max; limits = limits; connections = connections; turns = turns; log = log; idle = idle; starts = starts; record_limit = record_limit })
 
 -- ---- the plan for the arguments
 
@@ -147,6 +158,18 @@ excludes_mode rows =
     || (is_used (codes "--stdio") rows && is_some (first_of (codes "--idle") rows))
     || starts_a_listener rows
 
+-- True if the record is standard output.
+unfoldable pub records_to_output : List Row → Bool
+records_to_output rows = option_map_or (λ name. bytes_eq name (codes "-")) (first_of (codes "--record") rows) false
+
+-- True if a record is given with a mode that excludes it, or its limit without a record. A script excludes every record,
+-- and standard input and output exclude a record that is standard output.
+unfoldable pub excludes_record : List Row → Bool
+excludes_record rows =
+    (is_some (first_of (codes "--script") rows) && is_some (first_of (codes "--record") rows))
+    || (is_used (codes "--stdio") rows && records_to_output rows)
+    || (is_some (first_of (codes "--record-limit") rows) && not (is_some (first_of (codes "--record") rows)))
+
 -- The mode: standard input and output, the script with a name, or otherwise the address and the port. The first two
 -- exclude each other.
 abbrev pub mode_of : Bool → Option Text → IpAddr → ℕ → Option ModeValue
@@ -155,22 +178,24 @@ mode_of false (Some name) address port = Some (Script name)
 mode_of false None address port = Some (Listen address port)
 mode_of true (Some name) address port = None
 
--- The plan with a mode, or `Clash` if there is no mode.
-abbrev pub with_mode : ServerValues → Option ModeValue → Result ServerPlanValue WordsFaultValue
-with_mode values None = Err Clash
-with_mode values (Some mode) =
-    Ok (record { mode = mode; limits = values.limits; connections = values.connections; dynamic_max = values.dynamic_max; turns = values.turns; log = values.log; idle = values.idle; starts = values.starts })
+-- The plan with a mode and the name of the record, or `Clash` if there is no mode.
+abbrev pub with_mode : ServerValues → Option Text → Option ModeValue → Result ServerPlanValue WordsFaultValue
+with_mode values name None = Err Clash
+with_mode values name (Some mode) =
+    Ok (record { mode = mode; limits = values.limits; connections = values.connections; dynamic_max = values.dynamic_max; turns = values.turns; log = values.log; idle = values.idle; starts = values.starts; «record» = name; record_limit = values.record_limit })
 
--- The plan with a mode, or the error of the values. `excluded` is true if an option excludes the mode.
-abbrev pub planned : Bool → Bool → Option Text → Result ServerValues Text → Result ServerPlanValue WordsFaultValue
-planned excluded stdio script (Err name) = Err (Value name)
-planned excluded stdio script (Ok values) =
-    if excluded then Err Clash else with_mode values (mode_of stdio script values.address values.port)
+-- The plan with a mode and the name of the record, or the error of the values. `excluded` is true if options exclude
+-- each other.
+abbrev pub planned : Bool → Bool → Option Text → Option Text → Result ServerValues Text → Result ServerPlanValue WordsFaultValue
+planned excluded stdio script name (Err fault) = Err (Value fault)
+planned excluded stdio script name (Ok values) =
+    if excluded then Err Clash else with_mode values name (mode_of stdio script values.address values.port)
 
 -- The plan for the options that `clap` found, or the error.
 unfoldable pub server_plan_in : List Row → Result ServerPlanValue WordsFaultValue
 server_plan_in rows =
-    planned (excludes_mode rows) (is_used (codes "--stdio") rows) (first_of (codes "--script") rows) (values_said rows)
+    planned (excludes_mode rows || excludes_record rows) (is_used (codes "--stdio") rows) (first_of (codes "--script") rows)
+    (first_of (codes "--record") rows) (values_said rows)
 
 -- The plan for the arguments, or the first error that applies. The order is: `clap`, the text of an option, two options
 -- together.

@@ -1,12 +1,13 @@
-//! Parsers of the command lines of both programs.
+//! Parsers of the command lines of the programs.
 
-ghost use Rattle.std.specs.Prelude.{map, option_map, ◌≡◌, ◌<◌, ◌+◌, ◌^◌, IfOk};
+ghost use Rattle.std.specs.Prelude.{map, option_map, ◌≡◌, ◌<◌, ◌≤◌, ◌+◌, ◌^◌, IfOk};
 ghost use Rattle.coap_command_line.specs.Prelude.{IsClientPlan, IsServerPlan, is_help_or_version, words_fault_number};
 ghost use Rattle.coap_command_line.specs.Reasons.{line_of};
 ghost use Rattle.coap_command_line.specs.Reasons as spec;
 
 mod client;
 mod commands;
+pub(crate) mod explain;
 mod help;
 mod option_values;
 mod reasons;
@@ -18,6 +19,7 @@ use client::client_plan;
 use coap_print::Line;
 use coap_request::{ClientPlan, ServerPlan, TargetFault};
 use commands::{client_command, matches_in, server_command};
+pub use help::VERSION;
 use reasons::{client_line, server_line};
 use server::server_plan;
 use std::alloc::{AllocError, Global};
@@ -83,11 +85,13 @@ impl WordsFault {
 ///
 /// - `Usage`: `clap` rejects the arguments, or they ask for help or for the version.
 /// - `Value`: the value of an option is malformed or out of range.
-/// - `Clash`: both `--stdio` and `--script` are given, or an option with a mode that excludes it.
+/// - `Clash`: both `--stdio` and `--script` are given, an option with a mode that excludes it, or `--record-limit` without
+///   `--record`.
 /// - `Memory`: allocation failed.
 pub fn server_words<'a, S: AsStr>(alloc: Global, words: &'a [S]) -> Result<ServerPlan, WordsFault>
     ensures plan { IsServerPlan (map S.text words.entry.now) result }
     ensures id_left { IfOk result (λ plan. plan.starts.ids + 1 < 2 ^ 64) }
+    ensures limit { IfOk result (λ plan. 1 ≤ plan.record_limit) }
 {
     let Ok(command) = server_command(alloc) else {
         return Err(WordsFault::Memory);

@@ -1,17 +1,22 @@
-//! Command lines of `coap-server` and `coap-client`: from arguments to a plan.
+//! Command lines of `coap-server`, `coap-client` and `coap-explain`: from arguments to a plan.
 //!
-//! - `server_words` and `client_words` parse the arguments of a program and return its plan. The crate `clap` finds the
-//!   options in the arguments. This crate defines the options and parses their values.
+//! - `server_words`, `client_words` and `explain_words` parse the arguments of a program and return its plan. The crate
+//!   `clap` finds the options in the arguments. This crate defines the options and parses their values.
 //! - `WordsFault` is the error if there is no plan. A request for `--help` or `--version` is reported in this way too.
-//! - `server_reason` and `client_reason` return the second line for such an error: what was given, and what is allowed.
+//! - `VERSION` is the version of the programs.
+//! - `server_reason`, `client_reason` and `explain_reason` return the second line for such an error: what was given, and
+//!   what is allowed.
 //!
-//! The contracts use the definitions of `specs/CommandLines.antt`, `specs/ServerWords.antt`, `specs/ClientWords.antt` and
-//! `specs/Reasons.antt`.
+//! The contracts use the definitions of `specs/CommandLines.antt`, `specs/ServerWords.antt`, `specs/ClientWords.antt`,
+//! `specs/ExplainWords.antt` and `specs/Reasons.antt`.
 //!
 //! This crate opens no file and runs nothing. Plans, targets and methods are types of `coap_request`. The crate
-//! `coap_program` has everything else that both programs need, such as exit statuses. Continue with `arguments.rt`.
+//! `coap_program` has everything else that the programs need, such as exit statuses. Continue with `arguments.rt`.
 #![tactic(auto)]
 
 mod arguments;
 
-pub use arguments::{WordsFault, client_reason, client_words, server_reason, server_words};
+pub use arguments::explain::{ExplainPlan, explain_reason, explain_words};
+pub use arguments::{
+    VERSION, WordsFault, client_reason, client_words, server_reason, server_words,
+};

@@ -47,6 +47,10 @@ pub struct ServerPlan {
     pub idle: u32,
     /// Start values of a script or of a run over standard input and output. A listening server does not use them.
     pub starts: StartCounts,
+    /// Name of the file of the record, `-` for standard output, or `None` for a run without a record.
+    pub record: Option<String>,
+    /// Size in bytes at which the record ends, at least 1. A run without a record does not use it.
+    pub record_limit: u64,
 }
 
 /// Settings of a run of `coap-client`.

@@ -1,14 +1,14 @@
 //! Options of `coap-client`.
 
-ghost use Rattle.std.specs.Prelude.{◌≡◌, IfOk, MatchOption, None, Some, codes, false, option_map, string_bytes, true};
-ghost use Rattle.coap_command_line.specs.Prelude.{after_first, before_first, list_any, first_of, found_of, rows_of};
+ghost use Rattle.std.specs.Prelude.{◌≡◌, IfOk, MatchOption, None, Some, codes, false, option_map, true};
+ghost use Rattle.coap_command_line.specs.Prelude.{after_first, before_first, list_any, found_of, rows_of};
 ghost use Rattle.coap_command_line.specs.Prelude.{named, number_within, option_value, TellsClientPlan, client_value};
 ghost use Rattle.coap_command_line.specs.Prelude.{extra_named, extra_value, GivesUnlessMemory, target_of};
 ghost use Rattle.coap_command_line.specs.ClientWords as spec;
 ghost use Rattle.coap_request.specs.declared.request.Method.TheVariants.{Get};
 
 use crate::arguments::WordsFault;
-use crate::arguments::option_values::{is_used, log, number, number_within, text_of};
+use crate::arguments::option_values::{file_name, is_used, log, number, number_within, text_of};
 use clap::ArgMatches;
 use coap_print::LogLevel;
 use coap_request::{ClientPlan, Method, Target, TargetFault};
@@ -228,23 +228,6 @@ fn payload(alloc: Global, matches: &ArgMatches<'_>) -> Result<Vec<u8>, AllocErro
     let mut bytes = Vec::new(alloc);
     percent_decode(text.as_bytes()).append_to(&mut bytes)?;
     Ok(bytes)
-}
-
-/// Returns the file name of an option, if the option is given.
-fn file_name(
-    alloc: Global,
-    matches: &ArgMatches<'_>,
-    name: &str,
-) -> Result<Option<String>, AllocError>
-    ensures { IfOk result (λ file. option_map string_bytes file ≡ first_of name.now (rows_of (found_of matches.now))) }
-{
-    match text_of(matches, name) {
-        Some(text) => {
-            let file = String::from_str(alloc, text)?;
-            Ok(Some(file))
-        }
-        None => Ok(None),
-    }
 }
 
 /// Returns `true` if two options exclude each other: both `-e` and `-f` are given, or `-s` with another method than

@@ -1,4 +1,4 @@
-//! Definitions of both command lines for `clap`.
+//! Definitions of the command lines for `clap`.
 
 ghost use Rattle.std.specs.Prelude.{◌≡◌, IfErr, IfOk, Some, [], map, true};
 ghost use Rattle.coap_command_line.specs.Prelude.{app_of, fault_of, found_of, is_simple, is_simple_and_free};
@@ -33,7 +33,7 @@ fn with_letter<'a>(
 }
 
 /// Adds a long option with a value.
-fn with_word<'a>(
+pub(super) fn with_word<'a>(
     alloc: Global,
     command: Command<'a>,
     name: &'a str,
@@ -102,7 +102,7 @@ fn with_word_flag<'a>(
 }
 
 /// Creates a command with this name and the version of the programs. Its arguments do not include the program's name.
-fn bare<'a>(alloc: Global, name: &'a str, about: &'a str) -> Command<'a>
+pub(super) fn bare<'a>(alloc: Global, name: &'a str, about: &'a str) -> Command<'a>
     ensures { app_of result ≡ spec.bare_app name.entry.now }
 {
     Command::new(alloc, name)
@@ -142,7 +142,15 @@ pub(super) fn server_command<'a>(alloc: Global) -> Result<Command<'a>, AllocErro
     let command = with_number(alloc, command, "--turns", "turns", help::TURNS)?;
     let command = with_word(alloc, command, "--log", "log", "LEVEL", help::LOG)?;
     let command = with_word(alloc, command, "--idle", "idle", "SECONDS", help::IDLE)?;
-    with_word(alloc, command, "--starts", "starts", "N,N,N", help::STARTS)
+    let command = with_word(alloc, command, "--starts", "starts", "N,N,N", help::STARTS)?;
+    let command = with_word(alloc, command, "--record", "record", "FILE", help::RECORD)?;
+    with_number(
+        alloc,
+        command,
+        "--record-limit",
+        "record-limit",
+        help::RECORD_LIMIT,
+    )
 }
 
 /// Adds the URI as the only argument that is no option. The URI is required.

@@ -1,7 +1,7 @@
 //! Texts of `--help` and `--version`: one line for each option, with its range and its default.
 
-/// Version of both programs.
-pub(super) const VERSION: &str = "0.1.0";
+/// Version of the programs.
+pub const VERSION: &str = "0.1.0";
 
 // ---- both programs
 
@@ -44,6 +44,21 @@ pub(super) const IDLE: &str =
 
 pub(super) const STARTS: &str =
     "Start values of --stdio or --script: MOMENT,VERSIONS,IDS [default: 0,0,0]";
+
+pub(super) const RECORD: &str =
+    "Write all events to the new file FILE (- for standard output), as a script for --script";
+
+pub(super) const RECORD_LIMIT: &str =
+    "Size in bytes at which a record ends, 1 to 18446744073709551615 [default: 1073741824]";
+
+// ---- coap-explain
+
+pub(super) const EXPLAIN: &str = "Explains a record of coap-server: its events and messages";
+
+pub(super) const CONNECTION: &str =
+    "Print only the lines of this connection, 1 to 18446744073709551615";
+
+pub(super) const FILE: &str = "Record of coap-server, or script (- for standard input)";
 
 // ---- coap-client
 

@@ -1,12 +1,13 @@
-//! Values of options, for both programs.
+//! Values of options, for all programs.
 
-ghost use Rattle.std.specs.Prelude.{◌≡◌, ◌≤◌, IfOk, IfSome, codes, option_map};
+ghost use Rattle.std.specs.Prelude.{◌≡◌, ◌≤◌, IfOk, IfSome, codes, option_map, string_bytes};
 ghost use Rattle.coap_command_line.specs.Prelude.{first_of, found_of, rows_of, Nothing};
 ghost use Rattle.coap_command_line.specs.CommandLines as spec;
 
 use clap::ArgMatches;
 use coap_print::LogLevel;
 use coap_text::number_in;
+use std::alloc::{AllocError, Global};
 
 /// Returns the text of an option, if the option is given.
 #[tactic(auto, using(crate::proofs::WordLemmas::first_text))]
@@ -14,6 +15,23 @@ pub(super) fn text_of<'a>(matches: &ArgMatches<'a>, name: &str) -> Option<&'a st
     ensures { option_map (λ s. s.now) result ≡ first_of name.now (rows_of (found_of matches.now)) }
 {
     matches.get_str(name)
+}
+
+/// Returns the file name that is the text of an option, if the option is given.
+pub(super) fn file_name(
+    alloc: Global,
+    matches: &ArgMatches<'_>,
+    name: &str,
+) -> Result<Option<String>, AllocError>
+    ensures { IfOk result (λ file. option_map string_bytes file ≡ first_of name.now (rows_of (found_of matches.now))) }
+{
+    match text_of(matches, name) {
+        Some(text) => {
+            let file = String::from_str(alloc, text)?;
+            Ok(Some(file))
+        }
+        None => Ok(None),
+    }
 }
 
 /// Returns `true` if an option without a value is given.

@@ -4,16 +4,18 @@
 ghost use Rattle.std.specs.Prelude.{◌≡◌, ◌++◌, [], true, decimal, map, option_map, IfSome};
 ghost use Rattle.coap_command_line.specs.Prelude.{found_of, rows_of, is_text, appended, escaped_text, LINE_LENGTH};
 ghost use Rattle.coap_command_line.specs.Reasons as spec;
+ghost use Rattle.coap_command_line.specs.ExplainWords.{explain_reason_in, explain_values};
 
 mod tables;
 mod targets;
 
 use crate::arguments::WordsFault;
 use crate::arguments::option_values::{is_used, number, text_of};
+use crate::arguments::server::records_to_output;
 use clap::ArgMatches;
 use coap_print::Line;
 use coap_wire::{BASE_MESSAGE_SIZE, LARGEST_SENT_MESSAGE};
-use tables::{CLIENT_VALUES, SERVER_VALUES, ValueRow};
+use tables::{CLIENT_VALUES, EXPLAIN_VALUES, SERVER_VALUES, ValueRow};
 use targets::target_line;
 
 /// Returns the reason for an error of the server, from the options that `clap` found.
@@ -36,6 +38,16 @@ pub(super) fn client_line(matches: &ArgMatches<'_>, fault: &WordsFault) -> Optio
         WordsFault::Target(fault) => target_line(*fault, given_for(matches, "URI").as_bytes()),
         WordsFault::Value(name) => client_value(matches, name),
         WordsFault::Clash => Some(client_clash(matches)),
+        _ => None,
+    }
+}
+
+/// Returns the reason for an error of `coap-explain`, from the options that `clap` found.
+pub(super) fn explain_line(matches: &ArgMatches<'_>, fault: &WordsFault) -> Option<Line>
+    ensures { result ≡ option_map spec.line_of (explain_reason_in (rows_of (found_of matches.now)) fault.now) }
+{
+    match fault {
+        WordsFault::Value(name) => row_line(&EXPLAIN_VALUES, name, given_for(matches, name)),
         _ => None,
     }
 }
@@ -191,25 +203,69 @@ fn client_value(matches: &ArgMatches<'_>, name: &str) -> Option<Line>
 
 // ---- options that exclude each other
 
-/// Returns the text for the first two options of the server that exclude each other, or for an option that a server
-/// which listens excludes.
+/// Text for the limit of a record without a record.
+const LIMIT_ALONE: &str = "--record-limit can be used only with --record";
+
+/// Returns the text for the first option that a script excludes.
+#[tactic(auto, unfolding(crate::specs::Reasons::script_clash))]
+fn script_clash(matches: &ArgMatches<'_>) -> &'static str
+    ensures text { result.now ≡ spec.script_clash (rows_of (found_of matches.now)) }
+    ensures printable { is_text result.now ≡ true }
+{
+    if is_used(matches, "--stdio") {
+        "--stdio and --script cannot be used together"
+    } else if text_of(matches, "--log").is_some() {
+        "--script and --log cannot be used together"
+    } else if text_of(matches, "--idle").is_some() {
+        "--script and --idle cannot be used together"
+    } else if text_of(matches, "--record").is_some() {
+        "--script and --record cannot be used together"
+    } else {
+        LIMIT_ALONE
+    }
+}
+
+/// Returns the text for the first option that standard input and output exclude.
+#[tactic(auto, unfolding(crate::specs::Reasons::stdio_clash))]
+fn stdio_clash(matches: &ArgMatches<'_>) -> &'static str
+    ensures text { result.now ≡ spec.stdio_clash (rows_of (found_of matches.now)) }
+    ensures printable { is_text result.now ≡ true }
+{
+    if text_of(matches, "--idle").is_some() {
+        "--stdio and --idle cannot be used together"
+    } else if records_to_output(matches) {
+        "--stdio and --record - cannot be used together"
+    } else {
+        LIMIT_ALONE
+    }
+}
+
+/// Returns the text for the first option that a server which listens excludes.
+#[tactic(auto, unfolding(crate::specs::Reasons::listener_clash))]
+fn listener_clash(matches: &ArgMatches<'_>) -> &'static str
+    ensures text { result.now ≡ spec.listener_clash (rows_of (found_of matches.now)) }
+    ensures printable { is_text result.now ≡ true }
+{
+    if text_of(matches, "--starts").is_some() {
+        "--starts can be used only with --stdio or --script"
+    } else {
+        LIMIT_ALONE
+    }
+}
+
+/// Returns the text for the first two options of the server that exclude each other, or for the first one that needs
+/// another option.
 #[tactic(auto, unfolding(crate::specs::Reasons::server_clash))]
 fn server_clash(matches: &ArgMatches<'_>) -> &'static str
     ensures text { result.now ≡ spec.server_clash (rows_of (found_of matches.now)) }
     ensures printable { is_text result.now ≡ true }
 {
-    if text_of(matches, "--script").is_none() {
-        if is_used(matches, "--stdio") {
-            "--stdio and --idle cannot be used together"
-        } else {
-            "--starts can be used only with --stdio or --script"
-        }
+    if text_of(matches, "--script").is_some() {
+        script_clash(matches)
     } else if is_used(matches, "--stdio") {
-        "--stdio and --script cannot be used together"
-    } else if text_of(matches, "--log").is_some() {
-        "--script and --log cannot be used together"
+        stdio_clash(matches)
     } else {
-        "--script and --idle cannot be used together"
+        listener_clash(matches)
     }
 }
 

@@ -1,12 +1,12 @@
 //! Options of `coap-server`.
 
-ghost use Rattle.std.specs.Prelude.{◌≡◌, ◌<◌, ◌+◌, ◌^◌, IfOk, IfSome, Some, codes, option_map};
+ghost use Rattle.std.specs.Prelude.{◌≡◌, ◌<◌, ◌≤◌, ◌+◌, ◌^◌, IfOk, IfSome, Some, codes, option_map};
 ghost use Rattle.coap_command_line.specs.Prelude.{found_of, rows_of, named, number_within, option_value, mode_value};
 ghost use Rattle.coap_command_line.specs.Prelude.{TellsServerPlan};
 ghost use Rattle.coap_command_line.specs.ServerWords as spec;
 
 use crate::arguments::WordsFault;
-use crate::arguments::option_values::{is_used, log, number, text_of};
+use crate::arguments::option_values::{file_name, is_used, log, number, text_of};
 use clap::ArgMatches;
 use coap_conn::Limits;
 use coap_print::LogLevel;
@@ -18,7 +18,7 @@ use coap_wire::{
 use std::alloc::{AllocError, Global};
 use std::net::{IpAddr, Ipv4Addr};
 
-/// Values of all options except `--stdio` and `--script`, which choose a mode.
+/// Values of all options except `--stdio` and `--script`, which choose a mode, and `--record`, which names a file.
 #[derive(Clone, Copy)]
 pub(super) struct ServerValues {
     pub(super) address: IpAddr,
@@ -30,6 +30,7 @@ pub(super) struct ServerValues {
     pub(super) log: LogLevel,
     pub(super) idle: u32,
     pub(super) starts: StartCounts,
+    pub(super) record_limit: u64,
 }
 
 /// Returns the numeric IP address that a text denotes, or `None` if there is none.
@@ -161,13 +162,32 @@ fn starts(matches: &ArgMatches<'_>) -> Result<StartCounts, &'static str>
     }
 }
 
-/// Returns the values of all options except `--stdio` and `--script`.
+/// Checks that the record has a name, if it is given.
+///
+/// The error is the name of the option, if its text is empty.
+#[tactic(auto, unfolding(crate::specs::ServerWords::file_name))]
+fn check_record(matches: &ArgMatches<'_>) -> Result<(), &'static str>
+    ensures { named result ≡ option_value (codes "--record") spec.file_name tt (rows_of (found_of matches.now)) }
+{
+    match text_of(matches, "--record") {
+        Some(name) => {
+            if name.is_empty() {
+                return Err("--record");
+            }
+            Ok(())
+        }
+        None => Ok(()),
+    }
+}
+
+/// Returns the values of all options except `--stdio`, `--script` and `--record`.
 ///
 /// The error is the name of the first option whose text is malformed or out of range, in the order of the usage line.
 #[tactic(auto, unfolding(crate::specs::ServerWords::values_said))]
 pub(super) fn server_values(matches: &ArgMatches<'_>) -> Result<ServerValues, &'static str>
     ensures values { named result ≡ spec.values_said (rows_of (found_of matches.now)) }
     ensures id_left { IfOk result (λ values. values.starts.ids + 1 < 2 ^ 64) }
+    ensures limit { IfOk result (λ values. 1 ≤ values.record_limit) }
 {
     let address = address(matches)?;
     let port = number(matches, "-p", 1, 65_535, 5_683)?;
@@ -178,6 +198,8 @@ pub(super) fn server_values(matches: &ArgMatches<'_>) -> Result<ServerValues, &'
     let log = log(matches)?;
     let idle = number(matches, "--idle", 0, 4_294_967_295, 0)?;
     let starts = starts(matches)?;
+    check_record(matches)?;
+    let record_limit = number(matches, "--record-limit", 1, u64::MAX, 1_073_741_824)?;
     Ok(ServerValues {
         address,
         port: port as u16,
@@ -188,6 +210,7 @@ pub(super) fn server_values(matches: &ArgMatches<'_>) -> Result<ServerValues, &'
         log,
         idle: idle as u32,
         starts,
+        record_limit,
     })
 }
 
@@ -211,6 +234,32 @@ fn excludes_mode(matches: &ArgMatches<'_>) -> bool
         return true;
     }
     is_used(matches, "--stdio") && idle || starts_a_listener(matches)
+}
+
+/// Returns `true` if the record is standard output.
+#[tactic(auto, unfolding(crate::specs::ServerWords::records_to_output))]
+pub(super) fn records_to_output(matches: &ArgMatches<'_>) -> bool
+    ensures { result ≡ spec.records_to_output (rows_of (found_of matches.now)) }
+{
+    match text_of(matches, "--record") {
+        Some(name) => name == "-",
+        None => false,
+    }
+}
+
+/// Returns `true` if `--record` is given with a mode that excludes it, or `--record-limit` without `--record`.
+#[tactic(auto, unfolding(crate::specs::ServerWords::excludes_record))]
+fn excludes_record(matches: &ArgMatches<'_>) -> bool
+    ensures { result ≡ spec.excludes_record (rows_of (found_of matches.now)) }
+{
+    let is_given = text_of(matches, "--record").is_some();
+    if text_of(matches, "--script").is_some() && is_given {
+        return true;
+    }
+    if is_used(matches, "--stdio") && records_to_output(matches) {
+        return true;
+    }
+    text_of(matches, "--record-limit").is_some() && !is_given
 }
 
 /// Returns the mode of the server, or `None` if both `--stdio` and `--script` are given.
@@ -246,28 +295,35 @@ fn mode_in(
 pub(super) fn server_plan(alloc: Global, matches: &ArgMatches<'_>) -> Result<ServerPlan, WordsFault>
     ensures plan { TellsServerPlan (spec.server_plan_in (rows_of (found_of matches.now))) result }
     ensures id_left { IfOk result (λ plan. plan.starts.ids + 1 < 2 ^ 64) }
+    ensures limit { IfOk result (λ plan. 1 ≤ plan.record_limit) }
 {
     let values = match server_values(matches) {
         Ok(values) => values,
         Err(name) => return Err(WordsFault::Value(name)),
     };
-    if excludes_mode(matches) {
+    if excludes_mode(matches) || excludes_record(matches) {
         return Err(WordsFault::Clash);
     }
     let stdio = is_used(matches, "--stdio");
     let script = text_of(matches, "--script");
-    match mode_in(alloc, stdio, script, values.address, values.port) {
-        Ok(Some(mode)) => Ok(ServerPlan {
-            mode,
-            limits: values.limits,
-            connections: values.connections,
-            dynamic_max: values.dynamic_max,
-            turns: values.turns,
-            log: values.log,
-            idle: values.idle,
-            starts: values.starts,
-        }),
-        Ok(None) => Err(WordsFault::Clash),
-        Err(_) => Err(WordsFault::Memory),
-    }
+    let mode = match mode_in(alloc, stdio, script, values.address, values.port) {
+        Ok(Some(mode)) => mode,
+        Ok(None) => return Err(WordsFault::Clash),
+        Err(_) => return Err(WordsFault::Memory),
+    };
+    let Ok(record) = file_name(alloc, matches, "--record") else {
+        return Err(WordsFault::Memory);
+    };
+    Ok(ServerPlan {
+        mode,
+        limits: values.limits,
+        connections: values.connections,
+        dynamic_max: values.dynamic_max,
+        turns: values.turns,
+        log: values.log,
+        idle: values.idle,
+        starts: values.starts,
+        record,
+        record_limit: values.record_limit,
+    })
 }

@@ -14,7 +14,7 @@ const STARTS: &str =
 const LEVEL: &str = "a level from 0 to 3";
 
 /// Options of `coap-server`. The minimum of `--queue` depends on `--max-sent`, so the table does not have it.
-pub const SERVER_VALUES: [ValueRow; 12] = [
+pub const SERVER_VALUES: [ValueRow; 14] = [
     ("-A", "a numeric IPv4 or IPv6 address"),
     ("-p", "a port from 1 to 65535"),
     ("-d", "0 to 1000 resources"),
@@ -27,7 +27,15 @@ pub const SERVER_VALUES: [ValueRow; 12] = [
     ("--log", LEVEL),
     ("--idle", "0 to 4294967295 seconds"),
     ("--starts", STARTS),
+    ("--record", "the name of a file"),
+    ("--record-limit", "1 to 18446744073709551615 bytes"),
 ];
+
+/// Options of `coap-explain`.
+pub const EXPLAIN_VALUES: [ValueRow; 1] = [(
+    "--connection",
+    "the number of a connection from 1 to 18446744073709551615",
+)];
 
 /// Options of `coap-client`.
 pub const CLIENT_VALUES: [ValueRow; 7] = [

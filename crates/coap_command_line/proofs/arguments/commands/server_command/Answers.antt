@@ -20,4 +20,6 @@ returns c =
     let e12 = shape_with_rule (app_of c.in_ok-command-11.command) (app_of c.in_ok-command-12.command) _ (word_option (codes "--turns")) c.in_ok-command-12.ensures e11 in
     let e13 = shape_with_rule (app_of c.in_ok-command-12.command) (app_of c.in_ok-command-13.command) _ (word_option (codes "--log")) c.in_ok-command-13.ensures e12 in
     let e14 = shape_with_rule (app_of c.in_ok-command-13.command) (app_of c.in_ok-command-14.command) _ (word_option (codes "--idle")) c.in_ok-command-14.ensures e13 in
-    IfOk-weaker c.with_word-4.result _ _ (λ done h. shape_with_rule (app_of c.in_ok-command-14.command) (app_of done) _ (word_option (codes "--starts")) h e14) c.with_word-4.ensures
+    let e15 = shape_with_rule (app_of c.in_ok-command-14.command) (app_of c.in_ok-command-15.command) _ (word_option (codes "--starts")) c.in_ok-command-15.ensures e14 in
+    let e16 = shape_with_rule (app_of c.in_ok-command-15.command) (app_of c.in_ok-command-16.command) _ (word_option (codes "--record")) c.in_ok-command-16.ensures e15 in
+    IfOk-weaker c.with_number-8.result _ _ (λ done h. shape_with_rule (app_of c.in_ok-command-16.command) (app_of done) _ (word_option (codes "--record-limit")) h e16) c.with_number-8.ensures
