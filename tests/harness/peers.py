@@ -61,7 +61,7 @@ class Server:
         self.host, self.port = host, port or free_port(host)
         limit = (lambda: resource.setrlimit(resource.RLIMIT_NOFILE, (files, files))) if files else None
         self.process = subprocess.Popen([program, "-A", host, "-p", str(self.port), *words], stdin=subprocess.DEVNULL,
-                                        stdout=subprocess.DEVNULL, stderr=subprocess.PIPE, preexec_fn=limit, **how)
+                                        stdout=subprocess.DEVNULL, stderr=subprocess.PIPE, **{"preexec_fn": limit, **how})
         self.said = line_of(self.process.stderr).decode() if says else ""
 
     def accepts(self):

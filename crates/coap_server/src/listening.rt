@@ -4,19 +4,24 @@ ghost use Rattle.std.specs.Prelude.{◌≡◌, ◌∷◌, ℕ, [], true, is_some
 ghost use Rattle.coap_serve.specs.Configs.{config_refusal};
 ghost use Rattle.coap_serve.specs.Prelude.{TellsMore};
 ghost use Rattle.std.specs.Prelude.{IsErr};
-ghost use Rattle.coap_server.specs.Planned.{planned, starts_of};
+ghost use Rattle.coap_server_common.specs.Planned.{planned, starts_of};
 
+use crate::PROGRAM;
 use crate::log::ServerLog;
-use crate::{PROGRAM, config_of};
+use crate::record::{ServerRecord, open_record};
 use coap_print::LogLevel;
 use coap_program::{FAULT, USAGE};
+use coap_record::MonitorPair;
 use coap_request::ServerPlan;
 use coap_serve::{
-    Clock, Config, IoFault, Monitor, NoMonitor, SilenceWatch, Starts, serve_door_timed,
+    Clock, Config, IoFault, Monitor, NoMonitor, Outlet, SilenceWatch, Starts, serve_door_timed,
     serve_door_with,
 };
+use coap_server_common::config_of;
 use coap_sockets::{ListenError, ListenFault, RunClock, SocketDoor, SocketWire, SystemClock};
+use std::alloc::AllocError;
 use std::net::{Net, SocketAddr};
+use std::rt::Files;
 use std::time;
 
 /// Returns the configuration of a plan for a server that starts at the time of the clock. If a limit is out of its
@@ -65,17 +70,23 @@ fn print_listen_fault(rt: &impl Eprint, fault: ListenFault, address: SocketAddr)
 }
 
 /// Listens at an address, writes one line that says so to standard error, and serves the connections that clients open.
-/// Returns an exit status only after an error.
+/// Returns an exit status only after an error. The file of a record is created before the server listens, and its header
+/// is written afterwards.
 ///
-/// The errors are a limit out of its range, a system that cannot listen, a failed allocation, and the limit of turns.
+/// The errors are a limit out of its range, a record that cannot be created, and a system that cannot listen. A failed
+/// allocation and the limit of turns are errors too.
 pub(crate) fn run(
-    rt: &(impl Eprint + Net + time::Clock + AllocGlobal),
+    rt: &(impl Print + Eprint + Files + Net + time::Clock + AllocGlobal),
     address: SocketAddr,
     plan: &ServerPlan,
 ) -> u8 {
     let mut clock = SystemClock::new(rt);
     let Some(config) = config_now(&mut clock, plan) else {
         return PROGRAM.print_fault(rt, "a limit is out of its range", USAGE);
+    };
+    let record = match open_record(rt, plan) {
+        Ok(record) => record,
+        Err(status) => return status,
     };
     let mut door = match SocketDoor::listen(rt, rt.alloc(), address, config.connections()) {
         Ok(door) => door,
@@ -85,9 +96,9 @@ pub(crate) fn run(
         "coap-server: listening on {}",
         door.address().unwrap_or(address)
     );
-    let served = match plan.log {
-        LogLevel::Nothing => serve(rt, &mut door, &mut clock, config, plan.idle, NoMonitor),
-        _ => serve_logged(rt, &mut door, &mut clock, config, plan),
+    let served = match record {
+        Some(record) => serve_recorded(rt, &mut door, &mut clock, config, plan, record),
+        None => serve_unrecorded(rt, &mut door, &mut clock, config, plan),
     };
     match served {
         Ok(()) => unreachable!(),
@@ -95,8 +106,8 @@ pub(crate) fn run(
     }
 }
 
-/// Serves the connections of a listener with a log of the plan's level.
-fn serve_logged<'a, R: Eprint + Net + time::Clock + AllocGlobal>(
+/// Serves the connections of a listener, with a log if the plan has one.
+fn serve_unrecorded<'a, R: Net + time::Clock + AllocGlobal>(
     rt: &'a R,
     door: &mut SocketDoor<'a, R>,
     clock: &mut SystemClock<'a, R>,
@@ -105,12 +116,54 @@ fn serve_logged<'a, R: Eprint + Net + time::Clock + AllocGlobal>(
 ) -> Result<(), IoFault>
     ensures { IsErr result }
 {
-    door.wake_each_second();
-    let troubles = door.troubles();
-    let Ok(log) = ServerLog::new(rt, rt.alloc(), plan.log, &config, plan.idle > 0, troubles) else {
+    if plan.log == LogLevel::Nothing {
+        return serve(rt, door, clock, config, plan.idle, NoMonitor);
+    }
+    let Ok(log) = log_of(rt, door, &config, plan) else {
         return Err(IoFault::Memory);
     };
     serve(rt, door, clock, config, plan.idle, log)
+}
+
+/// Serves the connections of a listener with a record, and with a log if the plan has one.
+fn serve_recorded<'a, R: Net + time::Clock + AllocGlobal, O: Outlet + Drop>(
+    rt: &'a R,
+    door: &mut SocketDoor<'a, R>,
+    clock: &mut SystemClock<'a, R>,
+    config: Config,
+    plan: &ServerPlan,
+    record: ServerRecord<'_, O>,
+) -> Result<(), IoFault>
+    ensures { IsErr result }
+{
+    let mut record = record;
+    let Ok(()) = record.begin(rt.alloc(), &config) else {
+        return Err(IoFault::Memory);
+    };
+    if plan.log == LogLevel::Nothing {
+        return serve(rt, door, clock, config, plan.idle, record);
+    }
+    let Ok(log) = log_of(rt, door, &config, plan) else {
+        return Err(IoFault::Memory);
+    };
+    let pair = MonitorPair::new(log, record);
+    serve(rt, door, clock, config, plan.idle, pair)
+}
+
+/// Returns the log of a listener, of the plan's level. Then the listener wakes up each second.
+///
+/// # Errors
+///
+/// Returns `AllocError` if allocation fails.
+fn log_of<'a, R: Net + time::Clock + AllocGlobal>(
+    rt: &'a R,
+    door: &mut SocketDoor<'a, R>,
+    config: &Config,
+    plan: &ServerPlan,
+) -> Result<ServerLog<'a, R>, AllocError> {
+    door.wake_each_second();
+    let troubles = door.troubles();
+    ServerLog::new(rt, rt.alloc(), plan.log, config, plan.idle > 0, troubles)
 }
 
 /// Serves the connections of a listener. The monitor receives the calls that the server accepts. Connections are ended
@@ -127,13 +180,16 @@ fn serve<'a, R: Net + time::Clock + AllocGlobal, M: Monitor<SocketWire> + Drop>(
 {
     if idle == 0 {
         let mut monitor = monitor;
-        return serve_door_with(rt.alloc(), door, clock, config, &mut monitor);
+        let served = serve_door_with(rt.alloc(), door, clock, config, &mut monitor);
+        // After a failed allocation, the lines of the last turn still wait.
+        monitor.turn_ended();
+        return served;
     }
     let Ok(mut watch) = SilenceWatch::new(rt.alloc(), config.connections(), monitor) else {
         return Err(IoFault::Memory);
     };
     let mut uptime = RunClock::start(rt);
-    serve_door_timed(
+    let served = serve_door_timed(
         rt.alloc(),
         door,
         clock,
@@ -141,5 +197,7 @@ fn serve<'a, R: Net + time::Clock + AllocGlobal, M: Monitor<SocketWire> + Drop>(
         config,
         idle,
         &mut watch,
-    )
+    );
+    Monitor::<SocketWire>::turn_ended(&mut watch);
+    served
 }

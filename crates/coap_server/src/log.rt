@@ -1,13 +1,14 @@
 //! The log of a serving server: warnings, connections and messages, up to a level.
 
 ghost use Rattle.std.specs.Prelude.{◌≡◌, ◌≤◌, length, take};
-ghost use Rattle.coap_server.specs.Reasons.{is_refusal, reason_text};
+ghost use Rattle.coap_server.specs.Refusals.{is_refusal};
 
 use coap_log::{
     COUNTED, DESCRIBED, LineWriter, Log, Stderr, Tap, append_counts, describe_head, head_code,
 };
 use coap_print::{Line, LogLevel};
 use coap_serve::{Call, Config, ConnId, Handled, Monitor, Reason, Server};
+use coap_server_common::text_of;
 use coap_sockets::{DoorTroubles, SocketWire};
 use coap_wire::Code;
 use indexmap::IndexMap;
@@ -48,27 +49,6 @@ pub(crate) struct ServerLog<'a, R> {
     drops_silent: bool,
     troubles: Option<Rc<Cell<DoorTroubles>>>,
     reported: DoorTroubles,
-}
-
-/// Returns the text of a reason.
-fn text_of(reason: Reason) -> &'static str
-    ensures { result.now ≡ reason_text reason }
-{
-    match reason {
-        Reason::Format => "malformed message",
-        Reason::TooLarge => "message above the maximum size",
-        Reason::TokenLength => "token of more than 64 bytes",
-        Reason::ReservedCode => "message with a reserved code",
-        Reason::CsmExpected => "first message is no CSM",
-        Reason::BadCsm(_) => "CSM with an option that is not supported",
-        Reason::BadSignalOption => "signaling message with an option that is not supported",
-        Reason::PeerAbort => "Abort by the peer",
-        Reason::PeerRelease => "Release by the peer",
-        Reason::PeerTooSmall => "response above the maximum size of the peer",
-        Reason::Ended => "end of input",
-        Reason::Cut => "end of input within a message",
-        Reason::ReleasedHere => "Release by the server",
-    }
 }
 
 /// Returns `true` if a response with this code refuses a request because of a limit. Its code is 4.13, 5.00 or 5.03, or it
@@ -255,9 +235,9 @@ impl<'a, R: time::Clock> ServerLog<'a, R> {
         }
     }
 
-    /// Ends the log of the only connection of a server over standard input and output.
-    pub(crate) fn finish(&mut self) {
-        self.end(1);
+    /// Ends the log of this connection, the only one of a server over standard input and output.
+    pub(crate) fn finish(&mut self, id: ConnId) {
+        self.end(id);
     }
 
     /// Writes the last line of a connection, and removes it from the log.
@@ -368,6 +348,7 @@ fn described(head: &[u8]) -> &[u8]
     }
 }
 
+#[tactic(auto, unfolding(coap_record::specs::Prelude::FollowsMore))]
 impl<'a, R: time::Clock> Monitor<SocketWire> for ServerLog<'a, R> {
     fn opened(&mut self, id: ConnId, wire: &SocketWire, server: &Server) {
         let mut peer = Line::new();
@@ -387,6 +368,7 @@ impl<'a, R: time::Clock> Monitor<SocketWire> for ServerLog<'a, R> {
 }
 
 // The only connection of a server over standard input and output.
+#[tactic(auto, unfolding(coap_record::specs::Prelude::FollowsMore))]
 impl<'a, R: time::Clock> Monitor<()> for ServerLog<'a, R> {
     fn opened(&mut self, id: ConnId, _wire: &(), server: &Server) {
         let mut peer = Line::new();

@@ -7,95 +7,28 @@
 //! clients open.
 #![tactic(auto)]
 
-ghost use Rattle.std.specs.Prelude.{◌≡◌, ◌<◌, ◌+◌, ◌^◌, true, is_some, IfSome, IfNone};
-ghost use Rattle.coap_serve.specs.Configs.{config_refusal};
-ghost use Rattle.coap_server.specs.Planned.{planned, starts_in};
+ghost use Rattle.std.specs.Prelude.{◌<◌, ◌+◌, ◌^◌};
 
+mod header;
 mod listening;
 mod log;
+mod record;
 mod script;
+mod standard;
 
 use coap_command_line::{server_reason, server_words};
-use coap_print::LogLevel;
-use coap_program::{ENDED, FAULT, Program, USAGE, occupy_standard_descriptors};
+use coap_program::{Program, USAGE, occupy_standard_descriptors};
 use coap_request::{Mode, ServerPlan};
-use coap_serve::{
-    Config, IoFault, ReadSource, Report, Starts, WriteOutlet, serve_one, serve_one_with,
-};
-use log::ServerLog;
+use coap_server_common::config_in;
 use std::net::{Net, SocketAddr};
 use std::process::ExitCode;
 use std::rt::{Env, Files};
-use std::{io, time};
+use std::time;
 
 /// Name of the program, for its messages.
 pub(crate) const PROGRAM: Program = Program {
     name: "coap-server",
 };
-
-/// Maximum length of a representation, in bytes.
-const REP_MAX: usize = 65_000;
-
-/// Returns the configuration of a plan, with counters that begin at `starts`, or `None` if a limit is out of its range.
-pub(crate) fn config_of(plan: &ServerPlan, starts: Starts) -> Option<Config>
-    ensures value { IfSome result (λ config. config ≡ planned plan.now starts) }
-    ensures refused { IfNone result (is_some (config_refusal (planned plan.now starts)) ≡ true) }
-{
-    let config = Config::new(
-        plan.limits,
-        plan.connections,
-        plan.dynamic_max,
-        REP_MAX,
-        plan.turns,
-        starts,
-    );
-    match config {
-        Ok(config) => Some(config),
-        Err(_) => None,
-    }
-}
-
-/// Returns the configuration of a plan, with the counters of the plan, or `None` if a limit is out of its range.
-fn config_in(plan: &ServerPlan) -> Option<Config>
-    ensures value { IfSome result (λ config. config ≡ planned plan.now (starts_in plan.now)) }
-    ensures refused { IfNone result (is_some (config_refusal (planned plan.now (starts_in plan.now))) ≡ true) }
-{
-    let starts = Starts {
-        moment: plan.starts.moment,
-        versions: plan.starts.versions,
-        ids: plan.starts.ids,
-    };
-    config_of(plan, starts)
-}
-
-/// Serves one connection over standard input and output, and returns the exit status.
-fn serve(
-    rt: &(impl Input + Print + Eprint + time::Clock + AllocGlobal),
-    config: &Config,
-    level: LogLevel,
-) -> u8
-    requires { config.now.starts.ids + 1 < 2 ^ 64 }
-{
-    let mut input = ReadSource::new(rt.reader());
-    let mut output = WriteOutlet::new(io::writer(rt));
-    if level == LogLevel::Nothing {
-        return status_of(rt, serve_one(rt.alloc(), &mut input, &mut output, config));
-    }
-    let Ok(mut log) = ServerLog::new(rt, rt.alloc(), level, config, false, None) else {
-        return PROGRAM.print_fault(rt, "no memory", FAULT);
-    };
-    let ended = serve_one_with(rt.alloc(), &mut input, &mut output, config, &mut log);
-    log.finish();
-    status_of(rt, ended)
-}
-
-/// Returns the exit status for the result of a run, and reports an error.
-fn status_of(rt: &impl Eprint, ended: Result<Report, IoFault>) -> u8 {
-    match ended {
-        Ok(_) => ENDED,
-        Err(fault) => PROGRAM.print_fault(rt, fault, FAULT),
-    }
-}
 
 /// Runs a plan, and returns the exit status.
 fn run(
@@ -112,7 +45,7 @@ fn run(
     };
     match &plan.mode {
         Mode::Script(name) => script::run(rt, name.as_str(), &config),
-        _ => serve(rt, &config, plan.log),
+        _ => standard::run(rt, plan, &config),
     }
 }
 

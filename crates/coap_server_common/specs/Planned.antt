@@ -1,9 +1,9 @@
 -- Defined by this project: the configuration of the server for a plan of its command line.
 use Rattle.std.specs.Prelude.{ℕ, ◌*◌, ◌-◌, ◌^◌, min}
 use Rattle.coap_request.specs.declared.plan.ServerPlan.{ServerPlan}
-use Rattle.coap_serve.specs.Configs.{ConfigValues, config_of}
-use Rattle.coap_serve.specs.declared.Starts.{Starts}
-use Rattle.coap_serve.specs.views.ConfigViews.{start_values}
+use Rattle.coap_model.specs.Configs.{ConfigValues, config_of}
+use Rattle.coap_model.specs.declared.config.Starts.{Starts}
+use Rattle.coap_model.specs.views.ConfigViews.{start_values}
 
 -- The maximum length of a representation in bytes, which no option sets.
 abbrev pub rep_max : ℕ

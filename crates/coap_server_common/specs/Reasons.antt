@@ -1,5 +1,5 @@
--- Defined by this project: the texts of a server's log.
-use Rattle.std.specs.Prelude.{ℕ, Bool, List, ◌==◌, ◌&&◌, ◌||◌, codes}
+-- Defined by this project: the reasons for which a connection stopped, in words.
+use Rattle.std.specs.Prelude.{ℕ, List, codes}
 use Rattle.coap_conn.specs.declared.reason.Reason.{Reason}
 use Rattle.coap_conn.specs.declared.reason.Reason.TheVariants as reason
 
@@ -18,9 +18,3 @@ reason_text reason.PeerTooSmall = codes "response above the maximum size of the 
 reason_text reason.Ended = codes "end of input"
 reason_text reason.Cut = codes "end of input within a message"
 reason_text reason.ReleasedHere = codes "Release by the server"
-
--- RFC 7252 section 12.1.2: the codes of responses that refuse a request because of a limit. They are 4.13 Request Entity
--- Too Large, 5.00 Internal Server Error, and 5.03 Service Unavailable. If the maximum number of resources is stored, 4.06
--- Not Acceptable is one too.
-abbrev pub is_refusal : ℕ → (is_full : Bool) → Bool
-is_refusal code is_full = (is_full && (code == 134)) || (code == 141) || (code == 160) || (code == 163)

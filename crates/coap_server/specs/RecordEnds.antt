@@ -1,0 +1,13 @@
+-- Defined by this project: the line that reports the end of a record.
+use Rattle.std.specs.Prelude.{ℕ, Bool, true, false, List, ◌++◌, if◌then◌else◌, codes, decimal}
+use Rattle.coap_print.specs.Texts.{escaped_text}
+use Rattle.coap_text.specs.Words.{is_hyphen}
+
+-- The name of a record in a line. A hyphen stands for standard output.
+abbrev pub title_text : List ℕ → List ℕ
+title_text name = if is_hyphen name then codes "standard output" else escaped_text name
+
+-- The line for a record that has ended: a write has failed, or it has reached the limit.
+unfoldable pub end_text : (name : List ℕ) (limit : ℕ) (has_failed : Bool) → List ℕ
+end_text name limit true = codes "coap-server: record ended: " ++ codes "cannot write " ++ title_text name
+end_text name limit false = codes "coap-server: record ended: " ++ title_text name ++ codes " has reached " ++ decimal limit ++ codes " bytes"

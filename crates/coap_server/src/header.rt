@@ -1,0 +1,145 @@
+//! The header of a record: the version, the options that are in force, and a command line that replays the record.
+
+ghost use Rattle.std.specs.Prelude.{◌≡◌, ◌++◌, IfOk, OnOk, codes, decimal};
+ghost use Rattle.std.specs.List.{flat_map, list_all};
+ghost use Rattle.coap_command_line.specs.declared.arguments.help.TheConstants.{VERSION};
+ghost use Rattle.coap_server.specs.RecordHeaders.{header_text, options_text, starts_text};
+ghost use Rattle.coap_server.specs.RecordHeaders as spec;
+
+use coap_command_line::VERSION;
+use coap_serve::Config;
+use coap_text::decimal_digits;
+use std::alloc::{AllocError, Global};
+
+/// Returns the header of the record with this name, for a server with this configuration.
+///
+/// # Errors
+///
+/// Returns `AllocError` if allocation fails.
+#[tactic(auto, unfolding(crate::specs::RecordHeaders::header_text))]
+pub(crate) fn header(alloc: Global, name: &str, config: &Config) -> Result<Vec<u8>, AllocError>
+    ensures { IfOk result (λ text. text.items ≡ header_text VERSION.now name.now config.now) }
+{
+    let options = options(alloc, config)?;
+    let name = shown_name(name.as_bytes());
+    let mut text = Vec::new(alloc);
+    append(
+        &mut text,
+        &[
+            b"# Record of coap-server ",
+            VERSION.as_bytes(),
+            b", format 1\n",
+        ],
+    )?;
+    append(&mut text, &[b"# options: ", options.as_slice(), b"\n"])?;
+    append(
+        &mut text,
+        &[
+            b"# replay: coap-server --script ",
+            name,
+            b" ",
+            options.as_slice(),
+            b"\n",
+        ],
+    )?;
+    Ok(text)
+}
+
+/// Returns the options on which a replay depends, in the order of the usage line.
+///
+/// # Errors
+///
+/// Returns `AllocError` if allocation fails.
+#[tactic(auto, unfolding(crate::specs::RecordHeaders::options_text))]
+fn options(alloc: Global, config: &Config) -> Result<Vec<u8>, AllocError>
+    ensures { IfOk result (λ text. text.items ≡ options_text config.now) }
+{
+    let limits = config.limits();
+    let mut text = Vec::new(alloc);
+    append_number(&mut text, b"-d ", config.dynamic_max() as u64)?;
+    append_number(&mut text, b" --max-message ", limits.max_message() as u64)?;
+    append_number(&mut text, b" --max-sent ", limits.max_sent() as u64)?;
+    append_number(&mut text, b" --queue ", limits.queue() as u64)?;
+    append_number(&mut text, b" --pending ", limits.pending() as u64)?;
+    append_number(&mut text, b" --observers ", limits.observers() as u64)?;
+    append_number(&mut text, b" --connections ", config.connections() as u64)?;
+    append_starts(&mut text, config)?;
+    Ok(text)
+}
+
+/// Appends the option for the values at which the counts of a server begin.
+///
+/// # Errors
+///
+/// Returns `AllocError` if allocation fails.
+fn append_starts(text: &mut Vec<u8>, config: &Config) -> Result<(), AllocError>
+    ensures { OnOk result (text.new.items
+        ≡ text.old.items ++ codes " --starts " ++ starts_text config.now.starts) }
+{
+    let starts = config.starts();
+    append_number(text, b" --starts ", starts.moment)?;
+    append_number(text, b",", starts.versions)?;
+    append_number(text, b",", starts.ids)
+}
+
+/// Appends words and a number in decimal digits.
+///
+/// # Errors
+///
+/// Returns `AllocError` if allocation fails.
+fn append_number(text: &mut Vec<u8>, words: &[u8], number: u64) -> Result<(), AllocError>
+    ensures { OnOk result (text.new.items ≡ text.old.items ++ words.now ++ decimal number) }
+{
+    let digits = decimal_digits(number);
+    append(text, &[words, digits.as_slice()])
+}
+
+/// Appends the bytes of all slices, in order.
+///
+/// # Errors
+///
+/// Returns `AllocError` if allocation fails.
+fn append(text: &mut Vec<u8>, pieces: &[&[u8]]) -> Result<(), AllocError>
+    ensures { OnOk result (text.new.items ≡ text.old.items ++ flat_map (λ p. p.now) pieces.now) }
+{
+    for piece in pieces {
+        text.extend_from_slice(piece)?;
+    }
+    Ok(())
+}
+
+/// Returns the name of a file if it is a word of a command line, otherwise the word FILE.
+fn shown_name(name: &[u8]) -> &[u8]
+    ensures { result.now ≡ spec.shown_name name.now }
+{
+    if is_word(name) { name } else { b"FILE" }
+}
+
+/// Returns `true` if a name is a word of a command line: it needs no quotes and is no option.
+fn is_word(name: &[u8]) -> bool
+    ensures { result ≡ spec.is_word name.now }
+{
+    let Some(first) = name.first() else {
+        return false;
+    };
+    *first != b'-' && are_plain(name)
+}
+
+/// Returns `true` if each byte means itself in each command line.
+fn are_plain(bytes: &[u8]) -> bool
+    ensures { result ≡ list_all spec.is_plain bytes.now }
+{
+    bytes.iter().all(|byte| is_plain(*byte))
+}
+
+/// Returns `true` if a byte means itself in each command line: a letter, a digit, or one of `. _ / + -`.
+fn is_plain(byte: u8) -> bool
+    ensures { result ≡ spec.is_plain byte }
+{
+    byte.is_ascii_alphanumeric()
+        || byte == b'.'
+        || byte == b'_'
+        || byte == b'/'
+        || byte == b'+'
+        || byte == b'-'
+}

@@ -1,0 +1,15 @@
+//! The parts that the programs `coap-server` and `coap-explain` share.
+//!
+//! - `config_of` and `config_in` return the configuration of the server for a plan of the command line.
+//! - `text_of` returns the reason for which a connection stopped, in words.
+//!
+//! The contracts name the definitions of `specs/Planned.antt` and `specs/Reasons.antt`.
+//!
+//! `coap_program` has the parts that `coap-client` uses too. Continue with `planned.rt`.
+#![tactic(auto)]
+
+mod planned;
+mod reasons;
+
+pub use planned::{config_in, config_of};
+pub use reasons::text_of;
