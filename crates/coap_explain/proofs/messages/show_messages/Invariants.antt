@@ -1,0 +1,16 @@
+use Rattle.std.proofs.Common.{◌≡◌, false, length}
+use Rattle.coap_explain.specs.Shown.{IsShown}
+use Rattle.coap_explain.proofs.MessageLemmas.{Passes}
+use Rattle.coap_explain.proofs.messages.show_messages.Given as goal
+
+abbrev pub invariant-loop-left : goal.invariant-loop-left
+invariant-loop-left g l =
+    record {
+      passes : Passes l.fn.id l.fn.way l.fn.bytes l.fn.tap l.fn.printer.only (g.O.Outlet.written l.fn.printer.out) (g.O.Outlet.written l.printer.out) l.left l.tap;
+      shown : IsShown (g.O.Outlet.written l.fn.printer.out) → IsShown (g.O.Outlet.written l.printer.out);
+      only : l.printer.only ≡ l.fn.printer.only;
+      works : g.O.Outlet.is_failed l.printer.out ≡ false;
+    }
+
+abbrev pub decreases-loop-left : goal.decreases-loop-left
+decreases-loop-left g l = length l.left

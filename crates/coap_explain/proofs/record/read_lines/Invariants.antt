@@ -1,0 +1,13 @@
+use Rattle.std.proofs.Common.{◌≡◌, false}
+use Rattle.coap_explain.specs.Shown.{IsShown}
+use Rattle.coap_record.specs.Prelude.{append_known}
+use Rattle.coap_explain.proofs.record.read_lines.Given as goal
+
+abbrev pub invariant-loop : goal.invariant-loop
+invariant-loop g l =
+    record {
+      source : g.S.Source.is_failed l.source ≡ false;
+      works : g.O.Outlet.is_failed l.record.explainer.printer.out.outlet ≡ false;
+      shown : IsShown (append_known (g.O.Outlet.written l.fn.record.explainer.printer.out.outlet) l.fn.record.explainer.printer.out.queue.waiting)
+          → IsShown (append_known (g.O.Outlet.written l.record.explainer.printer.out.outlet) l.record.explainer.printer.out.queue.waiting);
+    }

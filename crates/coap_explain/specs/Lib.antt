@@ -1,0 +1,6 @@
+pub mod Layout
+pub mod Shown
+pub mod Messages
+pub mod Header
+pub mod Counts
+pub mod Records
