@@ -10,12 +10,16 @@ PREFIX ?= /usr/local
 DESTDIR ?=
 
 # Proves every crate and builds the programs.
-all: bin/coap-server bin/coap-client
+all: bin/coap-server bin/coap-client bin/coap-explain
 
 SOURCES := $(shell find crates -name out -prune -o -type f -print) crates.txt
 
 bin/coap-server bin/coap-client &: $(SOURCES)
 	tests/build coap_server coap_client_main
+
+# Waits for the other programs, so that only one build runs at a time.
+bin/coap-explain: $(SOURCES) | bin/coap-server
+	tests/build coap_explain
 
 # Runs the server on short recorded streams, and prints the meaning of each message. If the program is not built yet, the same
 # source runs unproved while the proofs begin. At the end, the program that they build runs.
@@ -40,11 +44,11 @@ faults: bin/coap-server
 	tests/vectors/bytes.py bin/coap-server --all
 	tests/tools/fail_alloc.py
 
-# Measures the server and libcoap's, then the server behind HAProxy and with observers that do not read. Then counts instructions,
+# Measures the server and libcoap's, then the server with a record, behind HAProxy, and with observers that do not read. Then counts instructions,
 # copies and memory. Draws the new figures in docs/pictures. Fails if a target is missed.
 bench: bin/coap-server
 	tests/build coap_probe
-	bench/throughput; missed=$$?; bench/front || missed=1; tests/system/flood.py bin/coap-server observers || missed=1; \
+	bench/throughput; missed=$$?; bench/record || missed=1; bench/front || missed=1; tests/system/flood.py bin/coap-server observers || missed=1; \
 	bench/asymptotics || missed=1; bench/instructions && exit $$missed
 
 # UNPROVED: runs the source on the recorded streams before any proof, in up to a minute, for work in progress.
@@ -53,23 +57,24 @@ try:
 
 # Installs the output of `make all`. Builds nothing, so that another user can run it.
 install:
-	@test -x bin/coap-server -a -x bin/coap-client || { echo "Run 'make all' first: bin/ does not have both programs." >&2; exit 1; }
-	install -D -m 0755 -t "$(DESTDIR)$(PREFIX)/bin" bin/coap-server bin/coap-client
-	install -D -m 0644 -t "$(DESTDIR)$(PREFIX)/share/man/man1" man/coap-server.1 man/coap-client.1
+	@test -x bin/coap-server -a -x bin/coap-client -a -x bin/coap-explain || { echo "Run 'make all' first: bin/ does not have all programs." >&2; exit 1; }
+	install -D -m 0755 -t "$(DESTDIR)$(PREFIX)/bin" bin/coap-server bin/coap-client bin/coap-explain
+	install -D -m 0644 -t "$(DESTDIR)$(PREFIX)/share/man/man1" man/coap-server.1 man/coap-client.1 man/coap-explain.1
 	install -D -m 0644 install/coap-server.service.in "$(DESTDIR)$(PREFIX)/lib/systemd/system/coap-server.service"
 	sed -i 's|@PREFIX@|$(PREFIX)|g' "$(DESTDIR)$(PREFIX)/lib/systemd/system/coap-server.service"
 	install -D -m 0644 -t "$(DESTDIR)$(PREFIX)/share/doc/coap-server/examples" install/haproxy.cfg
 
 # Removes the files that `make install` installed, and leaves the directories.
 uninstall:
-	rm -f "$(DESTDIR)$(PREFIX)/bin/coap-server" "$(DESTDIR)$(PREFIX)/bin/coap-client"
+	rm -f "$(DESTDIR)$(PREFIX)/bin/coap-server" "$(DESTDIR)$(PREFIX)/bin/coap-client" "$(DESTDIR)$(PREFIX)/bin/coap-explain"
 	rm -f "$(DESTDIR)$(PREFIX)/share/man/man1/coap-server.1" "$(DESTDIR)$(PREFIX)/share/man/man1/coap-client.1"
+	rm -f "$(DESTDIR)$(PREFIX)/share/man/man1/coap-explain.1"
 	rm -f "$(DESTDIR)$(PREFIX)/lib/systemd/system/coap-server.service"
 	rm -f "$(DESTDIR)$(PREFIX)/share/doc/coap-server/examples/haproxy.cfg"
 
 # Builds the Debian package of the output of `make all`, bin/dachreup_VERSION_ARCHITECTURE.deb.
 deb: all
-	install/debian/build bin/coap-server bin/coap-client bin
+	install/debian/build bin/coap-server bin/coap-client bin/coap-explain bin
 
 clean:
 	rm -rf bin crates/*/out

@@ -1,6 +1,6 @@
 """Installs the programs, their manuals, the systemd unit and the configuration of HAProxy into temporary folders, and uninstalls them.
 
-    tests/system/install.py bin/coap-server bin/coap-client
+    tests/system/install.py bin/coap-server bin/coap-client bin/coap-explain
 
 `make` runs on a copy of the installed files, with sources that are newer than the programs and a build script that fails. A build would therefore
 be noticed. If systemd-analyze exists, it checks the unit. The script does not install systemd-analyze.
@@ -18,7 +18,7 @@ sys.path.insert(0, os.path.join(os.path.dirname(os.path.abspath(__file__)), ".."
 from checks import Checks  # noqa: E402
 from workspace import ROOT  # noqa: E402
 
-PROGRAMS = ["coap-server", "coap-client"]
+PROGRAMS = ["coap-server", "coap-client", "coap-explain"]
 
 UNIT = "lib/systemd/system/coap-server.service"
 
@@ -119,11 +119,12 @@ def check_prefix(checks, tree, prefix):
 def check_unbuilt(checks, tree):
     """Checks that nothing is installed and nothing is built if a program is missing."""
     with tempfile.TemporaryDirectory() as destination:
-        missing = os.path.join(tree, "bin", "coap-client")
-        os.rename(missing, missing + ".away")
-        status, said = make(tree, "install", "", destination)
-        os.rename(missing + ".away", missing)
-        checks.same("a missing program", (status != 0, "make all" in said, files_below(destination)), (True, True, {}))
+        for name in PROGRAMS:
+            missing = os.path.join(tree, "bin", name)
+            os.rename(missing, missing + ".away")
+            status, said = make(tree, "install", "", destination)
+            os.rename(missing + ".away", missing)
+            checks.same("%s is missing" % name, (status != 0, "make all" in said, files_below(destination)), (True, True, {}))
 
 
 def check_unit(checks, tree):

@@ -1,6 +1,6 @@
 """Compares the manuals with the programs and their sources: form, options, ranges, defaults, statuses, lines and examples.
 
-    tests/system/manuals.py bin/coap-server bin/coap-client
+    tests/system/manuals.py bin/coap-server bin/coap-client bin/coap-explain
 
 The script needs Debian's package mandoc, and installs it if it is missing.
 """
@@ -35,7 +35,7 @@ EXAMPLE_LASTS = 1
 ANSWERED_LASTS = 30
 LIMIT = 30
 
-# Sources of both programs that are in libraries with error texts.
+# Sources of the programs that are in libraries with error texts.
 LIBRARIES = ["coap_io/src/*.rt", "coap_program/src/*.rt", "coap_sockets/src/*.rt", "coap_command_line/src/arguments.rt"]
 
 SOURCES = {
@@ -44,6 +44,7 @@ SOURCES = {
                     "coap_server_engine/src/*.rt"] + LIBRARIES,
     "coap-client": ["coap_client_main/src/*.rt", "coap_client_engine/src/run.rt", "coap_client_engine/src/run/*.rt",
                     "coap_client_engine/src/error_lines.rt", "coap_client_engine/src/cause_line.rt"] + LIBRARIES,
+    "coap-explain": ["coap_explain/src/*.rt"] + LIBRARIES,
 }
 
 # Text for a plan that no command line can make, and texts for ends that no run of the client has. The manuals do not have them.
@@ -61,6 +62,7 @@ def server_faults(port):
         ([b"\xff"], b"", "words that are not UTF-8"),
         (["-A", "127.0.0.1", "-p", str(port)], b"", "cannot listen"),
         (["--script", "/nothing/here"], b"", "cannot open file"),
+        (["--stdio", "--record", "/nothing/here"], b"", "cannot open file"),
         (["--script", "/"], b"", "cannot read"),
         (["--turns", "1", "--stdio"], b"\x00\xe1", "too many turns"),
     ]
@@ -78,6 +80,19 @@ def client_faults(port):
         ([uri], b"", "cannot connect"),
         (["-f", "/nothing/here", uri], b"", "cannot open file"),
         (["-f", "/", uri], b"", "cannot read"),
+    ]
+
+
+def explain_faults(_):
+    """Returns arguments, standard input, and the line of the manual for them."""
+    return [
+        (["--connection", "0", "-"], b"", "bad value for option"),
+        (["-"], b"open\nx\n", "bad script line n"),
+        (["-"], b"open", "bad script line n"),
+        (["-"], b"# options: -d 1001\n", "bad options in line n"),
+        ([b"\xff"], b"", "words that are not UTF-8"),
+        (["/nothing/here"], b"", "cannot open file"),
+        (["/"], b"", "cannot read"),
     ]
 
 
@@ -160,7 +175,7 @@ def source_of(patterns):
 
 def front_of(line):
     """Returns a line up to the first part that differs from run to run."""
-    return re.split(r"[{]| (?:n|file|option|address|-\w)(?: No seconds)?$", line)[0].strip()
+    return re.split(r"[{]| (?:n|file|option|address|reason|-\w)(?: No seconds)?$", line)[0].strip()
 
 
 def known_options(program):
@@ -191,7 +206,7 @@ def check_options(checks, manual, program):
 
 def check_order(checks, manual, program, more):
     """Checks that of several bad values the first one in the order of the synopsis is reported."""
-    left = [name for name, value in manual.called_with() if value and name not in ("-e", "-f", "-o", "--script")]
+    left = [name for name, value in manual.called_with() if value and name not in ("-e", "-f", "-o", "--script", "--record")]
     while left:
         words = [program] + [word for name in reversed(left) for word in (name, "x")] + more
         told = "%s: bad value for %s" % (manual.name, left[0])
@@ -226,8 +241,8 @@ def number_in(word, source):
 
 def check_defaults(checks, manual, source):
     """Checks that the default of each option with a number is that of the source."""
-    rows = re.findall(r'number\(\s*matches,\s*"(-[\w-]+)",\s*[\w ]+,\s*[\w ]+,\s*([\w ]+?),?\s*\)', source)
-    checks.same("%s: options with numbers are found" % manual.name, bool(rows), True)
+    rows = re.findall(r'number\(\s*matches,\s*"(-[\w-]+)",\s*[\w ]+,\s*[\w: ]+,\s*([\w ]+?),?\s*\)', source)
+    checks.same("%s: options with numbers are found" % manual.name, bool(rows), manual.name != "coap-explain")
     texts = {name: text for name, _, text in manual.options()}
     for name, word in rows:
         found = re.search(r"default is ([\d,]*\d)", texts[name])
@@ -278,7 +293,7 @@ def check_causes(checks, manual):
 def check_log(checks, manual):
     """Checks that the manual has each text of the server's log."""
     text = " ".join(manual.rendered()[1].split())
-    source = source_of(["coap_server/src/log.rt"])
+    source = source_of(["coap_server/src/log.rt", "coap_server_common/src/reasons.rt"])
     texts = re.findall(r'Reason::\w+(?:\(_\))? => "([^"]+)"', source) + re.findall(r'warn\(id, "([^"]+)"', source)
     texts += re.findall(r'"(connections not accepted[^"]*|failed waits)"', source) + re.findall(r'line\.text\("([^"]*connection)"', source)
     checks.same("%s: number of texts of the log" % manual.name, len(texts) >= 22, True)
@@ -334,11 +349,11 @@ def check_answered(checks, manual, server, programs):
 
 
 @contextlib.contextmanager
-def named_programs(server, client):
+def named_programs(**programs):
     """Yields a folder in which the programs have their names, whatever the names of the files are."""
     with tempfile.TemporaryDirectory() as folder:
-        os.symlink(server, os.path.join(folder, "coap-server"))
-        os.symlink(client, os.path.join(folder, "coap-client"))
+        for name, program in programs.items():
+            os.symlink(program, os.path.join(folder, "coap-%s" % name))
         yield folder
 
 
@@ -350,12 +365,13 @@ def closed_port():
         yield taken.getsockname()[1]
 
 
-def check(server, client):
+def check(server, client, explain):
     checks = Checks()
-    with closed_port() as port, named_programs(server, client) as programs:
+    with closed_port() as port, named_programs(server=server, client=client, explain=explain) as programs:
         for name, program, faults, more in (
             ("coap-server", server, server_faults(port), ["--stdio"]),
             ("coap-client", client, client_faults(port), [URI % port]),
+            ("coap-explain", explain, explain_faults(port), ["-"]),
         ):
             manual = Manual(name)
             source = source_of(SOURCES[name])

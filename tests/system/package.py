@@ -1,6 +1,6 @@
 """Builds the Debian package, checks it with lintian, and installs, upgrades, removes and purges it.
 
-    tests/system/package.py bin/coap-server bin/coap-client
+    tests/system/package.py bin/coap-server bin/coap-client bin/coap-explain
 
 The script needs Debian's packages dpkg-dev, libcoap3-bin and lintian, and installs the missing ones. `make deb` runs on a copy of its inputs.
 
@@ -31,10 +31,13 @@ PACKAGES = {"dpkg-shlibdeps": "dpkg-dev", "lintian": "lintian", "coap-client-not
 
 NAME = "dachreup"
 
-PROGRAMS = ["coap-server", "coap-client"]
+PROGRAMS = ["coap-server", "coap-client", "coap-explain"]
+
+# The text of each manual's first section.
+TITLES = {"coap-server": "CoAP server over TCP", "coap-client": "CoAP client over TCP", "coap-explain": "explain a record of a CoAP server"}
 
 # The crates of the programs.
-CRATES = ["coap_server", "coap_client_main"]
+CRATES = ["coap_server", "coap_client_main", "coap_explain"]
 
 OPTIONS = "/etc/default/coap-server"
 
@@ -53,10 +56,13 @@ LEFTOVERS = [OPTIONS, ENABLED, RECORDS + "/coap-server.service.dsh-also", RECORD
 FILES = {
     "/usr/bin/coap-server": (0o755, None),
     "/usr/bin/coap-client": (0o755, None),
+    "/usr/bin/coap-explain": (0o755, None),
     "/usr/share/man/man1/coap-server.1.gz": (0o644, None),
     "/usr/share/man/man1/coap-client.1.gz": (0o644, None),
+    "/usr/share/man/man1/coap-explain.1.gz": (0o644, None),
     "/usr/share/bash-completion/completions/coap-server": (0o644, "install/completions/coap-server"),
     "/usr/share/bash-completion/completions/coap-client": (0o644, "install/completions/coap-client"),
+    "/usr/share/bash-completion/completions/coap-explain": (0o644, "install/completions/coap-explain"),
     "/usr/share/doc/dachreup/changelog.gz": (0o644, None),
     "/usr/share/doc/dachreup/copyright": (0o644, "install/debian/copyright"),
     "/usr/share/doc/dachreup/examples/haproxy.cfg": (0o644, "install/haproxy.cfg"),
@@ -105,6 +111,10 @@ COMPLETED = [
     (["coap-server", "--log"], "", ["0", "1", "2", "3"]),
     (["coap-server", "--idle"], "", []),
     (["coap-server", "--starts"], "", []),
+    (["coap-server", "--record"], "on", ["one file", "one.txt"]),
+    (["coap-server", "--record", "="], "t", ["two"]),
+    (["coap-server", "--record-limit"], "", []),
+    (["coap-server"], "--rec", ["--record", "--record-limit"]),
     (["coap-client", "-m"], "p", ["put", "post"]),
     (["coap-client", "--log"], "", ["0", "1", "2", "3"]),
     (["coap-client", "--log", "="], "2", ["2"]),
@@ -112,6 +122,11 @@ COMPLETED = [
     (["coap-client", "-f"], "on", ["one file", "one.txt"]),
     (["coap-client", "-o"], "t", ["two"]),
     (["coap-client", "coap+tcp", ":"], "//", []),
+    (["coap-explain"], "on", ["one file", "one.txt"]),
+    (["coap-explain"], "--c", ["--connection"]),
+    (["coap-explain", "--connection"], "", []),
+    (["coap-explain", "--connection", "="], "", []),
+    (["coap-explain", "--connection", "1"], "t", ["two"]),
 ]
 
 # Timeout of each command in seconds.
@@ -164,7 +179,7 @@ def check_completion(checks, programs):
             script = os.path.join(ROOT, "install/completions", name)
             helped = re.findall(r"(?m)^ +(?:(-\w)(?:, )?)?(--[\w-]+)?(?: <(\S+)>)?  ", run([program, "--help"])[1].partition("Options:\n")[2])
             options = {option for short, long, _ in helped for option in (short, long) if option}
-            checks.same("%s: the options of --help are found" % name, len(options) > 10, True)
+            checks.same("%s: the options of --help are found" % name, len(options) > (4 if name == "coap-explain" else 10), True)
             checks.same("%s: completed options" % name, sorted(completions(script, [name, "-"], folder)), sorted(options))
             for option, value in ((short or long, value) for short, long, value in helped if value):
                 got = completions(script, [name, option, ""], folder)
@@ -173,6 +188,7 @@ def check_completion(checks, programs):
             for before, word, wanted in COMPLETED:
                 if before[0] == name:
                     checks.same("completed: %s" % " ".join([*before, word]), sorted(completions(script, [*before, word], folder)), sorted(wanted))
+    script = os.path.join(ROOT, "install/completions/coap-client")
     methods = re.search(r"Method: ([\w, ]+?) \[", run([programs[1], "--help"])[1])[1]
     checks.same("completed methods", completions(script, ["coap-client", "-m", ""], ROOT), re.split(", | or ", methods))
     formats = re.findall(r"(?m)^\.Dq (\w+/\S+)\n\(\d+\)", read(ROOT, "man/coap-client.1"))
@@ -346,11 +362,11 @@ def check_served(checks, name, port):
 
 
 def check_manuals(checks):
-    """Checks that `man` finds both installed manuals."""
+    """Checks that `man` finds the installed manuals."""
     for name in PROGRAMS:
         environment = dict(os.environ, MANPAGER="cat", MANWIDTH="80", LC_ALL="C.UTF-8")
         status, said = run(["man", "-M", "/usr/share/man", name], env=environment)
-        checks.same("man %s" % name, (status, re.findall(r"(\S+) . (CoAP \w+) over TCP", said)), (0, [(name, "CoAP " + name[5:])]))
+        checks.same("man %s" % name, (status, re.findall(r"(?m)^ +(\S+) \S (%s)$" % TITLES[name], said)), (0, [(name, TITLES[name])]))
 
 
 def check_life(checks, package, higher):
