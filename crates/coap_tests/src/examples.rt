@@ -5,8 +5,10 @@
 mod embedding;
 mod quickstart;
 
+use coap_application::Applications;
 use coap_client::{Client, Event, Extras, Method, Target, client_words};
 use coap_frame::{FrameEvent, Framer};
+use coap_path::UriPath;
 use coap_serve::{
     Config, Limits, PathKey, ReadSource, Server, Starts, WriteOutlet, script, serve_one,
 };
@@ -102,6 +104,20 @@ fn names_a_resource(rt: HostRuntime) -> Result<(), Fail> {
     let path = PathKey::from_segments(&[b"sensors", b"1"]);
     assert!(&rt; path.is_some() && path != PathKey::from_segments(&[b"sensors/1"]));
     assert!(&rt; PathKey::from_segments(&[b".."]).is_none());
+    Ok(())
+}
+
+#[test]
+fn answers_by_application(rt: HostRuntime) -> Result<(), Fail> {
+    // The application has 10 seconds for a response.
+    let mut applications = Applications::new(rt.alloc(), 10)?;
+    let directory = PathKey::from_segments(&[b"rd"]).ok_or("no path")?;
+    applications.add(&directory, &[Code::POST], b"rt=\"core.rd\"")?;
+    // POST /rd/1
+    let request = parse(b"\x50\x02\xb2rd\x011")?;
+    let body = request.body();
+    assert!(&rt; applications.answers(UriPath::of(&body), Code::POST));
+    assert!(&rt; !applications.answers(UriPath::of(&body), Code::GET));
     Ok(())
 }
 

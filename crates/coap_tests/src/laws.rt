@@ -1,5 +1,6 @@
 //! Theorems are functions with an empty body. This test calls each of these from another crate.
 
+use coap_application::laws as application_laws;
 use coap_conn::laws;
 use coap_serve::laws as server_laws;
 
@@ -13,4 +14,8 @@ fn calls_laws(_rt: HostRuntime) {
     server_laws::only_stores_allocate();
     server_laws::a_pong_with_custody_follows_all_answers();
     server_laws::connections_interact_only_through_store();
+    application_laws::prefix_is_start_of_path();
+    application_laws::longest_prefix_wins();
+    application_laws::built_in_resources_stay();
+    application_laws::other_paths_stay();
 }

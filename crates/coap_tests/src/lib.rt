@@ -3,6 +3,7 @@
 //! - theorems called from another crate,
 //! - sinks at concrete types,
 //! - lines that describe messages,
+//! - the errors of an application's entries, and the limit,
 //! - the contracts of `serve_one` and `run_client` with devices that record everything,
 //! - runs of `serve_door` over a listener, connections and a clock in memory,
 //! - the examples of the documentation.
@@ -11,6 +12,8 @@
 //! it. Continue with `door.rt`, which has most of the tests.
 #![tactic(auto)]
 
+#[cfg(test)]
+mod application;
 #[cfg(test)]
 mod client;
 #[cfg(test)]

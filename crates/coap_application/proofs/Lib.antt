@@ -1,0 +1,5 @@
+mod Worked
+pub mod PathStartLemmas
+pub mod LongestLemmas
+mod LawLemmas
+mod AddLemmas

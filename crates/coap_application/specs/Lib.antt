@@ -1,0 +1,9 @@
+pub mod Applications
+pub mod Methods
+pub mod Attributes
+pub mod LongestPrefix
+pub mod Refusals
+pub mod Invariant
+pub mod EntryViews
+pub mod ApplicationViews
+pub mod Prelude
