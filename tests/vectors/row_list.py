@@ -50,7 +50,7 @@ def steps_of_the_gate():
     loader = importlib.machinery.SourceFileLoader("gate", f"{ROOT}/tests/gate")
     gate = importlib.util.module_from_spec(importlib.util.spec_from_loader("gate", loader))
     loader.exec_module(gate)
-    return gate.STEPS
+    return [gate.PROOFS, *gate.STEPS, gate.BESIDE]
 
 
 def places():

@@ -75,7 +75,7 @@ sent_as s m less Whole each = each
 sent_as s m less Bare each = each
 sent_as s m less Stopped each = tt
 
-send_fit : (s : ConnectionState) (m less : Message) → AllFit s.limit (send s m less).queued
+pub send_fit : (s : ConnectionState) (m less : Message) → AllFit s.limit (send s m less).queued
 send_fit s m less = sent_as s m less (fit s.limit m less) (fitted_fit s.limit m less)
 
 abbrev Fits : ConnectionState → Reaction → Type 0
@@ -150,7 +150,7 @@ released_fits h enough = (omega (arith, enough, release_small), tt)
 
 due_fit : (s : ConnectionState) (e : Option PendingEntryValue) → AllFit s.limit (due_effect s e).queued
 due_fit s None = tt
-due_fit s (Some (Answer token moment)) = tt
+due_fit s (Some (Answer by token moment)) = tt
 due_fit s (Some (Pong token)) = send_fit s (pong_with true token) (pong_with false token)
 
 pub due_fits : (h : History) (e : Option PendingEntryValue) → AllFit (limit_now h) (due_effect (standing_now h) e).queued

@@ -10,6 +10,8 @@ pub mod FirstLaws
 pub mod AnnounceLaws
 pub mod StopLaws
 pub mod PendingLaws
+pub mod ApplicationLaws
+pub mod ApplicationLemmas
 pub mod OutstandingLaws
 pub mod ReactionLaws
 pub mod WaitingLaws

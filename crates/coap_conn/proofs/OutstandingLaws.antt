@@ -10,7 +10,7 @@ use Rattle.coap_conn.specs.Prelude.{ping_with, ConnectionState, ReactionResult, 
 use Rattle.coap_conn.specs.Prelude.{ping_reaction, pong_reaction, csm_reaction, request_reaction, answered}
 use Rattle.coap_conn.specs.Prelude.{response_reaction, open_reaction, live_reaction, reaction_unless, react}
 use Rattle.coap_conn.specs.Prelude.{is_reserved, is_signal, is_method, checks_critical_options, asks_custody}
-use Rattle.coap_conn.specs.Prelude.{pong_with, pong_of, not_implemented, send_as, due_effect, Call, standing_due}
+use Rattle.coap_conn.specs.Prelude.{pong_with, pong_of, not_implemented, send_as, due_effect, Call, standing_due, standing_without}
 use Rattle.coap_conn.specs.Prelude.{call_effect, gives_token, History, link_of, limit_now, standing_now, asking_now}
 use Rattle.coap_conn.specs.Prelude.{with_deed, after, after_asking}
 use Rattle.std.proofs.lemmas.Bool.{cond_both, cond-true, cond-false, eqb-true, not-true, not-false, and_from, and_left, and_right, or_cases, or_from, or_left, or_right, true≢false, false_from_ne_true}
@@ -63,7 +63,7 @@ sent_fewer s m less Stopped = omega arith
 
 due_leaves_fewer : (s : ConnectionState) (e : Option PendingEntryValue) → length (due_effect s e).outstanding ≤ length s.outstanding
 due_leaves_fewer s None = omega arith
-due_leaves_fewer s (Some (held.Answer token moment)) = omega arith
+due_leaves_fewer s (Some (held.Answer by token moment)) = omega arith
 due_leaves_fewer s (Some (held.Pong token)) = sent_fewer s (pong_with true token) (pong_with false token) (fit s.limit (pong_with true token) (pong_with false token))
 
 -- Every call keeps the limit.
@@ -74,6 +74,9 @@ call_few h (call.End cut) few = few_by h (call.End cut) few (omega arith)
 call_few h (call.Reply m) few =
     few_by h (call.Reply m) few (sent_fewer (standing_now h) m (bare_response m) (fit (limit_now h) m (bare_response m)))
 call_few h (call.Hold token moment) few = few_by h (call.Hold token moment) few (omega arith)
+call_few h (call.HoldRequest token moment) few = few_by h (call.HoldRequest token moment) few (omega arith)
+call_few h (call.Respond m) few =
+    few_by h (call.Respond m) few (sent_fewer (standing_without m.token (standing_now h)) m (bare_response m) (fit (limit_now h) m (bare_response m)))
 call_few h (call.Due now) few = few_by h (call.Due now) few (due_leaves_fewer (standing_due now (standing_now h)) (first_due now h.held))
 call_few h call.Release few = few_by h call.Release few (omega arith)
 call_few h (call.Request m observe) few = asked_few h (with_token m (next_token h.tokens)) (entry_of observe (next_token h.tokens)) few

@@ -1,6 +1,6 @@
 -- The entry that is due first, and Pongs with Custody that wait for pending entries.
 use Rattle.std.proofs.Common.{◌≡◌, ℕ, zero, suc, ◌+◌, ◌<◌, ◌≤◌, Bool, true, false, cond, ◌&&◌, ◌==◌, List, [], ◌∷◌, ◌++◌, length, get_or, take, drop, min, Option, Some, None, refl, sym, ap, subst, ◌∙◌, arith, inl, inr}
-use Rattle.coap_conn.specs.Prelude.{slice_get, nat_le, nat_lt, option_map, not, find, AllByRecursion, list_any}
+use Rattle.coap_conn.specs.Prelude.{Responder, slice_get, nat_le, nat_lt, option_map, not, find, AllByRecursion, list_any}
 use Rattle.coap_conn.specs.Prelude.{filter_map, cons_option, fold, reduce, position, position_from, remove}
 use Rattle.coap_conn.specs.Prelude.{CoapOption, Message, Reason, Phase, Role, Server, Client, Reply, Whole, Bare}
 use Rattle.coap_conn.specs.Prelude.{Stopped, stop_of, is_waiting, abort_text, number_told, abort_options, abort_with}
@@ -75,13 +75,13 @@ reduce_none (x ∷ xs) e = absurd cc
 -- ---- times that have come
 
 come_within : (now other : ℕ) (e : PendingEntryValue) → due_moment now e ≡ Some other → other ≤ now
-come_within now other (Answer token moment) =
+come_within now other (Answer by token moment) =
     cond_both (nat_le moment now) (Some moment) None (λ o. o ≡ Some other → other ≤ now)
     (λ is e. let same : moment ≡ other = cc in omega (arith, same, leb-true moment now is)) (λ is e. absurd cc)
 come_within now other (Pong token) = λ e. absurd cc
 
 come_at : (now other : ℕ) (e : PendingEntryValue) → due_moment now e ≡ Some other → is_answer_at other e ≡ true
-come_at now other (Answer token moment) =
+come_at now other (Answer by token moment) =
     cond_both (nat_le moment now) (Some moment) None (λ o. o ≡ Some other → (moment == other) ≡ true)
     (λ is e. let same : moment ≡ other = cc in eq-eqb moment other same) (λ is e. absurd cc)
 come_at now other (Pong token) = λ e. absurd cc
@@ -107,13 +107,13 @@ none_come now (x ∷ held) e = let parts = cons_none (due_moment now x) (filter_
 -- ---- positions
 
 -- A list is the part before an element, the element, and the part after it.
-split_at : {X : Type 0} (xs : List X) (i : ℕ) (x : X) → slice_get xs i ≡ Some x → xs ≡ take i xs ++ x ∷ drop (suc i) xs
+pub split_at : {X : Type 0} (xs : List X) (i : ℕ) (x : X) → slice_get xs i ≡ Some x → xs ≡ take i xs ++ x ∷ drop (suc i) xs
 split_at [] i x e = absurd cc
 split_at (y ∷ xs) zero x e = let same : y ≡ x = cc in ap (λ z. z ∷ xs) same
 split_at (y ∷ xs) (suc i) x e = ap (λ ys. y ∷ ys) (split_at xs i x e)
 
 -- No element before the position found passes the test.
-none_before : {X : Type 0} (p : X → Bool) (xs : List X) (i : ℕ) (d : X) → ((k : ℕ) → k < i → p (get_or xs k d) ≡ false) → AllByRecursion (λ x. p x ≡ false) (take i xs)
+pub none_before : {X : Type 0} (p : X → Bool) (xs : List X) (i : ℕ) (d : X) → ((k : ℕ) → k < i → p (get_or xs k d) ≡ false) → AllByRecursion (λ x. p x ≡ false) (take i xs)
 none_before p [] zero d none = tt
 none_before p [] (suc i) d none = tt
 none_before p (x ∷ xs) zero d none = tt
@@ -127,7 +127,7 @@ none_from : {X : Type 0} (p : X → Bool) (n : ℕ) (xs : List X) → position_f
 none_from p n [] e = tt
 none_from p n (x ∷ xs) e = let parts = none_step (p x) n (position_from p (n + 1) xs) e in (parts.0, none_from p (n + 1) xs parts.1)
 
-no_position : {X : Type 0} (p : X → Bool) (xs : List X) → position p xs ≡ None → AllByRecursion (λ x. p x ≡ false) xs
+pub no_position : {X : Type 0} (p : X → Bool) (xs : List X) → position p xs ≡ None → AllByRecursion (λ x. p x ≡ false) xs
 no_position p xs e = none_from p 0 xs (sym (position_from-zero p xs) ∙ e)
 
 -- ---- the entry that is due first
@@ -135,21 +135,21 @@ no_position p xs e = none_from p 0 xs (sym (position_from-zero p xs) ∙ e)
 -- This index is that of the entry that is due first: a response of the earliest time, a Pong that no entry precedes, or
 -- none.
 pub record HasIndex (now : ℕ) (held : List PendingEntryValue) (index : Option ℕ) : Type 0 where
-  pub answer : (token : List ℕ) (moment : ℕ) → held_at held index ≡ Some (Answer token moment) → IsDueFirst now held token moment (without_at held index)
+  pub answer : (by : Responder) (token : List ℕ) (moment : ℕ) → held_at held index ≡ Some (Answer by token moment) → IsDueFirst now held by token moment (without_at held index)
   pub pong : (token : List ℕ) → held_at held index ≡ Some (Pong token) → held ≡ Pong token ∷ without_at held index
   pub nothing : held_at held index ≡ None → NothingIsDue now held × (without_at held index ≡ held)
   pub alone : (token : List ℕ) → held_at held index ≡ Some (Pong token) → AllByRecursion (λ e. due_moment now e ≡ None) held
 
 -- The first response of the earliest time is due first.
 answer_found : (now least : ℕ) (held : List PendingEntryValue) (i : ℕ) (e : PendingEntryValue) → reduce min (filter_map (due_moment now) held) ≡ Some least → position (is_answer_at least) held ≡ Some i → slice_get held i ≡ Some e → is_answer_at least e ≡ true →
-    (token : List ℕ) (moment : ℕ) → e ≡ Answer token moment → IsDueFirst now held token moment (remove held i)
-answer_found now least held i e come_least found there passes token moment is =
-    let at : is_answer_at least (Answer token moment) ≡ true = subst (λ (x : PendingEntryValue). is_answer_at least x ≡ true) is passes in
+    (by : Responder) (token : List ℕ) (moment : ℕ) → e ≡ Answer by token moment → IsDueFirst now held by token moment (remove held i)
+answer_found now least held i e come_least found there passes by token moment is =
+    let at : is_answer_at least (Answer by token moment) ≡ true = subst (λ (x : PendingEntryValue). is_answer_at least x ≡ true) is passes in
     let same : moment ≡ least = eqb-true moment least at in
     record {
       before = take i held;
       after = drop (suc i) held;
-      there = split_at held i (Answer token moment) (there ∙ ap (λ (x : PendingEntryValue). Some x) is);
+      there = split_at held i (Answer by token moment) (there ∙ ap (λ (x : PendingEntryValue). Some x) is);
       without = refl;
       has_come = omega (arith, same, reduce_within least now (filter_map (due_moment now) held) (all_within now held) come_least);
       least = subst (λ (n : ℕ). AllByRecursion (λ x. (other : ℕ) → due_moment now x ≡ Some other → n ≤ other) held) (sym same) (all_least now least held (reduce_least least (filter_map (due_moment now) held) come_least));
@@ -162,7 +162,7 @@ no_pong_passes least e token passes is = let bad : ◌≡◌ {A = Bool} false tr
 answer_index_has : (now least : ℕ) (held : List PendingEntryValue) (i : ℕ) (e : PendingEntryValue) → reduce min (filter_map (due_moment now) held) ≡ Some least → position (is_answer_at least) held ≡ Some i → slice_get held i ≡ Some e → is_answer_at least e ≡ true →
     HasIndex now held (Some i)
 answer_index_has now least held i e come_least found there passes = record {
-  answer = λ token moment is. let same : e ≡ Answer token moment = cc in answer_found now least held i e come_least found there passes token moment same;
+  answer = λ by token moment is. let same : e ≡ Answer by token moment = cc in answer_found now least held i e come_least found there passes by token moment same;
   pong = λ token is. let same : e ≡ Pong token = cc in absurd (no_pong_passes least e token passes same);
   nothing = λ is. absurd cc;
   alone = λ token is. let same : e ≡ Pong token = cc in absurd (no_pong_passes least e token passes same);
@@ -177,10 +177,10 @@ found_has now least held i come_least found =
 
 -- The case in which no response is due.
 pong_index_has : (now : ℕ) (held : List PendingEntryValue) → AllByRecursion (λ e. due_moment now e ≡ None) held → HasIndex now held (pong_index held)
-pong_index_has now [] none = record { answer = λ token moment is. absurd cc; pong = λ token is. absurd cc; nothing = λ is. ((none, refl), refl); alone = λ token is. none }
-pong_index_has now (Answer token moment ∷ held) none = record { answer = λ other at is. absurd cc; pong = λ other is. absurd cc; nothing = λ is. ((none, refl), refl); alone = λ other is. none }
+pong_index_has now [] none = record { answer = λ by token moment is. absurd cc; pong = λ token is. absurd cc; nothing = λ is. ((none, refl), refl); alone = λ token is. none }
+pong_index_has now (Answer by token moment ∷ held) none = record { answer = λ other_by other at is. absurd cc; pong = λ other is. absurd cc; nothing = λ is. ((none, refl), refl); alone = λ other is. none }
 pong_index_has now (Pong token ∷ held) none = record {
-  answer = λ other at is. absurd cc;
+  answer = λ other_by other at is. absurd cc;
   pong = λ other is. let same : token ≡ other = cc in ap (λ (t : List ℕ). Pong t ∷ held) same;
   nothing = λ is. absurd cc;
   alone = λ other is. none;
@@ -197,7 +197,7 @@ has_index : (now : ℕ) (held : List PendingEntryValue) → HasIndex now held (d
 unfolding due_index
 has_index now held = index_at now held (earliest_due now held) (answer_index (earliest_due now held) held) refl refl
 
-pub due_answer : (now : ℕ) (held : List PendingEntryValue) (token : List ℕ) (moment : ℕ) → first_due now held ≡ Some (Answer token moment) → IsDueFirst now held token moment (without_due now held)
+pub due_answer : (now : ℕ) (held : List PendingEntryValue) (by : Responder) (token : List ℕ) (moment : ℕ) → first_due now held ≡ Some (Answer by token moment) → IsDueFirst now held by token moment (without_due now held)
 unfolding first_due without_due
 due_answer now held = (has_index now held).answer
 

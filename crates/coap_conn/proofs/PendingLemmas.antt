@@ -1,6 +1,6 @@
 -- The pending entries of the code, as values: the entry that is due first, and removal.
 use Rattle.std.proofs.Common.{◌≡◌, ℕ, suc, ◌+◌, ◌<◌, Bool, true, false, not, cond, List, [], ◌∷◌, ◌++◌, length, map, take, drop, remove, slice_get, position, Option, Some, None, refl, sym, ap, subst, ◌∙◌, arith}
-use Rattle.coap_conn.specs.Prelude.{IfSome, nat_lt, option_map, filter_map, cons_option, position_or_len, PendingEntry}
+use Rattle.coap_conn.specs.Prelude.{Responder, IfSome, nat_lt, option_map, filter_map, cons_option, position_or_len, PendingEntry}
 use Rattle.coap_conn.specs.Prelude.{PendingEntryValue, Answer, Pong, earliest_due, is_answer_at, answer_index, pong_index}
 use Rattle.coap_conn.specs.Prelude.{else_index, due_index, held_at, without_at, first_due, without_due, held_value}
 use Rattle.coap_conn.specs.Prelude.{stay, send, pong_with, due_effect, LinkValue, standing_in, link_with, link_after}
@@ -41,7 +41,7 @@ answer_inside (Some moment) held =
 
 pong_inside : (held : List PendingEntryValue) → IsIndexOf held (pong_index held)
 pong_inside [] = tt
-pong_inside (Answer token moment ∷ later) = tt
+pong_inside (Answer by token moment ∷ later) = tt
 pong_inside (Pong token ∷ later) = omega arith
 
 else_inside : (held : List PendingEntryValue) (one other : Option ℕ) → IsIndexOf held one → IsIndexOf held other → IsIndexOf held (else_index one other)
@@ -56,6 +56,12 @@ due_inside now held = else_inside held (answer_index (earliest_due now held) hel
 pub due_within : (now : ℕ) (held : List PendingEntry) → IfSome (due_index now (map held_value held)) (λ i. i < length held)
 due_within now held =
     subst (λ (n : ℕ). IfSome (due_index now (map held_value held)) (λ i. i < n)) (length-map held held_value) (due_inside now (map held_value held))
+
+-- The position of an entry that passes a test is within the list.
+pub position_within : (test : PendingEntryValue → Bool) (held : List PendingEntry) → IfSome (position test (map held_value held)) (λ i. i < length held)
+position_within test held =
+    subst (λ (n : ℕ). IfSome (position test (map held_value held)) (λ i. i < n)) (length-map held held_value)
+    (cond_both (nat_lt (position_or_len test (map held_value held)) (length (map held_value held))) _ _ (IsIndexOf (map held_value held)) (λ e. ltb-true _ _ e) (λ e. tt))
 
 -- ---- removal
 
@@ -97,10 +103,10 @@ stay_keeps_link v rest = ap (λ (w : List ℕ). record v { waiting = w; held = r
 pub nothing_due : (v : LinkValue) (now : ℕ) → due_index now v.held ≡ None → v ≡ link_after v (call.Due now)
 nothing_due v now is = sym (link_after_due v now None v.held (nothing_first now v.held is) (nothing_out now v.held is) ∙ stay_keeps_link v v.held)
 
-pub answer_due : (v : LinkValue) (now i : ℕ) (token : List ℕ) (moment : ℕ) → due_index now v.held ≡ Some i → slice_get v.held i ≡ Some (Answer token moment)
+pub answer_due : (v : LinkValue) (now i : ℕ) (by : Responder) (token : List ℕ) (moment : ℕ) → due_index now v.held ≡ Some i → slice_get v.held i ≡ Some (Answer by token moment)
     → record v { held = remove v.held i } ≡ link_after v (call.Due now)
-answer_due v now i token moment is there =
-    sym (link_after_due v now (Some (Answer token moment)) (remove v.held i) (first_at_index now v.held i _ is there) (rest_at_index now v.held i is) ∙ stay_keeps_link v (remove v.held i))
+answer_due v now i by token moment is there =
+    sym (link_after_due v now (Some (Answer by token moment)) (remove v.held i) (first_at_index now v.held i _ is there) (rest_at_index now v.held i is) ∙ stay_keeps_link v (remove v.held i))
 
 abbrev pub link_sent : LinkValue → List ℕ → LinkValue
 link_sent v token = link_with v (send (standing_in v) (pong_with true token) (pong_with false token))

@@ -1,6 +1,6 @@
 -- Examples of the definitions of pending and outstanding entries, with plain values.
 use Rattle.std.proofs.Common.{◌≡◌, ℕ, true, false, List, [], ◌∷◌, Some, None, refl}
-use Rattle.coap_conn.specs.Prelude.{CoapOption, Message, spelling, bytes_of_uint, known_behind, is_recognised}
+use Rattle.coap_conn.specs.Prelude.{Engine, Application, CoapOption, Message, spelling, bytes_of_uint, known_behind, is_recognised}
 use Rattle.coap_conn.specs.Prelude.{kind_of, first_critical_behind, Server, Client, TooMany, TooBig, NoRoom}
 use Rattle.coap_conn.specs.Prelude.{TokensSpent, NoSuchToken, PendingEntryValue, Answer, Pong, due_index, first_due}
 use Rattle.coap_conn.specs.Prelude.{without_due, OutstandingValue, Observation, Ping, is_notification}
@@ -15,47 +15,47 @@ use Rattle.coap_conn.specs.Verdicts as verdict
 -- ---- the entry that is due first
 
 -- Of two responses with the earliest time, the first one is due.
-least_first : (a b c : List ℕ) → first_due 9 (Answer a 5 ∷ Answer b 3 ∷ Answer c 3 ∷ []) ≡ Some (Answer b 3)
+least_first : (a b c : List ℕ) → first_due 9 (Answer Engine a 5 ∷ Answer Engine b 3 ∷ Answer Engine c 3 ∷ []) ≡ Some (Answer Engine b 3)
 unfolding first_due due_index
 least_first a b c = refl
 
-least_taken : (a b c : List ℕ) → without_due 9 (Answer a 5 ∷ Answer b 3 ∷ Answer c 3 ∷ []) ≡ Answer a 5 ∷ Answer c 3 ∷ []
+least_taken : (a b c : List ℕ) → without_due 9 (Answer Engine a 5 ∷ Answer Engine b 3 ∷ Answer Engine c 3 ∷ []) ≡ Answer Engine a 5 ∷ Answer Engine c 3 ∷ []
 unfolding without_due due_index
 least_taken a b c = refl
 
 -- A Pong that no entry precedes is due if no response is.
-pong_first : (p a : List ℕ) → first_due 9 (Pong p ∷ Answer a 12 ∷ []) ≡ Some (Pong p)
+pong_first : (p a : List ℕ) → first_due 9 (Pong p ∷ Answer Engine a 12 ∷ []) ≡ Some (Pong p)
 unfolding first_due due_index
 pong_first p a = refl
 
-pong_taken : (p a : List ℕ) → without_due 9 (Pong p ∷ Answer a 12 ∷ []) ≡ Answer a 12 ∷ []
+pong_taken : (p a : List ℕ) → without_due 9 (Pong p ∷ Answer Engine a 12 ∷ []) ≡ Answer Engine a 12 ∷ []
 unfolding without_due due_index
 pong_taken p a = refl
 
 -- A Pong waits for a response that precedes it, although that is not due yet.
-pong_waits : (a p : List ℕ) → first_due 9 (Answer a 12 ∷ Pong p ∷ []) ≡ None
+pong_waits : (a p : List ℕ) → first_due 9 (Answer Engine a 12 ∷ Pong p ∷ []) ≡ None
 unfolding first_due due_index
 pong_waits a p = refl
 
-none_let_go : (a p : List ℕ) → without_due 9 (Answer a 12 ∷ Pong p ∷ []) ≡ Answer a 12 ∷ Pong p ∷ []
+none_let_go : (a p : List ℕ) → without_due 9 (Answer Engine a 12 ∷ Pong p ∷ []) ≡ Answer Engine a 12 ∷ Pong p ∷ []
 unfolding without_due due_index
 none_let_go a p = refl
 
 -- A response that is due precedes a Pong that is earlier in the list.
-answer_before_pong : (p a : List ℕ) → first_due 9 (Pong p ∷ Answer a 3 ∷ []) ≡ Some (Answer a 3)
+answer_before_pong : (p a : List ℕ) → first_due 9 (Pong p ∷ Answer Engine a 3 ∷ []) ≡ Some (Answer Engine a 3)
 unfolding first_due due_index
 answer_before_pong p a = refl
 
-pong_left : (p a : List ℕ) → without_due 9 (Pong p ∷ Answer a 3 ∷ []) ≡ Pong p ∷ []
+pong_left : (p a : List ℕ) → without_due 9 (Pong p ∷ Answer Engine a 3 ∷ []) ≡ Pong p ∷ []
 unfolding without_due due_index
 pong_left p a = refl
 
 -- A response is due at exactly its time, and not before.
-due_at_its_moment : (a : List ℕ) → first_due 9 (Answer a 9 ∷ []) ≡ Some (Answer a 9)
+due_at_its_moment : (a : List ℕ) → first_due 9 (Answer Engine a 9 ∷ []) ≡ Some (Answer Engine a 9)
 unfolding first_due due_index
 due_at_its_moment a = refl
 
-not_before : (a : List ℕ) → first_due 8 (Answer a 9 ∷ []) ≡ None
+not_before : (a : List ℕ) → first_due 8 (Answer Engine a 9 ∷ []) ≡ None
 unfolding first_due due_index
 not_before a = refl
 
@@ -84,17 +84,17 @@ unfolding react live_reaction spelling
 pong_at_once = refl
 
 -- If one entry is pending and the limit is 2, the Pong becomes pending.
-pong_held : (a : List ℕ) (moment : ℕ) → react (server (Answer a moment ∷ []) 2) custody_ping ≡ is_done (record { queued = []; phase = phase.Open; held = Answer a moment ∷ Pong (7 ∷ []) ∷ []; outstanding = [] })
+pong_held : (a : List ℕ) (moment : ℕ) → react (server (Answer Engine a moment ∷ []) 2) custody_ping ≡ is_done (record { queued = []; phase = phase.Open; held = Answer Engine a moment ∷ Pong (7 ∷ []) ∷ []; outstanding = [] })
 unfolding react live_reaction spelling
 pong_held a moment = refl
 
 -- If one entry is pending and the limit is 1, the Pong has no Custody.
-pong_without_custody : (a : List ℕ) (moment : ℕ) → react (server (Answer a moment ∷ []) 1) custody_ping ≡ is_done (record { queued = plain_pong ∷ []; phase = phase.Open; held = Answer a moment ∷ []; outstanding = [] })
+pong_without_custody : (a : List ℕ) (moment : ℕ) → react (server (Answer Engine a moment ∷ []) 1) custody_ping ≡ is_done (record { queued = plain_pong ∷ []; phase = phase.Open; held = Answer Engine a moment ∷ []; outstanding = [] })
 unfolding react live_reaction spelling
 pong_without_custody a moment = refl
 
 -- A Pong that was pending has Custody when it is due.
-held_pong_sent : (a : List ℕ) → due_effect (server (Answer a 12 ∷ []) 2) (Some (Pong (7 ∷ []))) ≡ record { queued = custody_pong ∷ []; phase = phase.Open; held = Answer a 12 ∷ []; outstanding = [] }
+held_pong_sent : (a : List ℕ) → due_effect (server (Answer Engine a 12 ∷ []) 2) (Some (Pong (7 ∷ []))) ≡ record { queued = custody_pong ∷ []; phase = phase.Open; held = Answer Engine a 12 ∷ []; outstanding = [] }
 unfolding spelling
 held_pong_sent a = refl
 
@@ -105,13 +105,13 @@ bare_message code = record { code = code; token = []; options = []; payload = []
 
 -- A Release keeps the pending entries.
 release_keeps : (a p : List ℕ) (moment : ℕ) →
-    react (server (Answer a moment ∷ Pong p ∷ []) 2) (bare_message 228) ≡ record { effect = record { queued = []; phase = phase.Releasing reason.PeerRelease; held = Answer a moment ∷ Pong p ∷ []; outstanding = [] }; verdict = verdict.Stopped reason.PeerRelease }
+    react (server (Answer Engine a moment ∷ Pong p ∷ []) 2) (bare_message 228) ≡ record { effect = record { queued = []; phase = phase.Releasing reason.PeerRelease; held = Answer Engine a moment ∷ Pong p ∷ []; outstanding = [] }; verdict = verdict.Stopped reason.PeerRelease }
 unfolding react live_reaction
 release_keeps a p moment = refl
 
 -- An Abort drops them.
 abort_gives_up : (a p : List ℕ) (moment : ℕ) →
-    react (server (Answer a moment ∷ Pong p ∷ []) 2) (bare_message 229) ≡ record { effect = record { queued = []; phase = phase.Stopped reason.PeerAbort; held = []; outstanding = [] }; verdict = verdict.Stopped reason.PeerAbort }
+    react (server (Answer Engine a moment ∷ Pong p ∷ []) 2) (bare_message 229) ≡ record { effect = record { queued = []; phase = phase.Stopped reason.PeerAbort; held = []; outstanding = [] }; verdict = verdict.Stopped reason.PeerAbort }
 unfolding react live_reaction
 abort_gives_up a p moment = refl
 
@@ -195,8 +195,8 @@ pong_to_nothing = refl
 
 -- A Release drops the outstanding entries and keeps the pending ones.
 release_gives_up : (a : List ℕ) (moment : ℕ) →
-    react (record (client (Request (1 ∷ []) ∷ Ping (2 ∷ []) ∷ [])) { held = Answer a moment ∷ [] }) (bare_message 228)
-    ≡ record { effect = record { queued = []; phase = phase.Releasing reason.PeerRelease; held = Answer a moment ∷ []; outstanding = [] }; verdict = verdict.Stopped reason.PeerRelease }
+    react (record (client (Request (1 ∷ []) ∷ Ping (2 ∷ []) ∷ [])) { held = Answer Engine a moment ∷ [] }) (bare_message 228)
+    ≡ record { effect = record { queued = []; phase = phase.Releasing reason.PeerRelease; held = Answer Engine a moment ∷ []; outstanding = [] }; verdict = verdict.Stopped reason.PeerRelease }
 unfolding react live_reaction
 release_gives_up a moment = refl
 

@@ -1,10 +1,12 @@
 -- Defined by this project: kinds of calls that theorems distinguish.
 use Rattle.std.specs.Prelude.{Bool, true, false}
-use Rattle.coap_conn.specs.Calls.{Call, Reply, Due, Written, Request, Ping, Announce}
+use Rattle.coap_conn.specs.Calls.{Call, Reply, Respond, Due, Written, Request, Ping, Announce}
 
--- True if a call has no effect when no message is accepted: any call but `Reply`, `Due` and `Written`.
+-- True if a call has no effect when no message is accepted: any call but `Reply`,
+-- `Respond`, `Due` and `Written`.
 abbrev pub needs_live : Call → Bool
 needs_live (Reply m) = false
+needs_live (Respond m) = false
 needs_live (Due now) = false
 needs_live (Written n) = false
 needs_live other = true

@@ -8,7 +8,9 @@ use Rattle.coap_conn.specs.declared.phase.Reject.{Reject as Fault}
 use Rattle.coap_conn.specs.Phases.{takes_messages, answers, is_open}
 use Rattle.coap_conn.specs.Rejects.{reject_reason}
 use Rattle.coap_conn.specs.Fit.{fits, bare_response}
-use Rattle.coap_conn.specs.PendingEntries.{PendingEntryValue, Answer, first_due, without_due}
+use Rattle.coap_conn.specs.PendingEntries.{PendingEntryValue, Answer, first_due, without_due, without_request}
+use Rattle.coap_conn.specs.declared.pending.Responder.TheVariants.{Engine, Application}
+use Rattle.coap_conn.specs.Responses.{response_refusal}
 use Rattle.coap_conn.specs.Outstanding.{OutstandingValue, with_cancelled}
 use Rattle.coap_conn.specs.Outstanding as outstanding
 use Rattle.coap_conn.specs.RequestState.{asking_refusal, cancel_refusal, next_token, with_token, entry_of, ping_with}
@@ -21,6 +23,8 @@ use Rattle.coap_conn.specs.LinkValue.{LinkValue, can_hold, standing_in, asking_i
 -- - `End`: the input ends, within a frame if `cut`.
 -- - `Reply`: a response is sent.
 -- - `Hold`: a response is delayed until `moment`.
+-- - `HoldRequest`: a request waits for a response of the application until `moment`.
+-- - `Respond`: the application's response to the first such request with its token is sent.
 -- - `Due`: the entry that is due first at `now` is removed from the pending list.
 -- - `Release`: the local endpoint releases the connection.
 -- - `Request`: a request is sent, for an observation if `observe`.
@@ -34,6 +38,8 @@ pub data Call : Type 0 where
   End : (cut : Bool) → Call
   Reply : (m : Message) → Call
   Hold : (token : List ℕ) (moment : ℕ) → Call
+  HoldRequest : (token : List ℕ) (moment : ℕ) → Call
+  Respond : (m : Message) → Call
   Due : (now : ℕ) → Call
   Release : Call
   Request : (m : Message) (observe : Bool) → Call
@@ -81,6 +87,10 @@ release = record { code = code.release; token = []; options = []; payload = [] }
 abbrev pub standing_due : ℕ → ConnectionState → ConnectionState
 standing_due now s = record s { held = without_due now s.held }
 
+-- The state without the first request with this token that waits for a response of the application.
+abbrev pub standing_without : List ℕ → ConnectionState → ConnectionState
+standing_without token s = record s { held = without_request token s.held }
+
 -- The effect of sending `m`, or `less` if `m` is too large, in the phases that send responses. In other phases there is
 -- none.
 abbrev pub sends_one : LinkValue → Message → Message → Doing
@@ -104,7 +114,10 @@ call_effect v (Handle m) = where_so (takes_messages v.phase) (Handles m (react (
 call_effect v (Reject fault) = where_so (takes_messages v.phase) (Does (abort (standing_in v) (reject_reason fault)))
 call_effect v (End cut) = where_so (takes_messages v.phase) (Does (stop (standing_in v) (end_reason cut) []))
 call_effect v (Reply m) = sends_one v m (bare_response m)
-call_effect v (Hold token moment) = where_so (is_open v.phase && can_hold v) (Holds (Answer token moment))
+call_effect v (Hold token moment) = where_so (is_open v.phase && can_hold v) (Holds (Answer Engine token moment))
+call_effect v (HoldRequest token moment) = where_so (is_open v.phase && can_hold v) (Holds (Answer Application token moment))
+call_effect v (Respond m) =
+    where_so (answers v.phase && is_none (response_refusal v m)) (Does (send (standing_without m.token (standing_in v)) m (bare_response m)))
 call_effect v (Due now) = where_so true (Does (due_effect (standing_due now (standing_in v)) (first_due now v.held)))
 call_effect v Release = where_so (is_open v.phase) (Does (stop (standing_in v) ReleasedHere (release ∷ [])))
 call_effect v (Request m observe) = asks_one v (with_token m (next_token v.tokens)) (entry_of observe (next_token v.tokens))

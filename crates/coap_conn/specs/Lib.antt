@@ -1,5 +1,3 @@
-pub mod Limits
-pub mod LimitViews
 pub mod SignalOptions
 pub mod Phases
 pub mod Reasons
@@ -9,6 +7,7 @@ pub mod Fit
 pub mod Verdicts
 pub mod PendingEntries
 pub mod PendingEntryViews
+pub mod Responses
 pub mod Outstanding
 pub mod OutstandingViews
 pub mod Reaction

@@ -14,6 +14,7 @@ pub use Rattle.coap_wire.specs.Forms.{length_form, option_form, token_form}
 pub use Rattle.coap_wire.specs.Message.{Message, CoapOption}
 pub use Rattle.coap_wire.specs.Recognition.{is_critical}
 unfoldable pub use Rattle.coap_wire.specs.Recognition.{first_critical_behind, is_recognised, kind_of, known_behind}
+unfoldable pub use Rattle.coap_wire.specs.Reading.{message_of}
 pub use Rattle.coap_wire.specs.Refusal.{RefusedBy}
 pub use Rattle.coap_wire.specs.Spelling.{body_spelling, head_spelling, option_spelling}
 pub use Rattle.coap_wire.specs.CompactViews.{encoded_size}
@@ -28,30 +29,36 @@ pub use Rattle.coap_conn.specs.Announced.{is_bad, first_size, has_critical_optio
 pub use Rattle.coap_conn.specs.Announced.{token_length, token_told, announcement, token_announcement, csm_size}
 pub use Rattle.coap_conn.specs.Announced.{csm_token, is_size, is_token_length, last_or, last_told}
 unfoldable pub use Rattle.coap_conn.specs.Announced.{announced, announced_token}
-pub use Rattle.coap_conn.specs.RequestState.{next_token, observation_refusal, size_refusal, with_token, ping_with, RequestState}
+pub use Rattle.coap_conn.specs.RequestState.{next_token, observation_refusal, size_refusal, with_token, ping_with}
+pub use Rattle.coap_conn.specs.RequestState.{RequestState}
 pub use Rattle.coap_conn.specs.RequestState.{else_refusal, entry_of, has_observation, token_refusal}
 unfoldable pub use Rattle.coap_conn.specs.RequestState.{asking_refusal, cancel_refusal, new_refusal}
 pub use Rattle.coap_conn.specs.CallKinds.{needs_live, gives_token, announces}
 pub use Rattle.coap_conn.specs.Calls.{Call, release, may_announce, link_after, Announces, Asks, CallEffect, Does, Doing}
-pub use Rattle.coap_conn.specs.Calls.{Handles, Holds, IsWithin, Writes, asks_one, call_effect, link_done, link_with_deed}
-pub use Rattle.coap_conn.specs.Calls.{standing_due}
+pub use Rattle.coap_conn.specs.Calls.{Handles, Holds, IsWithin, Writes, asks_one, call_effect, link_done}
+pub use Rattle.coap_conn.specs.Calls.{link_with_deed}
+pub use Rattle.coap_conn.specs.Calls.{standing_due, standing_without}
 pub use Rattle.coap_conn.specs.Fit.{AllFit, fit, fits, fitted, bare_response, abort_fitted, without_options}
 pub use Rattle.coap_conn.specs.Fit.{without_payload}
-pub use Rattle.coap_conn.specs.PendingEntries.{PendingEntryValue, Answer, Pong, NothingIsDue, IsDueFirst, due_moment, next_moment}
-pub use Rattle.coap_conn.specs.PendingEntries.{AnAnswer, due_told, is_answer_at, earliest_due, answer_index, pong_index, future_moment}
+pub use Rattle.coap_conn.specs.PendingEntries.{PendingEntryValue, Answer, Pong, NothingIsDue, IsDueFirst, due_moment}
+pub use Rattle.coap_conn.specs.PendingEntries.{next_moment}
+pub use Rattle.coap_conn.specs.PendingEntries.{AnAnswer, due_told, is_answer_at, earliest_due, answer_index, pong_index}
+pub use Rattle.coap_conn.specs.PendingEntries.{future_moment}
 pub use Rattle.coap_conn.specs.PendingEntries.{else_index, held_at, without_at}
-unfoldable pub use Rattle.coap_conn.specs.PendingEntries.{first_due, without_due, due_index}
+pub use Rattle.coap_conn.specs.PendingEntries.{answer_told, is_request_for, has_request, IsFirstRequest, AnExpired}
+unfoldable pub use Rattle.coap_conn.specs.PendingEntries.{first_due, without_due, due_index, without_request}
 pub use Rattle.coap_conn.specs.PendingEntryViews.{due_value, held_value}
 pub use Rattle.coap_conn.specs.History.{History, AnnouncedFirst, link_of, new_history, limit_now, standing_now, after}
 pub use Rattle.coap_conn.specs.History.{after_send, asking_now, after_asking, LinkShows, IsHistory, may_hold}
 pub use Rattle.coap_conn.specs.History.{with_deed, with_effect}
-pub use Rattle.coap_conn.specs.Limits.{LimitValues, AreInRange, limits_of, limit_refusal, default_limits}
+pub use Rattle.coap_limits.specs.Limits.{LimitValues, AreInRange, limits_of, limit_refusal, default_limits}
 pub use Rattle.coap_conn.specs.LinkValue.{own_csm, IsLink, IsReady, free_in, limit_in, is_finished, new_link}
 pub use Rattle.coap_conn.specs.LinkValue.{bytes_of, asking_in, standing_in, link_with, link_handled, link_after_csm}
 pub use Rattle.coap_conn.specs.LinkValue.{can_hold, csm_with, first_csm_with, first_csm, LinkValue, link_heard}
 pub use Rattle.coap_conn.specs.LinkValue.{own_token_length, sizes_of}
 pub use Rattle.coap_conn.specs.LinkViews.{verdict_value, link_value}
-pub use Rattle.coap_conn.specs.Outstanding.{matches_response, matches_pong, may_cancel, is_last, has_observe, without_asked}
+pub use Rattle.coap_conn.specs.Outstanding.{matches_response, matches_pong, may_cancel, is_last, has_observe}
+pub use Rattle.coap_conn.specs.Outstanding.{without_asked}
 pub use Rattle.coap_conn.specs.Outstanding.{without_pinged, with_cancelled, cancelled_by, OutstandingValue}
 pub use Rattle.coap_conn.specs.Outstanding.{is_request_entry, Observation, Ping}
 unfoldable pub use Rattle.coap_conn.specs.Outstanding.{is_notification}
@@ -61,7 +68,8 @@ pub use Rattle.coap_conn.specs.QueueValue.{IsNextPart, free_of, IsQueue}
 pub use Rattle.coap_conn.specs.Reaction.{asks_custody, ConnectionState, send, abort, stay, due_effect, is_custody_pong}
 pub use Rattle.coap_conn.specs.Reaction.{is_reserved, is_signal, is_method, checks_critical_options, csm_reaction}
 pub use Rattle.coap_conn.specs.Reaction.{open_reaction, ping_reaction, request_reaction, release_reaction}
-pub use Rattle.coap_conn.specs.Reaction.{response_reaction, pong_reaction, stop, told_of, pong_with, sends, ReactionResult}
+pub use Rattle.coap_conn.specs.Reaction.{response_reaction, pong_reaction, stop, told_of, pong_with, sends}
+pub use Rattle.coap_conn.specs.Reaction.{ReactionResult}
 pub use Rattle.coap_conn.specs.Reaction.{Reaction, answered, becomes, holds, late_pong, leaves, not_implemented}
 pub use Rattle.coap_conn.specs.Reaction.{pong_of, reaction_unless, send_as, tells, aborts, is_asking, is_response}
 unfoldable pub use Rattle.coap_conn.specs.Reaction.{react, live_reaction}
@@ -69,11 +77,16 @@ pub use Rattle.coap_conn.specs.Reasons.{abort_text, abort_with, number_told, tol
 pub use Rattle.coap_conn.specs.Reasons.{abort_options, message_reason}
 pub use Rattle.coap_conn.specs.Rejects.{reject_of_frame, reject_reason}
 pub use Rattle.coap_conn.specs.Release.{release_refusal}
+pub use Rattle.coap_conn.specs.Responses.{observes, is_plain_response, sent_length, room_refusal, frame_refusal}
+pub use Rattle.coap_conn.specs.Responses.{OnMessage}
+unfoldable pub use Rattle.coap_conn.specs.Responses.{response_refusal}
 pub use Rattle.coap_conn.specs.RingLends.{ring_row, lends_bytes}
 pub use Rattle.coap_conn.specs.Verdicts.{Request, VerdictValue}
 -- ---- coap_conn, declared
 pub use Rattle.coap_conn.specs.declared.outstanding.Outstanding.{Outstanding}
 pub use Rattle.coap_conn.specs.declared.pending.PendingEntry.{PendingEntry}
+pub use Rattle.coap_conn.specs.declared.pending.Responder.{Responder}
+pub use Rattle.coap_conn.specs.declared.pending.Responder.TheVariants.{Engine, Application}
 pub use Rattle.coap_conn.specs.declared.phase.Phase.{Phase}
 pub use Rattle.coap_conn.specs.declared.phase.Reject.{Reject}
 pub use Rattle.coap_conn.specs.declared.phase.Reply.{Reply}
@@ -81,6 +94,7 @@ pub use Rattle.coap_conn.specs.declared.phase.Reply.TheVariants.{Bare, Stopped, 
 pub use Rattle.coap_conn.specs.declared.phase.RequestFault.{RequestFault}
 pub use Rattle.coap_conn.specs.declared.phase.RequestFault.TheVariants.{NoRoom, NoSuchToken, NotOpen, TokensSpent}
 pub use Rattle.coap_conn.specs.declared.phase.RequestFault.TheVariants.{TooBig, TooMany}
+pub use Rattle.coap_conn.specs.declared.phase.RespondFault.{RespondFault}
 pub use Rattle.coap_conn.specs.declared.phase.Role.{Role}
 pub use Rattle.coap_conn.specs.declared.phase.Role.TheVariants.{Client, Server}
 pub use Rattle.coap_conn.specs.declared.reason.Reason.{Reason}

@@ -238,5 +238,5 @@ react s m = reaction_unless s m (stop_of s.phase)
 -- without if only that fits.
 abbrev pub due_effect : ConnectionState → Option PendingEntryValue → ReactionResult
 due_effect s None = stay s
-due_effect s (Some (Answer token moment)) = stay s
+due_effect s (Some (Answer by token moment)) = stay s
 due_effect s (Some (Pong token)) = send s (pong_with true token) (pong_with false token)

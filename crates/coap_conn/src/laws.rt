@@ -10,10 +10,13 @@ ghost use Rattle.coap_conn.specs.Prelude.{after, after_send, asking_now, after_a
 ghost use Rattle.coap_conn.specs.Prelude.{needs_live, gives_token, announces, asking_refusal, cancel_refusal};
 ghost use Rattle.coap_conn.specs.Prelude.{next_token, OutstandingValue, matches_response, matches_pong};
 ghost use Rattle.coap_conn.specs.Prelude.{is_notification, is_request_entry, without_asked, without_pinged, stop_of};
-ghost use Rattle.coap_conn.specs.Prelude.{PendingEntryValue, Answer, Pong, NothingIsDue, IsDueFirst, due_moment};
+ghost use Rattle.coap_conn.specs.Prelude.{PendingEntryValue, Responder, Answer, Pong, NothingIsDue, IsDueFirst};
+ghost use Rattle.coap_conn.specs.Prelude.{due_moment};
 ghost use Rattle.coap_conn.specs.Prelude.{first_due, without_due, ConnectionState, react, send, abort, stay};
 ghost use Rattle.coap_conn.specs.Prelude.{due_effect, is_custody_pong, asks_custody, is_reserved, is_signal, is_method};
-ghost use Rattle.coap_conn.specs.Prelude.{Request, Reject, Role, Reason};
+ghost use Rattle.coap_conn.specs.Prelude.{Request, Reject, Role, Reason, Whole, fit, fitted, bare_response, answers};
+ghost use Rattle.coap_conn.specs.Prelude.{has_request, without_request, IsFirstRequest, response_refusal};
+ghost use Rattle.coap_conn.specs.Prelude.{standing_without};
 ghost use Rattle.coap_conn.specs.Calls as call;
 ghost use Rattle.coap_wire.specs.Codes as code;
 ghost use Rattle.coap_conn.specs.Verdicts as verdict;
@@ -40,6 +43,8 @@ pub fn queued_messages_fit_limit()
     ensures sent { (h : History) (m less : Message) → AllFit (limit_now h) (send (standing_now h) m less).queued }
     ensures stopped { (h : History) (why : Reason) → AllFit (limit_now h) (abort (standing_now h) why).queued }
     ensures released { (h : History) → 2 ≤ limit_now h → AllFit (limit_now h) (release ∷ []) }
+    ensures responded { (h : History) (m : Message) →
+        AllFit (limit_now h) (send (standing_without m.token (standing_now h)) m (bare_response m)).queued }
     ensures due { (h : History) (e : Option PendingEntryValue) → AllFit (limit_now h) (due_effect (standing_now h) e).queued }
     ensures asked { (h : History) (m : Message) → asking_refusal (asking_now h) m ≡ None →
         AllFit (limit_now h) (m ∷ []) }
@@ -77,7 +82,8 @@ pub fn peer_announces_before_requests()
         bad_csm_option m ≡ None }
 {}
 
-/// States that nothing follows a stop. If no message is accepted, only `Reply`, `Due` and `Written` can have an effect.
+/// States that nothing follows a stop. If no message is accepted, only `Reply`, `Respond`, `Due` and `Written`
+/// can have an effect.
 /// In phase `Stopped` no response is queued either.
 pub fn nothing_follows_a_stop()
     ensures call { (h : History) (c : Call) (why : Reason) → needs_live c ≡ true → stop_of h.phase ≡ Some why →
@@ -91,8 +97,8 @@ pub fn nothing_follows_a_stop()
 /// the earliest time first, and of equal times the first entry. Otherwise a Pong is due that no entry precedes. No
 /// entry is returned only if none is due.
 pub fn due_entry_is_first()
-    ensures answer { (now : ℕ) (held : List PendingEntryValue) (token : List ℕ) (moment : ℕ) →
-        first_due now held ≡ Some (Answer token moment) → IsDueFirst now held token moment (without_due now held) }
+    ensures answer { (now : ℕ) (held : List PendingEntryValue) (by : Responder) (token : List ℕ) (moment : ℕ) →
+        first_due now held ≡ Some (Answer by token moment) → IsDueFirst now held by token moment (without_due now held) }
     ensures pong { (now : ℕ) (held : List PendingEntryValue) (token : List ℕ) → first_due now held ≡ Some (Pong token) →
         held ≡ Pong token ∷ without_due now held }
     ensures alone { (now : ℕ) (held : List PendingEntryValue) (token : List ℕ) → first_due now held ≡ Some (Pong token) →
@@ -101,6 +107,22 @@ pub fn due_entry_is_first()
         NothingIsDue now held × (without_due now held ≡ held) }
     ensures fewer { (now : ℕ) (held : List PendingEntryValue) (e : PendingEntryValue) → first_due now held ≡ Some e →
         length held ≡ 1 + length (without_due now held) }
+{}
+
+/// States that a response of the application answers the first pending request with its token, and no other. The
+/// response that is queued is reduced as `fit` says, and nothing else changes. Without such a request, or in phase
+/// `Stopped`, nothing is queued.
+pub fn application_answers_first_request()
+    ensures first { (held : List PendingEntryValue) (token : List ℕ) → has_request token held ≡ true →
+        IsFirstRequest held token (without_request token held) }
+    ensures others { (held : List PendingEntryValue) (token : List ℕ) → has_request token held ≡ false →
+        without_request token held ≡ held }
+    ensures sent { (h : History) (m : Message) → answers h.phase ≡ true → response_refusal (link_of h) m ≡ None →
+        (after h (call.Respond m)).queued ≡ h.queued ++ fitted m (bare_response m) (fit (limit_now h) m (bare_response m)) }
+    ensures answered { (h : History) (m : Message) → answers h.phase ≡ true → response_refusal (link_of h) m ≡ None →
+        fit (limit_now h) m (bare_response m) ≡ Whole → (after h (call.Respond m)).held ≡ without_request m.token h.held }
+    ensures absent { (h : History) (m : Message) → has_request m.token h.held ≡ false → after h (call.Respond m) ≡ h }
+    ensures stopped { (h : History) (m : Message) (why : Reason) → h.phase ≡ Stopped why → after h (call.Respond m) ≡ h }
 {}
 
 /// States that a Pong with Custody is queued at once only if no entry is pending (RFC 8323 section 5.4.1). The number

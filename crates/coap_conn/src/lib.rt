@@ -2,7 +2,8 @@
 //!
 //! - `Link` is that end. It processes each received message and returns its `Verdict`. It queues messages that fit the
 //!   peer's Max-Message-Size, and keeps delayed responses and outstanding requests.
-//! - `OutQueue` has the bytes that are to be written. `Limits` are the limits of a connection.
+//! - `OutQueue` has the bytes that are to be written. `Limits` are the limits of a connection, re-exported from
+//!   `coap_limits`.
 //! - `Phase`, `Reason` and the types of `phase.rt` are the states of a link and the results of its calls.
 //! - `laws` has the theorems on all histories of a link.
 //!
@@ -14,7 +15,6 @@
 
 mod csm;
 pub mod laws;
-mod limits;
 mod link;
 mod messages;
 mod outstanding;
@@ -24,8 +24,10 @@ mod queue;
 mod reason;
 mod ring;
 
-pub use limits::{LimitFault, Limits, LimitsBuilder};
+pub use coap_limits::{LimitFault, Limits, LimitsBuilder};
 pub use link::Link;
-pub use phase::{Due, Full, Phase, Reject, Reply, RequestFault, Role, SendFault, Verdict};
+pub use phase::{
+    Due, Full, Phase, Reject, Reply, RequestFault, RespondFault, Role, SendFault, Verdict,
+};
 pub use queue::{OutQueue, first_part};
 pub use reason::Reason;

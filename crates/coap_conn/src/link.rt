@@ -3,18 +3,19 @@
 //! The clauses `after`, `answer` and `err` of a call state its exact effect on the `Link`. The clause `shows` states
 //! its meaning: which history of messages the link represents after the call.
 
+mod application;
 mod due_entries;
 mod new_requests;
 mod receive;
 mod transmit;
 
 use crate::csm::BASE_TOKEN;
-use crate::limits::Limits;
 use crate::messages::announce_first;
 use crate::outstanding::Outstanding;
 use crate::pending::{PendingEntry, next_of};
 use crate::phase::{Phase, Role};
 use crate::queue::OutQueue;
+use coap_limits::Limits;
 use coap_wire::BASE_MESSAGE_SIZE;
 use std::alloc::{AllocError, Global};
 use std::marker::Model;

@@ -1,4 +1,5 @@
-//! Entries of the pending list: delayed responses, and Pongs with Custody that wait for them (RFC 8323 section 5.4.1).
+//! Entries of the pending list: delayed responses, requests that wait for a response of the application, and Pongs with
+//! Custody. Such a Pong waits for both (RFC 8323 section 5.4.1).
 
 ghost use Rattle.std.specs.Prelude.{◌≡◌, ℕ, List, map, option_map, filter_map, position, ◌≤◌, ◌<◌, ◌++◌, ◌∷◌, []};
 ghost use Rattle.std.specs.Prelude.{length, not, nat_lt, IfOk, IfSome, Some, slice_get, ◌==◌, remove};
@@ -6,17 +7,29 @@ ghost use Rattle.coap_conn.specs.Prelude.{reduce, due_moment as moment_come, is_
 ghost use Rattle.coap_conn.specs.Prelude.{earliest_due as least_moment, answer_index as index_of_answer};
 ghost use Rattle.coap_conn.specs.Prelude.{due_index as index_due, next_moment as moment_next, pong_index};
 ghost use Rattle.coap_conn.specs.Prelude.{future_moment as moment_to_come, held_value};
+ghost use Rattle.coap_conn.specs.Prelude.{is_request_for as is_request_with};
 
-use coap_wire::Token;
+use coap_wire::{Token, TokenRef};
+
+/// Who gives a pending response.
+#[derive(Clone, Copy, PartialEq, Eq)]
+pub(crate) enum Responder {
+    /// The engine, which sends the response at its time.
+    Engine,
+    /// The application, which may give its response until that time, the deadline of the request.
+    Application,
+}
 
 /// Entry of the pending list. In contracts its value is a `PendingEntryValue`.
 #[derive(Drop)]
 pub(crate) enum PendingEntry {
     /// Response to a request, due at a time.
     Answer {
+        /// Who gives the response.
+        responder: Responder,
         /// Token of the request.
         token: Token,
-        /// Time in seconds at which the response is due.
+        /// Time in seconds at which the response is due, or deadline of the application.
         moment: u64,
     },
     /// Pong with Custody to the Ping with this token, due when no entry precedes it in the list.
@@ -53,6 +66,21 @@ impl PendingEntry {
             PendingEntry::Pong(_) => false,
         }
     }
+
+    /// Returns `true` if the entry is a request with this token that waits for a response of the application.
+    fn is_request_for(&self, token: &TokenRef) -> bool
+        ensures { result ≡ is_request_with token.now (held_value self.now) }
+    {
+        match self {
+            PendingEntry::Answer {
+                responder: Responder::Application,
+                token: asked,
+                ..
+            } => token.equals(asked),
+            PendingEntry::Answer { .. } => false,
+            PendingEntry::Pong(_) => false,
+        }
+    }
 }
 
 /// Returns the index of the entry that is due first at `now`. Responses whose time has come precede Pongs: the earliest
@@ -73,6 +101,14 @@ fn answer_in(held: &[PendingEntry], now: u64) -> Option<usize>
 {
     let least = earliest_due(held, now)?;
     held.iter().position(|one| one.is_answer_at(least))
+}
+
+/// Returns the index of the first request with this token that waits for a response of the application.
+pub(crate) fn request_in(held: &[PendingEntry], token: &TokenRef) -> Option<usize>
+    ensures first { result ≡ position (is_request_with token.now) (map held_value held.now) }
+    ensures within { IfSome result (λ i. i < length held.now) }
+{
+    held.iter().position(|one| one.is_request_for(token))
 }
 
 /// Returns the earliest time of the responses that are due at `now`.

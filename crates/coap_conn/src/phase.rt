@@ -78,6 +78,8 @@ pub enum Verdict<'m> {
 pub enum Due {
     /// Response to the request with this token, which the caller sends.
     Answer(Token),
+    /// Request with this token, which the application has not answered until its deadline. The caller sends a response.
+    Expired(Token),
     /// Pong with Custody, which the link has queued as it fits the peer's limit, or which has stopped the connection
     /// (RFC 8323 section 5.4.1).
     Pong,
@@ -85,7 +87,7 @@ pub enum Due {
     Nothing,
 }
 
-/// Error of `Link::hold`: the pending list has reached its limit.
+/// Error of `Link::hold` and `Link::hold_request`: the pending list has reached its limit.
 #[derive(Clone, Copy, Debug, PartialEq, Eq, Error)]
 #[error("pending list is full")]
 pub struct Full;
@@ -100,6 +102,26 @@ pub enum Reply {
     /// Even the reduced message exceeds the peer's limit; the connection stopped.
     Stopped,
 }
+
+/// Error of `Link::respond`. The discriminant is its number.
+#[derive(Clone, Copy, Debug, PartialEq, Eq, Error)]
+pub enum RespondFault {
+    /// No request with the token of the response waits for a response of the application.
+    #[error("no pending request has the token of the response")]
+    NoSuchRequest = 2,
+    /// The bytes do not encode a message, its code is not that of a response, or it has an Observe option.
+    #[error("not a response without Observe")]
+    NotAResponse = 3,
+    /// The queue has no room for the response.
+    #[error("no room in the queue")]
+    NoRoom = 4,
+}
+
+const _: () = prove!(RespondFault::NoSuchRequest as u8 == 2);
+
+const _: () = prove!(RespondFault::NotAResponse as u8 == 3);
+
+const _: () = prove!(RespondFault::NoRoom as u8 == 4);
 
 /// Kind of malformed input, in the bytes after the last whole message.
 #[derive(Clone, Copy, PartialEq, Eq)]

@@ -189,7 +189,7 @@ impl OutQueue {
     }
 
     /// Appends bytes. There must be room for them.
-    fn extend(&mut self, bytes: &[u8])
+    pub(crate) fn extend(&mut self, bytes: &[u8])
         requires { length bytes.now ≤ free_of self.old }
         ensures { self.new ≡ record self.old { waiting = self.old.waiting ++ bytes.now } }
     {

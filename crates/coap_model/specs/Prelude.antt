@@ -28,17 +28,20 @@ pub use Rattle.coap_wire.specs.declared.sizes.TheConstants.{LARGEST_MESSAGE}
 -- ---- coap_conn
 pub use Rattle.coap_conn.specs.Announced.{announcement, bad_csm_option, csm_size, size_limit, size_unless}
 unfoldable pub use Rattle.coap_conn.specs.Announced.{announced}
-pub use Rattle.coap_conn.specs.Calls.{standing_due, end_reason, Call, call_effect, may_announce, release}
+pub use Rattle.coap_conn.specs.Calls.{standing_due, standing_without, end_reason, Call, call_effect, may_announce}
+pub use Rattle.coap_conn.specs.Calls.{release}
 pub use Rattle.coap_conn.specs.Fit.{AllFit, bare_response, fit, bare_code, fits}
-pub use Rattle.coap_conn.specs.PendingEntries.{PendingEntryValue, Answer, Pong, NothingIsDue, answer_index, due_moment, else_index}
+pub use Rattle.coap_conn.specs.PendingEntries.{PendingEntryValue, Answer, Pong, NothingIsDue, answer_index, due_moment}
+pub use Rattle.coap_conn.specs.PendingEntries.{else_index}
 pub use Rattle.coap_conn.specs.PendingEntries.{held_at, pong_index}
 unfoldable pub use Rattle.coap_conn.specs.PendingEntries.{first_due, without_due, due_index}
 pub use Rattle.coap_conn.specs.History.{limit_now, standing_now, after, History, IsHistory, link_of, may_hold}
 pub use Rattle.coap_conn.specs.History.{new_history, with_effect}
-pub use Rattle.coap_conn.specs.Limits.{LimitValues, AreInRange}
+pub use Rattle.coap_limits.specs.Limits.{LimitValues, AreInRange}
 pub use Rattle.coap_conn.specs.LinkValue.{limit_in, LinkValue, bytes_of, free_in, own_csm}
 pub use Rattle.coap_conn.specs.Phases.{is_open, answers, takes_messages, stop_of}
-pub use Rattle.coap_conn.specs.Reaction.{send, pong_with, is_custody_pong, ReactionResult, Reaction, ConnectionState, abort}
+pub use Rattle.coap_conn.specs.Reaction.{send, pong_with, is_custody_pong, ReactionResult, Reaction, ConnectionState}
+pub use Rattle.coap_conn.specs.Reaction.{abort}
 pub use Rattle.coap_conn.specs.Reaction.{asks_custody, due_effect, reaction_unless, send_as, stay, stop, is_asking}
 pub use Rattle.coap_conn.specs.Reaction.{is_response}
 unfoldable pub use Rattle.coap_conn.specs.Reaction.{live_reaction, react}
@@ -53,6 +56,8 @@ pub use Rattle.coap_conn.specs.declared.phase.Reply.TheVariants.{Bare, Stopped, 
 pub use Rattle.coap_conn.specs.declared.phase.Role.TheVariants.{Server}
 pub use Rattle.coap_conn.specs.declared.reason.Reason.{Reason}
 pub use Rattle.coap_conn.specs.declared.reason.Reason.TheVariants.{PeerTooSmall, ReleasedHere}
+pub use Rattle.coap_conn.specs.declared.pending.Responder.{Responder}
+pub use Rattle.coap_conn.specs.declared.pending.Responder.TheVariants.{Engine, Application}
 -- ---- coap_path
 pub use Rattle.coap_path.specs.Paths.{Path, same_bytes}
 unfoldable pub use Rattle.coap_path.specs.Paths.{is_path}
@@ -102,20 +107,24 @@ pub use Rattle.coap_model.specs.world.Observers.{asks_entry, is_whole, Observer,
 pub use Rattle.coap_model.specs.world.Observers.{has_place, left_of, notification, notification_message, same_state}
 pub use Rattle.coap_model.specs.world.Observers.{with_entry}
 unfoldable pub use Rattle.coap_model.specs.world.Observers.{first_becomes, is_due, without_token}
-pub use Rattle.coap_model.specs.world.Connections.{Connection, waiting_on, IsUpToDate, handles, asks_answer, held_for, moment_after}
-pub use Rattle.coap_model.specs.world.Connections.{held_message, next_held, is_cut, after_sent, has_room, kept_open}
+pub use Rattle.coap_model.specs.world.Connections.{Connection, waiting_on, IsUpToDate, handles, asks_answer, held_for}
+pub use Rattle.coap_model.specs.world.Connections.{moment_after}
+pub use Rattle.coap_model.specs.world.Connections.{late_response, held_message, next_held, is_cut, after_sent, has_room}
+pub use Rattle.coap_model.specs.world.Connections.{kept_open}
 pub use Rattle.coap_model.specs.world.Connections.{may_raise, new_side, next_due, notified, settled_so, side_answered}
 pub use Rattle.coap_model.specs.world.Connections.{side_handled, side_replied, side_with, with_history, kept_on}
 unfoldable pub use Rattle.coap_model.specs.world.Connections.{side_after, side_faulted, side_written, side_ended}
 unfoldable pub use Rattle.coap_model.specs.world.Connections.{side_released, side_announced, settled_once, change_after}
 unfoldable pub use Rattle.coap_model.specs.world.Connections.{settled, settled_within}
-pub use Rattle.coap_model.specs.world.LastNotification.{IsLastNotification, TokensAreDistinct, asked_late, ReportsState, etag_of_state}
+pub use Rattle.coap_model.specs.world.LastNotification.{IsLastNotification, TokensAreDistinct, asked_late, ReportsState}
+pub use Rattle.coap_model.specs.world.LastNotification.{etag_of_state}
 pub use Rattle.coap_model.specs.world.LastNotification.{responds}
 unfoldable pub use Rattle.coap_model.specs.world.LastNotification.{last_response}
 pub use Rattle.coap_model.specs.world.View.{after_view, AreSeen, change_on, change_steps}
 unfoldable pub use Rattle.coap_model.specs.world.View.{view_of, concerns, view_step}
 pub use Rattle.coap_model.specs.world.ViewEvents.{first_number, change_events}
 unfoldable pub use Rattle.coap_model.specs.world.ViewEvents.{view_events, changes_of, view_behind, view_event}
-pub use Rattle.coap_model.specs.world.World.{World, Step, new_world, Faulted, Handled, ConnectionEntry, Written, all_settled}
+pub use Rattle.coap_model.specs.world.World.{World, Step, new_world, Faulted, Handled, ConnectionEntry, Written}
+pub use Rattle.coap_model.specs.world.World.{all_settled}
 pub use Rattle.coap_model.specs.world.World.{on_side, settled_place, stored_after, ticks}
 unfoldable pub use Rattle.coap_model.specs.world.World.{side_of, step, after_steps, acted}

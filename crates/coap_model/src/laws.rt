@@ -3,6 +3,7 @@
 
 ghost use Rattle.std.specs.Prelude.{◌≡◌, ℕ, Bool, ◌<◌, ◌≤◌, List, [], ◌∷◌, ◌++◌, length, true, false, Some, None};
 ghost use Rattle.coap_model.specs.Prelude.{AllByRecursion, Message, StreamFault, LimitValues, AreInRange, AllFit};
+ghost use Rattle.coap_model.specs.Prelude.{Responder, Engine};
 ghost use Rattle.coap_model.specs.Prelude.{bare_response, PendingEntryValue, Answer, Pong, without_due, answers, send};
 ghost use Rattle.coap_model.specs.Prelude.{pong_with, is_custody_pong, limit_now, standing_now, after, standing_due};
 ghost use Rattle.coap_model.specs.Prelude.{StoreValue, answer_of, ConfigValues, Connection, waiting_on, handles};
@@ -124,7 +125,7 @@ pub fn last_notification_matches_state()
 /// - `at_once`: a message queues such a Pong only if no entry is pending.
 /// - `later`: settling queues such a Pong only if a Pong is the first pending entry.
 /// - `held`: a response that is to be delayed is appended to the pending list, if the list has room.
-/// - `sent`: settling sends a delayed response that is due first.
+/// - `sent`: settling sends the response of an entry that is due first. It is 5.04 if the application has not answered.
 /// - `faulted`, `ended`, `released`, `announced`, `written`: nothing else queues such a Pong.
 pub fn custody_comes_last()
     ensures order { (c : ConfigValues) (events : List AcceptedCall) (id : ℕ) (s : Connection) →
@@ -136,10 +137,11 @@ pub fn custody_comes_last()
     ensures held { (store : StoreValue) (now : ℕ) (s : Connection) (m : Message) (seconds : ℕ) → handles s ≡ true →
         asks_answer s m ≡ true →
         held_for (after s.history (call.Handle m)) (answer_of store now m).hold ≡ Some seconds →
-        (side_after store now s m).history.held ≡ s.history.held ++ Answer m.token (moment_after now seconds) ∷ [] }
-    ensures sent { (store : StoreValue) (now : ℕ) (s : Connection) (token : List ℕ) (moment : ℕ) →
-        next_held now s ≡ Some (Answer token moment) →
-        (settled_once store now s).history ≡ after (after s.history (call.Due now)) (call.Reply (held_message token)) }
+        (side_after store now s m).history.held
+        ≡ s.history.held ++ Answer Engine m.token (moment_after now seconds) ∷ [] }
+    ensures sent { (store : StoreValue) (now : ℕ) (s : Connection) (by : Responder) (token : List ℕ) (moment : ℕ) →
+        next_held now s ≡ Some (Answer by token moment) → (settled_once store now s).history
+        ≡ after (after s.history (call.Due now)) (call.Reply (held_message by token)) }
     ensures faulted { (s : Connection) (fault : StreamFault) → QueuesCustody s (side_faulted s fault) → ⊥ }
     ensures ended { (s : Connection) (cut : Bool) → QueuesCustody s (side_ended s cut) → ⊥ }
     ensures released { (s : Connection) → QueuesCustody s (side_released s) → ⊥ }
@@ -187,11 +189,11 @@ pub fn pending_entries_are_sent()
     ensures taken { (store : StoreValue) (now : ℕ) (s : Connection) (e : PendingEntryValue) → next_held now s ≡ Some e →
         answers s.history.phase ≡ true → (settled_once store now s).history.phase ≡ s.history.phase →
         (settled_once store now s).history.held ≡ without_due now s.history.held }
-    ensures answer { (store : StoreValue) (now : ℕ) (s : Connection) (token : List ℕ) (moment : ℕ) →
-        next_held now s ≡ Some (Answer token moment) → answers s.history.phase ≡ true →
+    ensures answer { (store : StoreValue) (now : ℕ) (s : Connection) (by : Responder) (token : List ℕ) (moment : ℕ) →
+        next_held now s ≡ Some (Answer by token moment) → answers s.history.phase ≡ true →
         (settled_once store now s).history.queued
-        ≡ s.history.queued ++ (send (standing_due now (standing_now s.history)) (held_message token)
-        (bare_response (held_message token))).queued }
+        ≡ s.history.queued ++ (send (standing_due now (standing_now s.history)) (held_message by token)
+        (bare_response (held_message by token))).queued }
     ensures pong { (store : StoreValue) (now : ℕ) (s : Connection) (token : List ℕ) → next_held now s ≡ Some (Pong token) →
         (settled_once store now s).history.queued
         ≡ s.history.queued ++ (send (standing_due now (standing_now s.history)) (pong_with true token)

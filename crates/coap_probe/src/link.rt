@@ -1,9 +1,9 @@
 //! Rows for links. `= link ROLE` with the six limits creates one.
 //!
 //! The events that send are `reply MESSAGE`, `request MESSAGE plain` (or `observe`), `cancel MESSAGE`, `ping - plain`
-//! (or `custody`), `announce - SIZE` and `release`. The other events are `hear MESSAGE`, `hold TOKEN TIME`,
-//! `due - TIME`, `reject - FAULT`, `end - cut` (or `whole`), `write - COUNT`, `count`, `token`, `part` and `look`.
-//! Results are written as `Debug` prints them.
+//! (or `custody`), `announce - SIZE`, `respond BYTES` and `release`. The other events are `hear MESSAGE`,
+//! `hold TOKEN TIME`, `await TOKEN TIME`, `due - TIME`, `reject - FAULT`, `end - cut` (or `whole`), `write - COUNT`,
+//! `count`, `token`, `part` and `look`. Results are written as `Debug` prints them.
 
 use crate::limits::limits_of;
 use coap_conn::{Link, Phase, Reject, Role, first_part};
@@ -71,14 +71,18 @@ fn send(link: &mut Link, word: &str, bytes: &[u8], how: &str, told: &mut RowLine
     };
 }
 
-/// Delays the response to the request with a token until the given time, in seconds, and writes the result.
-fn hold(link: &mut Link, token: &[u8], moment: u64, told: &mut RowLine) {
+/// Delays the response to the request with a token until the given time, in seconds, and writes the result. With
+/// another word than `hold`, the application may answer until then.
+fn hold(link: &mut Link, word: &str, token: &[u8], moment: u64, told: &mut RowLine) {
     let Ok(token) = Token::try_from(token) else {
         return told.word("strange");
     };
     match link.phase() {
         Phase::Open => {
-            let held = link.hold(token, moment);
+            let held = match word {
+                "hold" => link.hold(token, moment),
+                _ => link.hold_request(token, moment),
+            };
             let _ = write!(told, "{held:?} ");
         }
         _ => told.word("refused"),
@@ -144,7 +148,11 @@ fn act(link: &mut Link, word: &str, bytes: &[u8], last: &str, told: &mut RowLine
     match word {
         "hear" => hear(link, bytes, told),
         "reply" | "request" | "cancel" => send(link, word, bytes, last, told),
-        "hold" => hold(link, bytes, moment as u64, told),
+        "hold" | "await" => hold(link, word, bytes, moment as u64, told),
+        "respond" => {
+            let answer = link.respond(bytes);
+            let _ = write!(told, "{answer:?} ");
+        }
         "due" => due(link, moment as u64, told),
         "release" => {
             let answer = link.release();

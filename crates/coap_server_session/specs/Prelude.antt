@@ -34,7 +34,7 @@ pub use Rattle.coap_conn.specs.Fit.{bare_response, fit, fits}
 pub use Rattle.coap_conn.specs.PendingEntries.{PendingEntryValue, Answer, Pong, due_moment, next_moment, future_moment}
 unfoldable pub use Rattle.coap_conn.specs.PendingEntries.{first_due, without_due}
 pub use Rattle.coap_conn.specs.History.{limit_now, after, History, IsHistory, link_of}
-pub use Rattle.coap_conn.specs.Limits.{LimitValues, AreInRange}
+pub use Rattle.coap_limits.specs.Limits.{LimitValues, AreInRange}
 pub use Rattle.coap_conn.specs.LinkValue.{IsReady, can_hold, limit_in, is_finished, LinkValue, free_in, link_with}
 pub use Rattle.coap_conn.specs.LinkValue.{own_csm, standing_in, sizes_of}
 pub use Rattle.coap_conn.specs.LinkViews.{verdict_value}
@@ -45,6 +45,8 @@ pub use Rattle.coap_conn.specs.Release.{release_refusal}
 pub use Rattle.coap_conn.specs.Verdicts.{is_request}
 pub use Rattle.coap_conn.specs.declared.phase.Reply.{Reply}
 pub use Rattle.coap_conn.specs.declared.phase.Verdict.{Verdict}
+pub use Rattle.coap_conn.specs.declared.pending.Responder.{Responder}
+pub use Rattle.coap_conn.specs.declared.pending.Responder.TheVariants.{Engine, Application}
 -- ---- coap_path
 pub use Rattle.coap_path.specs.Paths.{Path, same_bytes, written_length}
 unfoldable pub use Rattle.coap_path.specs.Paths.{is_path}
@@ -86,32 +88,42 @@ pub use Rattle.coap_server_session.specs.declared.chains.Chains.{Chains}
 pub use Rattle.coap_server_session.specs.declared.session.Session.TheInside.{Inside}
 -- ---- this crate: values
 pub use Rattle.coap_server_session.specs.values.Causes.{change_hash, ObservesNone, hash_behind, path_hash}
-pub use Rattle.coap_server_session.specs.values.Causes.{IsUnaffected, has_come, may_touch, observes_hash, segments_hash, is_concerned}
+pub use Rattle.coap_server_session.specs.values.Causes.{IsUnaffected, has_come, may_touch, observes_hash, segments_hash}
+pub use Rattle.coap_server_session.specs.values.Causes.{is_concerned}
 pub use Rattle.coap_server_session.specs.values.Causes.{ConcernsNone, marks_after, IsMarkedBut}
 unfoldable pub use Rattle.coap_server_session.specs.values.Causes.{marks_anew}
 pub use Rattle.coap_server_session.specs.values.Deadlines.{is_time_observer, sooner}
 pub use Rattle.coap_server_session.specs.values.Deadlines.{due_on, IsBefore, next_told}
-pub use Rattle.coap_server_session.specs.values.Entries.{IsFirstStale, IsFirstMarked, link_replied, entries_replied, entries_notified}
+pub use Rattle.coap_server_session.specs.values.Entries.{IsFirstStale, IsFirstMarked, link_replied, entries_replied}
+pub use Rattle.coap_server_session.specs.values.Entries.{entries_notified}
 pub use Rattle.coap_server_session.specs.values.Entries.{settled_held, framer_on, is_observed, is_sent, response_on}
 unfoldable pub use Rattle.coap_server_session.specs.values.Entries.{first_index}
 pub use Rattle.coap_server_session.specs.values.SessionAnswers.{IsAnnounced}
 pub use Rattle.coap_server_session.specs.values.Responses.{path_size}
-pub use Rattle.coap_server_session.specs.values.Sessions.{ObserverValue, answer_on, hold_on, held_in, host_changed, link_sent}
-pub use Rattle.coap_server_session.specs.values.Sessions.{new_entry, notification_on, mark_at, present_mark, untold_by, SessionValue}
-pub use Rattle.coap_server_session.specs.values.Sessions.{session_written, session_ended, session_released, session_announced}
+pub use Rattle.coap_server_session.specs.values.Sessions.{ObserverValue, answer_on, hold_on, held_in, host_changed}
+pub use Rattle.coap_server_session.specs.values.Sessions.{link_sent}
+pub use Rattle.coap_server_session.specs.values.Sessions.{new_entry, notification_on, mark_at, present_mark, untold_by}
+pub use Rattle.coap_server_session.specs.values.Sessions.{SessionValue}
+pub use Rattle.coap_server_session.specs.values.Sessions.{session_written, session_ended, session_released}
+pub use Rattle.coap_server_session.specs.values.Sessions.{session_announced}
 pub use Rattle.coap_server_session.specs.values.Sessions.{change_by, observers_on, session_with, new_session}
 pub use Rattle.coap_server_session.specs.values.Sessions.{session_takes, session_notified, IsSettled, RefusesPiece}
-pub use Rattle.coap_server_session.specs.values.Sessions.{ObserversValue, TakeOutcome, asks_this, entry_left, frame_on, is_marked}
+pub use Rattle.coap_server_session.specs.values.Sessions.{ObserversValue, TakeOutcome, asks_this, entry_left, frame_on}
+pub use Rattle.coap_server_session.specs.values.Sessions.{is_marked}
 pub use Rattle.coap_server_session.specs.values.Sessions.{mark_of, session_max, session_ready}
-pub use Rattle.coap_server_session.specs.values.Sessions.{session_rejected, session_replied, session_settled_so, state_on}
+pub use Rattle.coap_server_session.specs.values.Sessions.{session_rejected, session_replied, session_settled_so}
+pub use Rattle.coap_server_session.specs.values.Sessions.{state_on}
 pub use Rattle.coap_server_session.specs.values.Sessions.{taking_found, taking_read, MarkedSession, AreMarked, IsMarked}
 pub use Rattle.coap_server_session.specs.values.Sessions.{empty_host, observers_left}
 unfoldable pub use Rattle.coap_server_session.specs.values.Sessions.{changed_mark}
-unfoldable pub use Rattle.coap_server_session.specs.values.Sessions.{without_entry, is_stale, session_settled, session_handled}
-unfoldable pub use Rattle.coap_server_session.specs.values.Sessions.{next_held_in, next_stale, session_settled_once, taking}
+unfoldable pub use Rattle.coap_server_session.specs.values.Sessions.{without_entry, is_stale, session_settled}
+unfoldable pub use Rattle.coap_server_session.specs.values.Sessions.{session_handled}
+unfoldable pub use Rattle.coap_server_session.specs.values.Sessions.{next_held_in, next_stale, session_settled_once}
+unfoldable pub use Rattle.coap_server_session.specs.values.Sessions.{taking}
 unfoldable pub use Rattle.coap_server_session.specs.values.Sessions.{session_settled_within}
 -- ---- this crate: views
-pub use Rattle.coap_server_session.specs.views.ChainViews.{Linked, linked, concerns_path, last_in, previous_in, next_index}
+pub use Rattle.coap_server_session.specs.views.ChainViews.{Linked, linked, concerns_path, last_in, previous_in}
+pub use Rattle.coap_server_session.specs.views.ChainViews.{next_index}
 pub use Rattle.coap_server_session.specs.views.ChainViews.{IsLastBefore, AreChainedTo}
 pub use Rattle.coap_server_session.specs.views.FlagViews.{flag_of, AreFlagged, AreClear, AreBlocks}
 pub use Rattle.coap_server_session.specs.views.ObserverViews.{observer_value, mark_in, IsTagged}

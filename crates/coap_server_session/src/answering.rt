@@ -20,8 +20,8 @@ use crate::response::{respond, respond_change};
 use crate::server_state::{ServerState, mark_at};
 use coap_conn::{Due, Link, Reply};
 use coap_store::{
-    ChangePlan, Plan, PlannedChange, State, Store, UriPath, Watch, delayed_response, refused_delay,
-    request_path,
+    ChangePlan, Plan, PlannedChange, State, Store, UriPath, Watch, delayed_response,
+    expired_response, refused_delay, request_path,
 };
 use coap_wire::{Code, MessageRef, TokenRef};
 use std::alloc::AllocError;
@@ -168,7 +168,8 @@ fn delay_answer(
 
 /// Sends the pending entry that is first due at `now`, and returns `true` if there was one.
 ///
-/// A delayed response is sent here. A Pong with Custody is queued by `Link::due` (RFC 8323 section 5.4.1).
+/// A delayed response is sent here, and 5.04 to a request that the application has not answered. A Pong with Custody is
+/// queued by `Link::due` (RFC 8323 section 5.4.1).
 pub(crate) fn send_due(link: &mut Link, now: u64) -> bool
     requires { IsReady link.old }
     ensures sent { (e : PendingEntryValue) → first_due now link.old.held ≡ Some e → link.new ≡ link_sent link.old now e }
@@ -180,6 +181,10 @@ pub(crate) fn send_due(link: &mut Link, now: u64) -> bool
         Due::Pong => true,
         Due::Answer(token) => {
             respond(link, &TokenRef::of(&token), &delayed_response(), false);
+            true
+        }
+        Due::Expired(token) => {
+            respond(link, &TokenRef::of(&token), &expired_response(), false);
             true
         }
     }

@@ -8,6 +8,8 @@ The events are:
 
 - `hear` with a message from the peer, and `reply` with a response,
 - `hold` with a token and the time of the delayed response, `due` with a time,
+- `await` with the token of a request for the application and its deadline, `respond` with the application's response, as a message or as other
+  bytes,
 - `request` with `plain` or `observe` and a message, `cancel` with a message that has the token,
 - `ping` (`plain`, `custody`), `release`, `announce` with a Max-Message-Size,
 - `reject` (`format`, `large`, `token`), `end` (`cut`, `whole`),
@@ -63,7 +65,7 @@ def first_of(opening):
 def event_of(text):
     """Returns the line for the probe: the event, its bytes, and its last word."""
     word, _, rest = text.partition(" ")
-    if word in ("hear", "reply", "cancel"):
+    if word in ("hear", "reply", "cancel", "respond"):
         return f"{word} {digits(rest)}"
     if word == "request":
         how, _, message = rest.partition(" ")

@@ -1,12 +1,13 @@
 //! Pending entries of a link: adding a delayed response, and removing the entry that is due.
 
 ghost use Rattle.std.specs.Prelude.{◌≡◌, ℕ, List, true, IsTrue, IsFalse, OnOk, OnErr};
-ghost use Rattle.coap_conn.specs.Prelude.{IsAnswering, is_open, AnAnswer, due_told, first_due, due_value, History};
+ghost use Rattle.coap_conn.specs.Prelude.{IsAnswering, is_open, AnAnswer, AnExpired, answer_told, due_told, first_due};
+ghost use Rattle.coap_conn.specs.Prelude.{due_value, History};
 ghost use Rattle.coap_conn.specs.Prelude.{after, LinkShows, IsReady, can_hold, link_after};
 ghost use Rattle.coap_conn.specs.Calls as call;
 
 use super::Link;
-use crate::pending::{PendingEntry, due_in};
+use crate::pending::{PendingEntry, Responder, due_in};
 use crate::phase::{Due, Full};
 use coap_wire::{Token, TokenRef};
 
@@ -33,17 +34,20 @@ impl Link {
         if self.pending.len() >= self.limits.pending() {
             return Err(Full);
         }
-        self.pending
-            .push_reserved(PendingEntry::Answer { token, moment });
+        self.pending.push_reserved(PendingEntry::Answer {
+            responder: Responder::Engine,
+            token,
+            moment,
+        });
         Ok(())
     }
 
     /// Removes the entry that is due first at `now`, in seconds, from the pending list, and returns it.
     ///
     /// Responses whose time has come precede Pongs: the earliest time first, and of equal times the first entry. The
-    /// caller sends such a response by `reply`. If no response is due, a Pong that is the first entry is due. The link
-    /// queues this Pong with Custody (RFC 8323 section 5.4.1), or without it if only that fits the peer's limit. If
-    /// neither fits, the connection stops.
+    /// caller sends such a response by `reply`, also to a request that the application has not answered. If no response
+    /// is due, a Pong that is the first entry is due. The link queues this Pong with Custody (RFC 8323 section 5.4.1),
+    /// or without it if only that fits the peer's limit. If neither fits, the connection stops.
     ///
     /// # Preconditions
     ///
@@ -53,19 +57,35 @@ impl Link {
         ensures due { due_value result ≡ due_told (first_due now self.old.held) }
         ensures after { self.new ≡ link_after self.old (call.Due now) }
         ensures shows { (h : History) → LinkShows self.old h → LinkShows self.new (after h (call.Due now)) }
-        // If a response is due, the preconditions of `reply` hold.
+        // If a response is due, or a request has expired, the preconditions of `reply` hold.
         ensures answer { (token : List ℕ) → due_value result ≡ AnAnswer token →
+            IsReady self.new × IsAnswering self.new.phase }
+        ensures expired { (token : List ℕ) → due_value result ≡ AnExpired token →
             IsReady self.new × IsAnswering self.new.phase }
     {
         let Some(index) = due_in(&self.pending, now) else {
             return Due::Nothing;
         };
         match self.pending.remove(index) {
-            PendingEntry::Answer { token, .. } => Due::Answer(token),
+            PendingEntry::Answer {
+                responder,
+                token,
+                ..
+            } => due_response(responder, token),
             PendingEntry::Pong(token) => {
                 self.pong(&TokenRef::of(&token), true);
                 Due::Pong
             }
         }
+    }
+}
+
+/// Returns the result for a response that is due, or for a request that the application has not answered.
+fn due_response(responder: Responder, token: Token) -> Due
+    ensures { due_value result ≡ answer_told responder token.items }
+{
+    match responder {
+        Responder::Engine => Due::Answer(token),
+        Responder::Application => Due::Expired(token),
     }
 }

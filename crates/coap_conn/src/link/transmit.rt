@@ -189,8 +189,7 @@ impl Link {
         }
     }
 
-    /// Queues the Pong to the Ping with this token, with Custody or without. (A separate function: a function clears
-    /// all its locals, so these would slow down its callers.)
+    /// Queues the Pong to the Ping with this token, with Custody or without.
     pub(super) fn pong(&mut self, token: &TokenRef, custody: bool) -> Verdict<'static>
         requires { IsReady self.old }
         ensures verdict { verdict_value result
@@ -200,9 +199,15 @@ impl Link {
             ≡ link_with self.old (sends (standing_in self.old) (pong_with custody token.now)
             (pong_with false token.now)).effect }
     {
+        // Without options, the bytes go into the queue one by one. For a short token that costs less than an array.
+        let plain: CompactBuilder<0> = CompactBuilder::new(Code::PONG, token.copy());
+        if !custody && plain.size() <= self.limit() as u64 {
+            self.queue.put_compact(&plain);
+            return Verdict::Done;
+        }
         let pong = pong_to(token, custody);
-        let plain = ShortBuilder::new(Code::PONG, token.copy());
-        self.answer(&pong, &plain)
+        let less = ShortBuilder::new(Code::PONG, token.copy());
+        self.answer(&pong, &less)
     }
 
     /// Stops the connection and drops all pending and outstanding entries. Bytes in the queue are still written. No

@@ -42,7 +42,7 @@ abbrev pub responses : List Message → Tally
 responses ms token = count (responds token) ms
 
 abbrev pub awaits : List ℕ → PendingEntryValue → Bool
-awaits token (Answer own moment) = same_bytes own token
+awaits token (Answer by own moment) = same_bytes own token
 awaits token (Pong own) = false
 
 abbrev pub held_back : List PendingEntryValue → Tally
@@ -84,7 +84,7 @@ queue = record { Claims = λ q P. is_custody_pong q ≡ true → P q.token; to =
 
 -- The pending entries.
 abbrev pub IfPong : PendingEntryValue → (List ℕ → Type 0) → Type 0
-IfPong (Answer token moment) P = Unit {0}
+IfPong (Answer by token moment) P = Unit {0}
 IfPong (Pong token) P = P token
 
 abbrev pub pending : RowOf PendingEntryValue

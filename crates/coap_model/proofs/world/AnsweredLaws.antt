@@ -1,6 +1,7 @@
 -- When a Pong with Custody is queued, each request handled before its Ping already has its response, whatever happens
 -- to a connection.
 use Rattle.std.proofs.Common.{◌≡◌, ℕ, ◌≤◌, Bool, true, false, ◌&&◌, ◌==◌, List, [], ◌∷◌, ◌++◌, Option, Some, None, refl, sym, ap, subst, arith, is_none}
+use Rattle.coap_model.specs.Prelude.{Engine, Application, Responder, late_response}
 use Rattle.coap_model.specs.Prelude.{AllByRecursion, list_any, Message, Phase, Server, Reply, Whole, Bare, Stopped}
 use Rattle.coap_model.specs.Prelude.{Reason, LimitValues, stop_of, takes_messages, answers, fit, bare_response}
 use Rattle.coap_model.specs.Prelude.{PendingEntryValue, Answer, Pong, first_due, without_due, is_request, Reaction, stay}
@@ -192,7 +193,7 @@ module _ (store : StoreValue) (now : ℕ) (s : Connection) (m : Message) (server
   handled_follows : OwesStill nothing (owed_so (asks_answer s m)) heard_so → PongsFollow (side_handled store now s m).history
   handled_follows heard =
       handled_cases store now s m (λ t. PongsFollow t.history) (λ other. subst (λ (asks : Bool). OwesStill nothing (owed_so asks) heard_so) other heard)
-      (λ asks moment asked. held_follows heard (Answer m.token moment) tt (open_answers heard_so.phase (asked_quiet s m asks).1)
+      (λ asks moment asked. held_follows heard (Answer Engine m.token moment) tt (open_answers heard_so.phase (asked_quiet s m asks).1)
       (λ t. omega (arith, owed_token (asks_answer s m) t)))
       (λ asks. owed_follows nothing (owed_so (asks_answer s m)) heard_so heard m.token _ (immediate_answer store now m).response
       (open_answers heard_so.phase (asked_quiet s m asks).1) (prompt_coded store now m) (omega arith) (owed_token (asks_answer s m)))
@@ -220,15 +221,19 @@ module _ (h : History) (is : PongsFollow h) (before : List PendingEntryValue) (e
     quiet = λ off. absurd (both_ways (answers h.phase) off held_on);
   }
 
+late_coded : (by : Responder) → coded (late_response by).code ≡ true
+late_coded Engine = refl
+late_coded Application = refl
+
 sent_due : (h : History) (now : ℕ) (e : PendingEntryValue) → first_due now h.held ≡ Some e → PongsFollow h → PongsFollow (after_sent h now e)
-sent_due h now (Answer token moment) due is =
-    let first = due_answer now h.held token moment due in
-    let n : Tally = held_back (Answer token moment ∷ []) in
+sent_due h now (Answer by token moment) due is =
+    let first = due_answer now h.held by token moment due in
+    let n : Tally = held_back (Answer by token moment ∷ []) in
     let k : History = with_effect h (stay (standing_due now (standing_now h))) in
     let left : OwesStill n n k = subst (λ (es : List PendingEntryValue). FollowsBut n n h.handled (h.queued ++ []) es h.phase) (sym first.without)
-    (same_follows (let_go h is first.before (Answer token moment) first.after first.there) [] tt (omega arith) (omega arith)) in
-    subst (λ (g : History). PongsFollow (after g (call.Reply (held_message token)))) (sym (due_is h now (Some (Answer token moment)) due))
-    (owed_follows n n k left token false delayed_response (held_on h is first.before (Answer token moment) first.after first.there) refl
+    (same_follows (let_go h is first.before (Answer by token moment) first.after first.there) [] tt (omega arith) (omega arith)) in
+    subst (λ (g : History). PongsFollow (after g (call.Reply (held_message by token)))) (sym (due_is h now (Some (Answer by token moment)) due))
+    (owed_follows n n k left token false (late_response by) (held_on h is first.before (Answer by token moment) first.after first.there) (late_coded by)
     (omega arith) (omega arith))
 sent_due h now (Pong token) due is =
     subst PongsFollow (sym (due_is h now (Some (Pong token)) due)) (by (fit (standing_now h).limit (pong_with true token) (pong_with false token)))

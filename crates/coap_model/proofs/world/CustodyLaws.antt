@@ -1,6 +1,7 @@
 -- Pending entries are in the order of the messages that asked for them. A Pong with Custody is queued only if no entry
 -- from before its Ping is pending.
 use Rattle.std.proofs.Common.{◌≡◌, ℕ, zero, suc, Bool, true, false, cond, ◌&&◌, ◌==◌, List, [], ◌∷◌, ◌++◌, length, Option, Some, None, refl, sym, ap, subst, ◌∙◌, inl, inr, ◌⊎◌, arith, append_assoc}
+use Rattle.coap_model.specs.Prelude.{Responder, Engine}
 use Rattle.coap_model.specs.Prelude.{AllByRecursion, list_any, remove, Message, Phase, LimitValues, takes_messages}
 use Rattle.coap_model.specs.Prelude.{answers, is_open, fit, bare_response, PendingEntryValue, Answer, Pong, without_due}
 use Rattle.coap_model.specs.Prelude.{ConnectionState, send, is_custody_pong, pong_with, History, limit_now, standing_now}
@@ -77,7 +78,7 @@ custody_waits store now s m =
     custody_gives (s.history.held ≡ []) s (side_after store now s m)
     (after_between (λ h. Gives (h.held ≡ []) h) (Gives ⊥) (λ h. gives_none (h.held ≡ []) h h refl) (λ h. gives_then (h.held ≡ []) h)
     (λ h m takes room. (_, refl, custody_at_once (standing_now h) m)) (λ h. gives_none ⊥ h h refl) reply_gives
-    (λ h token moment opened may. gives_none ⊥ h (holding h (h.held ++ Answer token moment ∷ [])) refl) store now s m)
+    (λ h token moment opened may. gives_none ⊥ h (holding h (h.held ++ Answer Engine token moment ∷ [])) refl) store now s m)
 
 -- Plain effects queue no such Pong.
 pub plain_queues_no_custody : (s t : Connection) → Queues IsPlain s.history t.history → QueuesCustody s t → ⊥
@@ -156,14 +157,14 @@ pub asked_quiet : (s : Connection) (m : Message) → asks_answer s m ≡ true �
 asked_quiet s m asks = let quiet = react_asks (standing_now s.history) m (said_request _ asks) in grind (arith, told_over (standing_now s.history) m)
 
 -- So its delayed response is appended to them.
-pub held_when_asked : (store : StoreValue) (now : ℕ) (s : Connection) (m : Message) (seconds : ℕ) → handles s ≡ true → asks_answer s m ≡ true → held_for (after s.history (call.Handle m)) (answer_of store now m).hold ≡ Some seconds → (side_after store now s m).history.held ≡ s.history.held ++ Answer m.token (moment_after now seconds) ∷ []
+pub held_when_asked : (store : StoreValue) (now : ℕ) (s : Connection) (m : Message) (seconds : ℕ) → handles s ≡ true → asks_answer s m ≡ true → held_for (after s.history (call.Handle m)) (answer_of store now m).hold ≡ Some seconds → (side_after store now s m).history.held ≡ s.history.held ++ Answer Engine m.token (moment_after now seconds) ∷ []
 unfolding side_after
 held_when_asked store now s m seconds does asks is = grind (arith, asked_quiet s m asks)
 
 -- The possible cases of a message: no request, a request with a delayed response, and one with an immediate response.
 pub handled_cases : (store : StoreValue) (now : ℕ) (s : Connection) (m : Message) (P : Connection → Type 0)
     → (asks_answer s m ≡ false → P (with_history s (after s.history (call.Handle m))))
-    → (asks_answer s m ≡ true → (moment : ℕ) → asks_pending m (Answer m.token moment) ≡ true → P (side_with (holding (after s.history (call.Handle m)) ((after s.history (call.Handle m)).held ++ Answer m.token moment ∷ [])) (without_token m.token s.observers)))
+    → (asks_answer s m ≡ true → (moment : ℕ) → asks_pending m (Answer Engine m.token moment) ≡ true → P (side_with (holding (after s.history (call.Handle m)) ((after s.history (call.Handle m)).held ++ Answer Engine m.token moment ∷ [])) (without_token m.token s.observers)))
     → (asks_answer s m ≡ true → P (side_answered store now (after s.history (call.Handle m)) (without_token m.token s.observers) m (immediate_answer store now m)))
     → P (side_handled store now s m)
 handled_cases store now s m P other late prompt =
@@ -172,7 +173,7 @@ handled_cases store now s m P other late prompt =
     let hold : Option ℕ = (answer_of store now m).hold in
     cond_both (asks_answer s m) _ _ P (λ asks. replied_cases store now h others m hold P (λ seconds is. (
     let both : (may_hold h ≡ true) × (hold ≡ Some seconds) = grind arith in
-    let asked : asks_pending m (Answer m.token (moment_after now seconds)) ≡ true =
+    let asked : asks_pending m (Answer Engine m.token (moment_after now seconds)) ≡ true =
     rw ((held_of store now m seconds both.1).asked, (bytes_decides m.token m.token).1 refl) refl in
     subst (λ (k : History). P (side_with k others)) (sym (cond-true _ _ h (and_from _ _ (asked_quiet s m asks).1 both.0))) (late asks (moment_after now seconds) asked)
     )) (λ none. prompt asks)) other
@@ -219,7 +220,7 @@ handled_hears store now s m =
     (λ asks moment asked. record {
       handled_more = heard.handled_more;
       stops = heard.stops;
-      adds = rw (asked_quiet s m asks).0 (adds_one m s.history.held (Answer m.token moment) h.phase asked);
+      adds = rw (asked_quiet s m asks).0 (adds_one m s.history.held (Answer Engine m.token moment) h.phase asked);
     })
     (λ asks. reply_either h _ (HandlesOne m s.history) heard
     (record { handled_more = heard.handled_more; stops = λ is. refl; adds = inr (PeerTooSmall, refl, refl) }))
@@ -292,9 +293,9 @@ told_keeps store now s is = rw is (by (next_due store now s))
 
 -- ---- the first due entry is removed
 
-pub sent_when_due : (store : StoreValue) (now : ℕ) (s : Connection) (token : List ℕ) (moment : ℕ) → next_held now s ≡ Some (Answer token moment) → (settled_once store now s).history ≡ after (after s.history (call.Due now)) (call.Reply (held_message token))
+pub sent_when_due : (store : StoreValue) (now : ℕ) (s : Connection) (by : Responder) (token : List ℕ) (moment : ℕ) → next_held now s ≡ Some (Answer by token moment) → (settled_once store now s).history ≡ after (after s.history (call.Due now)) (call.Reply (held_message by token))
 unfolding settled_once
-sent_when_due store now s token moment is = rw is refl
+sent_when_due store now s by token moment is = rw is refl
 
 pub taken_out : (store : StoreValue) (now : ℕ) (s : Connection) (e : PendingEntryValue) → next_held now s ≡ Some e → answers s.history.phase ≡ true → (settled_once store now s).history.phase ≡ s.history.phase → (settled_once store now s).history.held ≡ without_due now s.history.held
 unfolding settled_once
@@ -302,10 +303,10 @@ taken_out store now s e is answering same = grind arith
 
 -- ---- its message is sent
 
-pub answer_sent : (store : StoreValue) (now : ℕ) (s : Connection) (token : List ℕ) (moment : ℕ) → next_held now s ≡ Some (Answer token moment) → answers s.history.phase ≡ true
-    → (settled_once store now s).history.queued ≡ s.history.queued ++ (send (standing_due now (standing_now s.history)) (held_message token) (bare_response (held_message token))).queued
+pub answer_sent : (store : StoreValue) (now : ℕ) (s : Connection) (by : Responder) (token : List ℕ) (moment : ℕ) → next_held now s ≡ Some (Answer by token moment) → answers s.history.phase ≡ true
+    → (settled_once store now s).history.queued ≡ s.history.queued ++ (send (standing_due now (standing_now s.history)) (held_message by token) (bare_response (held_message by token))).queued
 unfolding settled_once
-answer_sent store now s token moment is answering = grind (arith, append-nil)
+answer_sent store now s by token moment is answering = grind (arith, append-nil)
 
 pub pong_sent : (store : StoreValue) (now : ℕ) (s : Connection) (token : List ℕ) → next_held now s ≡ Some (Pong token)
     → (settled_once store now s).history.queued ≡ s.history.queued ++ (send (standing_due now (standing_now s.history)) (pong_with true token) (pong_with false token)).queued

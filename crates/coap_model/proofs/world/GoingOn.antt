@@ -4,9 +4,9 @@ use Rattle.std.proofs.Common.{◌≡◌, ℕ, ◌≤◌, Bool, true, false, List
 use Rattle.std.proofs.lemmas.Bool.{both_ways, and_parts, true_from_ne_false}
 use Rattle.std.proofs.lemmas.List.{length-drop}
 use Rattle.coap_model.specs.Prelude.{Message, StreamFault, Reply, Server, LimitValues, takes_messages, answers}
-use Rattle.coap_model.specs.Prelude.{is_open, fit, bare_response, PendingEntryValue, first_due, ConnectionState, ReactionResult, send_as}
+use Rattle.coap_model.specs.Prelude.{is_open, fit, bare_response, PendingEntryValue, first_due, ConnectionState, ReactionResult, send, send_as}
 use Rattle.coap_model.specs.Prelude.{pong_with, due_effect, History, IsHistory, standing_now, with_effect, after}
-use Rattle.coap_model.specs.Prelude.{link_of, may_hold, bytes_of, own_csm, Call, call_effect, standing_due}
+use Rattle.coap_model.specs.Prelude.{link_of, may_hold, bytes_of, own_csm, Call, call_effect, standing_due, standing_without, limit_now}
 use Rattle.coap_model.specs.Prelude.{StoreValue, ConfigValues, Connection, new_side, handles, has_room}
 use Rattle.coap_model.specs.Prelude.{side_after, side_faulted, side_written, side_ended, side_released}
 use Rattle.coap_model.specs.Prelude.{side_announced, held_message, after_sent, settled_once, settled, World, Step}
@@ -88,14 +88,19 @@ due_over s other e = e
 pub call_goes_on : (h : History) (c : Call) → IsWithin (link_of h) (call_effect (link_of h) c).deed → GoesOn h (after h c)
 call_goes_on h (call.Reply m) within = if_between GoesOn (answers h.phase) h _ (as_before h) (λ does. sent_goes_so h m (bare_response m))
 call_goes_on h (call.Hold token moment) within = if_between GoesOn (is_open h.phase && may_hold h) h _ (as_before h) (λ may. holding_so h _)
+call_goes_on h (call.HoldRequest token moment) within = if_between GoesOn (is_open h.phase && may_hold h) h _ (as_before h) (λ may. holding_so h _)
+call_goes_on h (call.Respond m) within =
+    let e : ReactionResult = send (standing_without m.token (standing_now h)) m (bare_response m) in
+    if_between GoesOn (call_effect (link_of h) (call.Respond m)).so h (with_effect h e) (as_before h)
+    (λ so. effect_goes_on h e (sent_over (standing_without m.token (standing_now h)) m (bare_response m) (fit (limit_now h) m (bare_response m))))
 call_goes_on h (call.Due now) within = effect_goes_on h _ (due_over (standing_due now (standing_now h)) (first_due now h.held))
 call_goes_on h (call.Written n) within = written_goes_on h n within
 call_goes_on h other within = if_between GoesOn _ h _ (as_before h) (λ so. record { role = refl; limits = refl; history = history_more h _; over = λ e. cc })
 
 -- The first due entry is removed, and its message is sent.
 pub sent_goes_on : (h : History) (now : ℕ) (e : PendingEntryValue) → GoesOn h (after_sent h now e)
-sent_goes_on h now (held.Answer token moment) =
-    let k : History = after h (call.Due now) in further h k _ (call_goes_on h (call.Due now) tt) (call_goes_on k (call.Reply (held_message token)) tt)
+sent_goes_on h now (held.Answer by token moment) =
+    let k : History = after h (call.Due now) in further h k _ (call_goes_on h (call.Due now) tt) (call_goes_on k (call.Reply (held_message by token)) tt)
 sent_goes_on h now (held.Pong token) = call_goes_on h (call.Due now) tt
 
 pub settled_goes_on : (store : StoreValue) (now : ℕ) (s : Connection) → Between GoesOn s (settled store now s)

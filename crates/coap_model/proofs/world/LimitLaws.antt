@@ -4,6 +4,7 @@ use Rattle.std.proofs.Common.{◌≡◌, ℕ, ◌+◌, ◌<◌, ◌≤◌, Bool,
 use Rattle.std.proofs.lemmas.Bool.{cond_both, leb-true, ltb-true, eqb-true}
 use Rattle.std.proofs.lemmas.List.{length-append, length-drop, append-nil}
 use Rattle.std.proofs.lemmas.List.Sums.{length-filter, count_by-le-length}
+use Rattle.coap_model.specs.Prelude.{Engine}
 use Rattle.coap_model.specs.Prelude.{same_bytes, not, Message, spelling, Reply, Whole, LimitValues, AreInRange}
 use Rattle.coap_model.specs.Prelude.{takes_messages, stop_of, announced, bad_csm_option, size_unless, csm_size}
 use Rattle.coap_model.specs.Prelude.{announcement, size_limit, AllFit, fit, bare_response, PendingEntryValue, Answer}
@@ -96,7 +97,7 @@ all_hold_few = record {
   composes = keeping_composes HoldsFew;
   takes_input = λ h m takes room few. held_few (standing_now h) m few;
   replies = λ h token observe r does room. (let m = response_with_observe token observe r in sent_few h m (bare_response m));
-  holds = λ h token moment opened may few. omega (arith, ltb-true (length h.held) h.limits.pending may, length-append h.held (Answer token moment ∷ []));
+  holds = λ h token moment opened may few. omega (arith, ltb-true (length h.held) h.limits.pending may, length-append h.held (Answer Engine token moment ∷ []));
   lets_go = taken_few;
   pongs = λ h now token due room few. sent_few (without_first h now) (pong_with true token) (pong_with false token) (taken_few h now few);
   rejects = λ h fault takes room few. omega arith;

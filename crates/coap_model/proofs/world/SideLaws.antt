@@ -72,7 +72,7 @@ send_held s m less other = omega arith
 -- Sending the entry that was due first adds none either.
 pub due_held : (s : ConnectionState) (e : Option PendingEntryValue) → length (due_effect s e).held ≤ length s.held
 due_held s None = omega arith
-due_held s (Some (held.Answer token moment)) = omega arith
+due_held s (Some (held.Answer by token moment)) = omega arith
 due_held s (Some (held.Pong token)) = send_held s (pong_with true token) (pong_with false token) (fit s.limit (pong_with true token) (pong_with false token))
 
 reply_leaves : (h : History) (m : Message) → length (after h (call.Reply m)).held ≤ length h.held
@@ -81,8 +81,8 @@ reply_leaves h m =
     (λ does. send_held (standing_now h) m (bare_response m) (fit (limit_now h) m (bare_response m))) (λ none. omega arith)
 
 sent_leaves : (h : History) (now : ℕ) (e : PendingEntryValue) → length (after_sent h now e).held ≤ length (without_due now h.held)
-sent_leaves h now (held.Answer token moment) =
-    omega (arith, reply_leaves (after h (call.Due now)) (held_message token), due_held (standing_due now (standing_now h)) (first_due now h.held))
+sent_leaves h now (held.Answer by token moment) =
+    omega (arith, reply_leaves (after h (call.Due now)) (held_message by token), due_held (standing_due now (standing_now h)) (first_due now h.held))
 sent_leaves h now (held.Pong token) = due_held (standing_due now (standing_now h)) (first_due now h.held)
 
 -- ---- the facts are kept

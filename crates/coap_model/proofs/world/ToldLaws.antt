@@ -1,6 +1,7 @@
 -- After any events, the last response with an observer's token reports the state that its entry records. This holds if
 -- no request for a delayed response had that token.
 use Rattle.std.proofs.Common.{◌≡◌, ◌≢◌, ℕ, Bool, true, false, List, [], ◌∷◌, ◌++◌, length, Option, Some, None, refl, sym, ap, subst, ◌∙◌, filter, find, not, nat_lt, ◌&&◌, if◌then◌else◌, arith}
+use Rattle.coap_model.specs.Prelude.{list_any, Engine, Application, asks_pending}
 use Rattle.coap_model.specs.Prelude.{AllByRecursion, Message, LimitValues, is_open, fit, bare_response, PendingEntryValue}
 use Rattle.coap_model.specs.Prelude.{Answer, Pong, first_due, History, limit_now, after, same_bytes, StoreValue}
 use Rattle.coap_model.specs.Prelude.{state_of, immediate_answer, response_with_observe, ConfigValues, Observer, is_due}
@@ -206,15 +207,24 @@ notified_told store now s (Some o) there are =
 
 -- ---- pending entries
 
+-- No message asks for an entry of the application.
+never_asked : (token : List ℕ) (moment : ℕ) (ms : List Message) → list_any (λ m. asks_pending m (Answer Application token moment)) ms ≡ true → ⊥
+never_asked token moment [] e = cc
+never_asked token moment (m ∷ ms) e = never_asked token moment ms e
+
 -- The token of a delayed response is that of a request for one.
 sent_told : (s : Connection) (now : ℕ) (e : PendingEntryValue) → first_due now s.history.held ≡ Some e → Stands s.history → AllTold s → AllTold (with_history s (after_sent s.history now e))
-sent_told s now (Answer token moment) found stand are =
+sent_told s now (Answer Application token moment) found stand are =
+    let first = due_answer now s.history.held Application token moment found in
+    absurd (never_asked token moment s.history.handled
+    (stand_asked s.history.handled first.before (Answer Application token moment) first.after (subst (CorrespondTo s.history.handled) first.there stand)))
+sent_told s now (Answer Engine token moment) found stand are =
     let h : History = after s.history (call.Due now) in
-    let k : History = after h (call.Reply (held_message token)) in
-    let first = due_answer now s.history.held token moment found in
+    let k : History = after h (call.Reply (held_message Engine token)) in
+    let first = due_answer now s.history.held Engine token moment found in
     kept_told k s.observers
-    (λ opened. late_told token h k s.observers (reply_queues h (held_message token))
-    (stand_asked s.history.handled first.before (Answer token moment) first.after (subst (CorrespondTo s.history.handled) first.there stand))
+    (λ opened. late_told token h k s.observers (reply_queues h (held_message Engine token))
+    (stand_asked s.history.handled first.before (Answer Engine token moment) first.after (subst (CorrespondTo s.history.handled) first.there stand))
     (signalled_told IsNoResponse (λ m is. is) s.history h s.observers (due_queues s.history now) are))
 sent_told s now (Pong token) found stand are = signalled_side s (after s.history (call.Due now)) (due_queues s.history now) are
 

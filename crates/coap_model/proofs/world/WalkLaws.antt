@@ -5,6 +5,7 @@ use Rattle.std.proofs.Common.{◌≡◌, ℕ, ◌≤◌, Bool, true, false, cond
 use Rattle.std.proofs.lemmas.Bool.{cond_both, and_parts, leb-true}
 use Rattle.std.proofs.lemmas.Bool.Decides.{nat_tests}
 use Rattle.std.proofs.lemmas.List.{append-nil}
+use Rattle.coap_model.specs.Prelude.{Responder, Engine, late_response}
 use Rattle.coap_model.specs.Prelude.{Message, StreamFault, LARGEST_MESSAGE, Reject, ReleasedHere, takes_messages}
 use Rattle.coap_model.specs.Prelude.{answers, is_open, fits, bare_response, VerdictValue, is_request, PendingEntryValue}
 use Rattle.coap_model.specs.Prelude.{Answer, Pong, first_due, without_due, stop, abort, send, react, pong_with}
@@ -55,7 +56,7 @@ abbrev pub Replies : (History → History → Type 0) → Type 0
 Replies R = (h : History) (token : List ℕ) (observe : Bool) (r : Response) → answers h.phase ≡ true → room_in h ≡ true → R h (sent h (response_with_observe token observe r) (bare_response (response_with_observe token observe r)))
 
 abbrev pub Holds : (History → History → Type 0) → Type 0
-Holds R = (h : History) (token : List ℕ) (moment : ℕ) → is_open h.phase ≡ true → may_hold h ≡ true → R h (holding h (h.held ++ Answer token moment ∷ []))
+Holds R = (h : History) (token : List ℕ) (moment : ℕ) → is_open h.phase ≡ true → may_hold h ≡ true → R h (holding h (h.held ++ Answer Engine token moment ∷ []))
 
 abbrev pub LetsGo : (History → History → Type 0) → Type 0
 LetsGo R = (h : History) (now : ℕ) → R h (without_first h now)
@@ -116,8 +117,8 @@ pub due_is : (h : History) (now : ℕ) (found : Option PendingEntryValue) → fi
 due_is h now found is = ap (λ (o : Option PendingEntryValue). with_effect h (due_effect (standing_due now (standing_now h)) o)) is
 
 -- The first due entry is removed, and nothing else changes if it is no Pong.
-answer_goes : (h : History) (now : ℕ) (token : List ℕ) (moment : ℕ) → first_due now h.held ≡ Some (Answer token moment) → after h (call.Due now) ≡ without_first h now
-answer_goes h now token moment is = cc (due_is h now (Some (Answer token moment)) is, append-nil h.queued)
+answer_goes : (h : History) (now : ℕ) (by : Responder) (token : List ℕ) (moment : ℕ) → first_due now h.held ≡ Some (Answer by token moment) → after h (call.Due now) ≡ without_first h now
+answer_goes h now by token moment is = cc (due_is h now (Some (Answer by token moment)) is, append-nil h.queued)
 
 -- ---- settling
 
@@ -143,9 +144,9 @@ module _ (R E : History → History → Type 0) (same : (h : History) → R h h)
       cond_both (answers k.phase) _ k (R h) (λ does. then h k _ before (replies k token observe r does room)) (λ none. before)
 
   sent_between : (h : History) (now : ℕ) (e : PendingEntryValue) → first_due now h.held ≡ Some e → room_in h ≡ true → R h (after_sent h now e)
-  sent_between h now (Answer token moment) is room =
-      subst (λ (g : History). R h (after g (call.Reply (held_message token)))) (sym (answer_goes h now token moment is))
-      (reply_between h (without_first h now) token false delayed_response (lets_go h now) room)
+  sent_between h now (Answer by token moment) is room =
+      subst (λ (g : History). R h (after g (call.Reply (held_message by token)))) (sym (answer_goes h now by token moment is))
+      (reply_between h (without_first h now) token false (late_response by) (lets_go h now) room)
   sent_between h now (Pong token) is room = rw (due_is h now (Some (Pong token)) is) (pongs h now token is room)
 
   module _ (store : StoreValue) (now : ℕ) (s : Connection) where

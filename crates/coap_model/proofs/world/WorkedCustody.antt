@@ -1,5 +1,6 @@
 -- Worked examples of the definitions in `specs/world`: the messages that ask for pending entries, and their order.
 use Rattle.std.proofs.Common.{◌≡◌, ℕ, true, false, List, [], ◌∷◌, map, refl, sym, codes, inl, inr, true≢false}
+use Rattle.coap_model.specs.Prelude.{Engine}
 use Rattle.coap_model.specs.Prelude.{CoapOption, Message, PendingEntryValue, Answer, Pong, is_custody_pong, asked_late}
 use Rattle.coap_model.specs.Prelude.{asks_pending, CorrespondTo}
 use Rattle.coap_wire.specs.Codes as code
@@ -28,10 +29,10 @@ custody = record { number = option.custody; value = [] } ∷ []
 -- A request for a delayed response asks for the entry with its token alone; other requests ask for none. A Ping with
 -- Custody asks for its Pong; one without asks for nothing.
 what_is_asked : map (λ (r : Message × PendingEntryValue). asks_pending r.0 r.1) (
-    (late_get 5, Answer (5 ∷ []) 3)
-    ∷ (late_get 5, Answer (6 ∷ []) 3)
+    (late_get 5, Answer Engine (5 ∷ []) 3)
+    ∷ (late_get 5, Answer Engine (6 ∷ []) 3)
     ∷ (late_get 5, Pong (5 ∷ []))
-    ∷ (prompt_get 5, Answer (5 ∷ []) 3)
+    ∷ (prompt_get 5, Answer Engine (5 ∷ []) 3)
     ∷ (message_with code.ping 6 custody, Pong (6 ∷ []))
     ∷ (message_with code.ping 6 [], Pong (6 ∷ []))
     ∷ [])
@@ -52,17 +53,17 @@ token_late = refl
 -- ---- the order
 
 -- Pending entries are in the order of the messages that asked for them, and each has its own message.
-in_order : CorrespondTo (late_get 5 ∷ prompt_get 4 ∷ message_with code.ping 6 custody ∷ []) (Answer (5 ∷ []) 3 ∷ Pong (6 ∷ []) ∷ [])
+in_order : CorrespondTo (late_get 5 ∷ prompt_get 4 ∷ message_with code.ping 6 custody ∷ []) (Answer Engine (5 ∷ []) 3 ∷ Pong (6 ∷ []) ∷ [])
 unfolding told CorrespondTo
 in_order = inl (refl, inr (inl (refl, tt)))
 
-not_turned : CorrespondTo (message_with code.ping 6 custody ∷ late_get 5 ∷ []) (Answer (5 ∷ []) 3 ∷ Pong (6 ∷ []) ∷ []) → ⊥
+not_turned : CorrespondTo (message_with code.ping 6 custody ∷ late_get 5 ∷ []) (Answer Engine (5 ∷ []) 3 ∷ Pong (6 ∷ []) ∷ []) → ⊥
 unfolding told CorrespondTo
 not_turned (inl (asks, rest)) = true≢false (sym asks)
 not_turned (inr (inl (asks, rest))) = rest
 not_turned (inr (inr rest)) = rest
 
-not_twice : CorrespondTo (late_get 5 ∷ []) (Answer (5 ∷ []) 3 ∷ Answer (5 ∷ []) 3 ∷ []) → ⊥
+not_twice : CorrespondTo (late_get 5 ∷ []) (Answer Engine (5 ∷ []) 3 ∷ Answer Engine (5 ∷ []) 3 ∷ []) → ⊥
 unfolding told CorrespondTo
 not_twice (inl (asks, rest)) = rest
 not_twice (inr rest) = rest

@@ -2,6 +2,7 @@
 -- when they are dropped.
 use Rattle.std.proofs.Common.{◌≡◌, ℕ, List, [], ◌∷◌, ◌++◌, Some, None, option_map, refl, codes}
 use Prim.Native.String.{String}
+use Rattle.coap_model.specs.Prelude.{Engine}
 use Rattle.coap_model.specs.Prelude.{Answer, Pong, ConfigValues, side_of, AcceptedCall, Opened, Took, Wrote, Ticked}
 use Rattle.coap_model.specs.Prelude.{world_after}
 use Rattle.coap_conn.specs.declared.phase.Phase.TheVariants as phase
@@ -118,7 +119,7 @@ two_answers : List AcceptedCall
 two_answers = Opened 1 ∷ Wrote 1 8 ∷ Took 1 (hex "00e1") ∷ Ticked 4 ∷ Took 1 (asked "05" "3") ∷ Took 1 (ping "06") ∷ Took 1 (asked "07" "1") ∷ []
 
 answers_and_pong_held : option_map (λ s. s.history.held) (side_of 1 (world_after usual two_answers).sides)
-    ≡ Some (Answer (5 ∷ []) 7 ∷ Pong (6 ∷ []) ∷ Answer (7 ∷ []) 5 ∷ [])
+    ≡ Some (Answer Engine (5 ∷ []) 7 ∷ Pong (6 ∷ []) ∷ Answer Engine (7 ∷ []) 5 ∷ [])
 unfolding told two_answers
 answers_and_pong_held = refl
 

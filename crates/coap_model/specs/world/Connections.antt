@@ -5,7 +5,7 @@ use Rattle.std.specs.List.{AllByRecursion}
 use Rattle.coap_wire.specs.Message.{Message}
 use Rattle.coap_wire.specs.Stream.{StreamFault}
 use Rattle.coap_conn.specs.declared.phase.Role.TheVariants.{Server}
-use Rattle.coap_conn.specs.Limits.{LimitValues}
+use Rattle.coap_limits.specs.Limits.{LimitValues}
 use Rattle.coap_conn.specs.Phases.{takes_messages, is_open}
 use Rattle.coap_conn.specs.Verdicts.{is_request}
 use Rattle.coap_conn.specs.Reaction.{react}
@@ -16,11 +16,13 @@ use Rattle.coap_conn.specs.History.{History, link_of, new_history, limit_now, st
 use Rattle.coap_conn.specs.LinkValue.{free_in}
 use Rattle.coap_conn.specs.PendingEntries.{PendingEntryValue, NothingIsDue, first_due}
 use Rattle.coap_conn.specs.PendingEntries as held
+use Rattle.coap_conn.specs.declared.pending.Responder.{Responder}
+use Rattle.coap_conn.specs.declared.pending.Responder.TheVariants.{Engine, Application}
 use Rattle.coap_conn.specs.Calls.{may_announce}
 use Rattle.coap_conn.specs.Calls as call
 use Rattle.coap_store.specs.Store.{StoreValue}
 use Rattle.coap_store.specs.State.{state_of}
-use Rattle.coap_store.specs.Answer.{Answer, Change, Nothing, delayed_response, answer_of, immediate_answer, changed}
+use Rattle.coap_store.specs.Answer.{Answer, Response, Change, Nothing, delayed_response, expired_response, answer_of, immediate_answer, changed}
 use Rattle.coap_store.specs.Messages.{response_with_observe, response_message}
 use Rattle.coap_model.specs.world.Observers.{Observer, is_due, without_token, has_place, entry_for, is_whole, with_entry, goes_on, notification, notification_message, left_of, first_becomes}
 use Rattle.coap_wire.specs.declared.sizes.TheConstants.{LARGEST_MESSAGE}
@@ -182,13 +184,19 @@ notified store now s (Some o) = notified_so store now s o (notification_message 
 abbrev pub next_held : ℕ → Connection → Option PendingEntryValue
 next_held now s = if has_room s then first_due now s.history.held else None
 
--- The delayed response to the request with this token.
-abbrev pub held_message : List ℕ → Message
-held_message token = response_message token delayed_response
+-- The response that is sent at the time of a pending entry. It is the delayed one of the engine, or 5.04 to a request
+-- that the application has not answered.
+abbrev pub late_response : Responder → Response
+late_response Engine = delayed_response
+late_response Application = expired_response
 
--- The history after the first due entry was removed and its message queued: a delayed response, or a Pong with Custody.
+-- That response, with the token of the request.
+abbrev pub held_message : Responder → List ℕ → Message
+held_message by token = response_message token (late_response by)
+
+-- The history after the first due entry was removed and its message queued: a response, or a Pong with Custody.
 abbrev pub after_sent : History → ℕ → PendingEntryValue → History
-after_sent h now (held.Answer token moment) = after (after h (call.Due now)) (call.Reply (held_message token))
+after_sent h now (held.Answer by token moment) = after (after h (call.Due now)) (call.Reply (held_message by token))
 after_sent h now (held.Pong token) = after h (call.Due now)
 
 -- The connection after one round of settling with this due entry. An observer is notified only if no entry is due.

@@ -1,21 +1,24 @@
 -- RFC 8323 section 5.4.1: the order of pending entries and of Pongs with Custody. Such a Pong says that every request
 -- before its Ping was answered.
-use Rattle.std.specs.Prelude.{◌≡◌, ◌≤◌, ◌⊎◌, ℕ, Bool, true, ◌&&◌, List, [], ◌∷◌, ◌++◌, length, ◌==◌}
+use Rattle.std.specs.Prelude.{◌≡◌, ◌≤◌, ◌⊎◌, ℕ, Bool, true, false, ◌&&◌, List, [], ◌∷◌, ◌++◌, length, ◌==◌}
 use Rattle.std.specs.List.{AllByRecursion, list_any}
 use Rattle.coap_wire.specs.Message.{Message}
 use Rattle.coap_wire.specs.Codes as code
 use Rattle.coap_conn.specs.declared.reason.Reason.{Reason}
 use Rattle.coap_conn.specs.declared.phase.Phase.TheVariants.{Stopped}
 use Rattle.coap_conn.specs.PendingEntries.{PendingEntryValue, Answer, Pong}
+use Rattle.coap_conn.specs.declared.pending.Responder.TheVariants.{Engine, Application}
 use Rattle.coap_conn.specs.Reaction.{asks_custody, is_custody_pong}
 use Rattle.coap_path.specs.Paths.{same_bytes}
 use Rattle.coap_store.specs.Answer.{is_delayed}
 use Rattle.coap_model.specs.world.Connections.{Connection}
 
 -- The message asks for this pending entry. A GET of `/async` asks for a delayed response with its token. A Ping with
--- Custody asks for a Pong with its token.
+-- Custody asks for a Pong with its token. The server hands no request to the application, so no message asks for such an
+-- entry.
 abbrev pub asks_pending : Message → PendingEntryValue → Bool
-asks_pending m (Answer token moment) = is_delayed m && same_bytes m.token token
+asks_pending m (Answer Engine token moment) = is_delayed m && same_bytes m.token token
+asks_pending m (Answer Application token moment) = false
 asks_pending m (Pong token) = m.code == code.ping && asks_custody m && same_bytes m.token token
 
 -- These messages asked for the entries: each entry has a message of its own, in the same order.

@@ -38,7 +38,7 @@ before_each later (x ∷ xs) h = before_fold later x xs h
 -- A response that is not due yet is not due later either, if the later time is before its deadline.
 not_come : (now later : ℕ) (e : PendingEntryValue) → due_moment now e ≡ None → ((m : ℕ) → future_moment now e ≡ Some m → later < m) → due_moment later e ≡ None
 not_come now later (Pong token) none after = refl
-not_come now later (Answer token moment) none after = grind (arith, after moment)
+not_come now later (Answer by token moment) none after = grind (arith, after moment)
 
 none_come_later : (now later : ℕ) (held : List PendingEntryValue) → AllByRecursion (λ e. due_moment now e ≡ None) held → AllByRecursion (λ x. later < x) (filter_map (future_moment now) held) → AllByRecursion (λ e. due_moment later e ≡ None) held
 none_come_later now later [] none after = tt

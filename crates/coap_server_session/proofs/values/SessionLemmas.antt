@@ -164,7 +164,7 @@ module _ (host : ServerState) (s : Inside) (index : ℕ) (l : LinkValue) (o : Ob
 -- ---- pending entries
 
 sent_sizes : (l : LinkValue) (now : ℕ) (e : PendingEntryValue) → sizes_of (link_sent l now e) ≡ sizes_of l
-sent_sizes l now (Answer token moment) = let due : LinkValue = link_after l (call.Due now) in stays_so sizes_of (answers due.phase) due _ refl
+sent_sizes l now (Answer by token moment) = let due : LinkValue = link_after l (call.Due now) in stays_so sizes_of (answers due.phase) due _ refl
 sent_sizes l now (Pong token) = refl
 
 -- A session whose first due entry was sent.

@@ -26,7 +26,7 @@ reply_held l m =
     (λ _. send_held (standing_in l) m (bare_response m) (fit (limit_in l) m (bare_response m))) (λ _. omega arith)
 
 held_where_sent : (l : LinkValue) (now : ℕ) (e : PendingEntryValue) → length (link_sent l now e).held ≤ length (link_after l (call.Due now)).held
-held_where_sent l now (Answer token moment) = reply_held (link_after l (call.Due now)) (held_message token)
+held_where_sent l now (Answer by token moment) = reply_held (link_after l (call.Due now)) (held_message by token)
 held_where_sent l now (Pong token) = omega arith
 
 -- An iteration that finds a due entry leaves fewer entries.

@@ -131,9 +131,9 @@ change_shown store now s m e = ap (λ b. cond (b && asks_answer s m) (immediate_
 -- ---- the link after a pending entry was sent
 
 pub sent_link : (h : History) (now : ℕ) (e : PendingEntryValue) → IsHistory h → link_of (after_sent h now e) ≡ link_sent (link_of h) now e
-sent_link h now (held.Answer token moment) is =
-    after_link (after h (call.Due now)) (call.Reply (held_message token)) tt ((call_goes_on h (call.Due now) tt).history is)
-    ∙ ap (λ l. link_after l (call.Reply (held_message token))) (after_link h (call.Due now) tt is)
+sent_link h now (held.Answer by token moment) is =
+    after_link (after h (call.Due now)) (call.Reply (held_message by token)) tt ((call_goes_on h (call.Due now) tt).history is)
+    ∙ ap (λ l. link_after l (call.Reply (held_message by token))) (after_link h (call.Due now) tt is)
 sent_link h now (held.Pong token) is = after_link h (call.Due now) tt is
 
 -- ---- one iteration of settling, and all of them

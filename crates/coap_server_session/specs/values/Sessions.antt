@@ -8,7 +8,7 @@ use Rattle.coap_frame.specs.Framing.{Framing, FrameEventValue, Nothing, AFrame, 
 use Rattle.coap_conn.specs.declared.phase.Role.TheVariants.{Server}
 use Rattle.coap_conn.specs.declared.phase.Reject.{Reject}
 use Rattle.coap_conn.specs.declared.phase.Reject.TheVariants as reject
-use Rattle.coap_conn.specs.Limits.{LimitValues}
+use Rattle.coap_limits.specs.Limits.{LimitValues}
 use Rattle.coap_conn.specs.Phases.{takes_messages, is_open}
 use Rattle.coap_conn.specs.Verdicts.{is_request}
 use Rattle.coap_conn.specs.Reaction.{react}
@@ -303,7 +303,7 @@ next_held_in now v = if session_ready v then first_due now v.link.held else None
 -- The link after the pending entry that is due first was removed: its response was sent, or its Pong was queued with
 -- Custody.
 abbrev pub link_sent : LinkValue → ℕ → PendingEntryValue → LinkValue
-link_sent l now (held.Answer token moment) = link_after (link_after l (call.Due now)) (call.Reply (held_message token))
+link_sent l now (held.Answer by token moment) = link_after (link_after l (call.Due now)) (call.Reply (held_message by token))
 link_sent l now (held.Pong token) = link_after l (call.Due now)
 
 -- The connection after one iteration of settling: a pending entry is sent before any observer is notified.

@@ -1,5 +1,6 @@
 use Rattle.coap_conn.proofs.HistoryLaws.{new_fits, reaction_fits, sent_fits, stopped_fits, released_fits, due_fits, asked_fits, cancelled_fits}
 use Rattle.coap_conn.proofs.AnnounceLaws.{announcement_fits}
+use Rattle.coap_conn.proofs.ApplicationLaws.{responded_fits}
 use Rattle.coap_conn.proofs.laws.queued_messages_fit_limit.Goals as goal
 
 pub returns-clause-new : goal.returns-clause-new
@@ -10,6 +11,9 @@ returns-clause-message c = reaction_fits
 
 pub returns-clause-sent : goal.returns-clause-sent
 returns-clause-sent c = sent_fits
+
+pub returns-clause-responded : goal.returns-clause-responded
+returns-clause-responded c = responded_fits
 
 pub returns-clause-stopped : goal.returns-clause-stopped
 returns-clause-stopped c = stopped_fits

@@ -33,9 +33,10 @@ returns-in-Answer-clause-due c =
     let first : due_index c.args.now (map held_value c.self.inside.pending.items) ≡ Some c.in-Some.index =
     sym (c.in-Some.ensures.first ∙ ap (λ (held : List PendingEntry). due_index c.args.now (map held_value held)) c.deref.ensures.value) in
     let within : c.in-Some.index < length c.self.inside.pending.items = subst (λ (held : List PendingEntry). c.in-Some.index < length held) c.deref.ensures.value c.in-Some.ensures.within in
-    let taken : slice_get (map held_value c.self.inside.pending.items) c.in-Some.index ≡ Some (held_value (hold.Answer c.in-Answer.token c.in-Answer.moment)) =
-    held_at_index c.self.inside.pending.items c.in-Some.index (hold.Answer c.in-Answer.token c.in-Answer.moment) (slice_get_read c.self.inside.pending.items _ c.in-Some.index (hold.Answer c.in-Answer.token c.in-Answer.moment) refl within c.in-Answer.ensures.value) in
-    ap due_told (sym (first_at_index c.args.now (map held_value c.self.inside.pending.items) c.in-Some.index (Answer c.in-Answer.token.items c.in-Answer.moment) first taken))
+    let taken : slice_get (map held_value c.self.inside.pending.items) c.in-Some.index ≡ Some (held_value (hold.Answer c.in-Answer.responder c.in-Answer.token c.in-Answer.moment)) =
+    held_at_index c.self.inside.pending.items c.in-Some.index (hold.Answer c.in-Answer.responder c.in-Answer.token c.in-Answer.moment) (slice_get_read c.self.inside.pending.items _ c.in-Some.index (hold.Answer c.in-Answer.responder c.in-Answer.token c.in-Answer.moment) refl within c.in-Answer.ensures.value) in
+    c.due_response.ensures
+    ∙ ap due_told (sym (first_at_index c.args.now (map held_value c.self.inside.pending.items) c.in-Some.index (Answer c.in-Answer.responder c.in-Answer.token.items c.in-Answer.moment) first taken))
     ∙ ap (λ (v : LinkValue). due_told (first_due c.args.now v.held)) c.self.view_is
 
 pub returns-in-Answer-clause-after : goal.returns-in-Answer-clause-after
@@ -43,12 +44,12 @@ returns-in-Answer-clause-after c =
     let first : due_index c.args.now (map held_value c.self.inside.pending.items) ≡ Some c.in-Some.index =
     sym (c.in-Some.ensures.first ∙ ap (λ (held : List PendingEntry). due_index c.args.now (map held_value held)) c.deref.ensures.value) in
     let within : c.in-Some.index < length c.self.inside.pending.items = subst (λ (held : List PendingEntry). c.in-Some.index < length held) c.deref.ensures.value c.in-Some.ensures.within in
-    let taken : slice_get (map held_value c.self.inside.pending.items) c.in-Some.index ≡ Some (held_value (hold.Answer c.in-Answer.token c.in-Answer.moment)) =
-    held_at_index c.self.inside.pending.items c.in-Some.index (hold.Answer c.in-Answer.token c.in-Answer.moment) (slice_get_read c.self.inside.pending.items _ c.in-Some.index (hold.Answer c.in-Answer.token c.in-Answer.moment) refl within c.in-Answer.ensures.value) in
+    let taken : slice_get (map held_value c.self.inside.pending.items) c.in-Some.index ≡ Some (held_value (hold.Answer c.in-Answer.responder c.in-Answer.token c.in-Answer.moment)) =
+    held_at_index c.self.inside.pending.items c.in-Some.index (hold.Answer c.in-Answer.responder c.in-Answer.token c.in-Answer.moment) (slice_get_read c.self.inside.pending.items _ c.in-Some.index (hold.Answer c.in-Answer.responder c.in-Answer.token c.in-Answer.moment) refl within c.in-Answer.ensures.value) in
     let rest : map held_value c.remove.new.self.items ≡ remove (map held_value c.self.inside.pending.items) c.in-Some.index =
     ap (map held_value) c.in-Answer.ensures.items ∙ held_without c.self.inside.pending.items c.in-Some.index in
     ap (λ (held : List PendingEntryValue). record (link_value c.self.inside) { held = held }) rest
-    ∙ answer_due (link_value c.self.inside) c.args.now c.in-Some.index c.in-Answer.token.items c.in-Answer.moment first taken
+    ∙ answer_due (link_value c.self.inside) c.args.now c.in-Some.index c.in-Answer.responder c.in-Answer.token.items c.in-Answer.moment first taken
     ∙ ap (λ (v : LinkValue). link_after v (call.Due c.args.now)) c.self.view_is
 
 pub returns-in-Answer-clause-shows : goal.returns-in-Answer-clause-shows

@@ -1,8 +1,8 @@
 //! Limits of a connection: sizes in bytes, and numbers of entries.
 
 ghost use Rattle.std.specs.Prelude.{◌≡◌, ◌≤◌, IfOk};
-ghost use Rattle.coap_conn.specs.Prelude.{RefusedBy, limits_of, limit_refusal, AreInRange};
-ghost use Rattle.coap_conn.specs.Prelude.{BASE_MESSAGE_SIZE, LARGEST_MESSAGE, LARGEST_SENT_MESSAGE, LARGEST_QUEUE};
+ghost use Rattle.coap_limits.specs.Prelude.{RefusedBy, limits_of, limit_refusal, AreInRange};
+ghost use Rattle.coap_limits.specs.Prelude.{BASE_MESSAGE_SIZE, LARGEST_MESSAGE, LARGEST_SENT_MESSAGE, LARGEST_QUEUE};
 
 mod builder;
 
@@ -68,11 +68,11 @@ pub struct Limits {
 }
 
 impl Model for Limits {
-    ghost use Rattle.coap_conn.specs.Limits.{LimitValues};
+    ghost use Rattle.coap_limits.specs.Limits.{LimitValues};
 
     ghost Value = { LimitValues };
 
-    ghost use Rattle.coap_conn.specs.LimitViews.{limit_values, are_limits, limit_fields};
+    ghost use Rattle.coap_limits.specs.LimitViews.{limit_values, are_limits, limit_fields};
 
     ghost view = { limit_values };
 

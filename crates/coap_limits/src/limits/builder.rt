@@ -1,7 +1,7 @@
 //! A builder of `Limits`, which sets each limit by its name.
 
 ghost use Rattle.std.specs.Prelude.{◌≡◌, IfOk};
-ghost use Rattle.coap_conn.specs.Prelude.{RefusedBy, limit_refusal, default_limits};
+ghost use Rattle.coap_limits.specs.Prelude.{RefusedBy, limit_refusal, default_limits};
 
 use super::{LimitFault, Limits};
 use coap_wire::{DEFAULT_QUEUE, LARGEST_SENT_MESSAGE};
@@ -20,11 +20,11 @@ pub struct LimitsBuilder {
 }
 
 impl Model for LimitsBuilder {
-    ghost use Rattle.coap_conn.specs.Limits.{LimitValues};
+    ghost use Rattle.coap_limits.specs.Limits.{LimitValues};
 
     ghost Value = { LimitValues };
 
-    ghost use Rattle.coap_conn.specs.LimitViews.{builder_values, builder_fields};
+    ghost use Rattle.coap_limits.specs.LimitViews.{builder_values, builder_fields};
 
     ghost view = { builder_values };
 

@@ -1,7 +1,7 @@
 -- Defined by this project: the values of `Limits` and `LimitsBuilder` in contracts.
-use Rattle.coap_conn.specs.Limits.{LimitValues, AreInRange}
-use Rattle.coap_conn.specs.declared.limits.Limits.TheInside.{Inside}
-use Rattle.coap_conn.specs.declared.limits.builder.LimitsBuilder.TheInside as builder
+use Rattle.coap_limits.specs.Limits.{LimitValues, AreInRange}
+use Rattle.coap_limits.specs.declared.limits.Limits.TheInside.{Inside}
+use Rattle.coap_limits.specs.declared.limits.builder.LimitsBuilder.TheInside as builder
 
 -- The value of a `Limits`.
 abbrev pub limit_values : Inside → LimitValues

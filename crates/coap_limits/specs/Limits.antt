@@ -2,8 +2,8 @@
 use Rattle.std.specs.Prelude.{ℕ, ◌≤◌, Bool, ◌&&◌, Option, Some, None, nat_le, if◌then◌else◌}
 use Rattle.coap_wire.specs.declared.sizes.TheConstants.{BASE_MESSAGE_SIZE, LARGEST_MESSAGE, LARGEST_SENT_MESSAGE}
 use Rattle.coap_wire.specs.declared.sizes.TheConstants.{LARGEST_QUEUE, DEFAULT_QUEUE}
-use Rattle.coap_conn.specs.declared.limits.LimitFault.{LimitFault}
-use Rattle.coap_conn.specs.declared.limits.LimitFault.TheVariants as limit
+use Rattle.coap_limits.specs.declared.limits.LimitFault.{LimitFault}
+use Rattle.coap_limits.specs.declared.limits.LimitFault.TheVariants as limit
 
 -- The limits of a connection. The first three are sizes in bytes: of the largest message accepted, of the largest
 -- message sent, and of the output queue. The others are numbers of pending entries, observers and outstanding entries.
