@@ -1,11 +1,15 @@
 //! Paths of resources.
 
-ghost use Rattle.std.specs.Prelude.{◌≡◌, ◌≤◌, true, [], Some, None, nat_le, if◌then◌else◌};
+ghost use Rattle.std.specs.Prelude.{◌≡◌, ◌≤◌, ◌∷◌, true, [], Some, None, nat_le, if◌then◌else◌};
+ghost use Rattle.std.specs.Cmp.Rules.{hashing};
+ghost use Rattle.std.proofs.Common.{rules};
 ghost use Rattle.coap_path.specs.Prelude.{list_any, is_dots, is_one_empty, is_path, written_length, segment_list};
 ghost use Rattle.coap_path.specs.Prelude.{written, YieldsFirstBy, item_count};
 
 use crate::uri_path::UriPath;
 use arrayvec::ArrayVec;
+use coap_wire::append_short;
+use std::hash::{Hash, Hasher};
 use std::marker::Model;
 
 /// Maximum number of segments of a path.
@@ -88,9 +92,7 @@ fn write_path(bytes: &mut ArrayVec<u8, MAX_BYTES>, segments: UriPath) -> bool
             return false;
         }
         bytes.push(segment.len() as u8);
-        let Ok(()) = bytes.try_extend_from_slice(segment) else {
-            unreachable!()
-        };
+        append_short(bytes, segment);
         count += 1;
     }
     !(count == 1 && bytes.len() == 1)
@@ -108,7 +110,7 @@ fn write_path(bytes: &mut ArrayVec<u8, MAX_BYTES>, segments: UriPath) -> bool
 /// assert!(&rt; path.is_some() && path != PathKey::from_segments(&[b"sensors/1"]));
 /// assert!(&rt; PathKey::from_segments(&[b".."]).is_none());
 /// ```
-#[derive(Drop, PartialEq, Eq, Hash)]
+#[derive(Drop, PartialEq, Eq)]
 pub struct PathKey {
     /// Segments, each after a byte with its length.
     bytes: ArrayVec<u8, MAX_BYTES>,
@@ -128,6 +130,17 @@ impl Model for PathKey {
     ghost inverse = { key_of };
 
     ghost inverse_ok = { key_back };
+}
+
+/// Feeds all bytes of a key at once. A derived implementation feeds them one by one, which costs more.
+impl Hash for PathKey {
+    ghost hash_input = { λ path. written path ∷ [] };
+
+    ghost respects_eq = { Prim.search (hashing, rules) };
+
+    fn hash<H: Hasher>(&self, state: &mut H) {
+        state.write(self.written());
+    }
 }
 
 impl PathKey {

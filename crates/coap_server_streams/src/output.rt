@@ -80,7 +80,7 @@ pub(crate) fn flush_at<W: Outlet, M: Monitor<()>>(
         if !last.waited {
             return Ok(last.stop);
         }
-        last = flush_once(writer, server, at, id, monitor)?;
+        last = flush_again(writer, server, at, id, monitor)?;
     }
     Ok(last.stop)
 }
@@ -95,6 +95,7 @@ pub(crate) fn flush_at<W: Outlet, M: Monitor<()>>(
 /// # Preconditions
 ///
 /// The outlet has not failed. The connection with the id is at the index.
+#[inline(always)]
 fn flush_once<W: Outlet, M: Monitor<()>>(
     writer: &mut W,
     server: &mut Server,
@@ -124,6 +125,33 @@ fn flush_once<W: Outlet, M: Monitor<()>>(
     let waited = write_queued(writer, server, id, monitor)?;
     let stop = stop_in(server, id);
     Ok(FlushStep { waited, more, stop })
+}
+
+/// Does the same as `flush_once`, and is never inlined. Most flushes write once.
+#[inline(never)]
+fn flush_again<W: Outlet, M: Monitor<()>>(
+    writer: &mut W,
+    server: &mut Server,
+    at: usize,
+    id: ConnId,
+    monitor: &mut M,
+) -> Result<FlushStep, WriteFailed>
+    requires works { W.is_failed writer.old ≡ false }
+    requires at { LiesAt id at server.old.sessions }
+    ensures ok { IfOk result (λ f. IsFlushedOnce id server.old server.new
+        (AddsBytes (W.written writer.old) (W.written writer.new)) f.waited) }
+    ensures more { IfOk result (λ f. f.more ≡ more_at id server.old) }
+    ensures stop { IfOk result (λ f. f.stop ≡ stop_on (session_of id server.new.sessions)) }
+    ensures part { OnErr result (WritesPart (W.written writer.old) (W.written writer.new)
+        (waiting_at id server.old)) }
+    ensures failure { W.is_failed writer.new ≡ is_err result }
+    // The monitor receives the number of bytes that were written.
+    ensures told { IfOk result (λ f. FollowsMore (M.follows monitor.old) (M.follows monitor.new)
+        (flush_calls id server.old f.waited)) }
+    ensures untold { OnErr result (monitor.new ≡ monitor.old) }
+    ensures lies { OnOk result (LiesAt id at server.new.sessions) }
+{
+    flush_once(writer, server, at, id, monitor)
 }
 
 /// Writes all queued bytes of a connection, and removes them from the queue. Returns `false` if there are none.

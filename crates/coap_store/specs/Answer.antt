@@ -119,6 +119,10 @@ late place r m = record (says (content place r)) { hold = Some (seconds_of (valu
 abbrev pub delayed_response : Response
 delayed_response = record (only code.content) { format = Some text_plain; payload = codes "done" }
 
+-- The response to a request that the application has not answered until its deadline.
+abbrev pub expired_response : Response
+expired_response = only code.gateway_timeout
+
 -- The request is a GET of `/async`.
 abbrev pub is_delayed : Message → Bool
 is_delayed m = is_get m && is_async (kind_of_path (path_of m))

@@ -34,7 +34,8 @@ pub use Rattle.coap_wire.specs.declared.sizes.TheConstants.{LARGEST_MESSAGE}
 pub use Rattle.coap_path.specs.PathMatches.{place_at, trail_behind}
 pub use Rattle.coap_path.specs.Paths.{Path, written_length, same_bytes, same_path}
 unfoldable pub use Rattle.coap_path.specs.Paths.{is_path}
-pub use Rattle.coap_path.specs.ResourceKinds.{is_dynamic, is_async, is_observable, async_path, listing_path, root_path, time_path}
+pub use Rattle.coap_path.specs.ResourceKinds.{is_dynamic, is_async, is_observable, async_path, listing_path, root_path}
+pub use Rattle.coap_path.specs.ResourceKinds.{time_path}
 unfoldable pub use Rattle.coap_path.specs.ResourceKinds.{kind_of_path}
 pub use Rattle.coap_path.specs.UriPaths.{path_told}
 pub use Rattle.coap_path.specs.declared.path_match.PathMatch.{PathMatch}
@@ -43,8 +44,11 @@ pub use Rattle.coap_path.specs.declared.resource_kind.ResourceKind.{ResourceKind
 -- ---- coap_store
 pub use Rattle.coap_store.specs.Answer.{read_answer, etag_at, max_age_at, is_accepted, is_among, watch_of}
 pub use Rattle.coap_store.specs.Answer.{removes_watch, stored, delete_answer, needs_resource, says, delayed_response}
-pub use Rattle.coap_store.specs.Answer.{Change, Nothing, Put, Delete, only, no_answer, is_delayed, changed, without_hold}
-pub use Rattle.coap_store.specs.Answer.{greatest_version, Answer, Response, content, deletion, with_observe_rule, first_of}
+pub use Rattle.coap_store.specs.Answer.{expired_response}
+pub use Rattle.coap_store.specs.Answer.{Change, Nothing, Put, Delete, only, no_answer, is_delayed, changed}
+pub use Rattle.coap_store.specs.Answer.{without_hold}
+pub use Rattle.coap_store.specs.Answer.{greatest_version, Answer, Response, content, deletion, with_observe_rule}
+pub use Rattle.coap_store.specs.Answer.{first_of}
 pub use Rattle.coap_store.specs.Answer.{is_number, late, put_of, refuse, stored_under, too_large, unheld_by, valid}
 pub use Rattle.coap_store.specs.Answer.{watched, when}
 unfoldable pub use Rattle.coap_store.specs.Answer.{get_answer, answer_of, answer_at, resource_answer, store_answer}
@@ -57,9 +61,11 @@ unfoldable pub use Rattle.coap_store.specs.Listing.{listing, entry_bytes, encode
 pub use Rattle.coap_store.specs.Messages.{each_at, response_message}
 pub use Rattle.coap_store.specs.Notifications.{notification_of}
 unfoldable pub use Rattle.coap_store.specs.Notifications.{notification_at}
-pub use Rattle.coap_store.specs.OptionScan.{first_given, nothing, notes_value, all_noted, AreNotesOf, RequestOptions, match_after}
+pub use Rattle.coap_store.specs.OptionScan.{first_given, nothing, notes_value, all_noted, AreNotesOf, RequestOptions}
+pub use Rattle.coap_store.specs.OptionScan.{match_after}
 unfoldable pub use Rattle.coap_store.specs.OptionScan.{options_after}
-pub use Rattle.coap_store.specs.PlanViews.{bytes_in, IsTextOf, change_value, planned_value, IsAtPath, IsToldNamed, path_or_root}
+pub use Rattle.coap_store.specs.PlanViews.{bytes_in, IsTextOf, change_value, planned_value, IsAtPath, IsToldNamed}
+pub use Rattle.coap_store.specs.PlanViews.{path_or_root}
 pub use Rattle.coap_store.specs.PlanViews.{location_in}
 pub use Rattle.coap_store.specs.Refusals.{RefusedOrMemory, first_fault, refusal_in}
 unfoldable pub use Rattle.coap_store.specs.Refusals.{put_refusal, remove_refusal}
@@ -70,7 +76,8 @@ unfoldable pub use Rattle.coap_store.specs.Requests.{values_of, has_option, is_s
 unfoldable pub use Rattle.coap_store.specs.Requests.{value_of}
 pub use Rattle.coap_store.specs.ResourceViews.{representation, resource_at, end_bytes}
 unfoldable pub use Rattle.coap_store.specs.ResourceViews.{resources_in, texts_of}
-pub use Rattle.coap_store.specs.StateReports.{plain_get, IsStoredCode, ReportsState, ReportsEtag, IsElsewhere, content_of}
+pub use Rattle.coap_store.specs.StateReports.{plain_get, IsStoredCode, ReportsState, ReportsEtag, IsElsewhere}
+pub use Rattle.coap_store.specs.StateReports.{content_of}
 pub use Rattle.coap_store.specs.StateReports.{put_by}
 pub use Rattle.coap_store.specs.State.{target_of, state_of, built, RequestTarget}
 pub use Rattle.coap_store.specs.State.{stored_at}

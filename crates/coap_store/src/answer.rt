@@ -127,8 +127,8 @@ impl Store {
     }
 
     /// Returns the target of a request whose path is not that of a built-in resource.
-    // Never inlined: a function clears all its locals, and the key is large.
-    #[inline(never)]
+    // Always inlined: the large key is cleared only where this is reached, and the result is not moved.
+    #[inline(always)]
     fn dynamic_target(&self, asked: &ParsedRequest) -> RequestTarget<'_>
         requires { kind_of_path (path_of asked.now) ≡ Dynamic }
         ensures value { (now : ℕ) → target_value asked.now result ≡ target_of self.now now (path_of asked.now) }

@@ -65,6 +65,8 @@ impl Catalogue {
     }
 
     /// Returns the resource at a path, and its index.
+    // Always inlined: a call saves and restores registers, and its result is in memory.
+    #[inline(always)]
     pub(crate) fn find(&self, path: &PathKey) -> Option<(usize, &Resource)>
         ensures value { option_map (λ r. representation r.1.now) result ≡ found_in self.now path.now }
         ensures index { IfSome result (λ r. IsFoundAt self.now path.now r.0) }

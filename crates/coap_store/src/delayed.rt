@@ -1,7 +1,8 @@
-//! The response that is sent after a delay.
+//! Responses that are sent at the time of a pending entry.
 
 ghost use Rattle.std.specs.Prelude.{◌≡◌};
 ghost use Rattle.coap_store.specs.Prelude.{says, only, delayed_response as response_held};
+ghost use Rattle.coap_store.specs.Prelude.{expired_response as response_expired};
 ghost use Rattle.coap_wire.specs.Codes as code;
 
 use crate::found::{Payload, RepresentationRef};
@@ -18,6 +19,14 @@ pub fn delayed_response() -> Plan<'static, 'static>
     let mut plan = Plan::new();
     plan.content(None, found, None, Watch::Nothing);
     plan
+}
+
+/// Returns the plan with the response to a request that the application has not answered until its deadline: 5.04 (RFC
+/// 7252 section 5.9.3.5).
+pub fn expired_response() -> Plan<'static, 'static>
+    ensures { result ≡ says response_expired }
+{
+    Plan::of_code(Code::GATEWAY_TIMEOUT)
 }
 
 /// Returns the plan for a request whose response cannot be delayed, because too many are: 5.03 (RFC 7252 section 5.9.3.4).

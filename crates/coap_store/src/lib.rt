@@ -26,7 +26,7 @@ mod store;
 mod target;
 
 pub use coap_path::{PathKey, ResourceKind, Segments, UriPath};
-pub use delayed::{delayed_response, refused_delay};
+pub use delayed::{delayed_response, expired_response, refused_delay};
 pub use fault::StoreFault;
 pub use found::Payload;
 pub use plan::{Change, ChangePlan, Plan, PlannedChange, Watch};

@@ -73,6 +73,9 @@ not_implemented = code_of 5 1
 abbrev pub service_unavailable : ℕ
 service_unavailable = code_of 5 3
 
+abbrev pub gateway_timeout : ℕ
+gateway_timeout = code_of 5 4
+
 abbrev pub proxying_not_supported : ℕ
 proxying_not_supported = code_of 5 5
 

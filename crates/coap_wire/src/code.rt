@@ -81,6 +81,9 @@ impl Code {
     /// 5.03, Service Unavailable (RFC 7252 section 5.9.3.4).
     pub const SERVICE_UNAVAILABLE: Code = Code { byte: 0xa3 };
 
+    /// 5.04, Gateway Timeout (RFC 7252 section 5.9.3.5).
+    pub const GATEWAY_TIMEOUT: Code = Code { byte: 0xa4 };
+
     /// 5.05, Proxying Not Supported (RFC 7252 section 5.9.3.6).
     pub const PROXYING_NOT_SUPPORTED: Code = Code { byte: 0xa5 };
 
@@ -130,54 +133,41 @@ impl Code {
     }
 }
 
-const _: () = prove!(Code::EMPTY.byte == 0);
+const _: () = prove!(
+    Code::EMPTY.byte == 0
+        && Code::GET.byte == 1
+        && Code::POST.byte == 2
+        && Code::PUT.byte == 3
+        && Code::DELETE.byte == 4
+);
 
-const _: () = prove!(Code::GET.byte == 1);
+const _: () = prove!(
+    Code::CREATED.byte == 2 * 32 + 1
+        && Code::DELETED.byte == 2 * 32 + 2
+        && Code::VALID.byte == 2 * 32 + 3
+        && Code::CHANGED.byte == 2 * 32 + 4
+        && Code::CONTENT.byte == 2 * 32 + 5
+);
 
-const _: () = prove!(Code::POST.byte == 2);
+const _: () = prove!(
+    Code::BAD_REQUEST.byte == 4 * 32
+        && Code::BAD_OPTION.byte == 4 * 32 + 2
+        && Code::NOT_FOUND.byte == 4 * 32 + 4
+        && Code::METHOD_NOT_ALLOWED.byte == 4 * 32 + 5
+        && Code::NOT_ACCEPTABLE.byte == 4 * 32 + 6
+        && Code::PRECONDITION_FAILED.byte == 4 * 32 + 12
+        && Code::REQUEST_ENTITY_TOO_LARGE.byte == 4 * 32 + 13
+        && Code::INTERNAL_SERVER_ERROR.byte == 5 * 32
+        && Code::NOT_IMPLEMENTED.byte == 5 * 32 + 1
+        && Code::SERVICE_UNAVAILABLE.byte == 5 * 32 + 3
+        && Code::GATEWAY_TIMEOUT.byte == 5 * 32 + 4
+        && Code::PROXYING_NOT_SUPPORTED.byte == 5 * 32 + 5
+);
 
-const _: () = prove!(Code::PUT.byte == 3);
-
-const _: () = prove!(Code::DELETE.byte == 4);
-
-const _: () = prove!(Code::CREATED.byte == 2 * 32 + 1);
-
-const _: () = prove!(Code::DELETED.byte == 2 * 32 + 2);
-
-const _: () = prove!(Code::VALID.byte == 2 * 32 + 3);
-
-const _: () = prove!(Code::CHANGED.byte == 2 * 32 + 4);
-
-const _: () = prove!(Code::CONTENT.byte == 2 * 32 + 5);
-
-const _: () = prove!(Code::BAD_REQUEST.byte == 4 * 32);
-
-const _: () = prove!(Code::BAD_OPTION.byte == 4 * 32 + 2);
-
-const _: () = prove!(Code::NOT_FOUND.byte == 4 * 32 + 4);
-
-const _: () = prove!(Code::METHOD_NOT_ALLOWED.byte == 4 * 32 + 5);
-
-const _: () = prove!(Code::NOT_ACCEPTABLE.byte == 4 * 32 + 6);
-
-const _: () = prove!(Code::PRECONDITION_FAILED.byte == 4 * 32 + 12);
-
-const _: () = prove!(Code::REQUEST_ENTITY_TOO_LARGE.byte == 4 * 32 + 13);
-
-const _: () = prove!(Code::INTERNAL_SERVER_ERROR.byte == 5 * 32);
-
-const _: () = prove!(Code::NOT_IMPLEMENTED.byte == 5 * 32 + 1);
-
-const _: () = prove!(Code::SERVICE_UNAVAILABLE.byte == 5 * 32 + 3);
-
-const _: () = prove!(Code::PROXYING_NOT_SUPPORTED.byte == 5 * 32 + 5);
-
-const _: () = prove!(Code::CSM.byte == 7 * 32 + 1);
-
-const _: () = prove!(Code::PING.byte == 7 * 32 + 2);
-
-const _: () = prove!(Code::PONG.byte == 7 * 32 + 3);
-
-const _: () = prove!(Code::RELEASE.byte == 7 * 32 + 4);
-
-const _: () = prove!(Code::ABORT.byte == 7 * 32 + 5);
+const _: () = prove!(
+    Code::CSM.byte == 7 * 32 + 1
+        && Code::PING.byte == 7 * 32 + 2
+        && Code::PONG.byte == 7 * 32 + 3
+        && Code::RELEASE.byte == 7 * 32 + 4
+        && Code::ABORT.byte == 7 * 32 + 5
+);

@@ -6,7 +6,7 @@ ghost use Rattle.coap_wire.specs.Prelude.{with_option, encoded_size, bytes_of_ui
 ghost use Rattle.coap_wire.specs.Prelude.{LARGEST_MESSAGE};
 
 use crate::code::Code;
-use crate::encode::{head_size, marker_size, write_head, write_marker, write_option};
+use crate::encode::{append_short, head_size, marker_size, write_head, write_marker, write_option};
 use crate::sink::Sink;
 use crate::token::TokenRef;
 use crate::uint::significant_bytes;
@@ -183,7 +183,7 @@ impl<'t, 'p, const N: usize> CompactBuilder<'t, 'p, N> {
         ensures spelled { Spells (spelling self.now) self.now }
     {
         write_head(out, self.code, self.token.bytes(), self.body_size());
-        out.append(&self.options);
+        append_short(out, &self.options);
         write_marker(out, self.payload);
     }
 

@@ -53,7 +53,38 @@ pub(crate) fn write_head<S: Sink>(out: &mut S, code: Code, token: &[u8], body: u
     if token_length >= 13 {
         out.push((token_length - 13) as u8);
     }
-    out.append(token);
+    append_short(out, token);
+}
+
+/// Appends bytes as `Sink::append` does. There must be space for them. At most 8 bytes are moved without a call of
+/// memcpy, which costs more.
+pub fn append_short<S: Sink>(out: &mut S, bytes: &[u8])
+    requires { length bytes.now ≤ S.space out.old }
+    ensures appended { S.contents out.new ≡ S.contents out.old ++ bytes.now }
+    ensures less_room { S.space out.new + length bytes.now ≡ S.space out.old }
+{
+    if bytes.len() < 4 || 8 < bytes.len() {
+        return append_few(out, bytes);
+    }
+    let (four, rest) = bytes.split_at(4);
+    out.append(four);
+    append_few(out, rest);
+}
+
+/// Appends bytes as `Sink::append` does. At most 4 bytes are an array, whose length the compiler knows.
+fn append_few<S: Sink>(out: &mut S, bytes: &[u8])
+    requires { length bytes.now ≤ S.space out.old }
+    ensures appended { S.contents out.new ≡ S.contents out.old ++ bytes.now }
+    ensures less_room { S.space out.new + length bytes.now ≡ S.space out.old }
+{
+    match bytes {
+        [] => {}
+        [one] => out.push(*one),
+        [one, two] => out.append(&[*one, *two]),
+        [one, two, three] => out.append(&[*one, *two, *three]),
+        [one, two, three, four] => out.append(&[*one, *two, *three, *four]),
+        _ => out.append(bytes),
+    }
 }
 
 /// Writes the first byte of a head, with this nibble of the token length, and the extension of the body's length.
@@ -94,7 +125,7 @@ pub(crate) fn write_option<S: Sink>(out: &mut S, base: u16, number: u16, value: 
     // Most options have no extensions.
     if delta < 13 && count < 13 {
         out.push(delta as u8 * 16 + count as u8);
-        return out.append(value);
+        return append_short(out, value);
     }
     out.push(option_nibble(delta) * 16 + option_nibble(count));
     write_option_extension(out, delta);

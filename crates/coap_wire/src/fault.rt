@@ -56,26 +56,18 @@ pub enum BuildFault {
     Full = 3,
 }
 
-const _: () = prove!(FrameFault::TokenLength as u8 == 1);
+const _: () = prove!(FrameFault::TokenLength as u8 == 1 && FrameFault::TooLarge as u8 == 2);
 
-const _: () = prove!(FrameFault::TooLarge as u8 == 2);
+const _: () = prove!(
+    FormatFault::TokenLength as u8 == 1
+        && FormatFault::OptionDelta as u8 == 2
+        && FormatFault::OptionLength as u8 == 3
+        && FormatFault::OptionCut as u8 == 4
+        && FormatFault::OptionNumber as u8 == 5
+        && FormatFault::EmptyPayload as u8 == 6
+        && FormatFault::NotOneFrame as u8 == 7
+);
 
-const _: () = prove!(FormatFault::TokenLength as u8 == 1);
-
-const _: () = prove!(FormatFault::OptionDelta as u8 == 2);
-
-const _: () = prove!(FormatFault::OptionLength as u8 == 3);
-
-const _: () = prove!(FormatFault::OptionCut as u8 == 4);
-
-const _: () = prove!(FormatFault::OptionNumber as u8 == 5);
-
-const _: () = prove!(FormatFault::EmptyPayload as u8 == 6);
-
-const _: () = prove!(FormatFault::NotOneFrame as u8 == 7);
-
-const _: () = prove!(BuildFault::Order as u8 == 1);
-
-const _: () = prove!(BuildFault::TooLong as u8 == 2);
-
-const _: () = prove!(BuildFault::Full as u8 == 3);
+const _: () = prove!(
+    BuildFault::Order as u8 == 1 && BuildFault::TooLong as u8 == 2 && BuildFault::Full as u8 == 3
+);

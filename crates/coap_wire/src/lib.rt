@@ -48,6 +48,7 @@ pub use builder::{Builder, MessageBuilder};
 pub use code::Code;
 pub use compact::{CompactBuilder, SHORT_OPTIONS, ShortBuilder};
 pub use declaration::Declared;
+pub use encode::append_short;
 pub use fault::{BuildFault, FormatFault, FrameFault};
 pub use frame::FrameRef;
 pub use layout::{FrameLayout, Outline};

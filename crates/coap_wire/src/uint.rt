@@ -3,6 +3,7 @@
 ghost use Rattle.std.specs.Prelude.{◌≡◌, ◌≤◌, ◌<◌, length, Some, None};
 ghost use Rattle.coap_wire.specs.Prelude.{uint_of, bytes_of_uint, without_leading_zeros};
 
+use crate::encode::append_short;
 use arrayvec::ArrayVec;
 
 /// Maximum length of the encoding of a number below 2^64, in bytes.
@@ -60,8 +61,13 @@ pub fn uint_bytes(number: u64) -> UintBytes
     ensures value { uint_of result.items ≡ number }
     ensures fewest { without_leading_zeros result.items ≡ result.items }
 {
-    let Ok(fewest) = UintBytes::try_from(significant_bytes(&number.to_be_bytes())) else {
-        unreachable!()
-    };
+    let mut fewest = UintBytes::new();
+    if number < 256 {
+        if number > 0 {
+            fewest.push(number as u8);
+        }
+        return fewest;
+    }
+    append_short(&mut fewest, significant_bytes(&number.to_be_bytes()));
     fewest
 }

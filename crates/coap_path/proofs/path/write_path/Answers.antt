@@ -28,7 +28,7 @@ returns-then-count-eq-MAX_SEGMENTS-clause-path c =
 
 pub loop-segment-preserved : goal.loop-segment-preserved
 loop-segment-preserved c =
-    let bytes = c.in-Ok.ensures.ok ∙ ap (λ (bs : List ℕ). bs ++ c.in-Some.segment.now) c.push.ensures.items in
+    let bytes = c.append_short.ensures.appended ∙ ap (λ (bs : List ℕ). bs ++ c.in-Some.segment.now) c.push.ensures.items in
     record {
       goes = tt;
       ends = tt;

@@ -26,7 +26,7 @@ pub loop-preserved : goal.loop-preserved
 loop-preserved g c =
     let so_far = report_goes_on c.args.id c.args.server.now (c.loop.counter + 1) c.loop.server _ _ _ _ c.loop.last.waited c.if-not-last.false c.loop.invariant.flushing in
     record {
-      flushing = report_more c.args.id c.args.server.now (c.loop.counter + 1) c.loop.server _ _ _ _ _ _ c.flush_once-in-loop.new.server _ c.in_ok-last.last.waited so_far (omega (arith, c.in_ok-first.ensures.more, c.loop-test.true)) (omega arith) c.in_ok-last.ensures.ok c.in_ok-last.ensures.told;
+      flushing = report_more c.args.id c.args.server.now (c.loop.counter + 1) c.loop.server _ _ _ _ _ _ c.flush_again.new.server _ c.in_ok-last.last.waited so_far (omega (arith, c.in_ok-first.ensures.more, c.loop-test.true)) (omega arith) c.in_ok-last.ensures.ok c.in_ok-last.ensures.told;
       stop = c.in_ok-last.ensures.stop;
       works = c.in_ok-last.ensures.failure;
       lies = c.in_ok-last.ensures.lies;
