@@ -1,6 +1,7 @@
 pub mod ShownLemmas
 pub mod MessageLemmas
 pub mod HeaderLemmas
-pub mod CountLemmas
 pub mod LayoutLemmas
 pub mod RecordLemmas
+pub mod OptionWalk
+pub mod StatedLemmas

@@ -1,7 +1,7 @@
 -- Bytes are passed to a tap, call by call, and the lines of whole messages are written.
-use Rattle.std.proofs.Common.{◌≡◌, ℕ, zero, suc, ◌-◌, ◌≤◌, ◌<◌, ◌==◌, List, [], ◌∷◌, ◌++◌, length, take, drop, Option, None, sym, ap, subst, ◌∙◌, arith, refl, length-drop, append_assoc, append-nil}
+use Rattle.std.proofs.Common.{◌≡◌, ℕ, zero, suc, ◌-◌, ◌≤◌, ◌<◌, List, [], ◌∷◌, ◌++◌, length, take, drop, Option, None, sym, ap, subst, ◌∙◌, arith, refl, length-drop, append_assoc, append-nil}
 use Rattle.std.proofs.lemmas.Bool.{eq-eqb, ne_eqb}
-use Rattle.coap_io.proofs.streams.DeviceLemmas.{bytes_none, bytes_then}
+use Rattle.coap_io.proofs.streams.DeviceLemmas.{bytes_then}
 use Rattle.coap_io.proofs.streams.WriteLemmas.{rest_of}
 use Rattle.coap_record.specs.Prelude.{AddsBytes}
 use Rattle.coap_log.specs.Taps.{TapValue, taken, tap_after}
@@ -49,9 +49,6 @@ module _ (id : ℕ) (way : Way) where
   text_of_both first second others = ap (λ t. record { tap = others.tap; text = t }) (sym (append_assoc first second others.text))
 
   module _ (all : List ℕ) (first : TapValue) (only : Option ℕ) (x : Option (List ℕ)) where
-    pub starts : Passes all first only x x all first
-    starts = record { calls = length all; enough = omega arith; text = []; writes = λ _. bytes_none x; same = refl }
-
     ends_so : (y : Option (List ℕ)) (left : List ℕ) (tap now : TapValue) (so : Passes all first only x y left tap)
         → passed so.calls id way tap left ≡ record { tap = now; text = [] } → IsPassed all first only x y now
     ends_so y left tap now so is =

@@ -1,11 +1,10 @@
 -- All bytes that a printer writes are printable ASCII or newlines.
-use Rattle.std.proofs.Common.{◌≡◌, ℕ, true, List, [], ◌∷◌, ◌++◌, Option, Some, None, Result, Ok, Err, sym, ◌∙◌, refl, subst, append-nil}
+use Rattle.std.proofs.Common.{◌≡◌, ℕ, true, List, [], ◌∷◌, ◌++◌, Option, Some, None, Result, Ok, Err, sym, ◌∙◌, refl, subst}
 use Rattle.std.specs.List.{list_all}
 use Rattle.std.proofs.lemmas.Bool.{and_parts, and_from}
 use Rattle.std.proofs.lemmas.List.Folds.{list_all-append}
 use Rattle.coap_print.specs.Texts.{is_printable, is_text}
-use Rattle.coap_record.specs.Prelude.{AddsBytes, append_known, WritesText, WritesUpTo}
-use Rattle.coap_record.proofs.WriteLemmas.{buffer_goes_on}
+use Rattle.coap_record.specs.Prelude.{AddsBytes, WritesText}
 use Rattle.coap_explain.specs.Shown.{is_shown, IsShown, ended}
 
 shown_both : (xs ys : List ℕ) → list_all is_shown xs ≡ true → list_all is_shown ys ≡ true → list_all is_shown (xs ++ ys) ≡ true
@@ -32,8 +31,3 @@ text_shown x y text (Err e) p wrote is =
 -- A line with its newline.
 pub line_shown : {T E : Type 0} (x y : Option (List ℕ)) (line : List ℕ) (r : Result T E) → is_text line ≡ true → WritesText x y (ended line) r → IsShown x → IsShown y
 line_shown x y line r p wrote is = text_shown x y (ended line) r (shown_both line (10 ∷ []) (text_is_shown line p) refl) wrote is
-
--- Bytes of the buffer were passed on.
-pub flushed_shown : (x y : Option (List ℕ)) (queued left : List ℕ) → WritesUpTo queued left x y → IsShown (append_known x queued) → IsShown (append_known y left)
-flushed_shown x y queued left moved is =
-    added_shown (append_known x queued) (append_known y left) [] refl (buffer_goes_on x y queued left [] left moved (sym (append-nil left))) is

@@ -1,5 +1,5 @@
 -- Defined by this project: queued bytes that an event writes.
-use Rattle.std.specs.Prelude.{ℕ, List, length, Option, option_map}
+use Rattle.std.specs.Prelude.{ℕ, length, Option, option_map}
 use Rattle.coap_server_session.specs.values.Sessions.{SessionValue}
 use Rattle.coap_server_engine.specs.script.Replay.{drained}
 use Rattle.coap_server_engine.specs.values.Servers.{ServerValue, session_of}

@@ -1,5 +1,5 @@
 -- Defined by this project: the lines of the messages that end with bytes of a connection.
-use Rattle.std.specs.Prelude.{ℕ, zero, suc, Bool, true, false, not, ◌&&◌, ◌==◌, nat_lt, List, [], ◌∷◌, ◌++◌, drop, if◌then◌else◌}
+use Rattle.std.specs.Prelude.{ℕ, zero, suc, Bool, not, ◌&&◌, ◌==◌, nat_lt, List, [], ◌∷◌, ◌++◌, drop, if◌then◌else◌}
 use Rattle.coap_log.specs.Taps.{TapValue, taken, tap_after}
 use Rattle.coap_explain.specs.Layout.{message_line}
 use Rattle.coap_explain.specs.Shown.{ended}

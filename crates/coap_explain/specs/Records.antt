@@ -1,5 +1,5 @@
 -- Defined by this project: the effect of the lines of a record.
-use Rattle.std.specs.Prelude.{◌≡◌, ℕ, ◌+◌, ◌-◌, ◌^◌, Bool, true, false, min, List, [], ◌∷◌, ◌++◌, Option, Some, None, Result, Ok, Err}
+use Rattle.std.specs.Prelude.{◌≡◌, ℕ, ◌+◌, ◌-◌, ◌^◌, Bool, true, false, min, List, [], ◌∷◌, ◌++◌, Option, Some, None, Ok, Err}
 use Rattle.coap_model.specs.Configs.{ConfigValues}
 use Rattle.coap_script.specs.script.Events.{ScriptEventValue}
 use Rattle.coap_script.specs.script.Script.{script_of}

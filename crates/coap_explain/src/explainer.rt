@@ -1,9 +1,11 @@
 //! `Explainer`, which runs the events of a record and prints them. `bytes` has the events that pass bytes.
 
-ghost use Rattle.std.specs.Prelude.{◌≡◌, ◌≤◌, ◌++◌, [], true, false, None, is_err, length, take, IfOk, IfErr, OnOk};
+ghost use Rattle.std.specs.Prelude.{◌≡◌, ◌≤◌, ◌-◌, [], true, false, None, is_err, length, take, get_or, IfOk, IfErr};
+ghost use Rattle.std.specs.Prelude.{OnOk};
 ghost use Rattle.coap_io.specs.Prelude.{AddsBytes};
 ghost use Rattle.coap_script.specs.script.EventViews.{event_value};
 ghost use Rattle.coap_script.specs.script.Events as event;
+ghost use Rattle.coap_script.specs.script.Words.{words_of};
 ghost use Rattle.coap_server_engine.specs.script.Replay.{event_ran};
 ghost use Rattle.coap_server_engine.specs.values.Servers.{new_server};
 ghost use Rattle.coap_print.specs.Texts.{is_text};
@@ -398,15 +400,19 @@ impl<O: Outlet + Drop> Explainer<BufferedOutlet<O>> {
 }
 
 /// Returns a line without its last byte, the newline.
-fn without_newline(line: &[u8]) -> &[u8] {
+fn without_newline(line: &[u8]) -> &[u8]
+    ensures { result.now ≡ take (length line.now - 1) line.now }
+{
     match line {
         [text @ .., _] => text,
         [] => line,
     }
 }
 
-/// Returns the second word of a line, or no bytes.
-fn second_word(line: &[u8]) -> &[u8] {
+/// Returns the second word of a line, or no bytes if it has only one.
+fn second_word(line: &[u8]) -> &[u8]
+    ensures { result.now ≡ get_or (words_of line.now) 1 [] }
+{
     let Some((_, rest)) = split_once(line, b' ') else {
         return b"";
     };

@@ -4,7 +4,10 @@ ghost use Rattle.std.specs.Prelude.{◌≡◌, ◌<◌, ◌≤◌, ◌+◌, ◌+
 ghost use Rattle.std.specs.Prelude.{vec_capacity, OnOk, IfOk, IfErr};
 ghost use Rattle.coap_script.specs.script.EventViews.{event_value, IsScript};
 ghost use Rattle.coap_server_engine.specs.script.Replay.{replayed};
+ghost use Rattle.coap_model.specs.Configs.{ConfigValues};
+ghost use Rattle.coap_server_common.specs.RecordHeaders.{options_line};
 ghost use Rattle.coap_explain.specs.Shown.{IsShown, fails_write};
+ghost use Rattle.coap_explain.specs.Stated.{IsReadAs, IsStartable, replay_config};
 ghost use Rattle.coap_explain.specs.Header.{options_in};
 ghost use Rattle.coap_explain.specs.Records.{next_number, whole_line, RunsEvents, IsConfiguredBy, IsTrueOf, IsOfDevice};
 ghost use Rattle.coap_explain.specs.declared.trouble.TheConstants.{LONGEST_LINE};
@@ -201,6 +204,9 @@ impl<O: Outlet + Drop> Record<O> {
             self.old.explainer.server self.new.explainer.server) }
         ensures printer { self.new.explainer.printer ≡ self.old.explainer.printer }
         ensures line { self.new.line.items ≡ self.old.line.items }
+        // The options that a record of `coap-server` states are read back.
+        ensures stated { (c : ConfigValues) → IsStartable c → self.old.is_configured ≡ false →
+            self.old.line.items ≡ options_line c → IsReadAs (replay_config c) self.new.explainer.server result }
         ensures no_write { fails_write result ≡ false }
         ensures err { IfErr result (IsTrueOf self.old.line.items) }
     {
@@ -324,19 +330,19 @@ impl<O: Outlet + Drop> Record<O> {
 /// - `NoEvent`, `TooLong`, `Torn`, `Options`: a line is invalid. The lines before it were explained.
 pub(crate) fn read_record<S: Source, O: Outlet + Drop>(
     source: &mut S,
-    record: &mut Record<BufferedOutlet<O>>,
+    explained: &mut Record<BufferedOutlet<O>>,
 ) -> Result<(), Trouble>
     requires source { S.is_failed source.old ≡ false }
-    requires works { O.is_failed record.old.explainer.printer.out.outlet ≡ false }
-    ensures shown { IsShown (⟦<BufferedOutlet<O> as Outlet>⟧.written record.old.explainer.printer.out) →
-        IsShown (⟦<BufferedOutlet<O> as Outlet>⟧.written record.new.explainer.printer.out) }
-    ensures failure { O.is_failed record.new.explainer.printer.out.outlet ≡ fails_write result }
-    ensures passed { fails_write result ≡ false → record.new.explainer.printer.out.queue.waiting ≡ [] }
+    requires works { O.is_failed explained.old.explainer.printer.out.outlet ≡ false }
+    ensures shown { IsShown (⟦<BufferedOutlet<O> as Outlet>⟧.written explained.old.explainer.printer.out) →
+        IsShown (⟦<BufferedOutlet<O> as Outlet>⟧.written explained.new.explainer.printer.out) }
+    ensures failure { O.is_failed explained.new.explainer.printer.out.outlet ≡ fails_write result }
+    ensures passed { fails_write result ≡ false → explained.new.explainer.printer.out.queue.waiting ≡ [] }
     ensures read { S.is_failed source.new ≡ true → (result ≡ Err trouble.Read) ⊎ (result ≡ Err trouble.Write) }
 {
-    let result = read_lines(source, record);
+    let result = read_lines(source, explained);
     if result != Err(Trouble::Write) {
-        record.explainer.flush()?;
+        explained.explainer.flush()?;
     }
     result
 }
@@ -348,25 +354,25 @@ pub(crate) fn read_record<S: Source, O: Outlet + Drop>(
 /// Those of `read_record`.
 fn read_lines<S: Source, O: Outlet + Drop>(
     source: &mut S,
-    record: &mut Record<BufferedOutlet<O>>,
+    explained: &mut Record<BufferedOutlet<O>>,
 ) -> Result<(), Trouble>
     requires source { S.is_failed source.old ≡ false }
-    requires works { O.is_failed record.old.explainer.printer.out.outlet ≡ false }
-    ensures shown { IsShown (⟦<BufferedOutlet<O> as Outlet>⟧.written record.old.explainer.printer.out) →
-        IsShown (⟦<BufferedOutlet<O> as Outlet>⟧.written record.new.explainer.printer.out) }
-    ensures failure { O.is_failed record.new.explainer.printer.out.outlet ≡ fails_write result }
+    requires works { O.is_failed explained.old.explainer.printer.out.outlet ≡ false }
+    ensures shown { IsShown (⟦<BufferedOutlet<O> as Outlet>⟧.written explained.old.explainer.printer.out) →
+        IsShown (⟦<BufferedOutlet<O> as Outlet>⟧.written explained.new.explainer.printer.out) }
+    ensures failure { O.is_failed explained.new.explainer.printer.out.outlet ≡ fails_write result }
     ensures read { S.is_failed source.new ≡ true → result ≡ Err trouble.Read }
 {
     let mut buffer = [0; PIECE];
     for _ in 0..u64::MAX {
-        record.explainer.flush()?;
+        explained.explainer.flush()?;
         let Some(count) = source.read(&mut buffer) else {
             return Err(Trouble::Read);
         };
         if count == 0 {
-            return record.end();
+            return explained.end();
         }
-        record.take(&buffer[..count])?;
+        explained.take(&buffer[..count])?;
     }
     Err(Trouble::Read)
 }

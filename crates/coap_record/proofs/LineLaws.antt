@@ -32,7 +32,7 @@ AreWords (word ∷ words) = IsWord word × AreWords words
 no_space : (b : ℕ) → word_byte b ≡ true → (b == space) ≡ false
 no_space b passes = grind (arith, nat_tests)
 
-words_of_line : (word : List ℕ) (others : List (List ℕ)) → IsWord word → AreWords others → words_of (spaced word others) ≡ word ∷ others
+pub words_of_line : (word : List ℕ) (others : List (List ℕ)) → IsWord word → AreWords others → words_of (spaced word others) ≡ word ∷ others
 unfolding spaced
 words_of_line word [] is are = slice_split_none (λ b. b == space) word (all_fail word_byte (λ b. b == space) no_space word is)
 words_of_line word (next ∷ others) is are =

@@ -68,6 +68,9 @@ digits_alike (c ∷ cs) all =
 digits_of_number : (n : ℕ) → IsNumber n → all_ascii_digits (decimal n) ≡ true
 digits_of_number n small = digits_decimal (numerals_by_value _ tells_all_ascii_digits) n small
 
+pub number_digits : (n : ℕ) → IsNumber n → list_all is_ascii_digit (decimal n) ≡ true
+number_digits n small = digits_alike (decimal n) (digits_of_number n small)
+
 pub number_word : (n : ℕ) → IsNumber n → IsWord (decimal n)
 number_word n small = digits_word (decimal n) (digits_of_number n small)
 
@@ -76,7 +79,7 @@ unfolding decimal_value
 number_back n small =
     let some = decimal_nonempty n small in
     let few = length-decimal-le 20 n (omega arith) (omega arith) small in
-    let digits = digits_alike (decimal n) (digits_of_number n small) in
+    let digits = number_digits n small in
     let value = (decimal_is_IsNumeral n small).1 in
     rw (digits, value, le-leb 1 (length (decimal n)) some, le-leb (length (decimal n)) 20 few, le-leb n 18446744073709551615 (omega arith)) refl
 

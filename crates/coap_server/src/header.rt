@@ -1,24 +1,27 @@
 //! The header of a record: the version, the options that are in force, and a command line that replays the record.
 
-ghost use Rattle.std.specs.Prelude.{◌≡◌, ◌++◌, IfOk, OnOk, codes, decimal};
+ghost use Rattle.std.specs.Prelude.{◌≡◌, ◌++◌, true, IfOk, OnOk, codes, decimal};
 ghost use Rattle.std.specs.List.{flat_map, list_all};
 ghost use Rattle.coap_command_line.specs.declared.arguments.help.TheConstants.{VERSION};
-ghost use Rattle.coap_server.specs.RecordHeaders.{header_text, options_text, starts_text};
-ghost use Rattle.coap_server.specs.RecordHeaders as spec;
+ghost use Rattle.coap_print.specs.Texts.{is_text};
+ghost use Rattle.coap_server.specs.Comments.{SaysNoEvent};
+ghost use Rattle.coap_server_common.specs.RecordHeaders.{header_text, options_text, starts_text};
+ghost use Rattle.coap_server_common.specs.RecordHeaders as spec;
 
 use coap_command_line::VERSION;
 use coap_serve::Config;
 use coap_text::decimal_digits;
 use std::alloc::{AllocError, Global};
 
-/// Returns the header of the record with this name, for a server with this configuration.
+/// Returns the header of the record with this name, for a server with this configuration. Each of its lines is a comment.
 ///
 /// # Errors
 ///
 /// Returns `AllocError` if allocation fails.
-#[tactic(auto, unfolding(crate::specs::RecordHeaders::header_text))]
+#[tactic(auto, unfolding(coap_server_common::specs::RecordHeaders::header_text))]
 pub(crate) fn header(alloc: Global, name: &str, config: &Config) -> Result<Vec<u8>, AllocError>
-    ensures { IfOk result (λ text. text.items ≡ header_text VERSION.now name.now config.now) }
+    ensures text { IfOk result (λ text. text.items ≡ header_text VERSION.now name.now config.now) }
+    ensures comments { IfOk result (λ text. SaysNoEvent text.items) }
 {
     let options = options(alloc, config)?;
     let name = shown_name(name.as_bytes());
@@ -50,9 +53,10 @@ pub(crate) fn header(alloc: Global, name: &str, config: &Config) -> Result<Vec<u
 /// # Errors
 ///
 /// Returns `AllocError` if allocation fails.
-#[tactic(auto, unfolding(crate::specs::RecordHeaders::options_text))]
+#[tactic(auto, unfolding(coap_server_common::specs::RecordHeaders::options_text))]
 fn options(alloc: Global, config: &Config) -> Result<Vec<u8>, AllocError>
-    ensures { IfOk result (λ text. text.items ≡ options_text config.now) }
+    ensures text { IfOk result (λ text. text.items ≡ options_text config.now) }
+    ensures printable { IfOk result (λ text. is_text text.items ≡ true) }
 {
     let limits = config.limits();
     let mut text = Vec::new(alloc);
@@ -73,8 +77,10 @@ fn options(alloc: Global, config: &Config) -> Result<Vec<u8>, AllocError>
 ///
 /// Returns `AllocError` if allocation fails.
 fn append_starts(text: &mut Vec<u8>, config: &Config) -> Result<(), AllocError>
-    ensures { OnOk result (text.new.items
+    ensures text { OnOk result (text.new.items
         ≡ text.old.items ++ codes " --starts " ++ starts_text config.now.starts) }
+    ensures printable { is_text text.old.items ≡ true →
+        OnOk result (is_text text.new.items ≡ true) }
 {
     let starts = config.starts();
     append_number(text, b" --starts ", starts.moment)?;
@@ -88,7 +94,9 @@ fn append_starts(text: &mut Vec<u8>, config: &Config) -> Result<(), AllocError>
 ///
 /// Returns `AllocError` if allocation fails.
 fn append_number(text: &mut Vec<u8>, words: &[u8], number: u64) -> Result<(), AllocError>
-    ensures { OnOk result (text.new.items ≡ text.old.items ++ words.now ++ decimal number) }
+    ensures text { OnOk result (text.new.items ≡ text.old.items ++ words.now ++ decimal number) }
+    ensures printable { is_text words.now ≡ true → is_text text.old.items ≡ true →
+        OnOk result (is_text text.new.items ≡ true) }
 {
     let digits = decimal_digits(number);
     append(text, &[words, digits.as_slice()])

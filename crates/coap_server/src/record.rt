@@ -6,7 +6,7 @@ ghost use Rattle.coap_print.specs.Lines.{appended};
 ghost use Rattle.coap_print.specs.declared.line.TheConstants.{LINE_LENGTH};
 ghost use Rattle.coap_record.specs.Prelude.{FollowsMore};
 ghost use Rattle.coap_server.specs.RecordEnds.{end_text, title_text};
-ghost use Rattle.coap_server.specs.RecordHeaders.{header_text};
+ghost use Rattle.coap_server_common.specs.RecordHeaders.{header_text};
 
 use crate::PROGRAM;
 use crate::header::header;

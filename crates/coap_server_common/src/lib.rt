@@ -3,7 +3,8 @@
 //! - `config_of` and `config_in` return the configuration of the server for a plan of the command line.
 //! - `text_of` returns the reason for which a connection stopped, in words.
 //!
-//! The contracts name the definitions of `specs/Planned.antt` and `specs/Reasons.antt`.
+//! The contracts name the definitions of `specs/Planned.antt` and `specs/Reasons.antt`. `specs/RecordHeaders.antt` defines
+//! the header of a record, which one program writes and the other reads.
 //!
 //! `coap_program` has the parts that `coap-client` uses too. Continue with `planned.rt`.
 #![tactic(auto)]

@@ -7,7 +7,7 @@ abbrev pub invariant-loop : goal.invariant-loop
 invariant-loop g l =
     record {
       source : g.S.Source.is_failed l.source ≡ false;
-      works : g.O.Outlet.is_failed l.record.explainer.printer.out.outlet ≡ false;
-      shown : IsShown (append_known (g.O.Outlet.written l.fn.record.explainer.printer.out.outlet) l.fn.record.explainer.printer.out.queue.waiting)
-          → IsShown (append_known (g.O.Outlet.written l.record.explainer.printer.out.outlet) l.record.explainer.printer.out.queue.waiting);
+      works : g.O.Outlet.is_failed l.explained.explainer.printer.out.outlet ≡ false;
+      shown : IsShown (append_known (g.O.Outlet.written l.fn.explained.explainer.printer.out.outlet) l.fn.explained.explainer.printer.out.queue.waiting)
+          → IsShown (append_known (g.O.Outlet.written l.explained.explainer.printer.out.outlet) l.explained.explainer.printer.out.queue.waiting);
     }

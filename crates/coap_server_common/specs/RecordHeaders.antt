@@ -3,7 +3,7 @@
 use Rattle.std.specs.Prelude.{ℕ, Bool, false, List, [], ◌∷◌, ◌++◌, ◌==◌, ◌&&◌, ◌||◌, not, if◌then◌else◌, codes, decimal}
 use Rattle.std.specs.List.{list_all}
 use Rattle.std.specs.Char.{is_ascii_alphanumeric}
-use Rattle.coap_serve.specs.Configs.{ConfigValues, StartValues}
+use Rattle.coap_model.specs.Configs.{ConfigValues, StartValues}
 
 -- A byte that means itself in each command line: a letter, a digit, or one of `. _ / + -`.
 abbrev pub is_plain : ℕ → Bool
@@ -34,9 +34,13 @@ options_text c =
     ++ codes " --connections " ++ decimal c.connections
     ++ codes " --starts " ++ starts_text c.starts
 
+-- The line of the header that states the options.
+abbrev pub options_line : ConfigValues → List ℕ
+options_line c = codes "# options: " ++ options_text c
+
 -- The header of the record with this name, for a server of this version with this configuration.
 unfoldable pub header_text : (version name : List ℕ) → ConfigValues → List ℕ
 header_text version name c =
     codes "# Record of coap-server " ++ version ++ codes ", format 1\n"
-    ++ codes "# options: " ++ options_text c ++ codes "\n"
+    ++ options_line c ++ codes "\n"
     ++ codes "# replay: coap-server --script " ++ shown_name name ++ codes " " ++ options_text c ++ codes "\n"
