@@ -110,8 +110,8 @@ pub fn due_entry_is_first()
 {}
 
 /// States that a response of the application answers the first pending request with its token, and no other. The
-/// response that is queued is reduced as `fit` says, and nothing else changes. Without such a request, or in phase
-/// `Stopped`, nothing is queued.
+/// response that is queued is reduced as `fit` says. If it is sent whole, that request alone is removed. Without such a
+/// request, or in phase `Stopped`, nothing changes.
 pub fn application_answers_first_request()
     ensures first { (held : List PendingEntryValue) (token : List ℕ) → has_request token held ≡ true →
         IsFirstRequest held token (without_request token held) }
