@@ -28,5 +28,6 @@ pub mod CustodyLaws
 pub mod ToldLaws
 pub mod AnswerCounts
 pub mod AnswerCodes
+pub mod RespondedLaws
 pub mod AnsweredLaws
 pub mod ViewEventLaws

@@ -1,6 +1,7 @@
 -- Defined by this project: configurations of a server, and the error for one that is out of range.
 use Rattle.std.specs.Prelude.{ℕ, ◌≤◌, Option, Some, None, nat_le, if◌then◌else◌}
 use Rattle.coap_limits.specs.Limits.{LimitValues, default_limits, is_within}
+use Rattle.coap_application.specs.Applications.{ApplicationsValue}
 use Rattle.coap_model.specs.declared.config.ConfigFault.{ConfigFault}
 use Rattle.coap_model.specs.declared.config.ConfigFault.TheVariants as config
 use Rattle.coap_wire.specs.declared.sizes.TheConstants.{LARGEST_MESSAGE, LARGEST_SENT_MESSAGE}
@@ -20,6 +21,7 @@ pub record StartValues : Type 0 where
 -- - `rep_max`: the size of the largest representation, in bytes.
 -- - `turns`: the largest number of turns of a run.
 -- - `starts`: the values at which the counts begin.
+-- - `applications`: the paths whose requests the embedding program answers, if there are such.
 pub record ConfigValues : Type 0 where
   pub limits : LimitValues
   pub connections : ℕ
@@ -27,11 +29,12 @@ pub record ConfigValues : Type 0 where
   pub rep_max : ℕ
   pub turns : ℕ
   pub starts : StartValues
+  pub applications : Option ApplicationsValue
 
--- The configuration with these values.
+-- The configuration with these values, and without applications.
 abbrev pub config_of : (limits : LimitValues) (connections dynamic_max rep_max turns : ℕ) (starts : StartValues) → ConfigValues
 config_of limits connections dynamic_max rep_max turns starts =
-    record { limits = limits; connections = connections; dynamic_max = dynamic_max; rep_max = rep_max; turns = turns; starts = starts }
+    record { limits = limits; connections = connections; dynamic_max = dynamic_max; rep_max = rep_max; turns = turns; starts = starts; applications = None }
 
 -- The default configuration. It has default limits, 16 connections, no dynamic resource, representations of at most
 -- 65,536 bytes, 10^12 turns, and counts that begin at 0.

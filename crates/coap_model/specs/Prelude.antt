@@ -48,6 +48,12 @@ unfoldable pub use Rattle.coap_conn.specs.Reaction.{live_reaction, react}
 pub use Rattle.coap_conn.specs.Reasons.{message_reason}
 pub use Rattle.coap_conn.specs.Rejects.{reject_of, reject_reason}
 pub use Rattle.coap_conn.specs.Release.{release_refusal}
+pub use Rattle.coap_conn.specs.Responses.{is_plain_response, sent_length, room_refusal}
+unfoldable pub use Rattle.coap_conn.specs.Responses.{response_refusal}
+pub use Rattle.coap_conn.specs.PendingEntries.{has_request, IsFirstRequest}
+unfoldable pub use Rattle.coap_conn.specs.PendingEntries.{without_request}
+pub use Rattle.coap_conn.specs.Fit.{fitted}
+pub use Rattle.coap_conn.specs.declared.phase.RespondFault.{RespondFault}
 pub use Rattle.coap_conn.specs.Verdicts.{VerdictValue, is_request}
 pub use Rattle.coap_conn.specs.declared.phase.Phase.{Phase}
 pub use Rattle.coap_conn.specs.declared.phase.Reject.{Reject}
@@ -64,12 +70,18 @@ unfoldable pub use Rattle.coap_path.specs.Paths.{is_path}
 pub use Rattle.coap_path.specs.ResourceKinds.{is_dynamic, is_observable}
 unfoldable pub use Rattle.coap_path.specs.ResourceKinds.{kind_of_path}
 pub use Rattle.coap_path.specs.declared.resource_kind.ResourceKind.TheVariants.{Dynamic, Time}
+-- ---- coap_application
+pub use Rattle.coap_application.specs.Applications.{ApplicationsValue}
+unfoldable pub use Rattle.coap_application.specs.Applications.{is_answered}
 -- ---- coap_store
 pub use Rattle.coap_store.specs.Answer.{changed, Change, Delete, Nothing, Put, Response, content, deletion, etag_at}
 pub use Rattle.coap_store.specs.Answer.{with_observe_rule, delayed_response, is_among, only, read_answer, removes_watch}
 pub use Rattle.coap_store.specs.Answer.{stored_under, unheld_by, valid}
 unfoldable pub use Rattle.coap_store.specs.Answer.{answer_of, answer_at, get_answer, method_answer, immediate_answer}
 unfoldable pub use Rattle.coap_store.specs.Answer.{resource_answer, store_answer}
+pub use Rattle.coap_store.specs.Answer.{says}
+pub use Rattle.coap_store.specs.ApplicationRequests.{unless_handed, passes_checks}
+unfoldable pub use Rattle.coap_store.specs.ApplicationRequests.{application_deadline, prompt_answer}
 pub use Rattle.coap_store.specs.Invariant.{AreDistinct}
 unfoldable pub use Rattle.coap_store.specs.Listing.{encoded_byte, entry_bytes, listing, path_bytes}
 pub use Rattle.coap_store.specs.Messages.{response_with_observe, each_at}
@@ -94,10 +106,10 @@ pub use Rattle.coap_model.specs.views.ConfigViews.{start_values}
 pub use Rattle.coap_model.specs.world.PongOrder.{FollowsAnswers, HasResponse}
 unfoldable pub use Rattle.coap_model.specs.world.PongOrder.{HaveDistinctAnswers}
 pub use Rattle.coap_model.specs.world.Custody.{QueuesCustody, IsFirstHeld, KeepsPending, KeepsPendingOver, AddsAsked}
-pub use Rattle.coap_model.specs.world.Custody.{asks_pending}
+pub use Rattle.coap_model.specs.world.Custody.{asks_pending, asks_pong, asks_delayed, KeepsBut}
 unfoldable pub use Rattle.coap_model.specs.world.Custody.{CorrespondTo}
 pub use Rattle.coap_model.specs.world.Events.{AcceptedCall, Ticked, Stored, Removed, Opened, Ended, Took, stream_on}
-pub use Rattle.coap_model.specs.world.Events.{AreAccepted, Wrote, Released, Announced, Dropped, IfSide, OnSide}
+pub use Rattle.coap_model.specs.world.Events.{AreAccepted, Wrote, Released, Announced, Responded, Dropped, IfSide, OnSide}
 pub use Rattle.coap_model.specs.world.Events.{beyond, new_fault, size_by, spelled_on, taken_in, takes_of}
 unfoldable pub use Rattle.coap_model.specs.world.Events.{size_on, steps_of, world_after, takes, AreAcceptedBehind}
 unfoldable pub use Rattle.coap_model.specs.world.Events.{IsAccepted, sizes_on, steps_behind, steps_by, taken_on}
@@ -108,15 +120,17 @@ pub use Rattle.coap_model.specs.world.Observers.{has_place, left_of, notificatio
 pub use Rattle.coap_model.specs.world.Observers.{with_entry}
 unfoldable pub use Rattle.coap_model.specs.world.Observers.{first_becomes, is_due, without_token}
 pub use Rattle.coap_model.specs.world.Connections.{Connection, waiting_on, IsUpToDate, handles, asks_answer, held_for}
-pub use Rattle.coap_model.specs.world.Connections.{moment_after}
+pub use Rattle.coap_model.specs.world.Connections.{moment_after, Delay, delay_by, delay_or, delay_of, hold_call}
 pub use Rattle.coap_model.specs.world.Connections.{late_response, held_message, next_held, is_cut, after_sent, has_room}
 pub use Rattle.coap_model.specs.world.Connections.{kept_open}
 pub use Rattle.coap_model.specs.world.Connections.{may_raise, new_side, next_due, notified, settled_so, side_answered}
 pub use Rattle.coap_model.specs.world.Connections.{side_handled, side_replied, side_with, with_history, kept_on}
 unfoldable pub use Rattle.coap_model.specs.world.Connections.{side_after, side_faulted, side_written, side_ended}
 unfoldable pub use Rattle.coap_model.specs.world.Connections.{side_released, side_announced, settled_once, change_after}
+unfoldable pub use Rattle.coap_model.specs.world.Connections.{side_responded}
 unfoldable pub use Rattle.coap_model.specs.world.Connections.{settled, settled_within}
 pub use Rattle.coap_model.specs.world.LastNotification.{IsLastNotification, TokensAreDistinct, asked_late, ReportsState}
+pub use Rattle.coap_model.specs.world.LastNotification.{asks_late}
 pub use Rattle.coap_model.specs.world.LastNotification.{etag_of_state}
 pub use Rattle.coap_model.specs.world.LastNotification.{responds}
 unfoldable pub use Rattle.coap_model.specs.world.LastNotification.{last_response}

@@ -1,9 +1,9 @@
 //! The results and the errors of a server's calls.
 
 ghost use Rattle.std.specs.Prelude.{◌≡◌};
-ghost use Rattle.coap_model.specs.Answers.{release_fault, take_number};
+ghost use Rattle.coap_model.specs.Answers.{release_fault, response_fault, take_number};
 
-use coap_conn::{Phase, Reason, SendFault};
+use coap_conn::{Phase, Reason, RespondFault, SendFault};
 use thiserror::Error;
 
 /// Id of a connection. Ids ascend, and none is used twice.
@@ -135,6 +135,43 @@ impl From<SendFault> for ReleaseFault {
             SendFault::NotOpen => ReleaseFault::NotOpen,
             SendFault::NoRoom => ReleaseFault::NoRoom,
             SendFault::PeerTooSmall => ReleaseFault::PeerTooSmall,
+        }
+    }
+}
+
+/// Error of a response of the application. The discriminants are the numbers of the errors.
+#[derive(Clone, Copy, Debug, PartialEq, Eq, Error)]
+pub enum ResponseFault {
+    /// No connection has this id.
+    #[error("no such connection")]
+    NoSuch = 1,
+    /// No request with this token waits for a response of the application.
+    #[error("no such request")]
+    NoSuchRequest = 2,
+    /// The bytes are no message of class 2, 4 or 5, or the message has an Observe option.
+    #[error("not a response")]
+    NotAResponse = 3,
+    /// The output queue has no room for the response.
+    #[error("no room in the queue")]
+    NoRoom = 4,
+}
+
+const _: () = prove!(ResponseFault::NoSuch as u8 == 1);
+
+const _: () = prove!(ResponseFault::NoSuchRequest as u8 == 2);
+
+const _: () = prove!(ResponseFault::NotAResponse as u8 == 3);
+
+const _: () = prove!(ResponseFault::NoRoom as u8 == 4);
+
+impl From<RespondFault> for ResponseFault {
+    ghost from_gives = { λ fault response. response ≡ response_fault fault };
+
+    fn from(fault: RespondFault) -> ResponseFault {
+        match fault {
+            RespondFault::NoSuchRequest => ResponseFault::NoSuchRequest,
+            RespondFault::NotAResponse => ResponseFault::NotAResponse,
+            RespondFault::NoRoom => ResponseFault::NoRoom,
         }
     }
 }

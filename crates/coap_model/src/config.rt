@@ -1,6 +1,6 @@
 //! `Config`, the configuration of a server, and `Starts`, the values at which its counts begin.
 
-ghost use Rattle.std.specs.Prelude.{◌≡◌, ◌≤◌, ◌*◌, ◌-◌, ◌^◌, min, IfOk};
+ghost use Rattle.std.specs.Prelude.{◌≡◌, ◌≤◌, ◌*◌, ◌-◌, ◌^◌, min, IfOk, None};
 ghost use Rattle.coap_model.specs.Prelude.{RefusedBy, config_of, config_refusal, start_values};
 ghost use Rattle.coap_model.specs.Prelude.{LARGEST_MESSAGE};
 
@@ -206,8 +206,11 @@ impl Config {
     }
 
     /// Returns the values at which the counts begin.
+    ///
+    /// A `Config` has no applications: `Server::with_applications` receives them.
     pub fn starts(&self) -> Starts
-        ensures { start_values result ≡ self.now.starts }
+        ensures value { start_values result ≡ self.now.starts }
+        ensures alone { self.now.applications ≡ None }
     {
         self.starts
     }

@@ -3,18 +3,24 @@
 
 ghost use Rattle.std.specs.Prelude.{◌≡◌, ℕ, Bool, ◌<◌, ◌≤◌, List, [], ◌∷◌, ◌++◌, length, true, false, Some, None};
 ghost use Rattle.coap_model.specs.Prelude.{AllByRecursion, Message, StreamFault, LimitValues, AreInRange, AllFit};
-ghost use Rattle.coap_model.specs.Prelude.{Responder, Engine};
+ghost use Rattle.coap_model.specs.Prelude.{Responder, Delay, delay_of};
 ghost use Rattle.coap_model.specs.Prelude.{bare_response, PendingEntryValue, Answer, Pong, without_due, answers, send};
 ghost use Rattle.coap_model.specs.Prelude.{pong_with, is_custody_pong, limit_now, standing_now, after, standing_due};
-ghost use Rattle.coap_model.specs.Prelude.{StoreValue, answer_of, ConfigValues, Connection, waiting_on, handles};
+ghost use Rattle.coap_model.specs.Prelude.{StoreValue, ConfigValues, Connection, waiting_on, handles};
 ghost use Rattle.coap_model.specs.Prelude.{asks_answer, held_for, moment_after, held_message, next_held, side_after};
 ghost use Rattle.coap_model.specs.Prelude.{side_faulted, side_written, side_ended, side_released, side_announced};
+ghost use Rattle.coap_model.specs.Prelude.{side_responded, response_refusal, IsFirstRequest, without_request, KeepsBut};
+ghost use Rattle.coap_model.specs.Prelude.{fit, fitted, link_of};
 ghost use Rattle.coap_model.specs.Prelude.{settled_once, CorrespondTo, QueuesCustody, IsFirstHeld, KeepsPending};
 ghost use Rattle.coap_model.specs.Prelude.{KeepsPendingOver, World, Step, new_world, side_of, step, after_steps};
 ghost use Rattle.coap_model.specs.Prelude.{AcceptedCall, size_on, stream_on, steps_of, world_after, AreAccepted};
 ghost use Rattle.coap_model.specs.Prelude.{kept_on, FollowsAnswers, view_of, after_view, AreSeen, first_number};
 ghost use Rattle.coap_model.specs.Prelude.{view_events, IsLastNotification, TokensAreDistinct, asked_late};
+ghost use Rattle.coap_model.specs.Prelude.{ApplicationsValue, Option, application_deadline, prompt_answer};
+ghost use Rattle.coap_model.specs.Prelude.{passes_checks, immediate_answer, is_answered, is_dynamic, kind_of_path};
+ghost use Rattle.coap_model.specs.Prelude.{path_of, says, only};
 ghost use Rattle.coap_conn.specs.Calls as call;
+ghost use Rattle.coap_wire.specs.Codes as code;
 ghost use Rattle.coap_model.specs.world.World.{Opened};
 
 /// States that a step queues only messages that fit the limit after the step.
@@ -105,12 +111,12 @@ pub fn last_announced_size_applies()
 ///
 /// - `told`: consider all responses with the observer's token that were ever queued on its connection. The last one has
 ///   Observe. It is the 2.05 with the recorded state, or the 2.03 with the ETag of that state. Observers whose token a
-///   request for a delayed response has also used are exempt.
+///   request with a delayed response has also used are exempt: the engine or the application delays it.
 /// - `tokens`: no two observers of a connection have the same token.
 pub fn last_notification_matches_state()
     ensures told { (c : ConfigValues) (events : List AcceptedCall) (id : ℕ) (s : Connection) →
         side_of id (world_after c events).sides ≡ Some s →
-        AllByRecursion (λ o. asked_late o.token s.history.handled ≡ false →
+        AllByRecursion (λ o. asked_late c.applications o.token s.history.handled ≡ false →
         IsLastNotification s.history.queued o) s.observers }
     ensures tokens { (c : ConfigValues) (events : List AcceptedCall) (id : ℕ) (s : Connection) →
         side_of id (world_after c events).sides ≡ Some s → TokensAreDistinct s.observers }
@@ -124,21 +130,21 @@ pub fn last_notification_matches_state()
 ///   reuses a token, more than one assignment of entries to messages is possible.
 /// - `at_once`: a message queues such a Pong only if no entry is pending.
 /// - `later`: settling queues such a Pong only if a Pong is the first pending entry.
-/// - `held`: a response that is to be delayed is appended to the pending list, if the list has room.
+/// - `held`: if the engine or the application delays a response, its entry is appended to the pending list, if the list
+///   has room.
 /// - `sent`: settling sends the response of an entry that is due first. It is 5.04 if the application has not answered.
-/// - `faulted`, `ended`, `released`, `announced`, `written`: nothing else queues such a Pong.
+/// - `faulted`, `ended`, `released`, `announced`, `responded`, `written`: nothing else queues such a Pong.
 pub fn custody_comes_last()
     ensures order { (c : ConfigValues) (events : List AcceptedCall) (id : ℕ) (s : Connection) →
-        side_of id (world_after c events).sides ≡ Some s → CorrespondTo s.history.handled s.history.held }
+        side_of id (world_after c events).sides ≡ Some s → CorrespondTo c.applications s.history.handled s.history.held }
     ensures at_once { (store : StoreValue) (now : ℕ) (s : Connection) (m : Message) →
         QueuesCustody s (side_after store now s m) → s.history.held ≡ [] }
     ensures later { (store : StoreValue) (now : ℕ) (s : Connection) → QueuesCustody s (settled_once store now s) →
         (token : List ℕ) × IsFirstHeld s token }
-    ensures held { (store : StoreValue) (now : ℕ) (s : Connection) (m : Message) (seconds : ℕ) → handles s ≡ true →
-        asks_answer s m ≡ true →
-        held_for (after s.history (call.Handle m)) (answer_of store now m).hold ≡ Some seconds →
+    ensures held { (store : StoreValue) (now : ℕ) (s : Connection) (m : Message) (d : Delay) → handles s ≡ true →
+        asks_answer s m ≡ true → held_for (after s.history (call.Handle m)) (delay_of store now m) ≡ Some d →
         (side_after store now s m).history.held
-        ≡ s.history.held ++ Answer Engine m.token (moment_after now seconds) ∷ [] }
+        ≡ s.history.held ++ Answer d.by m.token (moment_after now d.seconds) ∷ [] }
     ensures sent { (store : StoreValue) (now : ℕ) (s : Connection) (by : Responder) (token : List ℕ) (moment : ℕ) →
         next_held now s ≡ Some (Answer by token moment) → (settled_once store now s).history
         ≡ after (after s.history (call.Due now)) (call.Reply (held_message by token)) }
@@ -146,6 +152,7 @@ pub fn custody_comes_last()
     ensures ended { (s : Connection) (cut : Bool) → QueuesCustody s (side_ended s cut) → ⊥ }
     ensures released { (s : Connection) → QueuesCustody s (side_released s) → ⊥ }
     ensures announced { (s : Connection) (size : ℕ) → QueuesCustody s (side_announced s size) → ⊥ }
+    ensures responded { (s : Connection) (m : Message) → QueuesCustody s (side_responded s m) → ⊥ }
     ensures written { (s : Connection) (n : ℕ) → QueuesCustody s (side_written s n) → ⊥ }
 {}
 
@@ -171,6 +178,8 @@ pub fn a_pong_with_custody_follows_all_answers()
 /// - `message`: a message keeps the pending entries in their places, and appends at most one that it asks for.
 /// - `faulted`, `ended`, `released`, `announced`, `written`, `told`: an error, the end of input, a Release, an
 ///   announcement, written bytes and notifications keep them too.
+/// - `responded`: a response of the application removes the first pending request with its token, and is queued as it fits
+///   the peer's limit. All other entries are kept.
 /// - `taken`: settling removes exactly the entry that is due first.
 /// - `answer`, `pong`: this entry is then sent as it fits the peer's limit: a response, or a Pong with Custody.
 ///
@@ -178,12 +187,18 @@ pub fn a_pong_with_custody_follows_all_answers()
 /// the connection stops.
 pub fn pending_entries_are_sent()
     ensures message { (store : StoreValue) (now : ℕ) (s : Connection) (m : Message) →
-        KeepsPendingOver m s (side_after store now s m) }
+        KeepsPendingOver store.applications m s (side_after store now s m) }
     ensures faulted { (s : Connection) (fault : StreamFault) → KeepsPending s (side_faulted s fault) }
     ensures ended { (s : Connection) (cut : Bool) → KeepsPending s (side_ended s cut) }
     ensures released { (s : Connection) → KeepsPending s (side_released s) }
     ensures announced { (s : Connection) (size : ℕ) → KeepsPending s (side_announced s size) }
     ensures written { (s : Connection) (n : ℕ) → (side_written s n).history.held ≡ s.history.held }
+    ensures responded { (s : Connection) (m : Message) → answers s.history.phase ≡ true →
+        response_refusal (link_of s.history) m ≡ None →
+        IsFirstRequest s.history.held m.token (without_request m.token s.history.held)
+        × ((side_responded s m).history.queued
+        ≡ s.history.queued ++ fitted m (bare_response m) (fit (limit_now s.history) m (bare_response m)))
+        × KeepsBut (without_request m.token s.history.held) (side_responded s m) }
     ensures told { (store : StoreValue) (now : ℕ) (s : Connection) → next_held now s ≡ None →
         KeepsPending s (settled_once store now s) }
     ensures taken { (store : StoreValue) (now : ℕ) (s : Connection) (e : PendingEntryValue) → next_held now s ≡ Some e →
@@ -198,4 +213,29 @@ pub fn pending_entries_are_sent()
         (settled_once store now s).history.queued
         ≡ s.history.queued ++ (send (standing_due now (standing_now s.history)) (pong_with true token)
         (pong_with false token)).queued }
+{}
+
+/// States which requests the application answers, and how they are answered at once.
+///
+/// - `none`: without an application, `prompt_answer` is the answer of the store.
+/// - `built_in`: the application answers no request for a built-in resource.
+/// - `checked`: it answers no request with an unrecognised critical option, and none that asks for proxying. The store
+///   answers these with 4.02 and 5.05.
+/// - `handed`, `elsewhere`: of the other requests, it answers exactly those whose path and method its entries have. Their
+///   deadline is that of the application.
+/// - `refused`: if such a request is answered at once, the response is 5.03, and nothing changes.
+pub fn application_answers_its_requests()
+    ensures none { (s : StoreValue) (now : ℕ) (m : Message) → s.applications ≡ None →
+        prompt_answer s now m ≡ immediate_answer s now m }
+    ensures built_in { (a : Option ApplicationsValue) (m : Message) → is_dynamic (kind_of_path (path_of m)) ≡ false →
+        application_deadline a m ≡ None }
+    ensures checked { (a : Option ApplicationsValue) (m : Message) → passes_checks m ≡ false →
+        application_deadline a m ≡ None }
+    ensures handed { (a : ApplicationsValue) (m : Message) → is_answered a.entries (path_of m) m.code ≡ true →
+        passes_checks m ≡ true → application_deadline (Some a) m ≡ Some a.deadline }
+    ensures elsewhere { (a : ApplicationsValue) (m : Message) → is_answered a.entries (path_of m) m.code ≡ false →
+        application_deadline (Some a) m ≡ None }
+    ensures refused { (s : StoreValue) (now : ℕ) (m : Message) (deadline : ℕ) →
+        application_deadline s.applications m ≡ Some deadline →
+        prompt_answer s now m ≡ says (only code.service_unavailable) }
 {}

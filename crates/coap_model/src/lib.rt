@@ -20,7 +20,7 @@ mod config;
 pub mod laws;
 
 pub use answers::{
-    AnnounceFault, Backwards, ConnId, Handled, NoSuch, OpenFault, ReleaseFault, Status, TakeFault,
-    Taken, WrittenFault,
+    AnnounceFault, Backwards, ConnId, Handled, NoSuch, OpenFault, ReleaseFault, ResponseFault,
+    Status, TakeFault, Taken, WrittenFault,
 };
 pub use config::{Config, ConfigBuilder, ConfigFault, Starts};

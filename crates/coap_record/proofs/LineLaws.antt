@@ -1,5 +1,5 @@
 -- The script reader reads the line of a call back as the event of the call.
-use Rattle.std.proofs.Common.{◌≡◌, ℕ, Bool, true, false, ◌&&◌, ◌==◌, List, [], ◌∷◌, ◌++◌, Option, Some, Ok, refl, sym, ap, ◌∙◌, arith, nat_le, nat_lt, decimal, codes, All, append_assoc, append-nil}
+use Rattle.std.proofs.Common.{◌≡◌, ℕ, ◌≤◌, Bool, true, false, ◌&&◌, ◌==◌, List, [], ◌∷◌, ◌++◌, length, Option, Some, Ok, refl, sym, ap, ◌∙◌, arith, nat_le, nat_lt, decimal, codes, All, append_assoc, append-nil}
 use Rattle.std.proofs.lemmas.Bool.{and_parts}
 use Rattle.std.proofs.lemmas.Bool.Decides.{nat_tests}
 use Rattle.std.proofs.lemmas.List.Elements.{All-head, All-tail}
@@ -13,7 +13,7 @@ use Rattle.coap_record.specs.Prelude.{bytes_text, word_line, script_of, said_by_
 use Rattle.coap_record.specs.Prelude.{says_nothing, newline, space, words_of, AcceptedCall, Path}
 use Rattle.coap_record.specs.Prelude.{path_word, format_word, took_line, drain_line, stored_line, removed_line, announced_line}
 use Rattle.coap_record.specs.Prelude.{line_of, lines_of, events_said, all_events_said, IsInRange, IsNumber, AreBytes}
-use Rattle.coap_record.specs.Prelude.{IsPathOfBytes, IsFormat, is_printable}
+use Rattle.coap_record.specs.Prelude.{IsPathOfBytes, IsFormat, is_printable, respond_line, respond_event, spelling}
 use Rattle.coap_record.proofs.WordLaws.{word_byte, IsWord, all_fail, all_pass, both_words, number_word, number_back}
 use Rattle.coap_record.proofs.WordLaws.{format_is_word, format_back, bytes_word, bytes_back, payload_word, payload_back}
 use Rattle.coap_record.proofs.WordLaws.{path_is_word, path_back}
@@ -132,6 +132,16 @@ removed_said path is more es read =
     let names : event_of (codes "remove" ∷ path_word path ∷ []) ≡ Some (event.Remove path (path_word path)) = rw (path_back path is.0 is.1) refl in
     ap script_of text ∙ line_said (codes "remove") (path_word path ∷ []) (event.Remove path (path_word path)) refl (path_is_word path is.1, tt) refl names more es read
 
+responded_said : (id : ℕ) (bytes : List ℕ) → IsNumber id → AreBytes bytes → 1 ≤ length bytes
+    → (more : List ℕ) (es : List ScriptEventValue) → script_of more ≡ Ok es → script_of (respond_line id bytes ++ more) ≡ Ok (event.Respond id bytes ∷ es)
+unfolding spaced says_nothing event_of event_with_two respond_event
+responded_said id [] small are some more es read = absurd (omega (arith, some))
+responded_said id (b ∷ bytes) small are some more es read =
+    let hex = encode_lower (b ∷ bytes) in
+    let text : respond_line id (b ∷ bytes) ++ more ≡ spaced (codes "respond") (decimal id ∷ hex ∷ []) ++ newline ∷ more = simp append_assoc in
+    let names : event_of (codes "respond" ∷ decimal id ∷ hex ∷ []) ≡ Some (event.Respond id (b ∷ bytes)) = rw (number_back id small, bytes_back b bytes are) refl in
+    ap script_of text ∙ line_said (codes "respond") (decimal id ∷ hex ∷ []) (event.Respond id (b ∷ bytes)) refl (number_word id small, (bytes_word (b ∷ bytes) are, tt)) refl names more es read
+
 announced_said : (id size : ℕ) → IsNumber id → IsNumber size
     → (more : List ℕ) (es : List ScriptEventValue) → script_of more ≡ Ok es → script_of (announced_line id size ++ more) ≡ Ok es
 announced_said id size small few more es read =
@@ -155,6 +165,7 @@ call_said (call.Removed path) is more es read = removed_said path is more es rea
 call_said (call.Ended id) is more es read = numbered (codes "end") id (event.End id) refl refl is (rw (number_back id is) refl) more es read
 call_said (call.Released id) is more es read = numbered (codes "release") id (event.Release id) refl refl is (rw (number_back id is) refl) more es read
 call_said (call.Announced id size) is more es read = announced_said id size is.0 is.1 more es read
+call_said (call.Responded id m) is more es read = responded_said id (spelling m) is.0 is.1.0 is.1.1 more es read
 call_said (call.Dropped id) is more es read = numbered (codes "drop") id (event.Drop id) refl refl is (rw (number_back id is) refl) more es read
 
 -- The lines of calls, and the text after them.

@@ -4,7 +4,11 @@ use Rattle.std.proofs.lemmas.Bool.Decides.{nat_tests}
 use Rattle.std.proofs.lemmas.List.{length-map, length-take-le}
 use Rattle.std.proofs.lemmas.List.Elements.{All-head, All-tail}
 use Rattle.coap_wire.specs.Stream.{Stream}
+use Rattle.coap_wire.specs.Message.{Message}
+use Rattle.coap_wire.specs.Reading.{message_of}
+use Rattle.coap_wire.specs.Spelling.{spelling}
 use Rattle.coap_conn.specs.Release.{release_refusal}
+use Rattle.coap_conn.specs.Responses.{response_refusal}
 use Rattle.coap_conn.specs.History.{link_of}
 use Rattle.coap_store.specs.Refusals.{put_refusal, remove_refusal}
 use Rattle.coap_script.specs.script.Events.{Drain}
@@ -21,11 +25,11 @@ use Rattle.coap_model.proofs.world.ReachedLaws.{on_one}
 use Rattle.coap_server_engine.specs.Prelude.{map, session_shown}
 use Rattle.coap_server_engine.specs.script.Replay.{event_ran, replayed, tick_refusal}
 use Rattle.coap_server_engine.specs.values.InResults.{in_result, fed_turns, goes_on}
-use Rattle.coap_server_engine.specs.values.ServerAnswers.{open_refusal, released_refusal}
+use Rattle.coap_server_engine.specs.values.ServerAnswers.{open_refusal, released_refusal, responded_refusal}
 use Rattle.coap_server_engine.specs.values.Servers.{ServerValue, new_server, session_of, server_taken, count_taken}
 use Rattle.coap_server_engine.specs.world.Shows.{Shows, server_of, server_shown, place_shown}
 use Rattle.coap_server_engine.proofs.world.ShowLaws.{side_there, host_shown, takes_shown, shows_opened, shows_taken, shows_written}
-use Rattle.coap_server_engine.proofs.world.ShowLaws.{shows_ticked, shows_put, shows_removed, shows_ended, shows_released, shows_dropped}
+use Rattle.coap_server_engine.proofs.world.ShowLaws.{shows_ticked, shows_put, shows_removed, shows_ended, shows_released, shows_responded, shows_dropped}
 use Rattle.coap_server_engine.proofs.world.CallLaws.{new_shows}
 use Rattle.coap_server_engine.proofs.values.ServerLemmas.{opens}
 use Rattle.coap_server_engine.proofs.scripting.ShownLemmas.{config_stays}
@@ -139,6 +143,13 @@ released_replays v es id shows accepted =
     let none : released_refusal v id ≡ None = rw (here.session, here.holds) refl in
     rw none (shows_released v es id _ shows here.session here.holds, refl)
 
+responded_replays : (v : ServerValue) (es : List AcceptedCall) (id : ℕ) (m : Message) → Shows v es → IsAccepted v.config es (call.Responded id m) → message_of (spelling m) ≡ Ok m → Replays v es (call.Responded id m)
+unfolding IsAccepted events_said replayed event_ran
+responded_replays v es id m shows accepted reads =
+    let here = there v es id (λ s. response_refusal (link_of s.history) m ≡ None) shows accepted in
+    let none : responded_refusal v id (spelling m) ≡ None = rw (here.session, reads, here.holds) refl in
+    rw (none, reads) (shows_responded v es id m _ shows here.session here.holds, refl)
+
 dropped_replays : (v : ServerValue) (es : List AcceptedCall) (id : ℕ) → Shows v es → IsAccepted v.config es (call.Dropped id) → Replays v es (call.Dropped id)
 unfolding IsAccepted events_said replayed event_ran
 dropped_replays v es id shows accepted =
@@ -155,6 +166,7 @@ call_replays v es (call.Removed path) shows accepted can = removed_replays v es 
 call_replays v es (call.Ended id) shows accepted can = ended_replays v es id shows accepted
 call_replays v es (call.Released id) shows accepted can = released_replays v es id shows accepted
 call_replays v es (call.Announced id size) shows accepted can = absurd can
+call_replays v es (call.Responded id m) shows accepted can = responded_replays v es id m shows accepted can
 call_replays v es (call.Dropped id) shows accepted can = dropped_replays v es id shows accepted
 
 -- ---- all calls

@@ -11,6 +11,7 @@ pub use Rattle.hex.specs.Hex.{encode_lower, decode_of, lower_digits}
 unfoldable pub use Rattle.percent_encoding.specs.Percent.{percent_decode, percent_encode}
 -- ---- coap_wire
 pub use Rattle.coap_wire.specs.declared.sizes.TheConstants.{BASE_MESSAGE_SIZE, LARGEST_QUEUE}
+unfoldable pub use Rattle.coap_wire.specs.Spelling.{spelling}
 -- ---- coap_conn
 pub use Rattle.coap_conn.specs.QueueValue.{QueueValue, IsNextPart, free_of}
 -- ---- coap_io
@@ -28,7 +29,7 @@ unfoldable pub use Rattle.coap_text.specs.Words.{decimal_value, hex_value}
 pub use Rattle.coap_script.specs.script.Events.{ScriptEventValue, Drain}
 unfoldable pub use Rattle.coap_script.specs.script.Events.{drain_event, event_alone, event_of, event_with_one}
 unfoldable pub use Rattle.coap_script.specs.script.Events.{event_with_two, in_event, number_event, put_event}
-unfoldable pub use Rattle.coap_script.specs.script.Events.{remove_event}
+unfoldable pub use Rattle.coap_script.specs.script.Events.{remove_event, respond_event}
 pub use Rattle.coap_script.specs.script.Lines.{bytes_text, tick_line, word_line, out_line}
 pub use Rattle.coap_script.specs.script.Script.{script_of, said_behind, said_by_line}
 unfoldable pub use Rattle.coap_script.specs.script.Script.{event_in, events_in, said_by_parts, says_nothing}
@@ -48,6 +49,7 @@ pub use Rattle.coap_server_engine.specs.world.Shows.{Shows}
 unfoldable pub use Rattle.coap_server_engine.specs.script.Replay.{replayed, event_ran}
 -- ---- this crate
 pub use Rattle.coap_record.specs.RecordLines.{format_word, drain_line, stored_line, removed_line, announced_line}
+pub use Rattle.coap_record.specs.RecordLines.{respond_line}
 unfoldable pub use Rattle.coap_record.specs.RecordLines.{path_word, took_line, line_of, lines_of}
 unfoldable pub use Rattle.coap_record.specs.SaidEvents.{events_said, all_events_said, IsInRange}
 pub use Rattle.coap_record.specs.SaidEvents.{IsNumber, AreBytes, IsPathOfBytes, IsFormat, CanReplay}

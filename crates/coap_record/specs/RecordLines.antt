@@ -1,10 +1,11 @@
 -- Defined by this project: the line that a record has for a call which a server accepted.
 use Rattle.std.specs.Prelude.{ℕ, List, [], ◌∷◌, ◌++◌, Option, Some, None, codes, decimal}
 use Rattle.hex.specs.Hex.{encode_lower}
+use Rattle.coap_wire.specs.Spelling.{spelling}
 use Rattle.coap_path.specs.Paths.{Path}
 use Rattle.coap_store.specs.Listing.{path_bytes}
 use Rattle.coap_script.specs.script.Lines.{bytes_text, tick_line, word_line}
-use Rattle.coap_model.specs.world.Events.{AcceptedCall, Opened, Took, Wrote, Ticked, Stored, Removed, Ended, Released, Announced, Dropped}
+use Rattle.coap_model.specs.world.Events.{AcceptedCall, Opened, Took, Wrote, Ticked, Stored, Removed, Ended, Released, Announced, Responded, Dropped}
 
 -- The word of a path: a slash before each segment, which is percent-encoded, and one slash for the root.
 unfoldable pub path_word : Path → List ℕ
@@ -38,6 +39,10 @@ removed_line path = codes "remove " ++ path_word path ++ codes "\n"
 abbrev pub announced_line : ℕ → ℕ → List ℕ
 announced_line id size = codes "# announced " ++ decimal id ++ codes " " ++ decimal size ++ codes "\n"
 
+-- The application responded on a connection, with the encoded response.
+abbrev pub respond_line : ℕ → List ℕ → List ℕ
+respond_line id bytes = codes "respond " ++ decimal id ++ codes " " ++ encode_lower bytes ++ codes "\n"
+
 -- The line of a call: that of the script's event which makes the call again. The script's `open` opens the next number,
 -- so the line of `Opened` has none.
 unfoldable pub line_of : AcceptedCall → List ℕ
@@ -50,6 +55,7 @@ line_of (Removed path) = removed_line path
 line_of (Ended id) = word_line (codes "end") id
 line_of (Released id) = word_line (codes "release") id
 line_of (Announced id size) = announced_line id size
+line_of (Responded id m) = respond_line id (spelling m)
 line_of (Dropped id) = word_line (codes "drop") id
 
 -- The lines of calls, in order.

@@ -1,8 +1,10 @@
 -- Defined by this project: the events of a script that the line of a call says.
-use Rattle.std.specs.Prelude.{◌≡◌, ℕ, ◌<◌, ◌^◌, true, All, List, [], ◌∷◌, ◌++◌, Option, Some, None}
+use Rattle.std.specs.Prelude.{◌≡◌, ℕ, ◌<◌, ◌≤◌, ◌^◌, true, All, List, [], ◌∷◌, ◌++◌, length, Option, Some, None, Ok}
+use Rattle.coap_wire.specs.Reading.{message_of}
+use Rattle.coap_wire.specs.Spelling.{spelling}
 use Rattle.coap_path.specs.Paths.{Path, is_path}
-use Rattle.coap_script.specs.script.Events.{ScriptEventValue, Open, In, Drain, Tick, Put, Remove, End, Release, Drop}
-use Rattle.coap_model.specs.world.Events.{AcceptedCall, Opened, Took, Wrote, Ticked, Stored, Removed, Ended, Released, Announced, Dropped}
+use Rattle.coap_script.specs.script.Events.{ScriptEventValue, Open, In, Drain, Tick, Put, Remove, End, Release, Respond, Drop}
+use Rattle.coap_model.specs.world.Events.{AcceptedCall, Opened, Took, Wrote, Ticked, Stored, Removed, Ended, Released, Announced, Responded, Dropped}
 use Rattle.coap_record.specs.RecordLines.{path_word}
 
 -- The event of accepted bytes; none for no bytes.
@@ -21,6 +23,7 @@ events_said (Removed path) = Remove path (path_word path) ∷ []
 events_said (Ended id) = End id ∷ []
 events_said (Released id) = Release id ∷ []
 events_said (Announced id size) = []
+events_said (Responded id m) = Respond id (spelling m) ∷ []
 events_said (Dropped id) = Drop id ∷ []
 
 -- The events of calls, in order.
@@ -58,9 +61,12 @@ IsInRange (Removed path) = IsPathOfBytes path
 IsInRange (Ended id) = IsNumber id
 IsInRange (Released id) = IsNumber id
 IsInRange (Announced id size) = IsNumber id × IsNumber size
+IsInRange (Responded id m) = IsNumber id × (AreBytes (spelling m) × (1 ≤ length (spelling m)))
 IsInRange (Dropped id) = IsNumber id
 
--- A script can make this call again. Only an announced message size has no event.
+-- A script can make this call again. Only an announced message size has no event. The encoding of a response of the
+-- application must be read back as the response.
 abbrev pub CanReplay : AcceptedCall → Type 0
 CanReplay (Announced id size) = ⊥
+CanReplay (Responded id m) = message_of (spelling m) ≡ Ok m
 CanReplay c = Unit {0}

@@ -21,7 +21,7 @@ pub use Rattle.coap_script.specs.script.EventViews.{event_value, IsScript, fault
 pub use Rattle.coap_script.specs.script.Events.{ScriptEventValue}
 unfoldable pub use Rattle.coap_script.specs.script.Events.{drain_event, event_alone, event_of, event_with_one}
 unfoldable pub use Rattle.coap_script.specs.script.Events.{event_with_two, in_event, number_event, put_event}
-unfoldable pub use Rattle.coap_script.specs.script.Events.{remove_event}
+unfoldable pub use Rattle.coap_script.specs.script.Events.{remove_event, respond_event}
 pub use Rattle.coap_script.specs.script.Lines.{phase_text}
 pub use Rattle.coap_script.specs.script.Script.{script_of, said_on, said_behind, said_by_line}
 unfoldable pub use Rattle.coap_script.specs.script.Script.{event_in, events_in, said_by_parts, says_nothing}

@@ -52,6 +52,13 @@ pub enum Event {
         /// Id of the connection.
         connection: u64,
     },
+    /// The application responds to a request that it answers.
+    Respond {
+        /// Id of the connection.
+        connection: u64,
+        /// The encoded response, at least one byte.
+        response: Vec<u8>,
+    },
     /// A connection is dropped.
     Drop {
         /// Id of the connection.

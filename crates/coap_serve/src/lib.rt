@@ -15,14 +15,15 @@
 //! `coap_server_engine/src/server.rt`.
 #![tactic(auto)]
 
-pub use coap_conn::{LimitFault, Limits, LimitsBuilder, Phase, Reason};
+pub use coap_application::{ApplicationEntry, ApplicationFault, Applications};
+pub use coap_conn::{LimitFault, Limits, LimitsBuilder, Phase, Reason, Reply};
 pub use coap_io::{
     Clock, Door, Got, Outlet, Polled, ReadBuffer, ReadSource, Ready, Source, Tried, Wait, Wire,
     Wires, WriteFailed, WriteOutlet, write_all,
 };
 pub use coap_model::{
     AnnounceFault, Backwards, Config, ConfigBuilder, ConfigFault, ConnId, Handled, NoSuch,
-    OpenFault, ReleaseFault, Starts, Status, TakeFault, Taken, WrittenFault,
+    OpenFault, ReleaseFault, ResponseFault, Starts, Status, TakeFault, Taken, WrittenFault,
 };
 pub use coap_script::{Event, ScriptFault, script, scripts_go_on_behind_whole_lines};
 pub use coap_server_engine::{Call, IoFault, Monitor, NoMonitor, ReplayFault, Server};

@@ -34,6 +34,9 @@ pub use Rattle.coap_conn.specs.LinkValue.{new_link}
 pub use Rattle.coap_conn.specs.Phases.{takes_messages, stop_of}
 pub use Rattle.coap_conn.specs.Rejects.{reject_of, reject_reason}
 pub use Rattle.coap_conn.specs.Release.{release_refusal}
+pub use Rattle.coap_conn.specs.Responses.{frame_refusal, OnMessage}
+pub use Rattle.coap_conn.specs.declared.phase.RespondFault.{RespondFault}
+unfoldable pub use Rattle.coap_conn.specs.Responses.{response_refusal}
 pub use Rattle.coap_conn.specs.declared.phase.Role.TheVariants.{Server}
 pub use Rattle.coap_conn.specs.declared.phase.SendFault.{SendFault}
 pub use Rattle.coap_conn.specs.declared.reason.Reason.{Reason}
@@ -53,19 +56,20 @@ pub use Rattle.coap_store.specs.declared.fault.StoreFault.{StoreFault}
 pub use Rattle.coap_store.specs.declared.fault.StoreFault.TheVariants.{NoSuch}
 -- ---- coap_script
 pub use Rattle.coap_script.specs.script.EventViews.{event_value}
-pub use Rattle.coap_script.specs.script.Events.{ScriptEventValue, Drain, Drop, In, Open, Release, Remove, Status, Tick}
+pub use Rattle.coap_script.specs.script.Events.{ScriptEventValue, Drain, Drop, In, Open, Release, Remove, Respond, Status, Tick}
 pub use Rattle.coap_script.specs.script.Lines.{open_line, put_line, remove_line, tick_line, word_line}
 -- ---- coap_model
-pub use Rattle.coap_model.specs.Answers.{release_fault}
+pub use Rattle.coap_model.specs.Answers.{release_fault, response_fault}
 pub use Rattle.coap_model.specs.Configs.{ConfigValues}
 pub use Rattle.coap_model.specs.declared.answers.AnnounceFault.{AnnounceFault}
 pub use Rattle.coap_model.specs.declared.answers.OpenFault.{OpenFault}
 pub use Rattle.coap_model.specs.declared.answers.ReleaseFault.{ReleaseFault}
+pub use Rattle.coap_model.specs.declared.answers.ResponseFault.{ResponseFault}
 pub use Rattle.coap_model.specs.declared.answers.TakeFault.{TakeFault}
 pub use Rattle.coap_model.specs.declared.answers.Taken.{Taken}
 pub use Rattle.coap_model.specs.declared.answers.WrittenFault.{WrittenFault}
 pub use Rattle.coap_model.specs.world.Events.{AcceptedCall, Ticked, Stored, Removed, Opened, Ended, Took, stream_on}
-pub use Rattle.coap_model.specs.world.Events.{AreAccepted, Wrote, Released, Announced, Dropped, IfSide, OnSide}
+pub use Rattle.coap_model.specs.world.Events.{AreAccepted, Wrote, Released, Announced, Responded, Dropped, IfSide, OnSide}
 pub use Rattle.coap_model.specs.world.Events.{beyond, taken_in, takes_of}
 unfoldable pub use Rattle.coap_model.specs.world.Events.{size_on, steps_of, world_after, takes, AreAcceptedBehind}
 unfoldable pub use Rattle.coap_model.specs.world.Events.{IsAccepted, steps_by}
@@ -78,7 +82,7 @@ pub use Rattle.coap_model.specs.world.Connections.{is_cut}
 pub use Rattle.coap_model.specs.world.Connections.{new_side}
 pub use Rattle.coap_model.specs.world.Connections.{kept_on}
 unfoldable pub use Rattle.coap_model.specs.world.Connections.{side_after, side_faulted, side_written, side_ended}
-unfoldable pub use Rattle.coap_model.specs.world.Connections.{side_released, side_announced}
+unfoldable pub use Rattle.coap_model.specs.world.Connections.{side_released, side_announced, side_responded}
 pub use Rattle.coap_model.specs.world.View.{change_made}
 pub use Rattle.coap_model.specs.world.World.{World, Step, new_world, Handled, ConnectionEntry, all_settled, on_side}
 pub use Rattle.coap_model.specs.world.World.{settled_place, stored_after, ticks}
@@ -92,12 +96,12 @@ pub use Rattle.coap_server_engine.specs.declared.replay.OutputLine.{OutputLine}
 pub use Rattle.coap_server_engine.specs.script.Cuts.{DifferInCuts, AreInTime, other_lines, IsInTime}
 unfoldable pub use Rattle.coap_server_engine.specs.script.Cuts.{lines_of, in_before, joined}
 pub use Rattle.coap_server_engine.specs.script.Replay.{stop_number, drained, EventResult, comes_to, drain_ran}
-pub use Rattle.coap_server_engine.specs.script.Replay.{in_ran, on_connection, open_number, release_number}
+pub use Rattle.coap_server_engine.specs.script.Replay.{in_ran, on_connection, open_number, release_number, response_number}
 pub use Rattle.coap_server_engine.specs.script.Replay.{status_ran, store_number, tick_refusal, unless_refused}
 unfoldable pub use Rattle.coap_server_engine.specs.script.Replay.{replayed, event_ran}
 pub use Rattle.coap_server_engine.specs.script.Replayed.{replay_number, IsReplayed, fails_write, IsCutAt, IsRefusedAt}
 pub use Rattle.coap_server_engine.specs.script.Replayed.{IsUnrun}
-pub use Rattle.coap_server_engine.specs.script.Shown.{ShowsRun, IsShownReplay, ShowsPart, IsPartlyMade, ShowsRefusedAt}
+pub use Rattle.coap_server_engine.specs.script.Shown.{unless_any, ShowsRun, IsShownReplay, ShowsPart, IsPartlyMade, ShowsRefusedAt}
 unfoldable pub use Rattle.coap_server_engine.specs.script.Shown.{events_made, events_ran}
 -- ---- this crate: values
 pub use Rattle.coap_server_engine.specs.values.Calls.{call_value, TellsPartlyFed, Following}
@@ -117,6 +121,7 @@ pub use Rattle.coap_server_engine.specs.values.ServerAnswers.{stop_on, open_refu
 pub use Rattle.coap_server_engine.specs.values.ServerAnswers.{can_take_on, written_refusal, front_of}
 pub use Rattle.coap_server_engine.specs.values.ServerAnswers.{OpenedOrMemory, released_refusal, status_of}
 pub use Rattle.coap_server_engine.specs.values.ServerAnswers.{released_refusal_on, handled_so, RefusesPieceOn}
+pub use Rattle.coap_server_engine.specs.values.ServerAnswers.{responded_refusal_on, responded_refusal, IsReplyOn, response_event}
 pub use Rattle.coap_server_engine.specs.values.ServerAnswers.{handled_on}
 pub use Rattle.coap_server_engine.specs.values.ServerAnswers.{session_status, written_refusal_on}
 unfoldable pub use Rattle.coap_server_engine.specs.values.ServerAnswers.{handled_by}
@@ -124,16 +129,17 @@ pub use Rattle.coap_server_session.specs.values.SessionAnswers.{IsAnnounced, ann
 pub use Rattle.coap_server_engine.specs.values.ServerCauses.{UnaffectedAreSettled, AreOthersSettled, AreUntouched}
 pub use Rattle.coap_server_engine.specs.values.ServerCauses.{AreMarkedBut, AreMarkedAfter}
 pub use Rattle.coap_server_engine.specs.values.ServerDeadlines.{stamp_of, WaitsForDeadlines, outlook_of}
-pub use Rattle.coap_server_engine.specs.values.Servers.{new_server, server_put, server_removed, server_ticked, AreSettled}
+pub use Rattle.coap_server_engine.specs.values.Servers.{config_with, new_server, server_put, server_removed, server_ticked, AreSettled}
 pub use Rattle.coap_server_engine.specs.values.Servers.{server_dropped, ServerValue, LiesAt, server_opened}
 pub use Rattle.coap_server_engine.specs.values.Servers.{is_there, server_written, server_ended, server_released}
-pub use Rattle.coap_server_engine.specs.values.Servers.{server_announced, settled_entry, count_on, on_session, server_settled}
+pub use Rattle.coap_server_engine.specs.values.Servers.{server_announced, server_responded, server_given, session_given_by, settled_entry, count_on, on_session, server_settled}
 pub use Rattle.coap_server_engine.specs.values.Servers.{server_taken_on, server_taken_so, session_becomes, unmarked_entry}
 pub use Rattle.coap_server_engine.specs.values.Servers.{unmarked, AreAllMarked}
 unfoldable pub use Rattle.coap_server_engine.specs.values.Servers.{session_of, count_taken, server_taken, changed_at}
 pub use Rattle.coap_server_session.specs.values.Sessions.{host_changed}
 pub use Rattle.coap_server_session.specs.values.Sessions.{SessionValue}
 pub use Rattle.coap_server_session.specs.values.Sessions.{session_written, session_ended, session_released, session_announced}
+pub use Rattle.coap_server_session.specs.values.Sessions.{session_given}
 pub use Rattle.coap_server_session.specs.values.Sessions.{change_by, new_session}
 pub use Rattle.coap_server_session.specs.values.Sessions.{session_takes, IsSettled, RefusesPiece}
 pub use Rattle.coap_server_session.specs.values.Sessions.{TakeOutcome}

@@ -15,7 +15,7 @@ ghost use Rattle.coap_model.specs.world.Events as world;
 
 use crate::server::Server;
 use coap_io::{Outlet, write_all};
-use coap_model::{ConnId, OpenFault, ReleaseFault};
+use coap_model::{ConnId, OpenFault, ReleaseFault, ResponseFault};
 use coap_script::{
     Event, ShortLine, fault_line, in_line, open_line, out_line, put_line, remove_line, status_line,
     tick_line, word_line,
@@ -100,6 +100,13 @@ fn store_refused(fault: StoreFault) -> Option<u8>
     }
 }
 
+/// Returns the number of an error of `respond`.
+fn response_number(fault: ResponseFault) -> u8
+    ensures { result ≡ spec.response_number fault }
+{
+    fault as u8
+}
+
 /// Returns the number of an error of `release`.
 fn release_number(fault: ReleaseFault) -> u8
     ensures { result ≡ spec.release_number fault }
@@ -169,6 +176,10 @@ impl Server {
             Event::Remove { path, text } => self.run_remove(path, text),
             Event::End { connection } => Ok(self.run_end(*connection)),
             Event::Release { connection } => Ok(self.run_release(*connection)),
+            Event::Respond {
+                connection,
+                response,
+            } => Ok(self.run_respond(*connection, response)),
             Event::Drop { connection } => Ok(self.run_drop(*connection)),
             Event::Status { connection } => self.run_status(*connection),
         }
@@ -312,6 +323,22 @@ impl Server {
         match self.release(id) {
             Ok(()) => OutputLine::Short(word_line("release", id)),
             Err(fault) => OutputLine::Short(fault_line("release", Some(id), release_number(fault))),
+        }
+    }
+
+    /// Runs a `respond` event.
+    fn run_respond(&mut self, id: ConnId, response: &[u8]) -> OutputLine
+        ensures server { self.new ≡ (event_ran self.old (event.Respond id response.now)).server }
+        ensures line { line_bytes result ≡ (event_ran self.old (event.Respond id response.now)).text }
+        ensures shows { ShowsMore self.old self.new (events_made self.old (event.Respond id response.now)) }
+    {
+        match self.respond(id, response) {
+            Ok(_) => OutputLine::Short(word_line("respond", id)),
+            Err(fault) => OutputLine::Short(fault_line(
+                "respond",
+                Some(id),
+                response_number(fault),
+            )),
         }
     }
 

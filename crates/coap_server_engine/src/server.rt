@@ -6,14 +6,16 @@
 //! Each call that changes a `Server`, except `flush_once`, has two kinds of clauses. `after` or `answer`, `ok` and
 //! `err` give the exact value after the call. `shows` states that the server still represents its history of events.
 
-ghost use Rattle.std.specs.Prelude.{◌≡◌, [], IfOk};
-ghost use Rattle.coap_server_engine.specs.Prelude.{new_server, Shows};
+ghost use Rattle.std.specs.Prelude.{◌≡◌, [], Some, IfOk};
+ghost use Rattle.coap_server_engine.specs.Prelude.{config_with, new_server, Shows};
 
 mod bytes;
 mod changes;
 mod connections;
+mod responses;
 mod sessions;
 
+use coap_application::Applications;
 use coap_conn::Reason;
 use coap_model::Config;
 use coap_server_session::{ServerState, Session};
@@ -125,6 +127,43 @@ impl Server {
             host,
             ids: starts.ids,
             sessions: IndexMap::with_capacity(alloc, config.connections())?,
+        })
+    }
+
+    /// Returns a server as `new` does, whose application answers the requests of these entries (`Applications`).
+    ///
+    /// A request that the application answers is pending until `respond` is called with its token. At its deadline, the
+    /// server sends 5.04 (Gateway Timeout). If the list of pending entries is full, it sends 5.03 at once.
+    ///
+    /// # Errors
+    ///
+    /// Returns `AllocError` if allocation fails.
+    pub fn with_applications(
+        alloc: Global,
+        config: Config,
+        applications: Applications,
+    ) -> Result<Server, AllocError>
+        ensures value { IfOk result (λ s. s ≡ new_server (config_with config (Some applications))) }
+        ensures shows { IfOk result (λ s. Shows s []) }
+    {
+        let Server {
+            alloc,
+            config,
+            host,
+            ids,
+            sessions,
+        } = Server::new(alloc, config)?;
+        let ServerState { store, now } = host;
+        let host = ServerState {
+            store: store.with_applications(applications),
+            now,
+        };
+        Ok(Server {
+            alloc,
+            config,
+            host,
+            ids,
+            sessions,
         })
     }
 

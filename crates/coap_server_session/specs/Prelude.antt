@@ -42,6 +42,8 @@ pub use Rattle.coap_conn.specs.Phases.{IsAnswering, is_open, answers, takes_mess
 pub use Rattle.coap_conn.specs.Reaction.{send, stop}
 pub use Rattle.coap_conn.specs.Rejects.{reject_of}
 pub use Rattle.coap_conn.specs.Release.{release_refusal}
+pub use Rattle.coap_conn.specs.Responses.{frame_refusal, OnMessage}
+unfoldable pub use Rattle.coap_conn.specs.Responses.{response_refusal}
 pub use Rattle.coap_conn.specs.Verdicts.{is_request}
 pub use Rattle.coap_conn.specs.declared.phase.Reply.{Reply}
 pub use Rattle.coap_conn.specs.declared.phase.Verdict.{Verdict}
@@ -58,6 +60,8 @@ pub use Rattle.coap_store.specs.Answer.{changed, without_hold, Change, Delete, N
 unfoldable pub use Rattle.coap_store.specs.Answer.{answer_of, immediate_answer}
 pub use Rattle.coap_store.specs.Changes.{IsPut, TakesChange, changes, IsChangeAt}
 pub use Rattle.coap_store.specs.Invariant.{IsStore}
+pub use Rattle.coap_store.specs.ApplicationRequests.{unless_handed}
+unfoldable pub use Rattle.coap_store.specs.ApplicationRequests.{application_deadline, prompt_answer}
 pub use Rattle.coap_store.specs.Messages.{response_message, response_with_observe, option_at, empty_at, number_at}
 pub use Rattle.coap_store.specs.Messages.{each_at}
 pub use Rattle.coap_store.specs.Notifications.{notification_of}
@@ -68,17 +72,21 @@ unfoldable pub use Rattle.coap_store.specs.State.{key_for, state_at}
 pub use Rattle.coap_store.specs.Store.{StoreValue, Representation}
 unfoldable pub use Rattle.coap_store.specs.Store.{found_in}
 pub use Rattle.coap_store.specs.Observing.{MayObserve}
+-- ---- coap_application
+pub use Rattle.coap_application.specs.Applications.{ApplicationsValue}
 -- ---- coap_model
 pub use Rattle.coap_model.specs.world.Observers.{asks_entry, is_whole, Observer, entry_for, format_of, goes_on}
 pub use Rattle.coap_model.specs.world.Observers.{has_place, left_of, notification, notification_message, same_state}
 pub use Rattle.coap_model.specs.world.Observers.{with_entry, mark_told}
 unfoldable pub use Rattle.coap_model.specs.world.Observers.{first_becomes, is_due, without_token}
 pub use Rattle.coap_model.specs.world.Connections.{Connection, waiting_on, handles, asks_answer, held_for, moment_after}
+pub use Rattle.coap_model.specs.world.Connections.{Delay, delay_by, delay_or, delay_of, hold_call}
 pub use Rattle.coap_model.specs.world.Connections.{held_message, next_held, is_cut, after_sent, has_room, may_raise}
 pub use Rattle.coap_model.specs.world.Connections.{next_due, notified, settled_so, side_replied, side_with}
 pub use Rattle.coap_model.specs.world.Connections.{with_history, kept_on}
 unfoldable pub use Rattle.coap_model.specs.world.Connections.{side_after, side_faulted, side_written, side_ended}
 unfoldable pub use Rattle.coap_model.specs.world.Connections.{side_released, side_announced, settled_once, change_after}
+unfoldable pub use Rattle.coap_model.specs.world.Connections.{side_responded}
 unfoldable pub use Rattle.coap_model.specs.world.Connections.{settled, settled_within}
 -- ---- this crate: declared types
 pub use Rattle.coap_server_session.specs.declared.cause.Cause.{Cause}
@@ -100,12 +108,12 @@ pub use Rattle.coap_server_session.specs.values.Entries.{settled_held, framer_on
 unfoldable pub use Rattle.coap_server_session.specs.values.Entries.{first_index}
 pub use Rattle.coap_server_session.specs.values.SessionAnswers.{IsAnnounced}
 pub use Rattle.coap_server_session.specs.values.Responses.{path_size}
-pub use Rattle.coap_server_session.specs.values.Sessions.{ObserverValue, answer_on, hold_on, held_in, host_changed}
+pub use Rattle.coap_server_session.specs.values.Sessions.{ObserverValue, answer_on, delay_on, held_in, host_changed}
 pub use Rattle.coap_server_session.specs.values.Sessions.{link_sent}
 pub use Rattle.coap_server_session.specs.values.Sessions.{new_entry, notification_on, mark_at, present_mark, untold_by}
 pub use Rattle.coap_server_session.specs.values.Sessions.{SessionValue}
 pub use Rattle.coap_server_session.specs.values.Sessions.{session_written, session_ended, session_released}
-pub use Rattle.coap_server_session.specs.values.Sessions.{session_announced}
+pub use Rattle.coap_server_session.specs.values.Sessions.{session_announced, session_given}
 pub use Rattle.coap_server_session.specs.values.Sessions.{change_by, observers_on, session_with, new_session}
 pub use Rattle.coap_server_session.specs.values.Sessions.{session_takes, session_notified, IsSettled, RefusesPiece}
 pub use Rattle.coap_server_session.specs.values.Sessions.{ObserversValue, TakeOutcome, asks_this, entry_left, frame_on}
@@ -114,7 +122,7 @@ pub use Rattle.coap_server_session.specs.values.Sessions.{mark_of, session_max, 
 pub use Rattle.coap_server_session.specs.values.Sessions.{session_rejected, session_replied, session_settled_so}
 pub use Rattle.coap_server_session.specs.values.Sessions.{state_on}
 pub use Rattle.coap_server_session.specs.values.Sessions.{taking_found, taking_read, MarkedSession, AreMarked, IsMarked}
-pub use Rattle.coap_server_session.specs.values.Sessions.{empty_host, observers_left}
+pub use Rattle.coap_server_session.specs.values.Sessions.{empty_host, host_with, observers_left}
 unfoldable pub use Rattle.coap_server_session.specs.values.Sessions.{changed_mark}
 unfoldable pub use Rattle.coap_server_session.specs.values.Sessions.{without_entry, is_stale, session_settled}
 unfoldable pub use Rattle.coap_server_session.specs.values.Sessions.{session_handled}

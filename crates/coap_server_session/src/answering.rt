@@ -4,13 +4,15 @@ ghost use Rattle.std.specs.Prelude.{◌≡◌, ◌<◌, ◌≤◌, ◌++◌, ◌
 ghost use Rattle.std.specs.Prelude.{slice_get, if◌then◌else◌, IfOk, IfSome, OnOk, OnErr};
 ghost use Rattle.coap_server_session.specs.Prelude.{IsAnswering, AreMarked, IsTagged, marks_after, is_open};
 ghost use Rattle.coap_server_session.specs.Prelude.{PendingEntryValue, first_due, IsReady, can_hold, link_after};
-ghost use Rattle.coap_server_session.specs.Prelude.{changed, without_hold, response_message, planned_value, path_of};
+ghost use Rattle.coap_server_session.specs.Prelude.{changed, response_message, planned_value, path_of};
 ghost use Rattle.coap_server_session.specs.Prelude.{IsChangeAt, IsPut, TakesChange, change_hash, MayObserve};
 ghost use Rattle.coap_server_session.specs.Prelude.{asks_entry as asks, is_whole as is_sent_whole, ObserverValue};
-ghost use Rattle.coap_server_session.specs.Prelude.{answer_on, hold_on, held_in, host_changed, link_sent, new_entry};
+ghost use Rattle.coap_server_session.specs.Prelude.{answer_on, delay_on, held_in, host_changed, link_sent, new_entry};
+ghost use Rattle.coap_server_session.specs.Prelude.{application_deadline, only};
 ghost use Rattle.coap_server_session.specs.Prelude.{notification_on, without_entry, IsFirstStale, link_replied};
 ghost use Rattle.coap_server_session.specs.Prelude.{entries_replied, entries_notified, observer_value, LARGEST_MESSAGE};
 ghost use Rattle.coap_conn.specs.Calls as call;
+ghost use Rattle.coap_wire.specs.Codes as code;
 
 use crate::cause::Cause;
 use crate::observer::Observer;
@@ -28,6 +30,52 @@ use std::alloc::AllocError;
 
 /// Processes a request: applies its change, removes its observer, and sends or delays its response.
 ///
+/// A request that the application answers is pending until its response or its deadline. Every other request is answered
+/// from the store, as `answer_from_store` explains.
+///
+/// Returns the hash of the path at which the request stored or deleted a resource, if it did.
+///
+/// # Errors
+///
+/// Returns `AllocError` if allocation fails for the representation that the request stores. Nothing has changed then.
+///
+/// # Preconditions
+///
+/// The connection is open, its queue has room for a message of `max_sent` bytes, and the changed marks are current.
+pub(crate) fn answer(
+    link: &mut Link,
+    observers: &mut Observers,
+    host: &mut ServerState,
+    request: &MessageRef,
+) -> Result<Option<u8>, AllocError>
+    requires ready { IsReady link.old }
+    requires open { is_open link.old.phase ≡ true }
+    requires marked { AreMarked host.old observers.old.entries observers.old.marks }
+    ensures changed { IfOk result (λ changed. changed ≡ change_hash (answer_on host.old request.now).change) }
+    ensures link { OnOk result (link.new ≡ link_replied host.old link.old observers.old.room
+        (without_entry request.now.token observers.old.entries) request.now
+        (held_in link.old (delay_on host.old request.now))) }
+    ensures entries { OnOk result (observers.new.entries ≡ entries_replied host.old link.old observers.old.room
+        (without_entry request.now.token observers.old.entries) request.now
+        (held_in link.old (delay_on host.old request.now))) }
+    ensures room { OnOk result (observers.new.room ≡ observers.old.room) }
+    ensures marked { OnOk result (AreMarked host.new observers.new.entries observers.new.marks) }
+    ensures host { OnOk result (host.new ≡ host_changed host.old (answer_on host.old request.now).change) }
+    ensures put { OnErr result (IsPut (answer_on host.old request.now).change) }
+    ensures unchanged { OnErr result (host.new ≡ host.old) }
+    ensures silent { OnErr result (link.new ≡ link.old) }
+    ensures kept { OnErr result (observers.new ≡ observers.old) }
+{
+    if let Some(seconds) = host.store.application_deadline(request) {
+        let moment = host.now.saturating_add(u64::from(seconds));
+        hand_over(link, observers, request, moment);
+        return Ok(None);
+    }
+    answer_from_store(link, observers, host, request)
+}
+
+/// Processes a request that the store answers.
+///
 /// The change is applied before the response is queued. The observer with the request's token is removed. A new entry
 /// is added if the request asks for one, the list has room, and the response is sent whole (RFC 7641 section 4.1).
 ///
@@ -42,7 +90,7 @@ use std::alloc::AllocError;
 /// The connection is open, its queue has room for a message of `max_sent` bytes, and the changed marks are current.
 // Never inlined: a function clears all its locals, and `handle` needs none of these for a message that is no request.
 #[inline(never)]
-pub(crate) fn answer(
+fn answer_from_store(
     link: &mut Link,
     observers: &mut Observers,
     host: &mut ServerState,
@@ -50,14 +98,15 @@ pub(crate) fn answer(
 ) -> Result<Option<u8>, AllocError>
     requires ready { IsReady link.old }
     requires open { is_open link.old.phase ≡ true }
+    requires unhanded { application_deadline host.old.store.applications request.now ≡ None }
     requires marked { AreMarked host.old observers.old.entries observers.old.marks }
     ensures changed { IfOk result (λ changed. changed ≡ change_hash (answer_on host.old request.now).change) }
     ensures link { OnOk result (link.new ≡ link_replied host.old link.old observers.old.room
         (without_entry request.now.token observers.old.entries) request.now
-        (held_in link.old (hold_on host.old request.now))) }
+        (held_in link.old (delay_on host.old request.now))) }
     ensures entries { OnOk result (observers.new.entries ≡ entries_replied host.old link.old observers.old.room
         (without_entry request.now.token observers.old.entries) request.now
-        (held_in link.old (hold_on host.old request.now))) }
+        (held_in link.old (delay_on host.old request.now))) }
     ensures room { OnOk result (observers.new.room ≡ observers.old.room) }
     ensures marked { OnOk result (AreMarked host.new observers.new.entries observers.new.marks) }
     ensures host { OnOk result (host.new ≡ host_changed host.old (answer_on host.old request.now).change) }
@@ -70,7 +119,7 @@ pub(crate) fn answer(
     let index = host.store.fill_plan(request, host.now, &mut plan);
     if let Some(seconds) = plan.hold() {
         let moment = host.now.saturating_add(u64::from(seconds));
-        delay_answer(link, observers, request, &plan, moment);
+        delay_answer(link, observers, request, moment);
         return Ok(None);
     }
     if plan.changes() {
@@ -139,22 +188,15 @@ fn hash_of_change(change: &PlannedChange) -> Option<u8>
     }
 }
 
-/// Delays the response to a request until `moment`, in seconds. Sends 5.03 if the pending list is full. In both cases
-/// the observer with the request's token is removed. The plan must have a delay.
+/// Delays the response to a request until `moment`, in seconds. Sends 5.03 if the pending list is full. In both cases the
+/// observer with the request's token is removed.
 #[inline(never)]
-fn delay_answer(
-    link: &mut Link,
-    observers: &mut Observers,
-    request: &MessageRef,
-    _plan: &Plan,
-    moment: u64,
-)
+fn delay_answer(link: &mut Link, observers: &mut Observers, request: &MessageRef, moment: u64)
     requires ready { IsReady link.old }
     requires open { is_open link.old.phase ≡ true }
-    requires held { is_some _plan.now.hold ≡ true }
     ensures link { link.new
         ≡ (if can_hold link.old then link_after link.old (call.Hold request.now.token moment) else link_after link.old
-        (call.Reply (response_message request.now.token (without_hold _plan.now).response))) }
+        (call.Reply (response_message request.now.token (only code.service_unavailable)))) }
     ensures entries { observers.new.entries ≡ without_entry request.now.token observers.old.entries }
     ensures marks { (mark : ObserverValue → Option ℕ) → observers.old.marks ≡ map mark observers.old.entries →
         observers.new.marks ≡ map mark observers.new.entries }
@@ -162,6 +204,29 @@ fn delay_answer(
 {
     observers.remove_token(request.token());
     if link.hold(request.token().to_token(), moment).is_err() {
+        respond(link, request.token(), &refused_delay(), false);
+    }
+}
+
+/// Hands a request to the application, which may respond until `moment`, in seconds. Sends 5.03 if the pending list is full.
+/// In both cases the observer with the request's token is removed.
+#[inline(never)]
+fn hand_over(link: &mut Link, observers: &mut Observers, request: &MessageRef, moment: u64)
+    requires ready { IsReady link.old }
+    requires open { is_open link.old.phase ≡ true }
+    ensures link { link.new
+        ≡ (if can_hold link.old then link_after link.old (call.HoldRequest request.now.token moment) else link_after link.old
+        (call.Reply (response_message request.now.token (only code.service_unavailable)))) }
+    ensures entries { observers.new.entries ≡ without_entry request.now.token observers.old.entries }
+    ensures marks { (mark : ObserverValue → Option ℕ) → observers.old.marks ≡ map mark observers.old.entries →
+        observers.new.marks ≡ map mark observers.new.entries }
+    ensures room { observers.new.room ≡ observers.old.room }
+{
+    observers.remove_token(request.token());
+    if link
+        .hold_request(request.token().to_token(), moment)
+        .is_err()
+    {
         respond(link, request.token(), &refused_delay(), false);
     }
 }

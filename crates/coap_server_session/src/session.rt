@@ -11,7 +11,8 @@ ghost use Rattle.coap_server_session.specs.Prelude.{framer_on, sem, follows_so, 
 ghost use Rattle.coap_server_session.specs.Prelude.{is_finished, release_refusal, MarkedSession, IsMarked, AreMarked};
 ghost use Rattle.coap_server_session.specs.Prelude.{observers_left, new_session, session_takes, taking};
 ghost use Rattle.coap_server_session.specs.Prelude.{session_written, session_ended, session_released};
-ghost use Rattle.coap_server_session.specs.Prelude.{session_announced, RefusesPiece, IsAnnounced};
+ghost use Rattle.coap_server_session.specs.Prelude.{session_announced, session_given, RefusesPiece, IsAnnounced};
+ghost use Rattle.coap_server_session.specs.Prelude.{frame_refusal, OnMessage, message_of, fit, limit_in, bare_response};
 ghost use Rattle.coap_server_session.specs.contracts.session.Session.{the_row};
 
 mod due;
@@ -20,7 +21,7 @@ mod settling;
 use crate::answering::answer;
 use crate::observers::Observers;
 use crate::server_state::ServerState;
-use coap_conn::{Limits, Link, Phase, Reject, Role, SendFault, Verdict};
+use coap_conn::{Limits, Link, Phase, Reject, Reply, RespondFault, Role, SendFault, Verdict};
 use coap_frame::Framer;
 use coap_model::AnnounceFault;
 use coap_wire::{LARGEST_MESSAGE, MessageRef};
@@ -226,6 +227,25 @@ impl Session {
         self.link.release()?;
         discard_if_closed(&mut self.framer, &self.link, &mut self.observers);
         Ok(())
+    }
+
+    /// Queues a response of the application, and removes the first pending request with its token (`Link::respond`).
+    ///
+    /// # Errors
+    ///
+    /// Those of `Link::respond`. Nothing has changed then.
+    pub fn respond(&mut self, response: &[u8]) -> Result<Reply, RespondFault>
+        ensures answer { RefusedBy result (frame_refusal self.old.session.link (message_of response.now)) }
+        ensures reply { IfOk result (λ r. OnMessage (message_of response.now) (λ m.
+            r ≡ fit (limit_in self.old.session.link) m (bare_response m))) }
+        ensures after { OnOk result (OnMessage (message_of response.now) (λ m.
+            self.new.session ≡ session_given self.old.session m)) }
+        ensures marked { OnOk result ((host : HostValue) → IsMarked host self.old → IsMarked host self.new) }
+        ensures err { OnErr result (self.new ≡ self.old) }
+    {
+        let reply = self.link.respond(response)?;
+        discard_if_closed(&mut self.framer, &self.link, &mut self.observers);
+        Ok(reply)
     }
 
     /// Announces `size` as the largest message accepted from now on (RFC 8323 section 5.3.1).

@@ -19,3 +19,4 @@ pub mod NotificationLaws
 pub mod RememberingLaws
 pub mod WatchLaws
 pub mod HoldLaws
+pub mod ApplicationLaws

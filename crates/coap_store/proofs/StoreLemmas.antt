@@ -4,6 +4,7 @@ use Rattle.coap_store.specs.Prelude.{IfSome, option_map, if◌then◌else◌, Bo
 use Rattle.coap_store.specs.Prelude.{Representation, StoreValue, found_in, put_at, removed_at, put_in, removed_in}
 use Rattle.coap_store.specs.Prelude.{listing, representation, Change, Nothing, Put, Delete, changed, TakesPut}
 use Rattle.coap_store.specs.Prelude.{TakesChange, is_path, HasSmallFormat, HaveOwnVersions, IsKept, IsStore}
+use Rattle.coap_store.specs.Prelude.{ApplicationsValue}
 use Rattle.std.specs.Option.{is_some}
 use Rattle.std.proofs.lemmas.Bool.{ltb-true}
 use Rattle.coap_store.specs.Store.{Resource}
@@ -173,8 +174,9 @@ store_changed s Nothing is takes short = is
 store_changed s (Put path format bytes) is takes short = store_put s path format bytes is takes short
 store_changed s (Delete path) is takes short = store_removed s path is
 
-pub store_empty : (dynamic_max rep_max versions : ℕ) → dynamic_max ≤ 1000 → rep_max ≤ 1048576 → versions < 2 ^ 64 → IsStore (record { dynamic_max = dynamic_max; rep_max = rep_max; resources = []; versions = versions })
-store_empty dynamic_max rep_max versions most largest fits = record { paths = tt; own_versions = tt; kept = tt; few = omega arith; most = most; largest = largest; versions = fits }
+pub store_empty : (dynamic_max rep_max versions : ℕ) (applications : Option ApplicationsValue) → dynamic_max ≤ 1000 → rep_max ≤ 1048576 → versions < 2 ^ 64
+    → IsStore (record { dynamic_max = dynamic_max; rep_max = rep_max; resources = []; versions = versions; applications = applications })
+store_empty dynamic_max rep_max versions applications most largest fits = record { paths = tt; own_versions = tt; kept = tt; few = omega arith; most = most; largest = largest; versions = fits }
 
 -- A resource that is found has the property of stored resources.
 pub found_kept : (s : StoreValue) (path : Path) (now : Representation) → IsStore s → found_in s.resources path ≡ Some now → IsKept s.versions s.rep_max (record { path = path; now = now })

@@ -1,5 +1,5 @@
 -- Worked examples of the definitions: requests, their answers, and the stores after them.
-use Rattle.std.proofs.Common.{◌≡◌, ℕ, List, [], ◌∷◌, refl}
+use Rattle.std.proofs.Common.{None, ◌≡◌, ℕ, List, [], ◌∷◌, refl}
 use Rattle.coap_store.specs.Prelude.{codes, CoapOption, Message, spelling, bytes_of_uint, kind_of, is_recognised}
 use Rattle.coap_store.specs.Prelude.{known_behind, first_critical_behind, is_path, StoreValue, found_in, put_at}
 use Rattle.coap_store.specs.Prelude.{removed_at, encoded_byte, path_bytes, entry_bytes, listing, kind_of_path, key_for}
@@ -10,7 +10,7 @@ use Rattle.coap_wire.specs.Codes as code
 use Rattle.coap_wire.specs.OptionNumbers as numbers
 
 abbrev empty_store : ℕ → StoreValue
-empty_store most = record { dynamic_max = most; rep_max = 65000; resources = []; versions = 0 }
+empty_store most = record { dynamic_max = most; rep_max = 65000; resources = []; versions = 0; applications = None }
 
 abbrev asks : ℕ → ℕ → List CoapOption → List ℕ → Message
 asks method token options payload = record { code = method; token = token ∷ []; options = options; payload = payload }

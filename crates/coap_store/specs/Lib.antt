@@ -4,6 +4,7 @@ pub mod ResourceViews
 pub mod State
 pub mod Requests
 pub mod Answer
+pub mod ApplicationRequests
 pub mod Invariant
 pub mod Changes
 pub mod Refusals

@@ -41,6 +41,9 @@ pub use Rattle.coap_path.specs.UriPaths.{path_told}
 pub use Rattle.coap_path.specs.declared.path_match.PathMatch.{PathMatch}
 pub use Rattle.coap_path.specs.declared.resource_kind.ResourceKind.TheVariants.{Async, Dynamic, Listing, Root, Time}
 pub use Rattle.coap_path.specs.declared.resource_kind.ResourceKind.{ResourceKind}
+-- ---- coap_application
+pub use Rattle.coap_application.specs.Applications.{ApplicationsValue}
+unfoldable pub use Rattle.coap_application.specs.Applications.{is_answered}
 -- ---- coap_store
 pub use Rattle.coap_store.specs.Answer.{read_answer, etag_at, max_age_at, is_accepted, is_among, watch_of}
 pub use Rattle.coap_store.specs.Answer.{removes_watch, stored, delete_answer, needs_resource, says, delayed_response}
@@ -53,6 +56,8 @@ pub use Rattle.coap_store.specs.Answer.{is_number, late, put_of, refuse, stored_
 pub use Rattle.coap_store.specs.Answer.{watched, when}
 unfoldable pub use Rattle.coap_store.specs.Answer.{get_answer, answer_of, answer_at, resource_answer, store_answer}
 unfoldable pub use Rattle.coap_store.specs.Answer.{immediate_answer, method_answer}
+pub use Rattle.coap_store.specs.ApplicationRequests.{passes_checks, unless_handed}
+unfoldable pub use Rattle.coap_store.specs.ApplicationRequests.{application_deadline, prompt_answer}
 pub use Rattle.coap_store.specs.Changes.{TakesChange, changes, says_change, HasSmallFormat, changed_by, TakesChanges}
 pub use Rattle.coap_store.specs.Changes.{TakesPut, IsPut, IsChangeAt}
 pub use Rattle.coap_store.specs.Invariant.{IsStore, AreDistinct, HaveOwnVersions, IsKept}

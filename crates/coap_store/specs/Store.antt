@@ -1,6 +1,7 @@
 -- Defined by this project: the created resources of a server, which the methods of RFC 7252 section 5.8 change.
 use Rattle.std.specs.Prelude.{◌≡◌, ℕ, zero, suc, ◌+◌, true, false, List, [], ◌∷◌, Option, Some, None, if◌then◌else◌}
 use Rattle.coap_path.specs.Paths.{Path, same_path}
+use Rattle.coap_application.specs.Applications.{ApplicationsValue}
 
 -- A representation: its version, its Content-Format, if any, and its bytes.
 pub record Representation : Type 0 where
@@ -14,12 +15,14 @@ pub record Resource : Type 0 where
   pub now : Representation
 
 -- The model value of a store. `dynamic_max` limits the number of created resources, and `rep_max` the bytes of each.
--- `resources` are in order of creation. `versions` is the version of the representation stored last.
+-- `resources` are in order of creation. `versions` is the version of the representation stored last. `applications` are the
+-- paths whose requests the embedding program answers, if there are such.
 pub record StoreValue : Type 0 where
   pub dynamic_max : ℕ
   pub rep_max : ℕ
   pub resources : List Resource
   pub versions : ℕ
+  pub applications : Option ApplicationsValue
 
 -- The representation that is stored at a path, if any.
 unfoldable pub found_in : List Resource → Path → Option Representation

@@ -21,8 +21,7 @@ pub fn delayed_response() -> Plan<'static, 'static>
     plan
 }
 
-/// Returns the plan with the response to a request that the application has not answered until its deadline: 5.04 (RFC
-/// 7252 section 5.9.3.5).
+/// Returns the plan with 5.04, for a request that the application did not answer in time (RFC 7252 section 5.9.3.5).
 pub fn expired_response() -> Plan<'static, 'static>
     ensures { result ≡ says response_expired }
 {
@@ -30,7 +29,6 @@ pub fn expired_response() -> Plan<'static, 'static>
 }
 
 /// Returns the plan for a request whose response cannot be delayed, because too many are: 5.03 (RFC 7252 section 5.9.3.4).
-/// It is what `Plan::without_hold` makes of a plan with a delay, apart from the change and the effect on observers.
 pub fn refused_delay() -> Plan<'static, 'static>
     ensures { result ≡ says (only code.service_unavailable) }
 {

@@ -6,9 +6,9 @@ ghost use Rattle.coap_store.specs.Prelude.{LARGEST_MESSAGE, Message, Path, is_pa
 ghost use Rattle.coap_store.specs.Prelude.{found_in, put_in, removed_in, kind_of_path, state_of, is_get, path_of};
 ghost use Rattle.coap_store.specs.Prelude.{etag_of, Change, Nothing, Put, Delete, only, delayed_response, is_delayed};
 ghost use Rattle.coap_store.specs.Prelude.{answer_of, immediate_answer, changed, says_change, TakesChange};
-ghost use Rattle.coap_store.specs.Prelude.{HasSmallFormat, changed_by, TakesChanges, AreDistinct, IsStore, put_refusal};
-ghost use Rattle.coap_store.specs.Prelude.{WasStored, notification_of, MayObserve, plain_get, IsStoredCode};
-ghost use Rattle.coap_store.specs.Prelude.{ReportsState, ReportsEtag, IsElsewhere, content_of, put_by};
+ghost use Rattle.coap_store.specs.Prelude.{ApplicationsValue, HasSmallFormat, changed_by, TakesChanges, AreDistinct};
+ghost use Rattle.coap_store.specs.Prelude.{IsStore, put_refusal, WasStored, notification_of, MayObserve, plain_get};
+ghost use Rattle.coap_store.specs.Prelude.{IsStoredCode, ReportsState, ReportsEtag, IsElsewhere, content_of, put_by};
 ghost use Rattle.coap_wire.specs.Codes as code;
 ghost use Rattle.coap_path.specs.declared.resource_kind.ResourceKind.TheVariants.{Listing, Dynamic};
 ghost use Rattle.coap_store.specs.declared.plan.Watch.TheVariants.{Add};
@@ -67,8 +67,14 @@ pub fn paths_stay_distinct()
 /// States that an empty store has the invariant of a store. Each change that the store accepts keeps the invariant, if
 /// a Content-Format in it is a 16-bit number.
 pub fn changes_keep_store_invariant()
-    ensures empty { (dynamic_max rep_max versions : ℕ) → dynamic_max ≤ 1000 → rep_max ≤ LARGEST_MESSAGE → versions < 2 ^ 64 →
-        IsStore (record { dynamic_max = dynamic_max; rep_max = rep_max; resources = []; versions = versions }) }
+    ensures empty { (dynamic_max rep_max versions : ℕ) (applications : Option ApplicationsValue) → dynamic_max ≤ 1000 →
+        rep_max ≤ LARGEST_MESSAGE → versions < 2 ^ 64 → IsStore (record {
+          dynamic_max = dynamic_max;
+          rep_max = rep_max;
+          resources = [];
+          versions = versions;
+          applications = applications;
+        }) }
     ensures changed { (s : StoreValue) (change : Change) → IsStore s → TakesChange s change → HasSmallFormat change →
         IsStore (changed s change) }
 {}

@@ -31,27 +31,6 @@ pub enum Change<'r> {
     Delete(PathKey),
 }
 
-impl<'r> Change<'r> {
-    /// Returns a copy, without allocation.
-    pub fn duplicate(&self) -> Change<'r>
-        ensures { change_value result ≡ change_value self.now }
-    {
-        match self {
-            Change::Nothing => Change::Nothing,
-            Change::Put {
-                path,
-                format,
-                bytes,
-            } => Change::Put {
-                path: path.duplicate(),
-                format: *format,
-                bytes,
-            },
-            Change::Delete(path) => Change::Delete(path.duplicate()),
-        }
-    }
-}
-
 /// Change that a request makes, with the request's options, which have its path. So no key is moved with it.
 #[derive(Drop)]
 pub enum PlannedChange<'r> {

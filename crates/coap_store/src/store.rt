@@ -1,20 +1,22 @@
 //! The store, which has the resources of a server.
 
-ghost use Rattle.std.specs.Prelude.{◌≡◌, ◌<◌, IfSome, ◌≤◌, [], IfOk, OnOk, OnErr, length, not, nat_le, ◌==◌};
-ghost use Rattle.std.specs.Prelude.{option_map, decimal};
+ghost use Rattle.std.specs.Prelude.{◌≡◌, ◌<◌, IfSome, ◌≤◌, [], Some, None, IfOk, OnOk, OnErr, length, not, nat_le};
+ghost use Rattle.std.specs.Prelude.{◌==◌, option_map, decimal};
 ghost use Rattle.coap_store.specs.Prelude.{LARGEST_MESSAGE, changed, greatest_version, found_in, put_in, removed_in};
 ghost use Rattle.coap_store.specs.Prelude.{listing as listing_of, representation, TakesChange, TakesPut, IsPut};
 ghost use Rattle.coap_store.specs.Prelude.{IsStore, change_value, planned_value, bytes_in, IsFoundAt, IsChangeAt};
-ghost use Rattle.coap_store.specs.Prelude.{path_told};
+ghost use Rattle.coap_store.specs.Prelude.{path_told, application_deadline};
 
 use crate::catalogue::Catalogue;
 use crate::found::Payload;
 use crate::plan::{Change, PlannedChange};
-use crate::request::path_in;
+use crate::request::{ParsedRequest, path_in};
+use crate::request_options::RequestOptions;
 use crate::resource::Resource;
-use coap_path::PathKey;
+use coap_application::Applications;
+use coap_path::{PathKey, UriPath};
 use coap_text::Decimal;
-use coap_wire::Body;
+use coap_wire::{Body, MessageRef};
 use std::alloc::{AllocError, Global};
 use std::marker::Model;
 
@@ -44,6 +46,8 @@ pub struct Store {
     versions: u64,
     /// Time in seconds whose text is cached.
     moment: Decimal,
+    /// Paths whose requests the application answers, if there are such.
+    applications: Option<Applications>,
 }
 
 impl Model for Store {
@@ -82,6 +86,7 @@ impl Store {
           rep_max = rep_max;
           resources = [];
           versions = versions_from;
+          applications = None;
         }) }
         ensures store { IfOk result IsStore }
     {
@@ -91,7 +96,30 @@ impl Store {
             resources: Catalogue::new(alloc)?,
             versions: versions_from,
             moment: Decimal::of(0),
+            applications: None,
         })
+    }
+
+    /// Returns the same store, in which the application answers the requests of these entries.
+    pub fn with_applications(self, applications: Applications) -> Store
+        ensures { result ≡ record self { applications = Some applications } }
+    {
+        Store {
+            applications: Some(applications),
+            ..self
+        }
+    }
+
+    /// Returns the seconds that the application has for a response to a request, or `None` if it does not answer it. It
+    /// answers no request with an unrecognised critical option, and none that asks for proxying.
+    #[tactic(auto, unfolding(crate::specs::ApplicationRequests::application_deadline))]
+    pub fn application_deadline(&self, request: &MessageRef) -> Option<u32>
+        ensures { result ≡ application_deadline self.now.applications request.now }
+    {
+        match &self.applications {
+            None => None,
+            Some(applications) => deadline_in(applications, request),
+        }
     }
 
     /// Caches the text of the time `now`, in seconds.
@@ -335,6 +363,24 @@ impl Store {
     {
         self.resources.remove(path);
     }
+}
+
+/// Returns the deadline of the application with these entries for a request, or `None` if it does not answer the request.
+// Never inlined: a function clears all its locals, and most servers have no application.
+#[inline(never)]
+#[tactic(auto, unfolding(crate::specs::ApplicationRequests::application_deadline, crate::specs::Requests::values_of))]
+fn deadline_in(applications: &Applications, request: &MessageRef) -> Option<u32>
+    ensures { result ≡ application_deadline (Some applications.now) request.now }
+{
+    if !applications.answers(UriPath::of(&request.body()), request.code()) {
+        return None;
+    }
+    let mut notes = RequestOptions::nothing();
+    let asked = ParsedRequest::by(request, &mut notes);
+    if asked.has_bad_option() || asked.asks_proxy() {
+        return None;
+    }
+    Some(applications.deadline())
 }
 
 /// Returns the same format. The two arms show the proof of a caller that it is a 16-bit number.

@@ -154,6 +154,27 @@ fn answers_a_request(rt: HostRuntime) -> Result<(), Fail> {
 }
 
 #[test]
+fn responds_by_application(rt: HostRuntime) -> Result<(), Fail> {
+    // The application answers POST below /rd, within 10 seconds.
+    let mut applications = Applications::new(rt.alloc(), 10)?;
+    let directory = PathKey::from_segments(&[b"rd"]).ok_or("no path")?;
+    applications.add(&directory, &[Code::POST], b"")?;
+    let config = Config::builder().build()?;
+    let mut server = Server::with_applications(rt.alloc(), config, applications)?;
+    let id = server.open()?;
+    // The client's CSM, and POST /rd with the token 2a. The request waits for the application.
+    let input = b"\x00\xe1\x31\x02\x2a\xb2rd".as_slice();
+    let csm = server.take(id, input)?;
+    let post = server.take(id, &input[csm.bytes..])?;
+    assert!(&rt; csm.bytes == 2 && post.bytes == 6);
+    // The application responds with 2.01 and the same token.
+    server.respond(id, b"\x01\x41\x2a")?;
+    let output = server.front(id).unwrap_or(&[]);
+    assert!(&rt; output.ends_with(b"\x01\x41\x2a"));
+    Ok(())
+}
+
+#[test]
 fn replays_a_script(rt: HostRuntime) -> Result<(), Fail> {
     let mut server = Server::new(rt.alloc(), Config::builder().build()?)?;
     let events = script(rt.alloc(), b"open\nin 1 00e1\ntick 60\n")?;

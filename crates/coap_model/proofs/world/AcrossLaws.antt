@@ -3,15 +3,16 @@
 use Rattle.std.proofs.Common.{◌≡◌, ℕ, List, Bool, cond, ◌++◌, [], ◌∷◌, map, Option, Some, None, refl, sym, subst, ◌∙◌, ◌⊎◌, inl, inr, is_none}
 use Rattle.std.proofs.lemmas.Bool.{cases_eq, cond_both}
 use Rattle.coap_model.specs.Prelude.{Message, StreamFault, Server, LimitValues, History, new_history, StoreValue}
+use Rattle.coap_model.specs.Prelude.{change_after, changed, Change, Nothing, Put, Delete}
 use Rattle.coap_model.specs.Prelude.{put_refusal, ConfigValues, Connection, new_side, side_after, side_faulted}
-use Rattle.coap_model.specs.Prelude.{side_written, side_ended, side_released, side_announced, settled_once, settled}
+use Rattle.coap_model.specs.Prelude.{side_written, side_ended, side_released, side_announced, side_responded, settled_once, settled}
 use Rattle.coap_model.specs.Prelude.{ConnectionEntry, World, Step, new_world, side_of, stored_after, ticks, acted}
 use Rattle.coap_model.specs.Prelude.{settled_place, AcceptedCall, steps_of, world_after}
 use Rattle.coap_model.specs.world.World.{changed_at}
 use Rattle.coap_model.specs.world.World as world
 use Rattle.coap_model.proofs.world.StepLaws.{steps_keep}
 use Rattle.coap_model.proofs.world.PlaceLaws.{first_there, found, nobody, all_there, changed_here, changed_elsewhere, still_there, new_there, dropped_here, dropped_elsewhere}
-use Rattle.coap_model.proofs.world.WalkLaws.{settled_keeps, Between, Hears, Replies, Holds, LetsGo, Pongs, Rejects, Ends, Releases, Announces, Writes, Composes, once_between, after_between, faulted_between, written_between, ended_between, released_between, announced_between}
+use Rattle.coap_model.proofs.world.WalkLaws.{settled_keeps, Between, Hears, Replies, Holds, LetsGo, Pongs, Rejects, Ends, Releases, Announces, Responds, Writes, Composes, once_between, after_between, faulted_between, written_between, ended_between, released_between, announced_between, responded_between}
 use Rattle.coap_model.proofs.OptionLemmas.{one_made}
 use Rattle.coap_wire.proofs.NumberLaws.{none_or_some}
 
@@ -26,6 +27,7 @@ pub record HoldsOf (R : Connection → Connection → Type 0) (w : World) (st : 
   pub ended : (s : Connection) (cut : Bool) → R s (side_ended s cut)
   pub released : (s : Connection) → R s (side_released s)
   pub announced : (size : ℕ) → st ≡ world.Announced id size → (s : Connection) → R s (side_announced s size)
+  pub responded : (s : Connection) (m : Message) → R s (side_responded s m)
   -- It also holds if settling follows.
   pub told : (store : StoreValue) (now : ℕ) (s t : Connection) → R s t → R s (settled_once store now t)
 
@@ -74,6 +76,7 @@ module _ (R : Connection → Connection → Type 0) (limits : LimitValues) (w : 
   acted_across (world.Ended at cut) is t = changed_across at (λ s. side_ended s cut) t (λ here s. holds.ended s cut)
   acted_across (world.Released at) is t = changed_across at side_released t (λ here s. holds.released s)
   acted_across (world.Announced at size) is t = changed_across at (λ s. side_announced s size) t (λ here s. holds.announced size (cc) s)
+  acted_across (world.Responded at m) is t = changed_across at (λ s. side_responded s m) t (λ here s. holds.responded s m)
   acted_across (world.Dropped at) is t = λ e. elim (cases_eq at id) [
     | inl here ↦ absurd (none_or_some t (cc (dropped_here at w.sides)))
     | inr apart ↦ same_across t (sym (dropped_elsewhere at id w.sides apart) ∙ e)
@@ -133,6 +136,7 @@ pub record KeepsAll (R : History → History → Type 0) : Type 0 where
   pub ends : Ends R
   pub releases : Releases R
   pub announces : Announces R
+  pub responds : Responds R
   pub writes : Writes R
 
 module _ (R : History → History → Type 0) (keeps : KeepsAll R) where
@@ -151,6 +155,7 @@ module _ (R : History → History → Type 0) (keeps : KeepsAll R) where
     ended = ended_between R keeps.composes.same keeps.ends;
     released = released_between R keeps.composes.same keeps.releases;
     announced = λ size is s. announced_between R keeps.composes.same keeps.announces s size;
+    responded = responded_between R keeps.composes.same keeps.responds;
     told = λ store now s t is.
         keeps.composes.then s.history t.history _ is (once_between R R keeps.composes.same keeps.composes.then keeps.replies keeps.lets_go keeps.pongs store now t);
   }
@@ -161,15 +166,48 @@ pub world_keeps : (c : ConfigValues) (P : World → Type 0) → ((w : World) (st
 unfolding world_after
 world_keeps c P keeps first es = steps_keep P c.limits keeps (new_world c) (steps_of c.limits.max_message es) first
 
--- A property of a new connection that the relation keeps holds of every connection after any events, if the relation
--- holds across every effect.
+-- A property P of a new connection holds of every connection after any events, if two conditions hold. The relation R
+-- keeps P. In the worlds that the events reach, which have the property W, R holds across every effect.
+pub kept_where : (c : ConfigValues) (W : World → Type 0) → W (new_world c) → ((w : World) (st : Step) → W w → W (world.step c.limits w st))
+    → (R : Connection → Connection → Type 0) (P : Connection → Type 0) → P (new_side c.limits) → ((s t : Connection) → R s t → P s → P t) → ((w : World) (st : Step) (id : ℕ) → W w → HoldsOf R w st id)
+    → (es : List AcceptedCall) (id : ℕ) (s : Connection) → side_of id (world_after c es).sides ≡ Some s → P s
+kept_where c W start goes R P first keeps holds es =
+    let Each : World → Type 0 = λ w. (id : ℕ) (s : Connection) → side_of id w.sides ≡ Some s → P s in
+    let kept : (w : World) (st : Step) → W w × Each w → W (world.step c.limits w st) × Each (world.step c.limits w st) =
+    λ w st both. (
+      goes w st both.0,
+      λ id t there. elim (step_across R c.limits w st id (holds w st id both.0) t there) [
+        | inl old ↦ keeps old.0 t old.2 (both.1 id old.0 old.1)
+        | inr new ↦ keeps (new_side c.limits) t new.2 first
+      ],
+    ) in
+    (world_keeps c (λ w. W w × Each w) kept (start, λ id s there. absurd (none_or_some s (sym (nobody id) ∙ there))) es).1
+
+-- The same, if the relation holds across every effect.
 pub kept_by : (c : ConfigValues) (R : Connection → Connection → Type 0) (P : Connection → Type 0) → P (new_side c.limits) → ((s t : Connection) → R s t → P s → P t) → ((w : World) (st : Step) (id : ℕ) → HoldsOf R w st id)
     → (es : List AcceptedCall) (id : ℕ) (s : Connection) → side_of id (world_after c es).sides ≡ Some s → P s
-kept_by c R P first keeps holds =
-    world_keeps c (λ w. (id : ℕ) (s : Connection) → side_of id w.sides ≡ Some s → P s) (λ w st each id t there. elim (step_across R c.limits w st id (holds w st id) t there) [
-      | inl old ↦ keeps old.0 t old.2 (each id old.0 old.1)
-      | inr new ↦ keeps (new_side c.limits) t new.2 first
-    ]) (λ id s there. absurd (none_or_some s (sym (nobody id) ∙ there)))
+kept_by c R P first keeps holds = kept_where c (λ w. Unit {0}) tt (λ w st is. tt) R P first keeps (λ w st id is. holds w st id)
+
+-- ---- the applications
+
+changed_applications : (store : StoreValue) (change : Change) → (changed store change).applications ≡ store.applications
+changed_applications store Nothing = refl
+changed_applications store (Put path format bytes) = refl
+changed_applications store (Delete path) = refl
+
+stored_applications : (w : World) (m : Message) (there : Option Connection) → (stored_after w m there).applications ≡ w.store.applications
+stored_applications w m None = refl
+stored_applications w m (Some s) = changed_applications w.store (change_after w.store w.now s m)
+
+-- No step changes the applications of the store.
+pub applications_stay : (limits : LimitValues) (w : World) (st : Step) → (world.step limits w st).store.applications ≡ w.store.applications
+unfolding world.step acted
+applications_stay limits w (world.Opened id) = cond_both (is_none (side_of id w.sides)) _ w (λ (u : World). u.store.applications ≡ w.store.applications) (λ none. refl) (λ there. refl)
+applications_stay limits w (world.Handled id m) = stored_applications w m (side_of id w.sides)
+applications_stay limits w (world.Ticked now) = cond_both (ticks w.now now) _ w (λ (u : World). u.store.applications ≡ w.store.applications) (λ may. refl) (λ early. refl)
+applications_stay limits w (world.Stored path format bytes) =
+    cond_both (is_none (put_refusal w.store path bytes)) _ w (λ (u : World). u.store.applications ≡ w.store.applications) (λ may. refl) (λ refused. refl)
+applications_stay limits w other = refl
 
 -- Keeping a property composes.
 pub keeping_composes : (P : History → Type 0) → Composes (λ h k. P h → P k)

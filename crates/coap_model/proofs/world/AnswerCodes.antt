@@ -2,8 +2,9 @@
 use Rattle.std.proofs.Common.{◌≡◌, ℕ, Bool, true, ◌||◌, ◌==◌, Option, Some, None, refl, arith}
 use Rattle.coap_model.specs.Prelude.{Message, class_of, bare_code, Path, Representation, StoreValue, RequestTarget}
 use Rattle.coap_model.specs.Prelude.{target_of, path_of, get_answer, stored_under, store_answer, read_answer}
-use Rattle.coap_model.specs.Prelude.{method_answer, resource_answer, answer_at, answer_of, immediate_answer}
+use Rattle.coap_model.specs.Prelude.{method_answer, resource_answer, answer_at, answer_of, immediate_answer, prompt_answer}
 use Rattle.coap_store.specs.Answer.{Answer}
+use Rattle.coap_store.proofs.ApplicationLaws.{prompt_cases}
 use Rattle.coap_path.specs.declared.resource_kind.ResourceKind.{ResourceKind}
 
 abbrev pub coded : ℕ → Bool
@@ -41,9 +42,12 @@ answer_coded : (s : StoreValue) (t : RequestTarget) (m : Message) → IsCoded (a
 unfolding answer_at
 answer_coded s t m = grind (arith, resource_coded s t m)
 
-pub prompt_coded : (store : StoreValue) (now : ℕ) (m : Message) → IsCoded (immediate_answer store now m)
+immediate_coded : (store : StoreValue) (now : ℕ) (m : Message) → IsCoded (immediate_answer store now m)
 unfolding immediate_answer answer_of
-prompt_coded store now m = grind (arith, answer_coded store (target_of store now (path_of m)) m)
+immediate_coded store now m = grind (arith, answer_coded store (target_of store now (path_of m)) m)
+
+pub prompt_coded : (store : StoreValue) (now : ℕ) (m : Message) → IsCoded (prompt_answer store now m)
+prompt_coded store now m = prompt_cases store now m IsCoded refl (immediate_coded store now m)
 
 pub bare_coded : (c : ℕ) → coded c ≡ true → coded (bare_code c) ≡ true
 bare_coded c is = grind arith

@@ -2,7 +2,7 @@
 -- consequences of this statement.
 use Rattle.std.proofs.Common.{◌≡◌, ℕ, ◌+◌, ◌≤◌, Bool, true, false, ◌&&◌, List, [], ◌∷◌, ◌++◌, refl, ap, ◌∙◌, append_assoc, arith, sym, inl, inr}
 use Rattle.coap_model.specs.Prelude.{AllByRecursion, Message, PendingEntryValue, Answer, Pong, is_custody_pong, same_bytes}
-use Rattle.coap_model.specs.Prelude.{responds, asks_pending, is_asking, HasResponse, HaveDistinctAnswers}
+use Rattle.coap_model.specs.Prelude.{responds, asks_pong, is_asking, HasResponse, HaveDistinctAnswers}
 use Rattle.std.proofs.lemmas.Bool.{cases_Bool}
 use Rattle.std.proofs.lemmas.List.{append-nil}
 use lib.Pointwise.{bytes_decides}
@@ -56,7 +56,7 @@ pub record IsBehind (ms : List Message) (n : Tally) (token : List ℕ) : Type 0 
   pub ping : Message
   pub later : List Message
   pub there : ms ≡ earlier ++ ping ∷ later
-  pub asks : asks_pending ping (Pong token) ≡ true
+  pub asks : asks_pong ping token ≡ true
   pub few : AtMost (requests earlier) n
 
 still_behind : (ms more ns : List Message) (n k : Tally) → ns ≡ ms ++ more → AtMost n k → (token : List ℕ) → IsBehind ms n token → IsBehind ns k token

@@ -1,14 +1,14 @@
 -- When a Pong with Custody is queued, each request handled before its Ping already has its response, whatever happens
 -- to a connection.
 use Rattle.std.proofs.Common.{◌≡◌, ℕ, ◌≤◌, Bool, true, false, ◌&&◌, ◌==◌, List, [], ◌∷◌, ◌++◌, Option, Some, None, refl, sym, ap, subst, arith, is_none}
-use Rattle.coap_model.specs.Prelude.{Engine, Application, Responder, late_response}
+use Rattle.coap_model.specs.Prelude.{ApplicationsValue, Engine, Application, Responder, late_response}
 use Rattle.coap_model.specs.Prelude.{AllByRecursion, list_any, Message, Phase, Server, Reply, Whole, Bare, Stopped}
 use Rattle.coap_model.specs.Prelude.{Reason, LimitValues, stop_of, takes_messages, answers, fit, bare_response}
 use Rattle.coap_model.specs.Prelude.{PendingEntryValue, Answer, Pong, first_due, without_due, is_request, Reaction, stay}
 use Rattle.coap_model.specs.Prelude.{send_as, react, reaction_unless, asks_custody, is_custody_pong}
 use Rattle.coap_model.specs.Prelude.{pong_with, History, standing_now, with_effect, after, limit_now, own_csm}
 use Rattle.coap_model.specs.Prelude.{standing_due, release, same_bytes, StoreValue, Response, delayed_response}
-use Rattle.coap_model.specs.Prelude.{immediate_answer, response_with_observe, ConfigValues, Observer, goes_on}
+use Rattle.coap_model.specs.Prelude.{prompt_answer, response_with_observe, ConfigValues, Observer, goes_on}
 use Rattle.coap_model.specs.Prelude.{notification, Connection, handles, asks_answer, side_handled, side_after, next_due}
 use Rattle.coap_model.specs.Prelude.{held_message, after_sent, notified, side_of, AcceptedCall, world_after, is_response}
 use Rattle.coap_model.specs.Prelude.{responds, is_asking, FollowsAnswers, reject_reason}
@@ -17,7 +17,7 @@ use lib.Pointwise.{bytes_decides}
 use Rattle.coap_wire.specs.Codes as code
 use Rattle.coap_conn.specs.Calls as call
 use Rattle.coap_conn.proofs.PendingLaws.{due_pong, custody_at_once, due_answer}
-use Rattle.coap_model.proofs.world.WalkLaws.{heard, sent, due_is, faulted_between, written_between, ended_between, released_between, announced_between}
+use Rattle.coap_model.proofs.world.WalkLaws.{heard, sent, due_is, faulted_between, written_between, ended_between, released_between, announced_between, responded_between}
 use Rattle.coap_model.proofs.world.GoingOn.{kept_after, Keeps}
 use Rattle.coap_model.proofs.world.SideLaws.{held_room, settled_cases, handles_parts}
 use Rattle.coap_conn.proofs.ReactionLaws.{IsPlain, IsNoPong, abort_plain, live_so, MayFollow}
@@ -26,6 +26,8 @@ use Rattle.coap_model.proofs.world.CustodyLaws.{response_no_pong, bare_no_pong, 
 use Rattle.coap_model.proofs.world.AnswerCounts.{one, count_more, Tally, AtMost, plus, asks_with, requests, responses, awaits, held_back, pongs_other, own_answers, IsBehind, queue, pending, Behind, behind_longer, behind_grows, behind_then, behind_at, behind_without, IfPong}
 use Rattle.coap_model.proofs.world.AnswerCodes.{coded, prompt_coded, bare_coded}
 use Rattle.coap_model.proofs.world.EntryLemmas.{all_to}
+use Rattle.coap_model.proofs.world.RespondedLaws.{allowed, answered_request, plain_codes, response_is_no_pong}
+use Rattle.coap_model.specs.Prelude.{response_refusal, link_of, standing_without, send, IsFirstRequest, without_request}
 use Rattle.std.proofs.lemmas.List.{length-append}
 
 abbrev nothing : Tally
@@ -193,9 +195,9 @@ module _ (store : StoreValue) (now : ℕ) (s : Connection) (m : Message) (server
   handled_follows : OwesStill nothing (owed_so (asks_answer s m)) heard_so → PongsFollow (side_handled store now s m).history
   handled_follows heard =
       handled_cases store now s m (λ t. PongsFollow t.history) (λ other. subst (λ (asks : Bool). OwesStill nothing (owed_so asks) heard_so) other heard)
-      (λ asks moment asked. held_follows heard (Answer Engine m.token moment) tt (open_answers heard_so.phase (asked_quiet s m asks).1)
+      (λ asks by moment asked. held_follows heard (Answer by m.token moment) tt (open_answers heard_so.phase (asked_quiet s m asks).1)
       (λ t. omega (arith, owed_token (asks_answer s m) t)))
-      (λ asks. owed_follows nothing (owed_so (asks_answer s m)) heard_so heard m.token _ (immediate_answer store now m).response
+      (λ asks. owed_follows nothing (owed_so (asks_answer s m)) heard_so heard m.token _ (prompt_answer store now m).response
       (open_answers heard_so.phase (asked_quiet s m asks).1) (prompt_coded store now m) (omega arith) (owed_token (asks_answer s m)))
 
   after_follows : PongsFollow (side_after store now s m).history
@@ -253,6 +255,36 @@ sent_due h now (Pong token) due is =
     by Bare = same_follows left (pong_with false token ∷ []) (λ custody. absurd cc, tt) (omega arith) (omega arith)
     by Stopped = over_follows left [] tt refl
 
+-- A response of the application answers a request that is pending.
+responded_follows : (h : History) (m : Message) → response_refusal (link_of h) m ≡ None → PongsFollow h → PongsFollow (with_effect h (send (standing_without m.token (standing_now h)) m (bare_response m)))
+responded_follows h m none is = by (fit (limit_now h) m (bare_response m))
+  where
+    first : IsFirstRequest h.held m.token (without_request m.token h.held)
+    first = answered_request (link_of h) m none
+
+    e : PendingEntryValue
+    e = Answer Application m.token first.moment
+
+    codes : (is_response m ≡ true) × (is_response (bare_response m) ≡ true)
+    codes = plain_codes m (allowed (link_of h) m none).plain
+
+    n : Tally
+    n = held_back (e ∷ [])
+
+    left : FollowsBut n n h.handled h.queued (without_request m.token h.held) h.phase
+    left = subst (λ (es : List PendingEntryValue). FollowsBut n n h.handled h.queued es h.phase) (sym first.without) (let_go h is first.before e first.after first.there)
+
+    goes : (q : Message) → is_response q ≡ true → q.token ≡ m.token → FollowsBut nothing nothing h.handled (h.queued ++ q ∷ []) (without_request m.token h.held) h.phase
+    goes q response same =
+        let owes : OwesToken n q.token = λ other. omega (arith, ap (λ (t : List ℕ). one (same_bytes t other)) same) in
+        let pays = token_pays n n q owes owes response in
+        same_follows left (q ∷ []) (pongs_other h.handled (responses h.queued) (q ∷ []) (response_is_no_pong q response, tt)) pays.0 pays.1
+
+    by : (r : Reply) → PongsFollow (with_effect h (send_as (standing_without m.token (standing_now h)) m (bare_response m) r))
+    by Whole = goes m codes.0 refl
+    by Bare = goes (bare_response m) codes.1 refl
+    by Stopped = over_follows left [] tt refl
+
 -- A notification is a response that nobody is owed.
 notified_follows : (store : StoreValue) (now : ℕ) (s : Connection) (found : Option Observer) → PongsFollow s.history → PongsFollow (notified store now s found).history
 notified_follows store now s None is = is
@@ -264,16 +296,17 @@ notified_follows store now s (Some o) is =
 
 -- ---- properties of every connection
 
-follows_keeps : (limits : LimitValues) → Keeps limits (λ s. PongsFollow s.history)
-follows_keeps limits = let R : History → History → Type 0 = λ h k. PongsFollow h → PongsFollow k in record {
+follows_keeps : (limits : LimitValues) (a : Option ApplicationsValue) → Keeps limits a (λ s. PongsFollow s.history)
+follows_keeps limits a = let R : History → History → Type 0 = λ h k. PongsFollow h → PongsFollow k in record {
   first = record { pongs = (λ custody. absurd cc, tt); behind = tt; all = λ takes t. omega arith; quiet = λ off. refl };
-  handled = λ store now s m side is. after_follows store now s m side.is_server is;
+  handled = λ store now s m same side is. after_follows store now s m side.is_server is;
   faulted = faulted_between R (λ h is. is) (λ h fault takes room is. over_follows is _
       (plain_behind h.handled (responses h.queued) _ (abort_plain (limit_now h) (reject_reason fault))) refl);
   written = written_between R (λ h is. is) (λ h n within is. is);
   ended = ended_between R (λ h is. is) (λ h cut takes is. over_follows is [] tt refl);
   released = released_between R (λ h is. is) (λ h opened none is. over_follows is (release ∷ []) (λ custody. absurd cc, tt) refl);
   announced = announced_between R (λ h is. is) (λ h size opened room fit is. same_follows is (own_csm size ∷ []) (λ custody. absurd cc, tt) (omega arith) (omega arith));
+  responded = responded_between R (λ h is. is) (λ h m answering none is. responded_follows h m none is);
   told = λ store now s is. settled_cases store now s (λ t. PongsFollow t.history) (λ e found. sent_due s.history now e (held_room now s e found).1 is)
       (λ none. notified_follows store now s (next_due store now s) is);
 }
@@ -282,7 +315,7 @@ follows_keeps limits = let R : History → History → Type 0 = λ h k. PongsFol
 pub pong_follows_answers : (c : ConfigValues) (es : List AcceptedCall) (id : ℕ) (s : Connection) (before : List Message) (pong : Message) (behind : List Message) → side_of id (world_after c es).sides ≡ Some s → s.history.queued ≡ before ++ pong ∷ behind → is_custody_pong pong ≡ true
     → FollowsAnswers s.history.handled pong before
 pong_follows_answers c es id s before pong behind there queued custody =
-    let is : PongsFollow s.history = kept_after c (λ t. PongsFollow t.history) (follows_keeps c.limits) es id s there in
+    let is : PongsFollow s.history = kept_after c (λ t. PongsFollow t.history) (follows_keeps c.limits c.applications) es id s there in
     let at = behind_at queue s.history.handled nothing (responses before) before pong behind (omega arith)
     (subst (Behind queue s.history.handled nothing) queued is.pongs) custody in
     record { earlier = at.earlier; ping = at.ping; later = at.later; there = at.there; asks = at.asks; answered = own_answers at.earlier before at.few }

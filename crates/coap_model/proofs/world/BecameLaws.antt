@@ -14,7 +14,8 @@ use Rattle.coap_model.proofs.world.StepLaws.{world_same, world_step, nothing_spe
 use Rattle.coap_model.proofs.world.TookLaws.{Adds}
 use Rattle.coap_conn.proofs.ReactionLaws.{StopsAtMost}
 use Rattle.coap_model.proofs.world.ToldMessages.{sent_either}
-use Rattle.coap_model.proofs.world.WalkLaws.{sent, Replies, LetsGo, Pongs, settled_between, Between, once_between}
+use Rattle.coap_model.specs.Prelude.{without_request, bare_response}
+use Rattle.coap_model.proofs.world.WalkLaws.{sent, Replies, LetsGo, Pongs, Responds, responded_between, settled_between, Between, once_between}
 use Rattle.coap_model.proofs.world.WalkLaws.{written_between, ended_between, released_between, announced_between}
 use Rattle.coap_model.proofs.world.WalkLaws.{holding}
 use Rattle.coap_model.proofs.world.AcrossLaws.{handled_there, faulted_there, HoldsOf}
@@ -72,6 +73,10 @@ pong_rests h now token due room =
     let there = due_pong now h.held token due in
     sent_rests h (without_due now h.held) (pong_with true token) (pong_with false token) (λ why is. cc)
 
+respond_rests : Responds HandlesNone
+respond_rests h m answering none =
+    sent_rests h (without_request m.token h.held) m (bare_response m) (λ why is. both_ways (answers h.phase) (ap answers is.0) answering)
+
 -- Settling handles no message.
 pub settled_handles_none : (store : StoreValue) (now : ℕ) (s : Connection) → HandlesNone s.history (settled store now s).history
 settled_handles_none = settled_between HandlesNone (record { same = rests_self; then = rests_then }) response_rests first_rests pong_rests
@@ -128,7 +133,7 @@ module _ (c : ConfigValues) (es : List AcceptedCall) (id : ℕ) (bytes : List �
   became (NoStep e steps messages fault) = (s, ap (λ (v : World). side_of id v.sides) (world_same c es (Took id bytes) steps) ∙ there, Stayed e refl messages fault)
   became (OneMessage e does m adds) =
       let after = handled_there c.limits w id m s there in
-      let heard : HasHeard m s.history (side_after w.store w.now s m).history = rw does (handled_hears w.store w.now s m) in
+      let heard : HasHeard w.store.applications m s.history (side_after w.store w.now s m).history = rw does (handled_hears w.store w.now s m) in
       let rests = settled_handles_none after.0 w.now (side_after w.store w.now s m) in (
         settled after.0 w.now (side_after w.store w.now s m),
         ap (λ (v : World). side_of id v.sides) (world_step c es (Took id bytes) (world.Handled id m) adds.steps) ∙ after.1,
@@ -163,6 +168,7 @@ rests_of w st id away = record {
   released = released_between HandlesNone rests_self
       (λ h opened none. record { handled = refl; stopped = λ why is. absurd (both_ways _ (ap is_open is.0) opened); stops = λ is. refl });
   announced = λ size is s. announced_between HandlesNone rests_self (λ h n opened room fit. rests_self h) s size;
+  responded = responded_between HandlesNone rests_self respond_rests;
   told = λ store now s t is. rests_then s.history t.history (settled_once store now t).history is
       (once_between HandlesNone HandlesNone rests_self rests_then response_rests first_rests pong_rests store now t);
 }

@@ -1,28 +1,33 @@
 -- Pending entries are in the order of the messages that asked for them. A Pong with Custody is queued only if no entry
 -- from before its Ping is pending.
 use Rattle.std.proofs.Common.{◌≡◌, ℕ, zero, suc, Bool, true, false, cond, ◌&&◌, ◌==◌, List, [], ◌∷◌, ◌++◌, length, Option, Some, None, refl, sym, ap, subst, ◌∙◌, inl, inr, ◌⊎◌, arith, append_assoc}
-use Rattle.coap_model.specs.Prelude.{Responder, Engine}
+use Rattle.coap_model.specs.Prelude.{Responder, Engine, Application}
 use Rattle.coap_model.specs.Prelude.{AllByRecursion, list_any, remove, Message, Phase, LimitValues, takes_messages}
 use Rattle.coap_model.specs.Prelude.{answers, is_open, fit, bare_response, PendingEntryValue, Answer, Pong, without_due}
 use Rattle.coap_model.specs.Prelude.{ConnectionState, send, is_custody_pong, pong_with, History, limit_now, standing_now}
-use Rattle.coap_model.specs.Prelude.{after, may_hold, StoreValue, Response, answer_of, immediate_answer, each_at}
+use Rattle.coap_model.specs.Prelude.{after, may_hold, StoreValue, Response, answer_of, prompt_answer, each_at}
+use Rattle.coap_model.specs.Prelude.{ApplicationsValue, application_deadline, Delay, delay_or, delay_of, asks_delayed, hold_call}
 use Rattle.coap_model.specs.Prelude.{response_with_observe, Observer, without_token, notification}
 use Rattle.coap_model.specs.Prelude.{notification_message, Connection, handles, with_history, held_for, moment_after}
 use Rattle.coap_model.specs.Prelude.{asks_answer, side_handled, side_after, next_held, held_message, settled_once}
 use Rattle.coap_model.specs.Prelude.{side_written, next_due, notified, side_answered, side_with, asks_pending, CorrespondTo}
 use Rattle.coap_model.specs.Prelude.{QueuesCustody, IsFirstHeld, KeepsPending, AddsAsked, KeepsPendingOver, Reason}
-use Rattle.coap_model.specs.Prelude.{PeerTooSmall, standing_due}
+use Rattle.coap_model.specs.Prelude.{PeerTooSmall, standing_due, standing_without, without_request}
 use Rattle.std.proofs.lemmas.Bool.{and_from, both_ways, cond-true, cond_both, or_from}
 use Rattle.std.proofs.lemmas.List.{append_cancel_left, append-nil}
+use Rattle.std.specs.Prelude.{is_some, is_none}
 use lib.Pointwise.{bytes_decides}
 use Rattle.coap_conn.proofs.PendingLaws.{custody_at_once, due_pong}
 use Rattle.coap_conn.proofs.RequestLemmas.{react_asks}
 use Rattle.coap_store.proofs.HoldLaws.{held_of}
+use Rattle.coap_model.proofs.OptionLemmas.{same_there}
 use Rattle.coap_model.proofs.world.EntryLemmas.{all_to}
-use Rattle.coap_model.proofs.world.WalkLaws.{said_request, sent, without_first, Replies, after_between, faulted_between, written_between, ended_between, released_between, announced_between, once_between, heard, holding}
+use Rattle.coap_model.proofs.world.WalkLaws.{held_is, there_where, said_request, sent, without_first, Replies, after_between, faulted_between, written_between, ended_between, released_between, announced_between, responded_between, once_between, heard, holding}
 use Rattle.coap_model.proofs.world.GoingOn.{Keeps}
 use Rattle.coap_conn.proofs.ReactionLaws.{IsPlain, react_so, IsNoPong, StopsAtMost}
-use Rattle.coap_model.proofs.world.ToldMessages.{Queues, sent_either, reply_either}
+use Rattle.coap_model.proofs.world.ToldMessages.{Queues, sent_either, sent_all, reply_either}
+use Rattle.coap_model.proofs.world.RespondedLaws.{allowed, plain_codes, response_is_no_pong}
+use Rattle.coap_model.specs.Prelude.{side_responded, response_refusal, link_of, with_effect, RespondFault, KeepsBut}
 use Rattle.coap_model.proofs.world.SideLaws.{replied_cases, handles_parts}
 use Rattle.coap_wire.specs.OptionNumbers as numbers
 use Rattle.coap_conn.specs.SignalOptions as option
@@ -78,7 +83,7 @@ custody_waits store now s m =
     custody_gives (s.history.held ≡ []) s (side_after store now s m)
     (after_between (λ h. Gives (h.held ≡ []) h) (Gives ⊥) (λ h. gives_none (h.held ≡ []) h h refl) (λ h. gives_then (h.held ≡ []) h)
     (λ h m takes room. (_, refl, custody_at_once (standing_now h) m)) (λ h. gives_none ⊥ h h refl) reply_gives
-    (λ h token moment opened may. gives_none ⊥ h (holding h (h.held ++ Answer Engine token moment ∷ [])) refl) store now s m)
+    (λ h by token moment opened may. gives_none ⊥ h (holding h (h.held ++ Answer by token moment ∷ [])) refl) store now s m)
 
 -- Plain effects queue no such Pong.
 pub plain_queues_no_custody : (s t : Connection) → Queues IsPlain s.history t.history → QueuesCustody s t → ⊥
@@ -101,54 +106,59 @@ custody_comes_first store now s custody =
 -- ---- the order of pending entries
 
 -- One more message.
-stand_skip : (m : Message) (ms : List Message) (es : List PendingEntryValue) → CorrespondTo ms es → CorrespondTo (m ∷ ms) es
+stand_skip : (a : Option ApplicationsValue) (m : Message) (ms : List Message) (es : List PendingEntryValue) → CorrespondTo a ms es → CorrespondTo a (m ∷ ms) es
 unfolding CorrespondTo
-stand_skip m ms [] stand = tt
-stand_skip m ms (e ∷ es) stand = inr stand
+stand_skip a m ms [] stand = tt
+stand_skip a m ms (e ∷ es) stand = inr stand
 
 -- More messages, with the entries that they ask for.
-stand_append : (ms ns : List Message) (es fs : List PendingEntryValue) → CorrespondTo ms es → CorrespondTo ns fs → CorrespondTo (ms ++ ns) (es ++ fs)
+stand_append : (a : Option ApplicationsValue) (ms ns : List Message) (es fs : List PendingEntryValue) → CorrespondTo a ms es → CorrespondTo a ns fs → CorrespondTo a (ms ++ ns) (es ++ fs)
 unfolding CorrespondTo
-stand_append [] ns [] fs stand more = more
-stand_append [] ns (e ∷ es) fs stand more = absurd stand
-stand_append (m ∷ ms) ns [] fs stand more = stand_skip m (ms ++ ns) fs (stand_append ms ns [] fs tt more)
-stand_append (m ∷ ms) ns (e ∷ es) fs (inl here) more = inl (here.0, stand_append ms ns es fs here.1 more)
-stand_append (m ∷ ms) ns (e ∷ es) fs (inr later) more = inr (stand_append ms ns (e ∷ es) fs later more)
+stand_append a [] ns [] fs stand more = more
+stand_append a [] ns (e ∷ es) fs stand more = absurd stand
+stand_append a (m ∷ ms) ns [] fs stand more = stand_skip a m (ms ++ ns) fs (stand_append a ms ns [] fs tt more)
+stand_append a (m ∷ ms) ns (e ∷ es) fs (inl here) more = inl (here.0, stand_append a ms ns es fs here.1 more)
+stand_append a (m ∷ ms) ns (e ∷ es) fs (inr later) more = inr (stand_append a ms ns (e ∷ es) fs later more)
 
 -- A message asks for the entry that it adds.
-stand_added : (m : Message) (es : List PendingEntryValue) → AddsAsked m es → CorrespondTo (m ∷ []) es
+stand_added : (a : Option ApplicationsValue) (m : Message) (es : List PendingEntryValue) → AddsAsked a m es → CorrespondTo a (m ∷ []) es
 unfolding CorrespondTo
-stand_added m [] adds = tt
-stand_added m (e ∷ []) adds = inl (adds.asked.0, tt)
-stand_added m (e ∷ d ∷ es) adds = absurd (omega (arith, adds.few))
+stand_added a m [] adds = tt
+stand_added a m (e ∷ []) adds = inl (adds.asked.0, tt)
+stand_added a m (e ∷ d ∷ es) adds = absurd (omega (arith, adds.few))
 
 -- The same without the first entry, and without any entry.
-stand_tail : (ms : List Message) (e : PendingEntryValue) (es : List PendingEntryValue) → CorrespondTo ms (e ∷ es) → CorrespondTo ms es
+stand_tail : (a : Option ApplicationsValue) (ms : List Message) (e : PendingEntryValue) (es : List PendingEntryValue) → CorrespondTo a ms (e ∷ es) → CorrespondTo a ms es
 unfolding CorrespondTo
-stand_tail [] e es stand = absurd stand
-stand_tail (m ∷ ms) e es (inl here) = stand_skip m ms es here.1
-stand_tail (m ∷ ms) e es (inr later) = stand_skip m ms es (stand_tail ms e es later)
+stand_tail a [] e es stand = absurd stand
+stand_tail a (m ∷ ms) e es (inl here) = stand_skip a m ms es here.1
+stand_tail a (m ∷ ms) e es (inr later) = stand_skip a m ms es (stand_tail a ms e es later)
 
-stand_removed : (ms : List Message) (es : List PendingEntryValue) (i : ℕ) → CorrespondTo ms es → CorrespondTo ms (remove es i)
+stand_removed : (a : Option ApplicationsValue) (ms : List Message) (es : List PendingEntryValue) (i : ℕ) → CorrespondTo a ms es → CorrespondTo a ms (remove es i)
 unfolding CorrespondTo
-stand_removed ms [] zero stand = stand
-stand_removed ms [] (suc i) stand = stand
-stand_removed ms (e ∷ es) zero stand = stand_tail ms e es stand
-stand_removed [] (e ∷ es) (suc i) stand = absurd stand
-stand_removed (m ∷ ms) (e ∷ es) (suc i) (inl here) = inl (here.0, stand_removed ms es i here.1)
-stand_removed (m ∷ ms) (e ∷ es) (suc i) (inr later) = inr (stand_removed ms (e ∷ es) (suc i) later)
+stand_removed a ms [] zero stand = stand
+stand_removed a ms [] (suc i) stand = stand
+stand_removed a ms (e ∷ es) zero stand = stand_tail a ms e es stand
+stand_removed a [] (e ∷ es) (suc i) stand = absurd stand
+stand_removed a (m ∷ ms) (e ∷ es) (suc i) (inl here) = inl (here.0, stand_removed a ms es i here.1)
+stand_removed a (m ∷ ms) (e ∷ es) (suc i) (inr later) = inr (stand_removed a ms (e ∷ es) (suc i) later)
 
-stand_due : (ms : List Message) (now : ℕ) (es : List PendingEntryValue) → CorrespondTo ms es → CorrespondTo ms (without_due now es)
+stand_due : (a : Option ApplicationsValue) (ms : List Message) (now : ℕ) (es : List PendingEntryValue) → CorrespondTo a ms es → CorrespondTo a ms (without_due now es)
 unfolding without_due
-stand_due ms now es stand = grind (arith, stand_removed)
+stand_due a ms now es stand = grind (arith, stand_removed)
+
+-- The same without the first request with a token that waits for the application.
+stand_request : (a : Option ApplicationsValue) (ms : List Message) (token : List ℕ) (es : List PendingEntryValue) → CorrespondTo a ms es → CorrespondTo a ms (without_request token es)
+unfolding without_request
+stand_request a ms token es stand = grind (arith, stand_removed)
 
 -- Each entry was asked for.
-pub stand_asked : (ms : List Message) (before : List PendingEntryValue) (e : PendingEntryValue) (after : List PendingEntryValue) → CorrespondTo ms (before ++ e ∷ after) → list_any (λ m. asks_pending m e) ms ≡ true
+pub stand_asked : (a : Option ApplicationsValue) (ms : List Message) (before : List PendingEntryValue) (e : PendingEntryValue) (after : List PendingEntryValue) → CorrespondTo a ms (before ++ e ∷ after) → list_any (λ m. asks_pending a m e) ms ≡ true
 unfolding CorrespondTo
-stand_asked [] [] e after stand = absurd stand
-stand_asked [] (b ∷ before) e after stand = absurd stand
-stand_asked (m ∷ ms) [] e after stand = grind (arith, stand_asked ms [] e after)
-stand_asked (m ∷ ms) (b ∷ before) e after stand = grind (arith, stand_asked ms before e after, stand_asked ms (b ∷ before) e after)
+stand_asked a [] [] e after stand = absurd stand
+stand_asked a [] (b ∷ before) e after stand = absurd stand
+stand_asked a (m ∷ ms) [] e after stand = grind (arith, stand_asked a ms [] e after)
+stand_asked a (m ∷ ms) (b ∷ before) e after stand = grind (arith, stand_asked a ms before e after, stand_asked a ms (b ∷ before) e after)
 
 -- ---- a request
 
@@ -157,113 +167,133 @@ pub asked_quiet : (s : Connection) (m : Message) → asks_answer s m ≡ true �
 asked_quiet s m asks = let quiet = react_asks (standing_now s.history) m (said_request _ asks) in grind (arith, told_over (standing_now s.history) m)
 
 -- So its delayed response is appended to them.
-pub held_when_asked : (store : StoreValue) (now : ℕ) (s : Connection) (m : Message) (seconds : ℕ) → handles s ≡ true → asks_answer s m ≡ true → held_for (after s.history (call.Handle m)) (answer_of store now m).hold ≡ Some seconds → (side_after store now s m).history.held ≡ s.history.held ++ Answer Engine m.token (moment_after now seconds) ∷ []
+pub held_when_asked : (store : StoreValue) (now : ℕ) (s : Connection) (m : Message) (d : Delay) → handles s ≡ true → asks_answer s m ≡ true → held_for (after s.history (call.Handle m)) (delay_of store now m) ≡ Some d → (side_after store now s m).history.held ≡ s.history.held ++ Answer d.by m.token (moment_after now d.seconds) ∷ []
 unfolding side_after
-held_when_asked store now s m seconds does asks is = grind (arith, asked_quiet s m asks)
+held_when_asked store now s m d does asks is = grind (arith, asked_quiet s m asks, held_is)
+
+-- A delayed response is pending only if the list has a place for it.
+held_where : (h : History) (delay : Option Delay) (d : Delay) → held_for h delay ≡ Some d → (may_hold h ≡ true) × (delay ≡ Some d)
+held_where h None d is = absurd cc
+held_where h (Some e) d is = there_where (may_hold h) (Some e) d is
+
+-- The message asks for the responder of its delay.
+asked_by : (store : StoreValue) (now : ℕ) (m : Message) (d : Delay) (deadline : Option ℕ) (hold : Option ℕ) → application_deadline store.applications m ≡ deadline → (answer_of store now m).hold ≡ hold → delay_or deadline hold ≡ Some d → asks_delayed store.applications d.by m ≡ true
+asked_by store now m d None None by holds is = absurd cc
+asked_by store now m d None (Some seconds) by holds is =
+    subst (λ (e : Delay). asks_delayed store.applications e.by m ≡ true) (same_there (record { by = Engine; seconds = seconds }) d is) (held_of store now m seconds holds).asked
+asked_by store now m d (Some deadline) hold by holds is =
+    subst (λ (e : Delay). asks_delayed store.applications e.by m ≡ true) (same_there (record { by = Application; seconds = deadline }) d is) (ap is_some by)
+
+delayed_asked : (store : StoreValue) (now : ℕ) (m : Message) (d : Delay) → delay_of store now m ≡ Some d → asks_delayed store.applications d.by m ≡ true
+delayed_asked store now m d is = asked_by store now m d (application_deadline store.applications m) (answer_of store now m).hold refl refl is
 
 -- The possible cases of a message: no request, a request with a delayed response, and one with an immediate response.
 pub handled_cases : (store : StoreValue) (now : ℕ) (s : Connection) (m : Message) (P : Connection → Type 0)
     → (asks_answer s m ≡ false → P (with_history s (after s.history (call.Handle m))))
-    → (asks_answer s m ≡ true → (moment : ℕ) → asks_pending m (Answer Engine m.token moment) ≡ true → P (side_with (holding (after s.history (call.Handle m)) ((after s.history (call.Handle m)).held ++ Answer Engine m.token moment ∷ [])) (without_token m.token s.observers)))
-    → (asks_answer s m ≡ true → P (side_answered store now (after s.history (call.Handle m)) (without_token m.token s.observers) m (immediate_answer store now m)))
+    → (asks_answer s m ≡ true → (by : Responder) (moment : ℕ) → asks_delayed store.applications by m ≡ true → P (side_with (holding (after s.history (call.Handle m)) ((after s.history (call.Handle m)).held ++ Answer by m.token moment ∷ [])) (without_token m.token s.observers)))
+    → (asks_answer s m ≡ true → P (side_answered store now (after s.history (call.Handle m)) (without_token m.token s.observers) m (prompt_answer store now m)))
     → P (side_handled store now s m)
 handled_cases store now s m P other late prompt =
     let h : History = after s.history (call.Handle m) in
     let others : List Observer = without_token m.token s.observers in
-    let hold : Option ℕ = (answer_of store now m).hold in
-    cond_both (asks_answer s m) _ _ P (λ asks. replied_cases store now h others m hold P (λ seconds is. (
-    let both : (may_hold h ≡ true) × (hold ≡ Some seconds) = grind arith in
-    let asked : asks_pending m (Answer Engine m.token (moment_after now seconds)) ≡ true =
-    rw ((held_of store now m seconds both.1).asked, (bytes_decides m.token m.token).1 refl) refl in
-    subst (λ (k : History). P (side_with k others)) (sym (cond-true _ _ h (and_from _ _ (asked_quiet s m asks).1 both.0))) (late asks (moment_after now seconds) asked)
+    let delay : Option Delay = delay_of store now m in
+    cond_both (asks_answer s m) _ _ P (λ asks. replied_cases store now h others m delay P (λ d is. (
+    let both : (may_hold h ≡ true) × (delay ≡ Some d) = held_where h delay d is in
+    subst (λ (k : History). P (side_with k others)) (sym (held_is h d.by m.token (moment_after now d.seconds) ∙ cond-true _ _ h (and_from _ _ (asked_quiet s m asks).1 both.0)))
+    (late asks d.by (moment_after now d.seconds) (delayed_asked store now m d both.1))
     )) (λ none. prompt asks)) other
 
 -- ---- the entries that a message adds
 
 -- More entries are pending, and the message asks for each new one; or the connection has stopped and has none.
-abbrev Over : Message → List PendingEntryValue → List PendingEntryValue → Phase → Type 0
-Over m before after now = ((more : List PendingEntryValue) × (after ≡ before ++ more) × AddsAsked m more) ⊎ ((why : Reason) × (now ≡ phase.Stopped why) × (after ≡ []))
+abbrev Over : Option ApplicationsValue → Message → List PendingEntryValue → List PendingEntryValue → Phase → Type 0
+Over a m before after now = ((more : List PendingEntryValue) × (after ≡ before ++ more) × AddsAsked a m more) ⊎ ((why : Reason) × (now ≡ phase.Stopped why) × (after ≡ []))
 
-adds_none : (m : Message) (es : List PendingEntryValue) (now : Phase) → Over m es es now
-adds_none m es now = inl ([], sym (append-nil es), record { few = omega arith; asked = tt })
+adds_none : (a : Option ApplicationsValue) (m : Message) (es : List PendingEntryValue) (now : Phase) → Over a m es es now
+adds_none a m es now = inl ([], sym (append-nil es), record { few = omega arith; asked = tt })
 
-adds_one : (m : Message) (before : List PendingEntryValue) (e : PendingEntryValue) (now : Phase) → asks_pending m e ≡ true → Over m before (before ++ e ∷ []) now
-adds_one m before e now asks = inl (e ∷ [], refl, record { few = omega arith; asked = (asks, tt) })
+adds_one : (a : Option ApplicationsValue) (m : Message) (before : List PendingEntryValue) (e : PendingEntryValue) (now : Phase) → asks_pending a m e ≡ true → Over a m before (before ++ e ∷ []) now
+adds_one a m before e now asks = inl (e ∷ [], refl, record { few = omega arith; asked = (asks, tt) })
 
 -- A message was handled while messages were accepted, and it may have stopped the connection.
-pub record HandlesOne (m : Message) (before : History) (handled : List Message) (held : List PendingEntryValue) (now : Phase) : Type 0 where
+pub record HandlesOne (a : Option ApplicationsValue) (m : Message) (before : History) (handled : List Message) (held : List PendingEntryValue) (now : Phase) : Type 0 where
   pub handled_more : takes_messages before.phase ≡ true → handled ≡ before.handled ++ m ∷ []
   pub stops : StopsAtMost before.phase → StopsAtMost now
-  pub adds : Over m before.held held now
+  pub adds : Over a m before.held held now
 
-abbrev pub HasHeard : Message → History → History → Type 0
-HasHeard m h k = HandlesOne m h k.handled k.held k.phase
+abbrev pub HasHeard : Option ApplicationsValue → Message → History → History → Type 0
+HasHeard a m h k = HandlesOne a m h k.handled k.held k.phase
 
-message_hears : (h : History) (m : Message) → HasHeard m h (after h (call.Handle m))
-message_hears h m =
+message_hears : (a : Option ApplicationsValue) (h : History) (m : Message) → HasHeard a m h (after h (call.Handle m))
+message_hears a h m =
     let s : ConnectionState = standing_now h in
-    let does = react_so s m (λ e. (StopsAtMost s.phase → StopsAtMost e.phase) × Over m s.held e.held e.phase) (record {
-      stays = (λ is. is, adds_none m s.held s.phase);
-      stands = λ now outstanding stands. (stands, adds_none m s.held now);
+    let does = react_so s m (λ e. (StopsAtMost s.phase → StopsAtMost e.phase) × Over a m s.held e.held e.phase) (record {
+      stays = (λ is. is, adds_none a m s.held s.phase);
+      stands = λ now outstanding stands. (stands, adds_none a m s.held now);
       stops = λ why farewell plain one may. (λ is. may, inr (why, refl, refl));
-      queues = λ n none. (λ is. is, adds_none m s.held s.phase);
-      keeps = λ ping custody some. (λ is. is, adds_one m s.held (Pong m.token) s.phase (rw (ping, custody, (bytes_decides m.token m.token).1 refl) refl));
+      queues = λ n none. (λ is. is, adds_none a m s.held s.phase);
+      keeps = λ ping custody some. (λ is. is, adds_one a m s.held (Pong m.token) s.phase (rw (ping, custody, (bytes_decides m.token m.token).1 refl) refl));
     }) in
-    cond_both (takes_messages h.phase) (heard h m) h (HasHeard m h) (λ takes. record { handled_more = λ takes. refl; stops = does.0; adds = does.1 })
-    (λ off. record { handled_more = λ takes. absurd (both_ways _ off takes); stops = λ is. is; adds = adds_none m h.held h.phase })
+    cond_both (takes_messages h.phase) (heard h m) h (HasHeard a m h) (λ takes. record { handled_more = λ takes. refl; stops = does.0; adds = does.1 })
+    (λ off. record { handled_more = λ takes. absurd (both_ways _ off takes); stops = λ is. is; adds = adds_none a m h.held h.phase })
 
-pub handled_hears : (store : StoreValue) (now : ℕ) (s : Connection) (m : Message) → HasHeard m s.history (side_handled store now s m).history
+pub handled_hears : (store : StoreValue) (now : ℕ) (s : Connection) (m : Message) → HasHeard store.applications m s.history (side_handled store now s m).history
 handled_hears store now s m =
+    let a : Option ApplicationsValue = store.applications in
     let h : History = after s.history (call.Handle m) in
-    let heard : HasHeard m s.history h = message_hears s.history m in
-    handled_cases store now s m (λ t. HasHeard m s.history t.history) (λ other. heard)
-    (λ asks moment asked. record {
+    let heard : HasHeard a m s.history h = message_hears a s.history m in
+    handled_cases store now s m (λ t. HasHeard a m s.history t.history) (λ other. heard)
+    (λ asks by moment asked. record {
       handled_more = heard.handled_more;
       stops = heard.stops;
-      adds = rw (asked_quiet s m asks).0 (adds_one m s.history.held (Answer Engine m.token moment) h.phase asked);
+      adds = rw (asked_quiet s m asks).0 (adds_one a m s.history.held (Answer by m.token moment) h.phase (rw (asked, (bytes_decides m.token m.token).1 refl) refl));
     })
-    (λ asks. reply_either h _ (HandlesOne m s.history) heard
+    (λ asks. reply_either h _ (HandlesOne a m s.history) heard
     (record { handled_more = heard.handled_more; stops = λ is. refl; adds = inr (PeerTooSmall, refl, refl) }))
 
-pub handled_over : (store : StoreValue) (now : ℕ) (s : Connection) (m : Message) → KeepsPendingOver m s (side_handled store now s m)
+pub handled_over : (store : StoreValue) (now : ℕ) (s : Connection) (m : Message) → KeepsPendingOver store.applications m s (side_handled store now s m)
 handled_over store now s m = grind (arith, handled_hears store now s m)
 
-pub if_over : (m : Message) (does : Bool) (s t : Connection) → KeepsPendingOver m s t → KeepsPendingOver m s (cond does t s)
-if_over m true s t over = over
-if_over m false s t over = inl ([], sym (append-nil s.history.held), record { few = omega arith; asked = tt })
+pub if_over : (a : Option ApplicationsValue) (m : Message) (does : Bool) (s t : Connection) → KeepsPendingOver a m s t → KeepsPendingOver a m s (cond does t s)
+if_over a m true s t over = over
+if_over a m false s t over = inl ([], sym (append-nil s.history.held), record { few = omega arith; asked = tt })
 
 -- ---- histories
 
-abbrev pub Stands : History → Type 0
-Stands h = CorrespondTo h.handled h.held
+abbrev pub Stands : Option ApplicationsValue → History → Type 0
+Stands a h = CorrespondTo a h.handled h.held
 
-sent_still_stands : (h : History) (m less : Message) → Stands h → Stands (sent h m less)
+sent_still_stands : (a : Option ApplicationsValue) (h : History) (m less : Message) → Stands a h → Stands a (sent h m less)
 unfolding CorrespondTo
-sent_still_stands h m less stand = sent_either (standing_now h) m less (fit (limit_now h) m less) (λ es now. CorrespondTo h.handled es) stand tt
+sent_still_stands a h m less stand = sent_either (standing_now h) m less (fit (limit_now h) m less) (λ es now. CorrespondTo a h.handled es) stand tt
 
 -- The message asks for the entries that it added.
-heard_stands : (m : Message) (h k : History) → takes_messages h.phase ≡ true → HasHeard m h k → Stands h → Stands k
+heard_stands : (a : Option ApplicationsValue) (m : Message) (h k : History) → takes_messages h.phase ≡ true → HasHeard a m h k → Stands a h → Stands a k
 unfolding CorrespondTo
-heard_stands m h k takes heard stand = rw (heard.handled_more takes) (by heard.adds)
+heard_stands a m h k takes heard stand = rw (heard.handled_more takes) (by heard.adds)
   where
-    by : Over m h.held k.held k.phase → CorrespondTo (h.handled ++ m ∷ []) k.held
-    by (inl more) = rw more.1 (stand_append h.handled (m ∷ []) h.held more.0 stand (stand_added m more.0 more.2))
+    by : Over a m h.held k.held k.phase → CorrespondTo a (h.handled ++ m ∷ []) k.held
+    by (inl more) = rw more.1 (stand_append a h.handled (m ∷ []) h.held more.0 stand (stand_added a m more.0 more.2))
     by (inr over) = rw over.2 tt
 
-pub stands_keeps : (limits : LimitValues) → Keeps limits (λ s. Stands s.history)
+pub stands_keeps : (limits : LimitValues) (a : Option ApplicationsValue) → Keeps limits a (λ s. Stands a s.history)
 unfolding side_after CorrespondTo
-stands_keeps limits = let R : History → History → Type 0 = λ h k. Stands h → Stands k in record {
+stands_keeps limits a = let R : History → History → Type 0 = λ h k. Stands a h → Stands a k in record {
   first = tt;
-  handled = λ store now s m is stand. cond_both (handles s) (side_handled store now s m) s (λ t. Stands t.history)
-      (λ does. heard_stands m s.history (side_handled store now s m).history (handles_parts s does).0 (handled_hears store now s m) stand) (λ off. stand);
+  handled = λ store now s m same is stand. cond_both (handles s) (side_handled store now s m) s (λ t. Stands a t.history)
+      (λ does. heard_stands a m s.history (side_handled store now s m).history (handles_parts s does).0
+      (subst (λ b. HasHeard b m s.history (side_handled store now s m).history) same (handled_hears store now s m)) stand) (λ off. stand);
   faulted = faulted_between R (λ h stand. stand) (λ h fault takes room stand. tt);
   written = written_between R (λ h stand. stand) (λ h n within stand. stand);
   ended = ended_between R (λ h stand. stand) (λ h cut takes stand. tt);
   released = released_between R (λ h stand. stand) (λ h opened none stand. tt);
   announced = announced_between R (λ h stand. stand) (λ h n opened room fit stand. stand);
-  told = once_between R R (λ h stand. stand) (λ h k g one two stand. two (one stand)) (λ h token observe r does room. sent_still_stands h _ _)
-      (λ h now. stand_due h.handled now h.held)
-      (λ h now token due room stand. sent_still_stands (without_first h now) _ _ (stand_due h.handled now h.held stand));
+  responded = responded_between R (λ h stand. stand) (λ h m answering none stand.
+      sent_either (standing_without m.token (standing_now h)) m (bare_response m) (fit (limit_now h) m (bare_response m)) (λ es now. CorrespondTo a h.handled es)
+      (stand_request a h.handled m.token h.held stand) tt);
+  told = once_between R R (λ h stand. stand) (λ h k g one two stand. two (one stand)) (λ h token observe r does room. sent_still_stands a h _ _)
+      (λ h now. stand_due a h.handled now h.held)
+      (λ h now token due room stand. sent_still_stands a (without_first h now) _ _ (stand_due a h.handled now h.held stand));
 }
 
 -- ---- effects that do not change the pending entries
@@ -278,6 +308,30 @@ left_kept s t leaves = let none = append-nil s.history.held in grind arith
 
 pub written_same : (s : Connection) (n : ℕ) → (side_written s n).history.held ≡ s.history.held
 written_same s n = written_between (λ h k. k.held ≡ h.held) (λ h. refl) (λ h n within. refl) s n
+
+-- A response of the application removes the request that it answers.
+pub responded_keeps : (s : Connection) (m : Message) → answers s.history.phase ≡ true → response_refusal (link_of s.history) m ≡ None → KeepsBut (without_request m.token s.history.held) (side_responded s m)
+unfolding side_responded
+responded_keeps s m answering none =
+    let h : History = s.history in
+    let less : Message = bare_response m in
+    let e = send (standing_without m.token (standing_now h)) m less in
+    subst (λ (b : Bool). KeepsBut (without_request m.token h.held) (with_history s (cond b (with_effect h e) h))) (sym (and_from _ _ answering (ap (λ (o : Option RespondFault). is_none o) none)))
+    (sent_either (standing_without m.token (standing_now h)) m less (fit (limit_now h) m less)
+    (λ es now. (es ≡ without_request m.token h.held) ⊎ ((why : Reason) × (now ≡ phase.Stopped why))) (inl refl) (inr (PeerTooSmall, refl)))
+
+-- It queues no Pong.
+pub responded_no_custody : (s : Connection) (m : Message) → QueuesCustody s (side_responded s m) → ⊥
+responded_no_custody s m = custody_gives ⊥ s (side_responded s m) (responded_between (Gives ⊥) (λ h. gives_none ⊥ h h refl) (λ h n answering none. (
+    let codes = plain_codes n (allowed (link_of h) n none).plain in
+    let s : ConnectionState = standing_without n.token (standing_now h) in (
+      (send s n (bare_response n)).queued,
+      refl,
+      λ pong.
+          (let quiet = none_pass is_custody_pong (send s n (bare_response n)).queued
+          (sent_all IsNoPong s n (bare_response n) (fit (limit_now h) n (bare_response n)) (response_is_no_pong n codes.0) (response_is_no_pong (bare_response n) codes.1)) in
+          both_ways _ quiet pong),
+    ))) s m)
 
 -- If no entry is due, settling only notifies an observer.
 pub told_keeps : (store : StoreValue) (now : ℕ) (s : Connection) → next_held now s ≡ None → KeepsPending s (settled_once store now s)

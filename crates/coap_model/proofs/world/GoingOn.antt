@@ -7,9 +7,9 @@ use Rattle.coap_model.specs.Prelude.{Message, StreamFault, Reply, Server, LimitV
 use Rattle.coap_model.specs.Prelude.{is_open, fit, bare_response, PendingEntryValue, first_due, ConnectionState, ReactionResult, send, send_as}
 use Rattle.coap_model.specs.Prelude.{pong_with, due_effect, History, IsHistory, standing_now, with_effect, after}
 use Rattle.coap_model.specs.Prelude.{link_of, may_hold, bytes_of, own_csm, Call, call_effect, standing_due, standing_without, limit_now}
-use Rattle.coap_model.specs.Prelude.{StoreValue, ConfigValues, Connection, new_side, handles, has_room}
+use Rattle.coap_model.specs.Prelude.{StoreValue, ApplicationsValue, ConfigValues, Connection, new_side, handles, has_room}
 use Rattle.coap_model.specs.Prelude.{side_after, side_faulted, side_written, side_ended, side_released}
-use Rattle.coap_model.specs.Prelude.{side_announced, held_message, after_sent, settled_once, settled, World, Step}
+use Rattle.coap_model.specs.Prelude.{side_announced, side_responded, held_message, after_sent, settled_once, settled, World, Step}
 use Rattle.coap_model.specs.Prelude.{side_of, AcceptedCall, world_after}
 use Rattle.coap_conn.specs.declared.phase.Reply.TheVariants as reply
 use Rattle.coap_conn.specs.PendingEntries as held
@@ -17,7 +17,7 @@ use Rattle.coap_conn.specs.Calls.{IsWithin}
 use Rattle.coap_conn.specs.Calls as call
 use Rattle.coap_conn.proofs.LinkLemmas.{new_shown, history_more}
 use Rattle.coap_model.proofs.world.WalkLaws.{sent, holding, without_first, Between, if_between, settled_between}
-use Rattle.coap_model.proofs.world.AcrossLaws.{kept_by, HoldsOf, KeepsAll, all_across}
+use Rattle.coap_model.proofs.world.AcrossLaws.{kept_by, kept_where, applications_stay, HoldsOf, KeepsAll, all_across}
 
 -- ---- properties that are kept
 
@@ -67,12 +67,14 @@ all_go_on = record {
   composes = record { same = as_before; then = further };
   takes_input = λ h m takes room. record { role = refl; limits = refl; history = history_more h _; over = λ none. absurd cc };
   replies = λ h token observe r does room. sent_goes_so h _ _;
-  holds = λ h token moment opened may. holding_so h _;
+  holds = λ h by token moment opened may. holding_so h _;
   lets_go = λ h now. holding_so h _;
   pongs = λ h now token due room. further h (without_first h now) _ (holding_so h _) (sent_goes_so (without_first h now) _ _);
   rejects = λ h fault takes room. effect_goes_on h _ (λ none. refl);
   ends = λ h cut takes. effect_goes_on h _ (λ none. refl);
   releases = λ h opened none. effect_goes_on h _ (λ none. refl);
+  responds = λ h m answering none.
+      effect_goes_on h _ (sent_over (standing_without m.token (standing_now h)) m (bare_response m) (fit (limit_now h) m (bare_response m)));
   announces = λ h size opened room fits. record { role = refl; limits = refl; history = history_more h (own_csm size ∷ []); over = λ e. e };
   writes = written_goes_on;
 }
@@ -131,35 +133,38 @@ new_side_is limits = record { is_history = (new_shown Server limits 0 _ refl).is
 pub side_is : (c : ConfigValues) (es : List AcceptedCall) (id : ℕ) (s : Connection) → side_of id (world_after c es).sides ≡ Some s → IsSide c.limits s
 side_is c = kept_by c (Between GoesOn) (IsSide c.limits) (new_side_is c.limits) (follower_is c.limits) (all_across GoesOn all_go_on)
 
--- A property that a new connection has and that every effect keeps.
-pub record Keeps (limits : LimitValues) (P : Connection → Type 0) : Type 0 where
+-- A property that a new connection has and that every effect keeps, in a server with these applications.
+pub record Keeps (limits : LimitValues) (a : Option ApplicationsValue) (P : Connection → Type 0) : Type 0 where
   pub first : P (new_side limits)
-  pub handled : (store : StoreValue) (now : ℕ) (s : Connection) (m : Message) → IsSide limits s → P s → P (side_after store now s m)
+  pub handled : (store : StoreValue) (now : ℕ) (s : Connection) (m : Message) → store.applications ≡ a → IsSide limits s → P s → P (side_after store now s m)
   pub faulted : (s : Connection) (fault : StreamFault) → P s → P (side_faulted s fault)
   pub written : (s : Connection) (n : ℕ) → P s → P (side_written s n)
   pub ended : (s : Connection) (cut : Bool) → P s → P (side_ended s cut)
   pub released : (s : Connection) → P s → P (side_released s)
   pub announced : (s : Connection) (size : ℕ) → P s → P (side_announced s size)
+  pub responded : (s : Connection) (m : Message) → P s → P (side_responded s m)
   pub told : (store : StoreValue) (now : ℕ) (s : Connection) → P s → P (settled_once store now s)
 
 -- Each connection continues the earlier one, and has the property afterwards.
 abbrev GoesOnKeeping : LimitValues → (Connection → Type 0) → Connection → Connection → Type 0
 GoesOnKeeping limits P s t = Between GoesOn s t × (IsSide limits s → P s → P t)
 
-keeps_hold : (limits : LimitValues) (P : Connection → Type 0) → Keeps limits P → (w : World) (st : Step) (id : ℕ) → HoldsOf (GoesOnKeeping limits P) w st id
-keeps_hold limits P keeps w st id = let goes : HoldsOf (Between GoesOn) w st id = all_across GoesOn all_go_on w st id in record {
+keeps_hold : (limits : LimitValues) (a : Option ApplicationsValue) (P : Connection → Type 0) → Keeps limits a P → (w : World) (st : Step) (id : ℕ) → w.store.applications ≡ a → HoldsOf (GoesOnKeeping limits P) w st id
+keeps_hold limits a P keeps w st id same = let goes : HoldsOf (Between GoesOn) w st id = all_across GoesOn all_go_on w st id in record {
   same = λ s. (goes.same s, λ side is. is);
-  handled = λ m at s. (goes.handled m at s, keeps.handled w.store w.now s m);
+  handled = λ m at s. (goes.handled m at s, keeps.handled w.store w.now s m same);
   faulted = λ fault at s. (goes.faulted fault at s, λ side. keeps.faulted s fault);
   written = λ s n. (goes.written s n, λ side. keeps.written s n);
   ended = λ s cut. (goes.ended s cut, λ side. keeps.ended s cut);
   released = λ s. (goes.released s, λ side. keeps.released s);
   announced = λ size at s. (goes.announced size at s, λ side. keeps.announced s size);
+  responded = λ s m. (goes.responded s m, λ side. keeps.responded s m);
   told = λ store now s t before. (goes.told store now s t before.0, λ side is. keeps.told store now t (before.1 side is));
 }
 
 -- So each connection has the property after any events.
-pub kept_after : (c : ConfigValues) (P : Connection → Type 0) → Keeps c.limits P → (es : List AcceptedCall) (id : ℕ) (s : Connection) → side_of id (world_after c es).sides ≡ Some s → P s
+pub kept_after : (c : ConfigValues) (P : Connection → Type 0) → Keeps c.limits c.applications P → (es : List AcceptedCall) (id : ℕ) (s : Connection) → side_of id (world_after c es).sides ≡ Some s → P s
 kept_after c P keeps es id s there =
-    (kept_by c (GoesOnKeeping c.limits P) (λ t. IsSide c.limits t × P t) (new_side_is c.limits, keeps.first)
-    (λ s t goes is. (follower_is c.limits s t goes.0 is.0, goes.1 is.0 is.1)) (keeps_hold c.limits P keeps) es id s there).1
+    (kept_where c (λ w. w.store.applications ≡ c.applications) refl (λ w st same. applications_stay c.limits w st ∙ same)
+    (GoesOnKeeping c.limits P) (λ t. IsSide c.limits t × P t) (new_side_is c.limits, keeps.first)
+    (λ s t goes is. (follower_is c.limits s t goes.0 is.0, goes.1 is.0 is.1)) (keeps_hold c.limits c.applications P keeps) es id s there).1

@@ -22,7 +22,7 @@ SideGrows = Between Grows
 after_grows : (store : StoreValue) (now : ℕ) (s : Connection) (m : Message) → SideGrows s (side_after store now s m)
 after_grows =
     after_between Grows Grows grows_self grows_then (λ h m takes room. record { more = _; queued = refl; written = refl }) grows_self
-    (λ h token observe r does room. record { more = _; queued = refl; written = refl }) (λ h token moment opened may. same_queue h _ refl refl)
+    (λ h token observe r does room. record { more = _; queued = refl; written = refl }) (λ h by token moment opened may. same_queue h _ refl refl)
 
 pub settled_grows : (store : StoreValue) (now : ℕ) (s : Connection) → SideGrows s (settled store now s)
 settled_grows =

@@ -2,7 +2,7 @@
 use Rattle.std.proofs.Common.{◌≡◌, ℕ, ◌≤◌, Bool, true, false, cond, List, [], ◌∷◌, map, Option, Some, None, refl, ◌==◌, not, is_none, nat_le, arith, ◌&&◌, sym, ap, ◌∙◌}
 use Rattle.coap_model.specs.Prelude.{AllByRecursion, LimitValues, StoreValue, found_in, Change, Put, Delete, changed}
 use Rattle.coap_model.specs.Prelude.{put_refusal, ConfigValues, Connection, side_after, change_after, side_faulted}
-use Rattle.coap_model.specs.Prelude.{side_written, side_ended, side_released, side_announced, IsUpToDate, settled}
+use Rattle.coap_model.specs.Prelude.{side_written, side_ended, side_released, side_announced, side_responded, IsUpToDate, settled}
 use Rattle.coap_model.specs.Prelude.{with_history, ConnectionEntry, World, new_world, side_of, stored_after, Step, Handled}
 use Rattle.coap_model.specs.Prelude.{Faulted, Written, ticks, acted, settled_place, step, after_steps, AcceptedCall}
 use Rattle.coap_model.specs.Prelude.{steps_of, world_after, takes_messages, stop, end_reason}
@@ -10,7 +10,7 @@ use Rattle.coap_model.specs.Prelude.{standing_now, with_effect}
 use Rattle.coap_model.specs.Prelude.{takes_input, normalised_step, heard_steps, normalised_steps}
 use Rattle.coap_model.specs.Prelude.{all_settled}
 use Rattle.std.proofs.lemmas.Bool.{and_parts, leb-true, eqb-true, cond_both}
-use Rattle.coap_model.specs.world.World.{changed_at, Opened, Ticked, Stored, Removed, Ended, Released, Announced, Dropped}
+use Rattle.coap_model.specs.world.World.{changed_at, Opened, Ticked, Stored, Removed, Ended, Released, Announced, Responded, Dropped}
 use Rattle.coap_model.proofs.world.KnownLaws.{still_versioned, IsVersioned}
 use Rattle.coap_model.proofs.world.AcrossLaws.{world_keeps}
 use Rattle.coap_model.proofs.world.EntryLemmas.{all_to, all_append, all_filter, all_map}
@@ -77,6 +77,7 @@ acted_known limits w (Removed path) known = changed_known w (Delete path) known
 acted_known limits w (Ended id cut) known = on_side_known w id (λ s. side_ended s cut) (λ s. (calls_known w.store).ended s cut) known
 acted_known limits w (Released id) known = on_side_known w id side_released (calls_known w.store).released known
 acted_known limits w (Announced id size) known = on_side_known w id (λ s. side_announced s size) (λ s. (calls_known w.store).announced s size) known
+acted_known limits w (Responded id m) known = on_side_known w id (λ s. side_responded s m) (λ s. (calls_known w.store).responded s m) known
 acted_known limits w (Dropped id) known = with_places w _ known (all_filter (IsKnownPlace w.store) (λ p. not (p.id == id)) w.sides known.places)
 
 step_known : (limits : LimitValues) (w : World) (s : Step) → IsKnownWorld w → IsKnownWorld (step limits w s)

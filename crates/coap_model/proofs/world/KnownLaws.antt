@@ -3,7 +3,7 @@ use Rattle.std.proofs.Common.{◌≡◌, ℕ, ◌+◌, ◌<◌, ◌≤◌, true,
 use Rattle.coap_model.specs.Prelude.{decimal, option_eq, Message, Path, same_bytes}
 use Rattle.coap_model.specs.Prelude.{Representation, StoreValue, found_in, kind_of_path, key_for, state_at, state_of}
 use Rattle.coap_model.specs.Prelude.{built, text_plain, is_observable, is_dynamic, RequestTarget, target_of, path_of}
-use Rattle.coap_model.specs.Prelude.{Change, Nothing, Put, Delete, changed, immediate_answer, only, content, Response}
+use Rattle.coap_model.specs.Prelude.{Change, Nothing, Put, Delete, changed, immediate_answer, prompt_answer, only, content, Response}
 use Rattle.coap_model.specs.Prelude.{etag_at, is_among, valid, answer_at, removes_watch, with_observe_rule, answer_of}
 use Rattle.coap_model.specs.Prelude.{unheld_by, AreDistinct, notification_at, Time, Dynamic}
 use Rattle.coap_model.specs.Prelude.{Observer, same_state, is_due, entry_for, format_of}
@@ -16,6 +16,7 @@ use Rattle.coap_path.specs.declared.resource_kind.ResourceKind.{ResourceKind}
 use Rattle.coap_store.proofs.CatalogueLemmas.{same_format}
 use Rattle.coap_store.proofs.ChangeLaws.{put_is_stored, other_is_kept_on_put, other_is_kept_on_delete, deleted_is_gone, distinct_stays}
 use Rattle.coap_store.proofs.VersionLaws.{by_path}
+use Rattle.coap_store.proofs.ApplicationLaws.{prompt_cases}
 use Rattle.coap_store.proofs.WatchLaws.{promptly_watched_is_there, stored_unwatched, watched_at_once}
 use Rattle.coap_model.proofs.world.WalkLaws.{there_or_not}
 use Rattle.coap_store.proofs.AnswerLaws.{answer_cases, get_cases, store_cases}
@@ -165,8 +166,9 @@ told_known store now token path small is can =
 -- ---- states that are sent
 
 -- A request that asks for an entry names such a path.
-pub entry_watchable : (store : StoreValue) (now : ℕ) (m : Message) → (immediate_answer store now m).watch ≡ watch.Add → IsWatchable store now (path_of m)
-entry_watchable store now m e = let may = promptly_watched_is_there store now m e in record { key = may.key; observable = may.observable; representation = may.representation; there = may.there }
+pub entry_watchable : (store : StoreValue) (now : ℕ) (m : Message) → (prompt_answer store now m).watch ≡ watch.Add → IsWatchable store now (path_of m)
+entry_watchable store now m = prompt_cases store now m (λ a. a.watch ≡ watch.Add → IsWatchable store now (path_of m)) (λ e. absurd cc) (λ e. (
+    let may = promptly_watched_is_there store now m e in record { key = may.key; observable = may.observable; representation = may.representation; there = may.there }))
 
 known_observable : (place : ResourceKind) (store : StoreValue) (o : Observer) → IsKnownAt place store o → is_observable place ≡ true
 known_observable Time store o known = refl
@@ -237,9 +239,9 @@ telling_at s t m =
     })
 
 -- The answer that adds an observer is not delayed, and reports the state that the entry records.
-pub entry_tells : (store : StoreValue) (now : ℕ) (m : Message) → (immediate_answer store now m).watch ≡ watch.Add → ReportsState (entry_for store now m) (state_of store now (path_of m)) (response_with_observe m.token true (immediate_answer store now m).response)
+immediately_tells : (store : StoreValue) (now : ℕ) (m : Message) → (immediate_answer store now m).watch ≡ watch.Add → ReportsState (entry_for store now m) (state_of store now (path_of m)) (response_with_observe m.token true (immediate_answer store now m).response)
 unfolding answer_of immediate_answer
-entry_tells store now m e =
+immediately_tells store now m e =
     let t : RequestTarget = target_of store now (path_of m) in
     let tells : TellsWell t.place t.state (immediate_answer store now m) =
     there_or_not (answer_of store now m).hold (λ hold. TellsWell t.place t.state (unheld_by hold (answer_of store now m)))
@@ -247,6 +249,12 @@ entry_tells store now m e =
     (λ seconds held e. (let at_once = watched_at_once store now m e in absurd cc)) in
     let is = tells e in
     says_tells (entry_for store now m) (state_of store now (path_of m)) is.0 (immediate_answer store now m).response is.1 is.2
+
+-- A request that the application answers adds none.
+pub entry_tells : (store : StoreValue) (now : ℕ) (m : Message) → (prompt_answer store now m).watch ≡ watch.Add → ReportsState (entry_for store now m) (state_of store now (path_of m)) (response_with_observe m.token true (prompt_answer store now m).response)
+entry_tells store now m =
+    prompt_cases store now m (λ a. a.watch ≡ watch.Add → ReportsState (entry_for store now m) (state_of store now (path_of m)) (response_with_observe m.token true a.response))
+    (λ e. absurd cc) (immediately_tells store now m)
 
 -- ---- notifications
 

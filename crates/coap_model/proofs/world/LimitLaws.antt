@@ -4,7 +4,7 @@ use Rattle.std.proofs.Common.{◌≡◌, ℕ, ◌+◌, ◌<◌, ◌≤◌, Bool,
 use Rattle.std.proofs.lemmas.Bool.{cond_both, leb-true, ltb-true, eqb-true}
 use Rattle.std.proofs.lemmas.List.{length-append, length-drop, append-nil}
 use Rattle.std.proofs.lemmas.List.Sums.{length-filter, count_by-le-length}
-use Rattle.coap_model.specs.Prelude.{Engine}
+use Rattle.coap_model.specs.Prelude.{ApplicationsValue, Option}
 use Rattle.coap_model.specs.Prelude.{same_bytes, not, Message, spelling, Reply, Whole, LimitValues, AreInRange}
 use Rattle.coap_model.specs.Prelude.{takes_messages, stop_of, announced, bad_csm_option, size_unless, csm_size}
 use Rattle.coap_model.specs.Prelude.{announcement, size_limit, AllFit, fit, bare_response, PendingEntryValue, Answer}
@@ -22,13 +22,16 @@ use Rattle.coap_conn.proofs.WaitingLaws.{wait, one_small, limit_within, queued_w
 use Rattle.coap_conn.proofs.SmallLemmas.{first_csm_bytes_small, release_bytes_small}
 use Rattle.coap_conn.proofs.PendingLaws.{due_nothing, due_fewer, held_few}
 use Rattle.coap_conn.proofs.HistoryLaws.{reaction_fits, sent_fits, stopped_fits, new_fits, released_fits}
-use Rattle.coap_model.proofs.world.WalkLaws.{there_or_not, there_where, settled_keeps, observers_kept, release_fits, room_in, sent, without_first, Hears, Replies, Between, once_between, after_between, faulted_between, written_between, ended_between, released_between, announced_between}
+use Rattle.coap_model.proofs.world.WalkLaws.{there_or_not, there_where, settled_keeps, observers_kept, release_fits, room_in, sent, without_first, Hears, Replies, Between, once_between, after_between, faulted_between, written_between, ended_between, released_between, announced_between, responded_between}
 use Rattle.coap_model.proofs.world.AcrossLaws.{KeepsAll, keeping_composes, kept_history, HoldsOf, step_across, opened_there}
 use Rattle.coap_model.proofs.world.GoingOn.{GoesOn, all_go_on, call_goes_on, side_is, Keeps, kept_after}
 use Rattle.coap_conn.proofs.ReactionLaws.{abort_one, react_so}
 use Rattle.coap_model.proofs.world.ReachedLaws.{accepted_is, IsReached}
 use Rattle.coap_model.proofs.world.StepLaws.{rest_unfinished, size_grows}
 use Rattle.coap_model.proofs.world.EntryLemmas.{all_append}
+use Rattle.coap_model.proofs.world.RespondedLaws.{request_fewer, responded_small, sent_is}
+use Rattle.coap_conn.proofs.ApplicationLaws.{responded_fits}
+use Rattle.coap_model.specs.Prelude.{standing_without}
 use Rattle.coap_model.proofs.OptionLemmas.{same_there}
 use Rattle.coap_wire.proofs.NumberLaws.{none_or_some}
 use Rattle.coap_conn.specs.Calls as call
@@ -53,14 +56,14 @@ left_one : (store : StoreValue) (now : ℕ) (o : Observer) (stays : Bool) → le
 left_one store now o true = omega arith
 left_one store now o false = omega arith
 
-few_keeps : (limits : LimitValues) → Keeps limits (λ s. length s.observers ≤ limits.observers)
-few_keeps limits =
+few_keeps : (limits : LimitValues) (a : Option ApplicationsValue) → Keeps limits a (λ s. length s.observers ≤ limits.observers)
+few_keeps limits a =
     let Few : List Observer → Type 0 = λ os. length os ≤ limits.observers in
     let kept = observers_kept Few (omega arith) in
     record {
       first = omega arith;
       -- An entry is added only if there is a place for it.
-      handled = λ store now s m is few. observers_after Few store now s m (omega arith) few (omega (arith, few, token_fewer m.token s.observers)) (λ asked place. (
+      handled = λ store now s m same is few. observers_after Few store now s m (omega arith) few (omega (arith, few, token_fewer m.token s.observers)) (λ asked place. (
           let same : (after s.history (call.Handle m)).limits.observers ≡ limits.observers =
           ap (λ (l : LimitValues). l.observers) ((call_goes_on s.history (call.Handle m) tt).limits ∙ is.same_limits) in
           omega (arith, place, same, length-append (without_token m.token s.observers) (entry_for store now m ∷ []))));
@@ -69,13 +72,14 @@ few_keeps limits =
       ended = kept.ended;
       released = kept.released;
       announced = kept.announced;
+      responded = kept.responded;
       told = λ store now s few. observers_settled Few store now s (omega arith) few
           (λ o stays due on. omega (arith, few, becomes_fewer (is_due store now) (left_of store now o stays) s.observers (left_one store now o stays)));
     }
 
 -- The observers do not exceed their limit.
 pub observers_within : (c : ConfigValues) (es : List AcceptedCall) (id : ℕ) (s : Connection) → side_of id (world_after c es).sides ≡ Some s → length s.observers ≤ c.limits.observers
-observers_within c = kept_after c (λ t. length t.observers ≤ c.limits.observers) (few_keeps c.limits)
+observers_within c = kept_after c (λ t. length t.observers ≤ c.limits.observers) (few_keeps c.limits c.applications)
 
 -- ---- pending entries
 
@@ -97,13 +101,16 @@ all_hold_few = record {
   composes = keeping_composes HoldsFew;
   takes_input = λ h m takes room few. held_few (standing_now h) m few;
   replies = λ h token observe r does room. (let m = response_with_observe token observe r in sent_few h m (bare_response m));
-  holds = λ h token moment opened may few. omega (arith, ltb-true (length h.held) h.limits.pending may, length-append h.held (Answer Engine token moment ∷ []));
+  holds = λ h by token moment opened may few. omega (arith, ltb-true (length h.held) h.limits.pending may, length-append h.held (Answer by token moment ∷ []));
   lets_go = taken_few;
   pongs = λ h now token due room few. sent_few (without_first h now) (pong_with true token) (pong_with false token) (taken_few h now few);
   rejects = λ h fault takes room few. omega arith;
   ends = λ h cut takes few. omega arith;
   releases = λ h opened none few. omega arith;
   announces = λ h size opened room fit few. few;
+  responds = λ h m answering none few.
+      (let s : ConnectionState = standing_without m.token (standing_now h) in
+      omega (arith, few, send_held s m (bare_response m) (fit (limit_now h) m (bare_response m)), request_fewer (link_of h) m none));
   writes = λ h n within few. few;
 }
 
@@ -149,7 +156,7 @@ all_wait = record {
   replies = λ h token observe r does room.
       (let m = response_with_observe token observe r in
       added_waits h _ _ (all_go_on.replies h token observe r does room) refl room (sent_one (standing_now h) m (bare_response m) _) (sent_fits h m (bare_response m)));
-  holds = λ h token moment opened may. waits_by h _ (all_go_on.holds h token moment opened may) (λ w. w.few);
+  holds = λ h by token moment opened may. waits_by h _ (all_go_on.holds h by token moment opened may) (λ w. w.few);
   lets_go = λ h now. waits_by h _ (all_go_on.lets_go h now) (λ w. w.few);
   pongs = λ h now token due room.
       (let k = without_first h now in
@@ -161,6 +168,11 @@ all_wait = record {
   ends = λ h cut takes. waits_by h _ (all_go_on.ends h cut takes) (λ w. omega (arith, w.few, queued_waits h [] w.is));
   releases = λ h opened none.
       waits_by h _ (all_go_on.releases h opened none) (λ w. omega (arith, w.few, queued_waits h (release ∷ []) w.is, release_bytes_small, (release_fits (link_of h) none).0));
+  responds = λ h m answering none. waits_by h _ (all_go_on.responds h m answering none) (λ w. (
+      let s : ConnectionState = standing_without m.token (standing_now h) in
+      let ms : List Message = (send s m (bare_response m)).queued in
+      let small = responded_small (link_of h) m none in
+      omega (arith, w.few, queued_waits h ms w.is, small, ap (λ (ns : List Message). length (bytes_of ns)) (sent_is s m (bare_response m) (fit (limit_now h) m (bare_response m))))));
   announces = λ h size opened room fit.
       added_waits h _ _ (all_go_on.announces h size opened room fit) refl room (omega arith) (leb-true (length (spelling (own_csm size))) (limit_now h) fit, tt);
   writes = λ h n within.
@@ -261,12 +273,13 @@ grows_of w st id = let same : (h : History) → GrowsFitting h h = λ h. (evenly
   same = λ s. same s.history;
   handled = λ m is s.
       after_between GrowsFitting GrowsEvenly same grows_fitting_then message_grows evenly_self reply_evenly
-      (λ h token moment opened may. same_evenly h _ refl refl) w.store w.now s m;
+      (λ h by token moment opened may. same_evenly h _ refl refl) w.store w.now s m;
   faulted = λ fault is s. faulted_between GrowsFitting same (λ h r takes room. (effect_evenly h _ (stopped_fits h (reject_reason r))).grows) s fault;
   written = written_between GrowsFitting same (λ h n within. (same_evenly h _ refl refl).grows);
   ended = ended_between GrowsFitting same (λ h cut takes. (effect_evenly h (stop (standing_now h) (end_reason cut) []) tt).grows);
   released = released_between GrowsFitting same (λ h opened none.
       (effect_evenly h (stop (standing_now h) reason.ReleasedHere (release ∷ [])) (released_fits h (release_fits (link_of h) none).1)).grows);
+  responded = responded_between GrowsFitting same (λ h m answering none. (effect_evenly h _ (responded_fits h m)).grows);
   announced = λ size is s. announced_between GrowsFitting same
       (λ h n opened room fit. record { more = own_csm n ∷ []; queued = refl; fit = (leb-true (length (spelling (own_csm n))) (limit_now h) fit, tt) }) s size;
   told = λ store now s t is. grows_fitting_then s.history t.history _ is (once_evenly store now t);

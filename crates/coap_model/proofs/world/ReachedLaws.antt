@@ -3,7 +3,7 @@
 use Rattle.std.proofs.Common.{◌≡◌, ℕ, ◌+◌, ◌<◌, ◌≤◌, Bool, true, false, cond, List, [], ◌∷◌, length, map, Option, Some, None, refl, sym, ap, subst, ◌∙◌, arith, is_none, ◌++◌, take, Result, Ok, Err, inl, inr, ◌⊎◌, nat_lt, not, ◌==◌, if◌then◌else◌}
 use Rattle.coap_model.specs.Prelude.{AllByRecursion, StreamFault, Stream, frame_then, LimitValues, takes_messages}
 use Rattle.coap_model.specs.Prelude.{put_refusal, ConfigValues, Connection, new_side, handles, side_after, side_faulted}
-use Rattle.coap_model.specs.Prelude.{side_written, side_ended, side_released, side_announced, settled, has_room}
+use Rattle.coap_model.specs.Prelude.{side_written, side_ended, side_released, side_announced, side_responded, settled, has_room}
 use Rattle.coap_model.specs.Prelude.{may_raise, ConnectionEntry, World, Step, new_world, side_of, on_side, ticks, acted}
 use Rattle.coap_model.specs.Prelude.{settled_place, AcceptedCall, steps_of, world_after, taken_in, size_on, stream_on}
 use Rattle.coap_model.specs.Prelude.{spelled_on, steps_by, takes, IfSide, IsAccepted, AreAccepted, Message}
@@ -25,7 +25,7 @@ use Rattle.coap_frame.proofs.FrontLaws.{added_by, front_whole}
 use Rattle.coap_conn.proofs.AskingLaws.{none_where}
 use Rattle.coap_model.proofs.world.StepLaws.{steps_keep, world_first, world_same, world_step, by_events, stream_same, size_then, size_stays, announced_here, announced_elsewhere, nothing_spelled, first_spelled, spelled_same, taken_elsewhere, stream_elsewhere, rest_unfinished}
 use Rattle.coap_model.proofs.world.TookLaws.{no_bytes_stream, no_bytes_steps, Adds, adds_frame}
-use Rattle.coap_model.proofs.world.WalkLaws.{Between, once_between, settled_between, after_between, faulted_between, written_between, ended_between, released_between}
+use Rattle.coap_model.proofs.world.WalkLaws.{responded_between, Between, once_between, settled_between, after_between, faulted_between, written_between, ended_between, released_between}
 use Rattle.coap_wire.proofs.NumberLaws.{none_or_some}
 use Rattle.coap_model.specs.world.World as world
 use Rattle.coap_model.specs.world.Events as event
@@ -60,6 +60,7 @@ module _ (P : World → Type 0) (limits : LimitValues) (w : World) (holds : P w)
   acted_keeps (world.Ended id cut) keeps = one_changed _ id (λ s. side_ended s cut) keeps
   acted_keeps (world.Released id) keeps = one_changed _ id side_released keeps
   acted_keeps (world.Announced id size) keeps = one_changed _ id (λ s. side_announced s size) keeps
+  acted_keeps (world.Responded id m) keeps = one_changed _ id (λ s. side_responded s m) keeps
   acted_keeps (world.Dropped id) keeps = keeps.dropped id
 
   pub step_keeps : (st : Step) → KeptByStep P limits w st → P (world.step limits w st)
@@ -216,12 +217,13 @@ size_kept : (w : World) (st : Step) (id : ℕ) → IsUnannounced st id → Holds
 size_kept w st id none = record {
   same = λ s. refl;
   handled = λ m is s.
-      after_between SameSize SameSize (λ h. refl) (λ h k g one two. two ∙ one) (λ h n takes room. refl) (λ h. refl) (λ h token observe r does room. refl) (λ h token moment opened may. refl) w.store w.now s m;
+      after_between SameSize SameSize (λ h. refl) (λ h k g one two. two ∙ one) (λ h n takes room. refl) (λ h. refl) (λ h token observe r does room. refl) (λ h by token moment opened may. refl) w.store w.now s m;
   faulted = λ fault is s. faulted_between SameSize (λ h. refl) (λ h r takes room. refl) s fault;
   written = written_between SameSize (λ h. refl) (λ h n within. refl);
   ended = ended_between SameSize (λ h. refl) (λ h cut takes. refl);
   released = released_between SameSize (λ h. refl) (λ h opened may. refl);
   announced = λ size is. absurd (none size is);
+  responded = responded_between SameSize (λ h. refl) (λ h m answering none. refl);
   told = λ store now s t is. (once_between SameSize SameSize (λ h. refl) (λ h k g one two. two ∙ one) (λ h token observe r does room. refl) (λ h now. refl) (λ h now token due room. refl)) store now t ∙ is;
 }
 

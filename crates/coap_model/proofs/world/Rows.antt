@@ -8,7 +8,7 @@ use Rattle.coap_model.specs.Prelude.{announced, due_index, first_due, without_du
 use Rattle.coap_model.specs.Prelude.{live_reaction, Phase, Path, is_path, found_in, put_at, removed_at, encoded_byte}
 use Rattle.coap_model.specs.Prelude.{path_bytes, entry_bytes, listing, kind_of_path, key_for, state_at, has_option}
 use Rattle.coap_model.specs.Prelude.{value_of, number_of, match_holds, is_seconds, get_answer, store_answer}
-use Rattle.coap_model.specs.Prelude.{method_answer, resource_answer, answer_at, answer_of, immediate_answer}
+use Rattle.coap_model.specs.Prelude.{method_answer, resource_answer, answer_at, answer_of, immediate_answer, prompt_answer, application_deadline}
 use Rattle.coap_model.specs.Prelude.{notification_at, put_refusal, ConfigValues, is_due, without_token}
 use Rattle.coap_model.specs.Prelude.{first_becomes, Connection, waiting_on, side_after, change_after, side_faulted}
 use Rattle.coap_model.specs.Prelude.{side_written, side_ended, side_released, settled_once, settled_within, settled}
@@ -121,7 +121,7 @@ told_behind c events (call ∷ calls) =
 
 -- The answer to a request.
 answers_computed : Unit {0}
-unfolding immediate_answer answer_of answer_at resource_answer method_answer get_answer store_answer kind_of is_recognised known_behind first_critical_behind values_of has_option value_of number_of match_holds is_seconds is_path kind_of_path key_for state_at found_in put_at removed_at listing entry_bytes path_bytes encoded_byte digits notification_at put_refusal
+unfolding prompt_answer application_deadline immediate_answer answer_of answer_at resource_answer method_answer get_answer store_answer kind_of is_recognised known_behind first_critical_behind values_of has_option value_of number_of match_holds is_seconds is_path kind_of_path key_for state_at found_in put_at removed_at listing entry_bytes path_bytes encoded_byte digits notification_at put_refusal
 answers_computed = tt
 
 -- The effects on a connection and on a server.

@@ -5,10 +5,10 @@ use Rattle.coap_model.specs.Prelude.{answers, is_open, fit, bare_response, Pendi
 use Rattle.coap_model.specs.Prelude.{first_due, without_due, due_moment, answer_index, pong_index, else_index, held_at}
 use Rattle.coap_model.specs.Prelude.{due_index, NothingIsDue, History, IsHistory, limit_now, standing_now}
 use Rattle.coap_model.specs.Prelude.{after, standing_due}
-use Rattle.coap_model.specs.Prelude.{StoreValue, path_of, answer_of, immediate_answer}
+use Rattle.coap_model.specs.Prelude.{StoreValue, path_of, prompt_answer}
 use Rattle.coap_model.specs.Prelude.{Change, changed, response_with_observe}
 use Rattle.coap_model.specs.Prelude.{Connection, handles, has_room, side_with, with_history, side_answered}
-use Rattle.coap_model.specs.Prelude.{moment_after, held_for, side_replied, asks_answer, side_handled, side_after}
+use Rattle.coap_model.specs.Prelude.{moment_after, Delay, delay_of, hold_call, held_for, side_replied, asks_answer, side_handled, side_after}
 use Rattle.coap_model.specs.Prelude.{next_due}
 use Rattle.coap_model.specs.Prelude.{notified, next_held, held_message, after_sent, settled_so, settled_once}
 use Rattle.coap_model.specs.Prelude.{settled_within, settled, IsUpToDate}
@@ -23,7 +23,7 @@ use Rattle.coap_model.proofs.world.KnownLaws.{entry_watchable, IsKnown, IsVersio
 use Rattle.coap_model.proofs.world.EntryLemmas.{asks_to_enter, all_to, all_append, all_filter, all_become, found_all, none_due, count_due, count_within, count_less}
 use Rattle.coap_model.proofs.world.EntryLemmas.{none_found}
 use Rattle.coap_model.proofs.world.GoingOn.{as_before, further, GoesOn, all_go_on, written_goes_on}
-use Rattle.coap_model.proofs.world.WalkLaws.{there_or_not, there_where, kept_open_has, once_between, HoldsOfCalls, observers_kept, settled_keeps, written_between, ended_between, released_between, announced_between}
+use Rattle.coap_model.proofs.world.WalkLaws.{there_or_not, there_where, kept_open_has, once_between, HoldsOfCalls, observers_kept, settled_keeps, written_between, ended_between, released_between, announced_between, responded_between}
 use Rattle.coap_model.proofs.world.AcrossLaws.{faulted_all, after_all}
 use Rattle.coap_conn.specs.PendingEntries as held
 use Rattle.coap_conn.specs.Calls as call
@@ -44,12 +44,12 @@ pub handles_parts : (s : Connection) → handles s ≡ true → (takes_messages 
 handles_parts s e = and_parts (takes_messages s.history.phase) (has_room s) e
 
 -- A request whose response is delayed, and one whose response is sent at once.
-pub replied_cases : (store : StoreValue) (now : ℕ) (h : History) (others : List Observer) (m : Message) (hold : Option ℕ) (P : Connection → Type 0)
-    → ((seconds : ℕ) → held_for h hold ≡ Some seconds → P (side_with (after h (call.Hold m.token (moment_after now seconds))) others))
-    → (held_for h hold ≡ None → P (side_answered store now h others m (immediate_answer store now m)))
-    → P (side_replied store now h others m (held_for h hold))
-replied_cases store now h others m hold P held prompt =
-    there_or_not (held_for h hold) (λ found. P (side_replied store now h others m found)) prompt held
+pub replied_cases : (store : StoreValue) (now : ℕ) (h : History) (others : List Observer) (m : Message) (delay : Option Delay) (P : Connection → Type 0)
+    → ((d : Delay) → held_for h delay ≡ Some d → P (side_with (after h (hold_call d.by m.token (moment_after now d.seconds))) others))
+    → (held_for h delay ≡ None → P (side_answered store now h others m (prompt_answer store now m)))
+    → P (side_replied store now h others m (held_for h delay))
+replied_cases store now h others m delay P held prompt =
+    there_or_not (held_for h delay) (λ found. P (side_replied store now h others m found)) prompt held
 
 -- ---- one round of settling
 
@@ -103,20 +103,22 @@ calls_known store = let told = observers_kept (AreKnown store) tt in record {
   released = λ s known. record { is_history = (released_between GoesOn as_before all_go_on.releases s).history known.is_history; told = told.released s known.told };
   announced = λ s size known.
       record { is_history = (announced_between GoesOn as_before all_go_on.announces s size).history known.is_history; told = told.announced s size known.told };
+  responded = λ s m known.
+      record { is_history = (responded_between GoesOn as_before all_go_on.responds s m).history known.is_history; told = told.responded s m known.told };
 }
 
 -- A property of the observers after a message. It must hold of no observers, and of the observers before. It must also
 -- hold of those without the message's token, and of these with its entry if there is a place for it.
 pub observers_after : (P : List Observer → Type 0) (store : StoreValue) (now : ℕ) (s : Connection) (m : Message) → P [] → P s.observers → P (without_token m.token s.observers)
-    → ((immediate_answer store now m).watch ≡ watch.Add → length (without_token m.token s.observers) < (after s.history (call.Handle m)).limits.observers → P (without_token m.token s.observers ++ entry_for store now m ∷ []))
+    → ((prompt_answer store now m).watch ≡ watch.Add → length (without_token m.token s.observers) < (after s.history (call.Handle m)).limits.observers → P (without_token m.token s.observers ++ entry_for store now m ∷ []))
     → P (side_after store now s m).observers
 unfolding side_after
 observers_after P store now s m none same others entered =
     let h : History = after s.history (call.Handle m) in
     let os : List Observer = without_token m.token s.observers in
-    let asked : Watch = (immediate_answer store now m).watch in
+    let asked : Watch = (prompt_answer store now m).watch in
     let observes : Bool = has_place h.limits.observers os asked in
-    let response : Message = response_with_observe m.token observes (immediate_answer store now m).response in
+    let response : Message = response_with_observe m.token observes (prompt_answer store now m).response in
     let enters : Bool = observes && is_whole (fit (limit_now h) response (bare_response response)) in
     let HasThem : Connection → Type 0 = λ t. P t.observers in
     let with_it : P (with_entry enters os (entry_for store now m)) =
@@ -126,8 +128,8 @@ observers_after P store now s m none same others entered =
       | false ↦ λ so. others
     ] refl in
     cond_both (handles s) (side_handled store now s m) s HasThem (λ does. cond_both (asks_answer s m) _ (with_history s h) HasThem
-    (λ asks. replied_cases store now h os m (answer_of store now m).hold HasThem
-    (λ seconds held. kept_open_has P none (after h (call.Hold m.token (moment_after now seconds))) os others)
+    (λ asks. replied_cases store now h os m (delay_of store now m) HasThem
+    (λ d held. kept_open_has P none (after h (hold_call d.by m.token (moment_after now d.seconds))) os others)
     (λ prompt. kept_open_has P none (after h (call.Reply response)) _ with_it))
     (λ other. kept_open_has P none h s.observers same)) (λ idle. same)
 

@@ -1,10 +1,10 @@
 -- After any events, the last response with an observer's token reports the state that its entry records. This holds if
 -- no request for a delayed response had that token.
 use Rattle.std.proofs.Common.{◌≡◌, ◌≢◌, ℕ, Bool, true, false, List, [], ◌∷◌, ◌++◌, length, Option, Some, None, refl, sym, ap, subst, ◌∙◌, filter, find, not, nat_lt, ◌&&◌, if◌then◌else◌, arith}
-use Rattle.coap_model.specs.Prelude.{list_any, Engine, Application, asks_pending}
+use Rattle.coap_model.specs.Prelude.{list_any, Responder, Engine, Application, asks_pending, ApplicationsValue}
 use Rattle.coap_model.specs.Prelude.{AllByRecursion, Message, LimitValues, is_open, fit, bare_response, PendingEntryValue}
 use Rattle.coap_model.specs.Prelude.{Answer, Pong, first_due, History, limit_now, after, same_bytes, StoreValue}
-use Rattle.coap_model.specs.Prelude.{state_of, immediate_answer, response_with_observe, ConfigValues, Observer, is_due}
+use Rattle.coap_model.specs.Prelude.{state_of, prompt_answer, response_with_observe, ConfigValues, Observer, is_due}
 use Rattle.coap_model.specs.Prelude.{without_token, has_place, asks_entry, entry_for, is_whole, with_entry, goes_on}
 use Rattle.coap_model.specs.Prelude.{notification, notification_message, left_of, first_becomes, Connection, handles}
 use Rattle.coap_model.specs.Prelude.{side_with, with_history, side_answered, side_handled, side_after, next_due}
@@ -21,56 +21,60 @@ use Rattle.coap_model.proofs.world.EntryLemmas.{asks_to_enter, all_to, all_appen
 use Rattle.coap_model.proofs.world.SideLaws.{settled_cases, held_room, next_due_found}
 use Rattle.coap_model.proofs.world.WalkLaws.{ended_between, Between, faulted_between, written_between, released_between, announced_between, holding, observers_kept}
 use Rattle.coap_model.proofs.world.GoingOn.{kept_after, IsSide, Keeps}
-use Rattle.coap_model.proofs.world.ToldMessages.{last_stays, queues_none, message_queues, reject_queues, end_queues, release_queues, due_queues, reply_queues, whole_last, announcing_queues, Queues, written_queues, last_of_longer}
+use Rattle.coap_model.proofs.world.ToldMessages.{last_stays, queues_none, message_queues, reject_queues, end_queues, release_queues, due_queues, reply_queues, whole_last, announcing_queues, Queues, queues_these, sent_all, written_queues, last_of_longer}
 use Rattle.coap_conn.proofs.ReactionLaws.{IsNoResponse, IsPlain}
 use Rattle.coap_model.proofs.world.CustodyLaws.{Stands, stand_asked, stands_keeps, handled_cases}
+use Rattle.coap_conn.proofs.AskingLaws.{none_where}
+use Rattle.coap_model.proofs.world.RespondedLaws.{answered_request}
+use Rattle.coap_model.specs.Prelude.{side_responded, response_refusal, link_of, with_effect, send, standing_without, standing_now, answers}
+use Rattle.std.specs.Prelude.{is_none}
 use Rattle.coap_model.proofs.world.KnownLaws.{tells_responds, entry_tells, notification_tells_observer}
 
 -- ---- reported states are kept
 
 -- The last response reports the recorded state, if no request for a delayed response had the observer's token.
-abbrev pub ToldOn : History → Observer → Type 0
-ToldOn h o = asked_late o.token h.handled ≡ false → IsLastNotification h.queued o
+abbrev pub ToldOn : Option ApplicationsValue → History → Observer → Type 0
+ToldOn a h o = asked_late a o.token h.handled ≡ false → IsLastNotification h.queued o
 
 -- This holds of each observer, and no two have the same token.
-pub record AreTold (h : History) (os : List Observer) : Type 0 where
+pub record AreTold (a : Option ApplicationsValue) (h : History) (os : List Observer) : Type 0 where
   pub own : TokensAreDistinct os
-  pub told : AllByRecursion (ToldOn h) os
+  pub told : AllByRecursion (ToldOn a h) os
 
-abbrev AllTold : Connection → Type 0
-AllTold s = AreTold s.history s.observers
+abbrev AllTold : Option ApplicationsValue → Connection → Type 0
+AllTold a s = AreTold a s.history s.observers
 
 -- A message that reports the recorded state is queued.
 told_by_last : (o : Observer) (queued : List Message) (m : Message) → ReportsState o o.told m → IsLastNotification (queued ++ m ∷ []) o
 told_by_last o queued m tells = (m, grind (arith, last_of_longer o.token queued m, tells_responds o o.told m tells), tells)
 
 -- Queued messages keep this if none of them is a response with the observer's token.
-queued_told : (P : Message → Type 0) (h k : History) (o : Observer) → Queues P h k → (asked_late o.token h.handled ≡ false → (m : Message) → P m → responds o.token m ≡ false) → ToldOn h o → ToldOn k o
-queued_told P h k o queues other told none =
-    let before : asked_late o.token h.handled ≡ false = grind (arith, queues.handled, list_any-append) in
+queued_told : (a : Option ApplicationsValue) (P : Message → Type 0) (h k : History) (o : Observer) → Queues P h k → (asked_late a o.token h.handled ≡ false → (m : Message) → P m → responds o.token m ≡ false) → ToldOn a h o → ToldOn a k o
+queued_told a P h k o queues other told none =
+    let before : asked_late a o.token h.handled ≡ false = grind (arith, queues.handled, list_any-append) in
     let was : IsLastNotification h.queued o = told before in
     let stays = last_stays o.token h.queued queues.more (all_to P (λ m. responds o.token m ≡ false) (other before) queues.more queues.such) in
     (was.0, ap (last_response o.token) queues.same ∙ stays ∙ was.1, was.2)
 
 -- Messages that are no responses keep it.
-signalled_told : (P : Message → Type 0) → ((m : Message) → P m → IsNoResponse m) → (h k : History) (os : List Observer) → Queues P h k → AreTold h os → AreTold k os
-signalled_told P other h k os queues are = record {
+signalled_told : (a : Option ApplicationsValue) (P : Message → Type 0) → ((m : Message) → P m → IsNoResponse m) → (h k : History) (os : List Observer) → Queues P h k → AreTold a h os → AreTold a k os
+signalled_told a P other h k os queues are = record {
   own = are.own;
-  told = all_to (ToldOn h) (ToldOn k) (λ o. queued_told P h k o queues (λ none m is. and_left (is_response m) _ (other m is))) os are.told;
+  told = all_to (ToldOn a h) (ToldOn a k) (λ o. queued_told a P h k o queues (λ none m is. and_left (is_response m) _ (other m is))) os are.told;
 }
 
 -- Responses with another token keep it.
 abbrev HasToken : List ℕ → Message → Type 0
 HasToken token m = m.token ≡ token
 
-other_told : (token : List ℕ) (h k : History) (o : Observer) → Queues (HasToken token) h k → token ≢ o.token → ToldOn h o → ToldOn k o
-other_told token h k o queues apart = queued_told (HasToken token) h k o queues (λ none m e. grind (arith, (bytes_decides m.token o.token).0))
+other_told : (a : Option ApplicationsValue) (token : List ℕ) (h k : History) (o : Observer) → Queues (HasToken token) h k → token ≢ o.token → ToldOn a h o → ToldOn a k o
+other_told a token h k o queues apart = queued_told a (HasToken token) h k o queues (λ none m e. grind (arith, (bytes_decides m.token o.token).0))
 
 -- Responses keep it if their token is that of a request for a delayed response.
-late_told : (token : List ℕ) (h k : History) (os : List Observer) → Queues (HasToken token) h k → asked_late token h.handled ≡ true → AreTold h os → AreTold k os
-late_told token h k os queues asked are = record {
+late_told : (a : Option ApplicationsValue) (token : List ℕ) (h k : History) (os : List Observer) → Queues (HasToken token) h k → asked_late a token h.handled ≡ true → AreTold a h os → AreTold a k os
+late_told a token h k os queues asked are = record {
   own = are.own;
-  told = all_to (ToldOn h) (ToldOn k) (λ o. queued_told (HasToken token) h k o queues (λ none m e. grind (arith, (bytes_decides m.token o.token).0))) os are.told;
+  told = all_to (ToldOn a h) (ToldOn a k) (λ o. queued_told a (HasToken token) h k o queues (λ none m e. grind (arith, (bytes_decides m.token o.token).0))) os are.told;
 }
 
 -- ---- lists of observers
@@ -78,9 +82,9 @@ late_told token h k os queues asked are = record {
 abbrev pub HaveOtherTokens : List ℕ → List Observer → Type 0
 HaveOtherTokens token os = AllByRecursion (λ o. token ≢ o.token) os
 
-others_told : (token : List ℕ) (h k : History) (os : List Observer) → Queues (HasToken token) h k → HaveOtherTokens token os → AllByRecursion (ToldOn h) os → AllByRecursion (ToldOn k) os
-others_told token h k [] queues others told = tt
-others_told token h k (o ∷ os) queues others told = (other_told token h k o queues others.0 told.0, others_told token h k os queues others.1 told.1)
+others_told : (a : Option ApplicationsValue) (token : List ℕ) (h k : History) (os : List Observer) → Queues (HasToken token) h k → HaveOtherTokens token os → AllByRecursion (ToldOn a h) os → AllByRecursion (ToldOn a k) os
+others_told a token h k [] queues others told = tt
+others_told a token h k (o ∷ os) queues others told = (other_told a token h k o queues others.0 told.0, others_told a token h k os queues others.1 told.1)
 
 own_filter : (test : Observer → Bool) (os : List Observer) → TokensAreDistinct os → TokensAreDistinct (filter test os)
 own_filter test [] own = tt
@@ -98,176 +102,189 @@ filter_others token (o ∷ os) =
     cond_both (not (same_bytes o.token token)) _ _ (HaveOtherTokens token)
     (λ kept. ((λ same. grind (arith, (bytes_decides o.token token).1)), filter_others token os)) (λ gone. filter_others token os)
 
-without_told : (token : List ℕ) (h : History) (os : List Observer) → AreTold h os → AreTold h (without_token token os)
+without_told : (a : Option ApplicationsValue) (token : List ℕ) (h : History) (os : List Observer) → AreTold a h os → AreTold a h (without_token token os)
 unfolding without_token
-without_told token h os are = record { own = own_filter _ os are.own; told = all_filter (ToldOn h) _ os are.told }
+without_told a token h os are = record { own = own_filter _ os are.own; told = all_filter (ToldOn a h) _ os are.told }
 
 -- ---- answers
 
 -- If the connection is open, the observers stay; otherwise they are removed.
-kept_told : (h : History) (os : List Observer) → (is_open h.phase ≡ true → AreTold h os) → AllTold (side_with h os)
-kept_told h os go = cond_both (is_open h.phase) os [] (AreTold h) go (λ e. record { own = tt; told = tt })
+kept_told : (a : Option ApplicationsValue) (h : History) (os : List Observer) → (is_open h.phase ≡ true → AreTold a h os) → AllTold a (side_with h os)
+kept_told a h os go = cond_both (is_open h.phase) os [] (AreTold a h) go (λ e. record { own = tt; told = tt })
 
 -- The entry of a request is appended if the response reports its state.
-entered_told : (h : History) (os : List Observer) (entry : Observer) (enters : Bool) → HaveOtherTokens entry.token os → AreTold h os → (enters ≡ true → IsLastNotification h.queued entry) → AreTold h (with_entry enters os entry)
-entered_told h os entry true others are new =
-    record { own = own_last os entry others are.own; told = all_append (ToldOn h) os (entry ∷ []) are.told ((λ none. new refl), tt) }
-entered_told h os entry false others are new = are
+entered_told : (a : Option ApplicationsValue) (h : History) (os : List Observer) (entry : Observer) (enters : Bool) → HaveOtherTokens entry.token os → AreTold a h os → (enters ≡ true → IsLastNotification h.queued entry) → AreTold a h (with_entry enters os entry)
+entered_told a h os entry true others are new =
+    record { own = own_last os entry others are.own; told = all_append (ToldOn a h) os (entry ∷ []) are.told ((λ none. new refl), tt) }
+entered_told a h os entry false others are new = are
 
 -- The response to the request reports it.
-told_with_answer : (store : StoreValue) (now : ℕ) (h : History) (os : List Observer) (m : Message) → HaveOtherTokens m.token os → AreTold h os → AllTold (side_answered store now h os m (immediate_answer store now m))
-told_with_answer store now h os m others are =
-    let a : answer.Answer = immediate_answer store now m in
-    let observes : Bool = has_place h.limits.observers os a.watch in
-    let response : Message = response_with_observe m.token observes a.response in
+told_with_answer : (a : Option ApplicationsValue) (store : StoreValue) (now : ℕ) (h : History) (os : List Observer) (m : Message) → HaveOtherTokens m.token os → AreTold a h os → AllTold a (side_answered store now h os m (prompt_answer store now m))
+told_with_answer a store now h os m others are =
+    let r : answer.Answer = prompt_answer store now m in
+    let observes : Bool = has_place h.limits.observers os r.watch in
+    let response : Message = response_with_observe m.token observes r.response in
     let whole : Bool = is_whole (fit (limit_now h) response (bare_response response)) in
     let entry : Observer = entry_for store now m in
     let k : History = after h (call.Reply response) in
     let tells : observes ≡ true → ReportsState entry entry.told response = λ has.
-    subst (λ (b : Bool). ReportsState entry entry.told (response_with_observe m.token b a.response)) (sym has)
-    (entry_tells store now m (asks_to_enter a.watch (and_parts (asks_entry a.watch) (nat_lt (length os) h.limits.observers) has).0)) in
-    kept_told k (with_entry (observes && whole) os entry)
-    (λ opened. entered_told k os entry (observes && whole) others (record { own = are.own; told = others_told m.token h k os (reply_queues h response) others are.told })
+    subst (λ (b : Bool). ReportsState entry entry.told (response_with_observe m.token b r.response)) (sym has)
+    (entry_tells store now m (asks_to_enter r.watch (and_parts (asks_entry r.watch) (nat_lt (length os) h.limits.observers) has).0)) in
+    kept_told a k (with_entry (observes && whole) os entry)
+    (λ opened. entered_told a k os entry (observes && whole) others (record { own = are.own; told = others_told a m.token h k os (reply_queues h response) others are.told })
     (λ e. (let both = and_parts observes whole e in
     subst (λ queued. IsLastNotification queued entry) (sym (whole_last h response both.1 opened)) (told_by_last entry h.queued response (tells both.0)))))
 
 -- ---- messages
 
 -- No response is queued.
-signalled_side : (s : Connection) (h : History) → Queues IsNoResponse s.history h → AllTold s → AllTold (with_history s h)
-signalled_side s h queues are = kept_told h s.observers (λ opened. signalled_told IsNoResponse (λ m is. is) s.history h s.observers queues are)
+signalled_side : (a : Option ApplicationsValue) (s : Connection) (h : History) → Queues IsNoResponse s.history h → AllTold a s → AllTold a (with_history s h)
+signalled_side a s h queues are = kept_told a h s.observers (λ opened. signalled_told a IsNoResponse (λ m is. is) s.history h s.observers queues are)
 
-handled_told : (limits : LimitValues) (store : StoreValue) (now : ℕ) (s : Connection) (m : Message) → IsSide limits s → AllTold s → AllTold (side_handled store now s m)
+handled_told : (a : Option ApplicationsValue) (limits : LimitValues) (store : StoreValue) (now : ℕ) (s : Connection) (m : Message) → IsSide limits s → AllTold a s → AllTold a (side_handled store now s m)
 unfolding without_token
-handled_told limits store now s m is are =
+handled_told a limits store now s m is are =
     let h : History = after s.history (call.Handle m) in
     let queues : Queues IsNoResponse s.history h = message_queues s.history m is.is_server in
     let others : List Observer = without_token m.token s.observers in
-    let still : AreTold h others = signalled_told IsNoResponse (λ m is. is) s.history h others queues (without_told m.token s.history s.observers are) in
-    handled_cases store now s m AllTold (λ other. signalled_side s h queues are)
-    (λ asks moment asked. kept_told (holding h _) others (λ opened. record { own = still.own; told = still.told }))
-    (λ asks. told_with_answer store now h others m (filter_others m.token s.observers) still)
+    let still : AreTold a h others = signalled_told a IsNoResponse (λ m is. is) s.history h others queues (without_told a m.token s.history s.observers are) in
+    handled_cases store now s m (AllTold a) (λ other. signalled_side a s h queues are)
+    (λ asks by moment asked. kept_told a (holding h _) others (λ opened. record { own = still.own; told = still.told }))
+    (λ asks. told_with_answer a store now h others m (filter_others m.token s.observers) still)
 
 -- ---- notifications
 
 -- The entry after a notification has the token of the first due observer.
-module _ (store : StoreValue) (now : ℕ) (h k : History) (o : Observer) (queues : Queues (HasToken o.token) h k) (stays : Bool) (new : AllByRecursion (ToldOn k) (left_of store now o stays)) (due : Observer → Bool) where
+module _ (a : Option ApplicationsValue) (store : StoreValue) (now : ℕ) (h k : History) (o : Observer) (queues : Queues (HasToken o.token) h k) (stays : Bool) (new : AllByRecursion (ToldOn a k) (left_of store now o stays)) (due : Observer → Bool) where
   own_left : (os : List Observer) → HaveOtherTokens o.token os → TokensAreDistinct os → TokensAreDistinct (left_of store now o stays ++ os)
   own_left os others own = elim stays as (λ b. TokensAreDistinct (left_of store now o b ++ os)) [ true ↦ (others, own) | false ↦ own ]
 
   left_apart : (token : List ℕ) → token ≢ o.token → HaveOtherTokens token (left_of store now o stays)
   left_apart token apart = elim stays as (λ b. HaveOtherTokens token (left_of store now o b)) [ true ↦ (apart, tt) | false ↦ tt ]
 
-  told_become : (os : List Observer) → find due os ≡ Some o → AreTold h os → AreTold k (first_becomes due (left_of store now o stays) os)
+  told_become : (os : List Observer) → find due os ≡ Some o → AreTold a h os → AreTold a k (first_becomes due (left_of store now o stays) os)
   unfolding first_becomes
   told_become [] e are = absurd cc
   told_become (p ∷ os) e are =
       let left : List Observer = left_of store now o stays in
-      elim (due p) as (λ b. (if b then Some p else find due os) ≡ Some o → AreTold k (if b then left ++ os else p ∷ first_becomes due left os)) [
+      elim (due p) as (λ b. (if b then Some p else find due os) ≡ Some o → AreTold a k (if b then left ++ os else p ∷ first_becomes due left os)) [
         | true ↦ λ is. (
             let same : p ≡ o = cc in
             let others : HaveOtherTokens o.token os = subst (λ q. HaveOtherTokens q.token os) same are.own.0 in
-            record { own = own_left os others are.own.1; told = all_append (ToldOn k) left os new (others_told o.token h k os queues others are.told.1) }
+            record { own = own_left os others are.own.1; told = all_append (ToldOn a k) left os new (others_told a o.token h k os queues others are.told.1) }
             )
         | false ↦ λ is. (
             let apart : p.token ≢ o.token = found_all (λ q. p.token ≢ q.token) due os o are.own.0 is in
-            let later : AreTold k (first_becomes due left os) = told_become os is (record { own = are.own.1; told = are.told.1 }) in
+            let later : AreTold a k (first_becomes due left os) = told_become os is (record { own = are.own.1; told = are.told.1 }) in
             record {
               own = (all_become (λ q. p.token ≢ q.token) due left os are.own.0 (left_apart p.token apart), later.own);
-              told = (other_told o.token h k p queues (λ same. apart (sym same)) are.told.0, later.told);
+              told = (other_told a o.token h k p queues (λ same. apart (sym same)) are.told.0, later.told);
             }
             )
       ] e
 
 -- The notification reports the state that the updated entry records.
-left_told : (store : StoreValue) (now : ℕ) (h : History) (o : Observer) (stays : Bool) → (stays ≡ true → goes_on (notification store now o) ≡ true)
+left_told : (a : Option ApplicationsValue) (store : StoreValue) (now : ℕ) (h : History) (o : Observer) (stays : Bool) → (stays ≡ true → goes_on (notification store now o) ≡ true)
     → (stays ≡ true → is_whole (fit (limit_now h) (notification_message o.token (notification store now o)) (bare_response (notification_message o.token (notification store now o)))) ≡ true)
     → is_open (after h (call.Reply (notification_message o.token (notification store now o)))).phase ≡ true
-    → AllByRecursion (ToldOn (after h (call.Reply (notification_message o.token (notification store now o))))) (left_of store now o stays)
-left_told store now h o true on whole opened =
+    → AllByRecursion (ToldOn a (after h (call.Reply (notification_message o.token (notification store now o))))) (left_of store now o stays)
+left_told a store now h o true on whole opened =
     let m : Message = notification_message o.token (notification store now o) in
     let left : Observer = record o { told = state_of store now o.path } in (
       (λ none. subst (λ queued. IsLastNotification queued left) (sym (whole_last h m (whole refl) opened))
           (told_by_last left h.queued m (notification_tells_observer store now o (on refl)))),
       tt,
     )
-left_told store now h o false on whole opened = tt
+left_told a store now h o false on whole opened = tt
 
-notified_told : (store : StoreValue) (now : ℕ) (s : Connection) (found : Option Observer) → ((o : Observer) → found ≡ Some o → find (is_due store now) s.observers ≡ Some o) → AllTold s → AllTold (notified store now s found)
-notified_told store now s None there are = are
-notified_told store now s (Some o) there are =
+notified_told : (a : Option ApplicationsValue) (store : StoreValue) (now : ℕ) (s : Connection) (found : Option Observer) → ((o : Observer) → found ≡ Some o → find (is_due store now) s.observers ≡ Some o) → AllTold a s → AllTold a (notified store now s found)
+notified_told a store now s None there are = are
+notified_told a store now s (Some o) there are =
     let m : Message = notification_message o.token (notification store now o) in
     let on : Bool = goes_on (notification store now o) in
     let whole : Bool = is_whole (fit (limit_now s.history) m (bare_response m)) in
     let h : History = after s.history (call.Reply m) in
-    kept_told h (first_becomes (is_due store now) (left_of store now o (on && whole)) s.observers)
-    (λ opened. told_become store now s.history h o (reply_queues s.history m) (on && whole)
-    (left_told store now s.history o (on && whole) (λ e. (and_parts on whole e).0) (λ e. (and_parts on whole e).1) opened)
+    kept_told a h (first_becomes (is_due store now) (left_of store now o (on && whole)) s.observers)
+    (λ opened. told_become a store now s.history h o (reply_queues s.history m) (on && whole)
+    (left_told a store now s.history o (on && whole) (λ e. (and_parts on whole e).0) (λ e. (and_parts on whole e).1) opened)
     (is_due store now) s.observers (there o refl) are)
 
 -- ---- pending entries
 
--- No message asks for an entry of the application.
-never_asked : (token : List ℕ) (moment : ℕ) (ms : List Message) → list_any (λ m. asks_pending m (Answer Application token moment)) ms ≡ true → ⊥
-never_asked token moment [] e = cc
-never_asked token moment (m ∷ ms) e = never_asked token moment ms e
+-- A message that asks for a delayed response asks for one of the engine or of the application.
+late_asked : (a : Option ApplicationsValue) (by : Responder) (token : List ℕ) (moment : ℕ) (ms : List Message) → list_any (λ m. asks_pending a m (Answer by token moment)) ms ≡ true → asked_late a token ms ≡ true
+late_asked a by token moment [] e = e
+late_asked a Engine token moment (m ∷ ms) e = grind (arith, late_asked a Engine token moment ms)
+late_asked a Application token moment (m ∷ ms) e = grind (arith, late_asked a Application token moment ms)
 
 -- The token of a delayed response is that of a request for one.
-sent_told : (s : Connection) (now : ℕ) (e : PendingEntryValue) → first_due now s.history.held ≡ Some e → Stands s.history → AllTold s → AllTold (with_history s (after_sent s.history now e))
-sent_told s now (Answer Application token moment) found stand are =
-    let first = due_answer now s.history.held Application token moment found in
-    absurd (never_asked token moment s.history.handled
-    (stand_asked s.history.handled first.before (Answer Application token moment) first.after (subst (CorrespondTo s.history.handled) first.there stand)))
-sent_told s now (Answer Engine token moment) found stand are =
+sent_told : (a : Option ApplicationsValue) (s : Connection) (now : ℕ) (e : PendingEntryValue) → first_due now s.history.held ≡ Some e → Stands a s.history → AllTold a s → AllTold a (with_history s (after_sent s.history now e))
+sent_told a s now (Answer by token moment) found stand are =
     let h : History = after s.history (call.Due now) in
-    let k : History = after h (call.Reply (held_message Engine token)) in
-    let first = due_answer now s.history.held Engine token moment found in
-    kept_told k s.observers
-    (λ opened. late_told token h k s.observers (reply_queues h (held_message Engine token))
-    (stand_asked s.history.handled first.before (Answer Engine token moment) first.after (subst (CorrespondTo s.history.handled) first.there stand))
-    (signalled_told IsNoResponse (λ m is. is) s.history h s.observers (due_queues s.history now) are))
-sent_told s now (Pong token) found stand are = signalled_side s (after s.history (call.Due now)) (due_queues s.history now) are
+    let k : History = after h (call.Reply (held_message by token)) in
+    let first = due_answer now s.history.held by token moment found in
+    kept_told a k s.observers
+    (λ opened. late_told a token h k s.observers (reply_queues h (held_message by token))
+    (late_asked a by token moment s.history.handled
+    (stand_asked a s.history.handled first.before (Answer by token moment) first.after (subst (CorrespondTo a s.history.handled) first.there stand)))
+    (signalled_told a IsNoResponse (λ m is. is) s.history h s.observers (due_queues s.history now) are))
+sent_told a s now (Pong token) found stand are = signalled_side a s (after s.history (call.Due now)) (due_queues s.history now) are
+
+-- A response of the application has the token of a request that it answers.
+responded_told : (a : Option ApplicationsValue) (s : Connection) (m : Message) → Stands a s.history → AllTold a s → AllTold a (side_responded s m)
+unfolding side_responded
+responded_told a s m stand are =
+    let h : History = s.history in
+    let none : Bool = is_none (response_refusal (link_of h) m) in
+    let k : History = with_effect h (send (standing_without m.token (standing_now h)) m (bare_response m)) in
+    kept_told a (after h (call.Respond m)) s.observers (λ opened. cond_both (answers h.phase && none) k h (λ (g : History). AreTold a g s.observers) (λ so. (
+    let first = answered_request (link_of h) m (none_where (response_refusal (link_of h) m) (and_parts (answers h.phase) none so).1) in
+    let asked = stand_asked a h.handled first.before (Answer Application m.token first.moment) first.after (subst (CorrespondTo a h.handled) first.there stand) in
+    late_told a m.token h k s.observers
+    (queues_these (HasToken m.token) h k _ refl refl (sent_all (HasToken m.token) (standing_without m.token (standing_now h)) m (bare_response m) (fit (limit_now h) m (bare_response m)) refl refl))
+    (late_asked a Application m.token first.moment h.handled asked) are)) (λ off. are))
 
 -- ---- properties of every connection
 
-abbrev IsToldSide : Connection → Type 0
-IsToldSide s = Stands s.history × AllTold s
+abbrev IsToldSide : Option ApplicationsValue → Connection → Type 0
+IsToldSide a s = Stands a s.history × AllTold a s
 
 -- Only plain messages are queued, and the observers stay or are removed.
-plain_told : (s t : Connection) → Stands t.history → Between (Queues IsPlain) s t → ((P : List Observer → Type 0) → P [] → P s.observers → P t.observers) → IsToldSide s → IsToldSide t
-plain_told s t stand queues kept of =
-    (stand, kept (AreTold t.history) (record { own = tt; told = tt }) (signalled_told IsPlain (λ m is. is.0) s.history t.history s.observers queues of.1))
+plain_told : (a : Option ApplicationsValue) (s t : Connection) → Stands a t.history → Between (Queues IsPlain) s t → ((P : List Observer → Type 0) → P [] → P s.observers → P t.observers) → IsToldSide a s → IsToldSide a t
+plain_told a s t stand queues kept of =
+    (stand, kept (AreTold a t.history) (record { own = tt; told = tt }) (signalled_told a IsPlain (λ m is. is.0) s.history t.history s.observers queues of.1))
 
-told_side_keeps : (limits : LimitValues) → Keeps limits IsToldSide
+told_side_keeps : (limits : LimitValues) (a : Option ApplicationsValue) → Keeps limits a (IsToldSide a)
 unfolding side_after
-told_side_keeps limits =
-    let stands : Keeps limits (λ s. Stands s.history) = stands_keeps limits in
+told_side_keeps limits a =
+    let stands : Keeps limits a (λ s. Stands a s.history) = stands_keeps limits a in
     let R : History → History → Type 0 = Queues IsPlain in
     let same : (h : History) → R h h = queues_none IsPlain in
     record {
       first = (stands.first, record { own = tt; told = tt });
-      handled = λ store now s m is of. (
-        stands.handled store now s m is of.0,
-        cond_both (handles s) (side_handled store now s m) s AllTold (λ does. handled_told limits store now s m is of.1) (λ off. of.1),
+      handled = λ store now s m same is of. (
+        stands.handled store now s m same is of.0,
+        cond_both (handles s) (side_handled store now s m) s (AllTold a) (λ does. handled_told a limits store now s m is of.1) (λ off. of.1),
       );
-      faulted = λ s fault of. plain_told s _ (stands.faulted s fault of.0) (faulted_between R same reject_queues s fault) (λ P none. (observers_kept P none).faulted s fault) of;
-      written = λ s n of. plain_told s _ (stands.written s n of.0) (written_between R same (λ h k within. written_queues IsPlain h k) s n)
+      faulted = λ s fault of. plain_told a s _ (stands.faulted s fault of.0) (faulted_between R same reject_queues s fault) (λ P none. (observers_kept P none).faulted s fault) of;
+      written = λ s n of. plain_told a s _ (stands.written s n of.0) (written_between R same (λ h k within. written_queues IsPlain h k) s n)
           (λ P none. (observers_kept P none).written s n) of;
-      ended = λ s cut of. plain_told s _ (stands.ended s cut of.0) (ended_between R same end_queues s cut) (λ P none. (observers_kept P none).ended s cut) of;
-      released = λ s of. plain_told s _ (stands.released s of.0) (released_between R same release_queues s) (λ P none. (observers_kept P none).released s) of;
-      announced = λ s size of. plain_told s _ (stands.announced s size of.0) (announced_between R same (λ h n opened room fit. announcing_queues h n) s size)
+      ended = λ s cut of. plain_told a s _ (stands.ended s cut of.0) (ended_between R same end_queues s cut) (λ P none. (observers_kept P none).ended s cut) of;
+      released = λ s of. plain_told a s _ (stands.released s of.0) (released_between R same release_queues s) (λ P none. (observers_kept P none).released s) of;
+      announced = λ s size of. plain_told a s _ (stands.announced s size of.0) (announced_between R same (λ h n opened room fit. announcing_queues h n) s size)
           (λ P none. (observers_kept P none).announced s size) of;
+      responded = λ s m of. (stands.responded s m of.0, responded_told a s m of.0 of.1);
       told = λ store now s of. (
         stands.told store now s of.0,
-        settled_cases store now s AllTold (λ e is. sent_told s now e (held_room now s e is).1 of.0 of.1)
-            (λ is. notified_told store now s (next_due store now s) (next_due_found store now s) of.1),
+        settled_cases store now s (AllTold a) (λ e is. sent_told a s now e (held_room now s e is).1 of.0 of.1)
+            (λ is. notified_told a store now s (next_due store now s) (next_due_found store now s) of.1),
       );
     }
 
-are_told : (c : ConfigValues) (es : List AcceptedCall) (id : ℕ) (s : Connection) → side_of id (world_after c es).sides ≡ Some s → AreTold s.history s.observers
-are_told c es id s there = (kept_after c IsToldSide (told_side_keeps c.limits) es id s there).1
+are_told : (c : ConfigValues) (es : List AcceptedCall) (id : ℕ) (s : Connection) → side_of id (world_after c es).sides ≡ Some s → AreTold c.applications s.history s.observers
+are_told c es id s there = (kept_after c (IsToldSide c.applications) (told_side_keeps c.limits c.applications) es id s there).1
 
-pub observers_told_last : (c : ConfigValues) (es : List AcceptedCall) (id : ℕ) (s : Connection) → side_of id (world_after c es).sides ≡ Some s → AllByRecursion (λ o. asked_late o.token s.history.handled ≡ false → IsLastNotification s.history.queued o) s.observers
+pub observers_told_last : (c : ConfigValues) (es : List AcceptedCall) (id : ℕ) (s : Connection) → side_of id (world_after c es).sides ≡ Some s → AllByRecursion (λ o. asked_late c.applications o.token s.history.handled ≡ false → IsLastNotification s.history.queued o) s.observers
 observers_told_last c es id s there = (are_told c es id s there).told
 
 pub observers_have_own_tokens : (c : ConfigValues) (es : List AcceptedCall) (id : ℕ) (s : Connection) → side_of id (world_after c es).sides ≡ Some s → TokensAreDistinct s.observers

@@ -4,7 +4,8 @@ use Rattle.std.proofs.Common.{◌≡◌, ◌≢◌, ℕ, ◌≤◌, ◌<◌, tru
 use Rattle.coap_model.specs.Prelude.{AllByRecursion, Message, StreamFault, Stream, LimitValues, link_of}
 use Rattle.coap_model.specs.Prelude.{release_refusal, Change, Nothing, Put, Delete, changed, ConfigValues, Connection}
 use Rattle.coap_model.specs.Prelude.{waiting_on, is_cut, may_raise, World, Step, side_of, after_steps, AcceptedCall, Opened}
-use Rattle.coap_model.specs.Prelude.{Took, Wrote, Ticked, Stored, Removed, Ended, Released, Announced, Dropped}
+use Rattle.coap_model.specs.Prelude.{Took, Wrote, Ticked, Stored, Removed, Ended, Released, Announced, Responded, Dropped}
+use Rattle.coap_model.specs.Prelude.{response_refusal}
 use Rattle.coap_model.specs.Prelude.{taken_in, size_by, size_on, stream_on, spelled_on, new_fault, beyond, steps_by}
 use Rattle.coap_model.specs.Prelude.{world_after, takes_of, takes, IfSide, OnSide, IsAccepted, AreAcceptedBehind}
 use Rattle.coap_model.specs.Prelude.{AreAccepted, concerns, first_number, change_events, changes_of, view_event}
@@ -292,6 +293,11 @@ module _ (c : ConfigValues) (id : ℕ) where
         (own_seen (Announced id size) (Announced n size) _ (λ s. may_raise s size ≡ true) refl refl (eq-eqb id id refl)
         (λ w. tt) (refl, same_size) (λ here. here))
         (λ apart. blind (Announced other size) _ refl (ne_eqb other id apart) refl tt refl (announced_elsewhere id other size apart))
+    event_seen (Responded other m) ok =
+        of_one other (λ i. Responded i m) [] ok
+        (own_seen (Responded id m) (Responded n m) _ (λ s. response_refusal (link_of s.history) m ≡ None) refl refl (eq-eqb id id refl)
+        (λ w. tt) (refl, λ N. refl) (λ here. here))
+        (λ apart. blind (Responded other m) _ refl (ne_eqb other id apart) refl tt refl (λ N. refl))
     event_seen (Dropped other) ok =
         of_one other Dropped [] ok
         (own_seen (Dropped id) (Dropped n) _ (λ s. Unit {0}) refl refl (eq-eqb id id refl) (λ w. tt) (refl, λ N. refl) (λ here. here))

@@ -6,9 +6,9 @@ use Rattle.std.proofs.lemmas.Bool.{eqb-false, cases_Bool, cond_both}
 use Rattle.coap_model.specs.Prelude.{Message, LimitValues, Path, Representation, StoreValue, put_in, removed_in}
 use Rattle.coap_model.specs.Prelude.{is_dynamic, kind_of_path, key_for, state_at, target_of, path_of, Change, Nothing}
 use Rattle.coap_model.specs.Prelude.{Put, Delete, changed, stored_under, deletion, answer_at, removes_watch}
-use Rattle.coap_model.specs.Prelude.{answer_of, immediate_answer, put_refusal, remove_refusal, ConfigValues, Connection}
+use Rattle.coap_model.specs.Prelude.{answer_of, immediate_answer, prompt_answer, put_refusal, remove_refusal, ConfigValues, Connection}
 use Rattle.coap_model.specs.Prelude.{new_side, handles, asks_answer, side_after, change_after, side_faulted}
-use Rattle.coap_model.specs.Prelude.{side_written, side_ended, side_released, side_announced, settled, World, Step}
+use Rattle.coap_model.specs.Prelude.{side_written, side_ended, side_released, side_announced, side_responded, settled, World, Step}
 use Rattle.coap_model.specs.Prelude.{new_world, side_of, stored_after, acted, after_steps, AcceptedCall, steps_of}
 use Rattle.coap_model.specs.Prelude.{world_after, change_steps, change_on, concerns, view_step, view_of, after_view}
 use Rattle.coap_model.specs.Prelude.{AreSeen}
@@ -17,6 +17,7 @@ use Rattle.coap_store.proofs.AnswerLaws.{answer_cases, get_cases, store_cases, C
 use Rattle.coap_model.specs.world.World.{changed_at}
 use Rattle.coap_model.specs.world.World as world
 use Rattle.coap_model.specs.world.View.{change_by}
+use Rattle.coap_store.proofs.ApplicationLaws.{prompt_cases}
 use Rattle.coap_model.proofs.world.StepLaws.{steps_then}
 use Rattle.coap_model.proofs.world.PlaceLaws.{first_there, nobody, all_there, changed_here, changed_elsewhere, new_there, other_more, dropped_here, dropped_elsewhere}
 use Rattle.coap_model.proofs.world.AcrossLaws.{opened_world}
@@ -59,18 +60,21 @@ answer_passes s now path m =
       stored = λ dynamic other. store_cases P s t m (λ c e. tt) tt (λ can. stored_passes s t.key t.state m (λ q key. put_passes s now path q m dynamic can key));
     })
 
-prompt_passes : (s : StoreValue) (now : ℕ) (m : Message) → IsNotRefused s (immediate_answer s now m).change
+immediate_passes : (s : StoreValue) (now : ℕ) (m : Message) → IsNotRefused s (immediate_answer s now m).change
 unfolding immediate_answer answer_of
-prompt_passes s now m =
+immediate_passes s now m =
     let at = answer_at s (target_of s now (path_of m)) m in
     let a = answer_of s now m in
     subst (IsNotRefused s) (sym (change_unheld a.hold a ∙ change_finally (removes_watch m) at)) (answer_passes s now (path_of m) m)
+
+prompt_passes : (s : StoreValue) (now : ℕ) (m : Message) → IsNotRefused s (prompt_answer s now m).change
+prompt_passes s now m = prompt_cases s now m (λ a. IsNotRefused s a.change) tt (immediate_passes s now m)
 
 on_passes : (w : World) (m : Message) (there : Option Connection) → IsNotRefused w.store (change_on w m there)
 unfolding change_after
 on_passes w m None = tt
 on_passes w m (Some s) =
-    cond_both (handles s && asks_answer s m) (immediate_answer w.store w.now m).change Nothing (IsNotRefused w.store)
+    cond_both (handles s && asks_answer s m) (prompt_answer w.store w.now m).change Nothing (IsNotRefused w.store)
     (λ asks. prompt_passes w.store w.now m) (λ other. tt)
 
 pub by_passes : (w : World) (s : Step) → IsNotRefused w.store (change_by w s)
@@ -127,6 +131,7 @@ renamed n (world.Written id k) = world.Written n k
 renamed n (world.Ended id cut) = world.Ended n cut
 renamed n (world.Released id) = world.Released n
 renamed n (world.Announced id size) = world.Announced n size
+renamed n (world.Responded id m) = world.Responded n m
 renamed n (world.Dropped id) = world.Dropped n
 renamed n other = other
 
@@ -161,6 +166,7 @@ module _ (limits : LimitValues) (id n : ℕ) (w v : World) (alike : share_of id 
   acted_alike (world.Ended k cut) = changed_alike (λ x. x.store) (λ x s. side_ended s cut)
   acted_alike (world.Released k) = changed_alike (λ x. x.store) (λ x. side_released)
   acted_alike (world.Announced k size) = changed_alike (λ x. x.store) (λ x s. side_announced s size)
+  acted_alike (world.Responded k m) = changed_alike (λ x. x.store) (λ x s. side_responded s m)
   acted_alike (world.Dropped k) = rw (dropped_here id w.sides, dropped_here n v.sides) (ap (λ (x : Share). record x { side = None }) alike)
 
   -- A step of the connection, or of none.
@@ -202,6 +208,7 @@ other_did limits id w (world.Written other n) apart = changed_apart id other w (
 other_did limits id w (world.Ended other cut) apart = changed_apart id other w (λ s. side_ended s cut) apart
 other_did limits id w (world.Released other) apart = changed_apart id other w side_released apart
 other_did limits id w (world.Announced other size) apart = changed_apart id other w (λ s. side_announced s size) apart
+other_did limits id w (world.Responded other m) apart = changed_apart id other w (λ s. side_responded s m) apart
 other_did limits id w (world.Dropped other) apart = ap (share w.store w.now) (dropped_elsewhere other id w.sides (eqb-false other id apart))
 other_did limits id w s apart = absurd cc
 

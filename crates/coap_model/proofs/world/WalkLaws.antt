@@ -5,14 +5,14 @@ use Rattle.std.proofs.Common.{◌≡◌, ℕ, ◌≤◌, Bool, true, false, cond
 use Rattle.std.proofs.lemmas.Bool.{cond_both, and_parts, leb-true}
 use Rattle.std.proofs.lemmas.Bool.Decides.{nat_tests}
 use Rattle.std.proofs.lemmas.List.{append-nil}
-use Rattle.coap_model.specs.Prelude.{Responder, Engine, late_response}
+use Rattle.coap_model.specs.Prelude.{Responder, Engine, Application, late_response, Delay, delay_of, hold_call}
 use Rattle.coap_model.specs.Prelude.{Message, StreamFault, LARGEST_MESSAGE, Reject, ReleasedHere, takes_messages}
 use Rattle.coap_model.specs.Prelude.{answers, is_open, fits, bare_response, VerdictValue, is_request, PendingEntryValue}
 use Rattle.coap_model.specs.Prelude.{Answer, Pong, first_due, without_due, stop, abort, send, react, pong_with}
 use Rattle.coap_model.specs.Prelude.{due_effect, reject_of, reject_reason, release_refusal, History, standing_now}
 use Rattle.coap_model.specs.Prelude.{limit_now, with_effect, after, may_hold, link_of, standing_due, end_reason}
 use Rattle.coap_model.specs.Prelude.{release, may_announce, LinkValue, own_csm, free_in, limit_in, StoreValue}
-use Rattle.coap_model.specs.Prelude.{Response, delayed_response, answer_of, immediate_answer, response_with_observe}
+use Rattle.coap_model.specs.Prelude.{Response, delayed_response, prompt_answer, response_with_observe}
 use Rattle.coap_model.specs.Prelude.{Observer, without_token, has_place, goes_on, notification, Connection, waiting_on}
 use Rattle.coap_model.specs.Prelude.{has_room, handles, kept_open, with_history, moment_after, held_for}
 use Rattle.coap_model.specs.Prelude.{side_replied, asks_answer, side_handled, side_after, side_faulted, side_written}
@@ -21,6 +21,8 @@ use Rattle.coap_model.specs.Prelude.{held_message, after_sent, settled_so, settl
 use Rattle.coap_conn.specs.Verdicts as verdict
 use Rattle.coap_conn.specs.Calls as call
 use Rattle.coap_conn.proofs.RequestLemmas.{react_asks}
+use Rattle.coap_conn.proofs.AskingLaws.{none_where}
+use Rattle.coap_model.specs.Prelude.{side_responded, response_refusal, standing_without}
 
 -- ---- the parts
 
@@ -56,7 +58,7 @@ abbrev pub Replies : (History → History → Type 0) → Type 0
 Replies R = (h : History) (token : List ℕ) (observe : Bool) (r : Response) → answers h.phase ≡ true → room_in h ≡ true → R h (sent h (response_with_observe token observe r) (bare_response (response_with_observe token observe r)))
 
 abbrev pub Holds : (History → History → Type 0) → Type 0
-Holds R = (h : History) (token : List ℕ) (moment : ℕ) → is_open h.phase ≡ true → may_hold h ≡ true → R h (holding h (h.held ++ Answer Engine token moment ∷ []))
+Holds R = (h : History) (by : Responder) (token : List ℕ) (moment : ℕ) → is_open h.phase ≡ true → may_hold h ≡ true → R h (holding h (h.held ++ Answer by token moment ∷ []))
 
 abbrev pub LetsGo : (History → History → Type 0) → Type 0
 LetsGo R = (h : History) (now : ℕ) → R h (without_first h now)
@@ -78,6 +80,9 @@ Writes R = (h : History) (n : ℕ) → n ≤ length (link_of h).waiting → R h 
 
 abbrev pub Announces : (History → History → Type 0) → Type 0
 Announces R = (h : History) (size : ℕ) → is_open h.phase ≡ true → room_in h ≡ true → fits (limit_now h) (own_csm size) ≡ true → R h (announcing h size)
+
+abbrev pub Responds : (History → History → Type 0) → Type 0
+Responds R = (h : History) (m : Message) → answers h.phase ≡ true → response_refusal (link_of h) m ≡ None → R h (with_effect h (send (standing_without m.token (standing_now h)) m (bare_response m)))
 
 -- A relation that composes.
 pub record Composes (R : History → History → Type 0) : Type 0 where
@@ -119,6 +124,11 @@ due_is h now found is = ap (λ (o : Option PendingEntryValue). with_effect h (du
 -- The first due entry is removed, and nothing else changes if it is no Pong.
 answer_goes : (h : History) (now : ℕ) (by : Responder) (token : List ℕ) (moment : ℕ) → first_due now h.held ≡ Some (Answer by token moment) → after h (call.Due now) ≡ without_first h now
 answer_goes h now by token moment is = cc (due_is h now (Some (Answer by token moment)) is, append-nil h.queued)
+
+-- An entry is appended to the pending list, whoever responds.
+pub held_is : (h : History) (by : Responder) (token : List ℕ) (moment : ℕ) → after h (hold_call by token moment) ≡ cond (is_open h.phase && may_hold h) (holding h (h.held ++ Answer by token moment ∷ [])) h
+held_is h Engine token moment = refl
+held_is h Application token moment = refl
 
 -- ---- settling
 
@@ -174,13 +184,14 @@ settled_between R composes replies lets_go pongs store now s =
 -- A message may need a weaker relation than its response: R holds across the message, and E, which continues R, across
 -- its response.
 module _ (R E : History → History → Type 0) (same : (h : History) → R h h) (then : (h k g : History) → R h k → E k g → R h g) (takes_input : Hears R) (stays : (h : History) → E h h) (replies : Replies E) (holds : Holds E) where
-  replied_between : (store : StoreValue) (now : ℕ) (h : History) (others : List Observer) (m : Message) (hold : Option ℕ) → room_in h ≡ true → E h (side_replied store now h others m hold).history
+  replied_between : (store : StoreValue) (now : ℕ) (h : History) (others : List Observer) (m : Message) (delay : Option Delay) → room_in h ≡ true → E h (side_replied store now h others m delay).history
   replied_between store now h others m None room =
-      let a = immediate_answer store now m in
+      let a = prompt_answer store now m in
       if_between E (answers h.phase) h _ (stays h) (λ does. replies h m.token (has_place h.limits.observers others a.watch) a.response does room)
-  replied_between store now h others m (Some seconds) room =
-      if_between E (is_open h.phase && may_hold h) h _ (stays h)
-      (λ does. (let both = and_parts (is_open h.phase) (may_hold h) does in holds h m.token (moment_after now seconds) both.0 both.1))
+  replied_between store now h others m (Some delay) room =
+      subst (E h) (sym (held_is h delay.by m.token (moment_after now delay.seconds)))
+      (if_between E (is_open h.phase && may_hold h) h _ (stays h)
+      (λ does. (let both = and_parts (is_open h.phase) (may_hold h) does in holds h delay.by m.token (moment_after now delay.seconds) both.0 both.1)))
 
   pub after_between : (store : StoreValue) (now : ℕ) (s : Connection) (m : Message) → R s.history (side_after store now s m).history
   unfolding side_after
@@ -191,7 +202,7 @@ module _ (R E : History → History → Type 0) (same : (h : History) → R h h)
       let message : R s.history h = if_between R (takes_messages s.history.phase) s.history _ (same s.history) (λ takes. takes_input s.history m takes room) in
       cond_both (asks_answer s m) _ (with_history s h) (Between R s)
       (λ asks. then s.history h _ message
-      (replied_between store now h (without_token m.token s.observers) m (held_for h (answer_of store now m).hold) (asked_room s.history m asks room)))
+      (replied_between store now h (without_token m.token s.observers) m (held_for h (delay_of store now m)) (asked_room s.history m asks room)))
       (λ other. message))) (λ none. same s.history)
 
 -- ---- other effects
@@ -223,6 +234,14 @@ module _ (R : History → History → Type 0) (same : (h : History) → R h h) w
       cond_both (is_none (release_refusal (link_of s.history))) _ s (Between R s)
       (λ does. if_between R (is_open s.history.phase) s.history _ (same s.history) (λ opened. releases s.history opened does)) (λ none. same s.history)
 
+  pub responded_between : Responds R → (s : Connection) (m : Message) → R s.history (side_responded s m).history
+  unfolding side_responded
+  responded_between responds s m =
+      let h : History = s.history in
+      let none : Bool = is_none (response_refusal (link_of h) m) in
+      if_between R (answers h.phase && none) h _ (same h)
+      (λ so. (let both = and_parts (answers h.phase) none so in responds h m both.0 (none_where (response_refusal (link_of h) m) both.1)))
+
   pub announced_between : Announces R → (s : Connection) (size : ℕ) → R s.history (side_announced s size).history
   unfolding side_announced
   announced_between announces s size =
@@ -242,13 +261,14 @@ pub record HoldsOfCalls (R : Connection → Connection → Type 0) : Type 0 wher
   pub ended : (s : Connection) (cut : Bool) → R s (side_ended s cut)
   pub released : (s : Connection) → R s (side_released s)
   pub announced : (s : Connection) (size : ℕ) → R s (side_announced s size)
+  pub responded : (s : Connection) (m : Message) → R s (side_responded s m)
 
 -- A property of the observers, and of no observers, holds if they are removed unless the connection is open.
 pub kept_open_has : (P : List Observer → Type 0) → P [] → (h : History) (os : List Observer) → P os → P (kept_open h os)
 kept_open_has P none h os is = cond_both (is_open h.phase) os [] P (λ e. is) (λ e. none)
 
 pub observers_kept : (P : List Observer → Type 0) → P [] → HoldsOfCalls (λ s t. P s.observers → P t.observers)
-unfolding side_faulted side_written side_ended side_released side_announced
+unfolding side_faulted side_written side_ended side_released side_announced side_responded
 observers_kept P none =
     let kept_where : (does : Bool) (s : Connection) (h : History) → P s.observers → P (cond does (with_history s h) s).observers =
     λ does s h is. cond_both does (with_history s h) s (λ t. P t.observers) (λ e. kept_open_has P none h s.observers is) (λ e. is) in
@@ -258,4 +278,5 @@ observers_kept P none =
       ended = λ s cut. kept_open_has P none (after s.history (call.End cut)) s.observers;
       released = λ s. kept_where (is_none (release_refusal (link_of s.history))) s _;
       announced = λ s size. kept_where (may_raise s size) s _;
+      responded = λ s m. kept_open_has P none (after s.history (call.Respond m)) s.observers;
     }

@@ -1,5 +1,5 @@
 -- Worked examples of the definitions in `specs/world`: the results of a server's calls in order.
-use Rattle.std.proofs.Common.{ℕ, List, [], ◌∷◌, ◌++◌, Some, refl, codes, replicate}
+use Rattle.std.proofs.Common.{ℕ, List, [], ◌∷◌, ◌++◌, Some, None, refl, codes, replicate}
 use Rattle.coap_model.specs.Prelude.{LimitValues, Path, ConfigValues}
 use Rattle.coap_conn.specs.declared.phase.Phase.TheVariants as phase
 use Rattle.coap_conn.specs.declared.reason.Reason.TheVariants as reason
@@ -21,6 +21,7 @@ config_with limits dynamic = record {
   rep_max = 65000;
   turns = 1000;
   starts = record { moment = 0; versions = 0; ids = 0 };
+  applications = None;
 }
 
 abbrev pub usual_limits : LimitValues

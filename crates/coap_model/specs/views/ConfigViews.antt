@@ -1,4 +1,5 @@
 -- Defined by this project: the values that contracts see for `Starts`, `Config` and `ConfigBuilder`.
+use Rattle.std.specs.Prelude.{None}
 use Rattle.coap_model.specs.Configs.{StartValues, ConfigValues, IsConfigInRange}
 use Rattle.coap_model.specs.declared.config.Starts.{Starts}
 use Rattle.coap_model.specs.declared.config.Config.TheInside.{Inside}
@@ -8,9 +9,9 @@ use Rattle.coap_model.specs.declared.config.builder.ConfigBuilder.TheInside as b
 abbrev pub start_values : Starts → StartValues
 start_values s = record { moment = s.moment; versions = s.versions; ids = s.ids }
 
--- The value of a `Config`.
+-- The value of a `Config`. The applications are not part of it: `Server::with_applications` receives them.
 abbrev pub config_values : Inside → ConfigValues
-config_values c = record { limits = c.limits; connections = c.connections; dynamic_max = c.dynamic_max; rep_max = c.rep_max; turns = c.turns; starts = start_values c.starts }
+config_values c = record { limits = c.limits; connections = c.connections; dynamic_max = c.dynamic_max; rep_max = c.rep_max; turns = c.turns; starts = start_values c.starts; applications = None }
 
 -- The invariant of `Config`: its value is in range.
 abbrev pub is_config : Inside → Type 0
@@ -22,7 +23,7 @@ config_fields c = record { limits = c.limits; connections = c.connections; dynam
 
 -- The value of a `ConfigBuilder`: what was set so far, or defaults.
 abbrev pub builder_values : builder.Inside → ConfigValues
-builder_values c = record { limits = c.limits; connections = c.connections; dynamic_max = c.dynamic_max; rep_max = c.rep_max; turns = c.turns; starts = start_values c.starts }
+builder_values c = record { limits = c.limits; connections = c.connections; dynamic_max = c.dynamic_max; rep_max = c.rep_max; turns = c.turns; starts = start_values c.starts; applications = None }
 
 -- The fields of the `ConfigBuilder` that has this value.
 abbrev pub builder_fields : ConfigValues → builder.Inside

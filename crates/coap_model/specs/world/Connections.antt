@@ -22,7 +22,8 @@ use Rattle.coap_conn.specs.Calls.{may_announce}
 use Rattle.coap_conn.specs.Calls as call
 use Rattle.coap_store.specs.Store.{StoreValue}
 use Rattle.coap_store.specs.State.{state_of}
-use Rattle.coap_store.specs.Answer.{Answer, Response, Change, Nothing, delayed_response, expired_response, answer_of, immediate_answer, changed}
+use Rattle.coap_store.specs.Answer.{Answer, Response, Change, Nothing, delayed_response, expired_response, answer_of, changed}
+use Rattle.coap_store.specs.ApplicationRequests.{application_deadline, prompt_answer}
 use Rattle.coap_store.specs.Messages.{response_with_observe, response_message}
 use Rattle.coap_model.specs.world.Observers.{Observer, is_due, without_token, has_place, entry_for, is_whole, with_entry, goes_on, notification, notification_message, left_of, first_becomes}
 use Rattle.coap_wire.specs.declared.sizes.TheConstants.{LARGEST_MESSAGE}
@@ -95,26 +96,50 @@ side_answered store now h others m a =
 abbrev pub moment_after : ℕ → ℕ → ℕ
 moment_after now seconds = min (now + seconds) 18446744073709551615
 
--- The delay of a response in seconds, if the answer asks for one and the pending list is not full; otherwise `None`.
-abbrev pub held_for : History → Option ℕ → Option ℕ
+-- The delay of a response: who responds, and after how many seconds the server sends a response at the latest.
+pub record Delay : Type 0 where
+  pub by : Responder
+  pub seconds : ℕ
+
+-- The delay of a response by its responder, or `None` if there is none.
+abbrev pub delay_by : Responder → Option ℕ → Option Delay
+delay_by by None = None
+delay_by by (Some seconds) = Some (record { by = by; seconds = seconds })
+
+-- The delay until the deadline of the application; without one, that of the engine.
+abbrev pub delay_or : Option ℕ → Option ℕ → Option Delay
+delay_or None seconds = delay_by Engine seconds
+delay_or (Some deadline) seconds = delay_by Application (Some deadline)
+
+-- The delay of the response to a request, if the response is not sent at once.
+abbrev pub delay_of : StoreValue → ℕ → Message → Option Delay
+delay_of store now m = delay_or (application_deadline store.applications m) (answer_of store now m).hold
+
+-- The delay, or `None` if the pending list is full.
+abbrev pub held_for : History → Option Delay → Option Delay
 held_for h None = None
-held_for h (Some seconds) = if may_hold h then Some seconds else None
+held_for h (Some delay) = if may_hold h then Some delay else None
+
+-- The call that appends a pending entry, by its responder.
+abbrev pub hold_call : Responder → List ℕ → ℕ → call.Call
+hold_call Engine token moment = call.Hold token moment
+hold_call Application token moment = call.HoldRequest token moment
 
 -- The connection after it answered a request. For `None` the response is immediate; otherwise a pending entry is
--- appended that is due after this number of seconds.
-abbrev pub side_replied : StoreValue → ℕ → History → List Observer → Message → Option ℕ → Connection
-side_replied store now h others m None = side_answered store now h others m (immediate_answer store now m)
-side_replied store now h others m (Some seconds) = side_with (after h (call.Hold m.token (moment_after now seconds))) others
+-- appended that is due after this delay.
+abbrev pub side_replied : StoreValue → ℕ → History → List Observer → Message → Option Delay → Connection
+side_replied store now h others m None = side_answered store now h others m (prompt_answer store now m)
+side_replied store now h others m (Some delay) = side_with (after h (hold_call delay.by m.token (moment_after now delay.seconds))) others
 
 -- The message is a request that the server must answer, by the reaction of the connection.
 abbrev pub asks_answer : Connection → Message → Bool
 asks_answer s m = is_request (react (standing_now s.history) m).verdict
 
 -- The connection after a message that it handles. A request first removes the observer with its token, and is then
--- answered from the store.
+-- answered from the store, or pending until the application responds.
 abbrev pub side_handled : StoreValue → ℕ → Connection → Message → Connection
 side_handled store now s m =
-    if asks_answer s m then side_replied store now (after s.history (call.Handle m)) (without_token m.token s.observers) m (held_for (after s.history (call.Handle m)) (answer_of store now m).hold)
+    if asks_answer s m then side_replied store now (after s.history (call.Handle m)) (without_token m.token s.observers) m (held_for (after s.history (call.Handle m)) (delay_of store now m))
     else with_history s (after s.history (call.Handle m))
 
 -- The connection after it received a message; unchanged if it does not handle messages now.
@@ -124,7 +149,7 @@ side_after store now s m = if handles s then side_handled store now s m else s
 -- The change that a message makes in the store; none if it is not handled or is no request. The change does not depend
 -- on whether the response could be sent.
 unfoldable pub change_after : StoreValue → ℕ → Connection → Message → Change
-change_after store now s m = if handles s && asks_answer s m then (immediate_answer store now m).change else Nothing
+change_after store now s m = if handles s && asks_answer s m then (prompt_answer store now m).change else Nothing
 
 -- The store after this change.
 abbrev pub store_after : StoreValue → ℕ → Connection → Message → StoreValue
@@ -158,6 +183,11 @@ may_raise s size = (nat_le s.history.own_max size && nat_le size LARGEST_MESSAGE
 -- may not.
 unfoldable pub side_announced : Connection → ℕ → Connection
 side_announced s size = if may_raise s size then with_history s (after s.history (call.Announce size)) else s
+
+-- The connection after the application responded to the first pending request with the token of its response. It is
+-- unchanged if the response has an error (`response_refusal`): no such request, no response, or no room.
+unfoldable pub side_responded : Connection → Message → Connection
+side_responded s m = with_history s (after s.history (call.Respond m))
 
 -- The connection after the server released it; unchanged if it cannot be released.
 unfoldable pub side_released : Connection → Connection

@@ -5,7 +5,7 @@ use Rattle.coap_limits.specs.Limits.{LimitValues}
 use Rattle.coap_conn.specs.Phases.{takes_messages}
 use Rattle.coap_model.specs.Configs.{ConfigValues}
 use Rattle.coap_model.specs.world.Connections.{Connection, kept_on}
-use Rattle.coap_model.specs.world.World.{World, Step, Opened, Handled, Faulted, Written, Ticked, Stored, Removed, Ended, Released, Announced, Dropped, new_world, side_of, step}
+use Rattle.coap_model.specs.world.World.{World, Step, Opened, Handled, Faulted, Written, Ticked, Stored, Removed, Ended, Released, Announced, Responded, Dropped, new_world, side_of, step}
 use Rattle.coap_model.specs.world.Events.{AcceptedCall, stream_on, steps_of, world_after}
 
 -- The connection exists and accepts messages.
@@ -25,6 +25,7 @@ normalised_step w (Removed path) = Removed path
 normalised_step w (Ended id cut) = Ended id (takes_input (side_of id w.sides) && cut)
 normalised_step w (Released id) = Released id
 normalised_step w (Announced id size) = Announced id size
+normalised_step w (Responded id m) = Responded id m
 normalised_step w (Dropped id) = Dropped id
 
 -- A list of steps as they are received, each in the world before it.

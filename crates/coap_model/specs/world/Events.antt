@@ -1,10 +1,12 @@
 -- Defined by this project: the events of a server, the steps that they make, and the world after them.
 use Rattle.std.specs.Prelude.{◌≡◌, ℕ, ◌+◌, ◌<◌, ◌≤◌, true, List, [], ◌∷◌, ◌++◌, length, map, drop, Option, Some, None, nat_lt, ◌==◌, ◌&&◌, if◌then◌else◌}
+use Rattle.coap_wire.specs.Message.{Message}
 use Rattle.coap_wire.specs.Frames.{Sizes, constant_size, sizes_first}
 use Rattle.coap_wire.specs.Stream.{StreamFault, Stream, sized_split}
 use Rattle.coap_frame.specs.Framing.{framing}
 use Rattle.coap_conn.specs.History.{link_of}
 use Rattle.coap_conn.specs.Release.{release_refusal}
+use Rattle.coap_conn.specs.Responses.{response_refusal}
 use Rattle.coap_path.specs.Paths.{Path}
 use Rattle.coap_store.specs.Refusals.{put_refusal, remove_refusal}
 use Rattle.coap_model.specs.Configs.{ConfigValues}
@@ -20,6 +22,7 @@ use Rattle.coap_model.specs.world.World as step
 -- - `Stored`, `Removed`: the embedding program changed a resource.
 -- - `Ended`: the input of a connection ended.
 -- - `Released`, `Announced`: the server sent a Release, or a CSM with a new size.
+-- - `Responded`: the application responded with this message to a request that it answers.
 -- - `Dropped`: a connection was removed.
 -- A call that returns an error is no event. There is one exception: a `take` for which allocation failed is the event
 -- of the bytes that it accepted.
@@ -33,6 +36,7 @@ pub data AcceptedCall : Type 0 where
   Ended : (id : ℕ) → AcceptedCall
   Released : (id : ℕ) → AcceptedCall
   Announced : (id size : ℕ) → AcceptedCall
+  Responded : (id : ℕ) (m : Message) → AcceptedCall
   Dropped : (id : ℕ) → AcceptedCall
 
 -- ---- steps
@@ -48,6 +52,7 @@ taken_in id (Removed path) = []
 taken_in id (Ended other) = []
 taken_in id (Released other) = []
 taken_in id (Announced other size) = []
+taken_in id (Responded other m) = []
 taken_in id (Dropped other) = []
 
 -- All bytes accepted on a connection, in order.
@@ -105,6 +110,7 @@ steps_by M earlier (Removed path) = step.Removed path ∷ []
 steps_by M earlier (Ended id) = step.Ended id (is_cut (stream_on M id earlier).rest) ∷ []
 steps_by M earlier (Released id) = step.Released id ∷ []
 steps_by M earlier (Announced id size) = step.Announced id size ∷ []
+steps_by M earlier (Responded id m) = step.Responded id m ∷ []
 steps_by M earlier (Dropped id) = step.Dropped id ∷ []
 
 -- The steps of a list of events that follows earlier events.
@@ -159,6 +165,7 @@ OnSide id w P = IfSide (side_of id w.sides) P
 -- - `Ended`, `Dropped`: always.
 -- - `Released`: `release_refusal` gives no error.
 -- - `Announced`: the connection may announce the size (`may_raise`).
+-- - `Responded`: `response_refusal` gives no error. So a request with the token is pending.
 -- The connection that an event names must exist, except for `Opened`.
 unfoldable pub IsAccepted : ConfigValues → List AcceptedCall → AcceptedCall → Type 0
 IsAccepted c earlier (Opened id) = (id ≡ (world_after c earlier).ids + 1) × (id ≤ 18446744073709551615) × (length (world_after c earlier).sides < c.connections)
@@ -170,6 +177,7 @@ IsAccepted c earlier (Removed path) = remove_refusal (world_after c earlier).sto
 IsAccepted c earlier (Ended id) = OnSide id (world_after c earlier) (λ s. Unit {0})
 IsAccepted c earlier (Released id) = OnSide id (world_after c earlier) (λ s. release_refusal (link_of s.history) ≡ None)
 IsAccepted c earlier (Announced id size) = OnSide id (world_after c earlier) (λ s. may_raise s size ≡ true)
+IsAccepted c earlier (Responded id m) = OnSide id (world_after c earlier) (λ s. response_refusal (link_of s.history) m ≡ None)
 IsAccepted c earlier (Dropped id) = OnSide id (world_after c earlier) (λ s. Unit {0})
 
 -- Each of these events is accepted after the earlier events and those before it.

@@ -1,6 +1,6 @@
 -- RFC 7252 section 5.9.1 and RFC 7641 section 4.2: the state that an observer was sent last, by all messages ever
 -- queued on its connection.
-use Rattle.std.specs.Prelude.{◌≡◌, ◌≢◌, ◌⊎◌, ℕ, Bool, true, ◌&&◌, List, [], ◌∷◌, reverse, find, Option, Some, None}
+use Rattle.std.specs.Prelude.{◌≡◌, ◌≢◌, ◌⊎◌, ℕ, Bool, true, ◌&&◌, ◌||◌, List, [], ◌∷◌, reverse, find, Option, Some, None, is_some}
 use Rattle.std.specs.List.{AllByRecursion, list_any}
 use Rattle.coap_wire.specs.Message.{Message}
 use Rattle.coap_wire.specs.Codes as code
@@ -9,7 +9,9 @@ use Rattle.coap_path.specs.Paths.{same_bytes}
 use Rattle.coap_store.specs.Store.{Representation}
 use Rattle.coap_path.specs.ResourceKinds.{kind_of_path, is_dynamic}
 use Rattle.coap_store.specs.Requests.{etag_of}
+use Rattle.coap_application.specs.Applications.{ApplicationsValue}
 use Rattle.coap_store.specs.Answer.{Response, only, content, is_delayed}
+use Rattle.coap_store.specs.ApplicationRequests.{application_deadline}
 use Rattle.coap_store.specs.Messages.{response_with_observe}
 use Rattle.coap_model.specs.world.Observers.{Observer}
 
@@ -44,9 +46,13 @@ abbrev pub ReportsState : Observer → Option Representation → Message → Typ
 ReportsState o None m = ⊥
 ReportsState o (Some r) m = (m ≡ state_message o r) ⊎ ((m ≡ etag_message o r) × (is_dynamic (kind_of_path o.path) ≡ true))
 
--- One of these messages is a request for a delayed response, with this token.
-abbrev pub asked_late : List ℕ → List Message → Bool
-asked_late token messages = list_any (λ m. is_delayed m && same_bytes m.token token) messages
+-- The response to this request is delayed, by the engine or by the application.
+abbrev pub asks_late : Option ApplicationsValue → Message → Bool
+asks_late a m = is_delayed m || is_some (application_deadline a m)
+
+-- One of these messages is such a request with this token.
+abbrev pub asked_late : Option ApplicationsValue → List ℕ → List Message → Bool
+asked_late a token messages = list_any (λ m. asks_late a m && same_bytes m.token token) messages
 
 -- The last response with the observer's token reports the state that the observer's entry records.
 abbrev pub IsLastNotification : List Message → Observer → Type 0

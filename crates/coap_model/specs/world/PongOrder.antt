@@ -2,10 +2,9 @@
 -- all messages handled and queued on a connection.
 use Rattle.std.specs.Prelude.{◌≡◌, ℕ, Bool, true, false, List, [], ◌∷◌, ◌++◌}
 use Rattle.coap_wire.specs.Message.{Message}
-use Rattle.coap_conn.specs.PendingEntries.{Pong}
 use Rattle.coap_conn.specs.Reaction.{is_asking}
 use Rattle.coap_model.specs.world.LastNotification.{responds}
-use Rattle.coap_model.specs.world.Custody.{asks_pending}
+use Rattle.coap_model.specs.world.Custody.{asks_pong}
 
 -- The messages have a response with this token. `before` and `behind` are the messages before and after it.
 pub record HasResponse (token : List ℕ) (messages : List Message) : Type 0 where
@@ -34,5 +33,5 @@ pub record FollowsAnswers (handled : List Message) (pong : Message) (queued : Li
   pub ping : Message
   pub later : List Message
   pub there : handled ≡ earlier ++ ping ∷ later
-  pub asks : asks_pending ping (Pong pong.token) ≡ true
+  pub asks : asks_pong ping pong.token ≡ true
   pub answered : HaveDistinctAnswers earlier queued

@@ -7,7 +7,7 @@ use Rattle.coap_limits.specs.Limits.{LimitValues}
 use Rattle.coap_store.specs.Answer.{Change, Nothing, Put, Delete}
 use Rattle.coap_model.specs.Configs.{ConfigValues}
 use Rattle.coap_model.specs.world.Connections.{Connection, change_after}
-use Rattle.coap_model.specs.world.World.{World, new_world, side_of, Step, Opened, Handled, Faulted, Written, Ticked, Stored, Removed, Ended, Released, Announced, Dropped, step, after_steps}
+use Rattle.coap_model.specs.world.World.{World, new_world, side_of, Step, Opened, Handled, Faulted, Written, Ticked, Stored, Removed, Ended, Released, Announced, Responded, Dropped, step, after_steps}
 
 -- ---- changes of the store
 
@@ -39,6 +39,7 @@ change_by w (Removed path) = Nothing
 change_by w (Ended id cut) = Nothing
 change_by w (Released id) = Nothing
 change_by w (Announced id size) = Nothing
+change_by w (Responded id m) = Nothing
 change_by w (Dropped id) = Nothing
 
 -- ---- the view of a connection
@@ -55,6 +56,7 @@ concerns id (Removed path) = true
 concerns id (Ended other cut) = other == id
 concerns id (Released other) = other == id
 concerns id (Announced other size) = other == id
+concerns id (Responded other m) = other == id
 concerns id (Dropped other) = other == id
 
 -- The view of a step: the step itself if it concerns the connection, otherwise only the change that it makes in the

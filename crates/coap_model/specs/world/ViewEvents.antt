@@ -5,7 +5,7 @@ use Rattle.coap_limits.specs.Limits.{LimitValues}
 use Rattle.coap_store.specs.Answer.{Change, Nothing, Put, Delete}
 use Rattle.coap_model.specs.Configs.{ConfigValues}
 use Rattle.coap_model.specs.world.World.{World, Step, step}
-use Rattle.coap_model.specs.world.Events.{AcceptedCall, Opened, Took, Wrote, Ticked, Stored, Removed, Ended, Released, Announced, Dropped, steps_by, world_after}
+use Rattle.coap_model.specs.world.Events.{AcceptedCall, Opened, Took, Wrote, Ticked, Stored, Removed, Ended, Released, Announced, Responded, Dropped, steps_by, world_after}
 use Rattle.coap_model.specs.world.View.{change_by}
 
 -- The id of the connection that is opened first.
@@ -42,6 +42,7 @@ view_event c id earlier (Removed path) = Removed path ∷ []
 view_event c id earlier (Ended other) = if_own id other (Ended (first_number c))
 view_event c id earlier (Released other) = if_own id other (Released (first_number c))
 view_event c id earlier (Announced other size) = if_own id other (Announced (first_number c) size)
+view_event c id earlier (Responded other m) = if_own id other (Responded (first_number c) m)
 view_event c id earlier (Dropped other) = if_own id other (Dropped (first_number c))
 
 -- The view of a list of events after earlier events.

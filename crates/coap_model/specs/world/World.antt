@@ -7,7 +7,7 @@ use Rattle.coap_path.specs.Paths.{Path}
 use Rattle.coap_store.specs.Store.{StoreValue, put_in, removed_in}
 use Rattle.coap_store.specs.Refusals.{put_refusal}
 use Rattle.coap_model.specs.Configs.{ConfigValues}
-use Rattle.coap_model.specs.world.Connections.{Connection, new_side, side_after, store_after, side_faulted, side_written, side_ended, side_released, side_announced, settled}
+use Rattle.coap_model.specs.world.Connections.{Connection, new_side, side_after, store_after, side_faulted, side_written, side_ended, side_released, side_responded, side_announced, settled}
 
 -- A connection with its id.
 pub record ConnectionEntry : Type 0 where
@@ -27,7 +27,7 @@ abbrev pub new_world : ConfigValues → World
 new_world c = record {
   sides = [];
   ids = c.starts.ids;
-  store = record { dynamic_max = c.dynamic_max; rep_max = c.rep_max; resources = []; versions = c.starts.versions };
+  store = record { dynamic_max = c.dynamic_max; rep_max = c.rep_max; resources = []; versions = c.starts.versions; applications = c.applications };
   now = c.starts.moment;
 }
 
@@ -59,6 +59,7 @@ stored_after w m (Some s) = store_after w.store w.now s m
 -- - `Faulted`: its input is malformed.
 -- - `Written`: n of its queued bytes were written.
 -- - `Ended`: its input ended; `cut` says whether within a frame.
+-- - `Responded`: the application responded with this message.
 -- - The other steps are those of the events with the same names.
 pub data Step : Type 0 where
   Opened : (id : ℕ) → Step
@@ -71,6 +72,7 @@ pub data Step : Type 0 where
   Ended : (id : ℕ) (cut : Bool) → Step
   Released : (id : ℕ) → Step
   Announced : (id size : ℕ) → Step
+  Responded : (id : ℕ) (m : Message) → Step
   Dropped : (id : ℕ) → Step
 
 -- The time may be set to `new`: it is not earlier than `now`, and fits in 64 bits.
@@ -92,6 +94,7 @@ acted limits w (Removed path) = record w { store = removed_in w.store path }
 acted limits w (Ended id cut) = on_side id (λ s. side_ended s cut) w
 acted limits w (Released id) = on_side id side_released w
 acted limits w (Announced id size) = on_side id (λ s. side_announced s size) w
+acted limits w (Responded id m) = on_side id (λ s. side_responded s m) w
 acted limits w (Dropped id) = record w { sides = filter (λ p. not (p.id == id)) w.sides }
 
 -- The place after its connection has settled.

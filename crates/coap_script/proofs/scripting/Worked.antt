@@ -3,7 +3,7 @@ use Rattle.std.proofs.Common.{[], ◌≡◌, ℕ, List, ◌∷◌, ◌++◌, map
 use Rattle.coap_script.specs.Prelude.{decode_pairs, percent_decode, is_path, key_for, newline, decimal_value}
 use Rattle.coap_script.specs.Prelude.{hex_value, payload_value, format_value, segments_of, path_value, event_of}
 use Rattle.coap_script.specs.Prelude.{event_alone, event_with_one, event_with_two, number_event, remove_event}
-use Rattle.coap_script.specs.Prelude.{in_event, drain_event, put_event, event_in, says_nothing, events_in}
+use Rattle.coap_script.specs.Prelude.{in_event, drain_event, respond_event, put_event, event_in, says_nothing, events_in}
 use Rattle.coap_script.specs.Prelude.{said_by_parts, script_of}
 use Rattle.coap_script.specs.script.Events as event
 
@@ -26,6 +26,7 @@ texts : Say (
     ∷ (codes "put // - -" ++ newline ∷ [], Ok (event.Put ([] ∷ [] ∷ []) None [] ∷ []))  -- two empty segments
     ∷ (codes "put /50% - -" ++ newline ∷ [], Ok (event.Put (codes "50%" ∷ []) None [] ∷ []))  -- percent without digits
     ∷ (codes "end 1" ++ newline ∷ codes "release 02" ++ newline ∷ codes "drop 3" ++ newline ∷ codes "status 4" ++ newline ∷ [], Ok (event.End 1 ∷ event.Release 2 ∷ event.Drop 3 ∷ event.Status 4 ∷ []))  -- others
+    ∷ (codes "respond 1 4401" ++ newline ∷ [], Ok (event.Respond 1 (68 ∷ 1 ∷ []) ∷ []))  -- response of the application
     ∷ (codes "#x" ++ newline ∷ [], Ok [])  -- comment
     ∷ (newline ∷ [], Ok [])  -- empty line
     ∷ (codes "tick 18446744073709551615" ++ newline ∷ [], Ok (event.Tick 18446744073709551615 ∷ []))  -- largest number
@@ -34,6 +35,7 @@ texts : Say (
     ∷ (codes "in  1 00" ++ newline ∷ [], Err 1)  -- two spaces
     ∷ (codes "open " ++ newline ∷ [], Err 1)  -- space at the end
     ∷ (codes "in 1 -" ++ newline ∷ [], Err 1)  -- hyphen for the bytes
+    ∷ (codes "respond 1 -" ++ newline ∷ [], Err 1)  -- no response
     ∷ (codes "tick 18446744073709551616" ++ newline ∷ [], Err 1)  -- number too large
     ∷ (codes "tick 000000000000000000001" ++ newline ∷ [], Err 1)  -- too many digits
     ∷ (codes "tick +1" ++ newline ∷ [], Err 1)  -- number with a sign
@@ -43,5 +45,5 @@ texts : Say (
     ∷ (newline ∷ codes "#x", Err 2)  -- no newline after the comment
     ∷ (codes "open" ++ newline ∷ newline ∷ codes "opens" ++ newline ∷ codes "open", Err 3)  -- third line
     ∷ [])
-unfolding said_by_parts events_in event_in says_nothing event_of event_alone event_with_one event_with_two number_event remove_event in_event drain_event put_event decimal_value hex_value payload_value format_value segments_of path_value key_for is_path percent_decode decode_pairs
+unfolding said_by_parts events_in event_in says_nothing event_of event_alone event_with_one event_with_two number_event remove_event in_event drain_event respond_event put_event decimal_value hex_value payload_value format_value segments_of path_value key_for is_path percent_decode decode_pairs
 texts = refl

@@ -19,6 +19,7 @@ event_value (events.Put path format payload) = event.Put path format payload.ite
 event_value (events.Remove path text) = event.Remove path text.items
 event_value (events.End connection) = event.End connection
 event_value (events.Release connection) = event.Release connection
+event_value (events.Respond connection response) = event.Respond connection response.items
 event_value (events.Drop connection) = event.Drop connection
 event_value (events.Status connection) = event.Status connection
 

@@ -14,6 +14,7 @@ pub data ScriptEventValue : Type 0 where
   Remove : (path : Path) (text : List ℕ) → ScriptEventValue
   End : (connection : ℕ) → ScriptEventValue
   Release : (connection : ℕ) → ScriptEventValue
+  Respond : (connection : ℕ) (response : List ℕ) → ScriptEventValue
   Drop : (connection : ℕ) → ScriptEventValue
   Status : (connection : ℕ) → ScriptEventValue
 
@@ -51,6 +52,13 @@ in_event id hex = do
   bytes ← hex_value hex
   Some (In connection bytes)
 
+-- The event of `respond ID HEX`.
+unfoldable pub respond_event : List ℕ → List ℕ → Option ScriptEventValue
+respond_event id hex = do
+  connection ← decimal_value id
+  response ← hex_value hex
+  Some (Respond connection response)
+
 -- The event of `drain ID N`.
 unfoldable pub drain_event : List ℕ → List ℕ → Option ScriptEventValue
 drain_event id n = do
@@ -83,6 +91,7 @@ unfoldable pub event_with_two : List ℕ → List ℕ → List ℕ → Option Sc
 event_with_two word first second =
     if says word (codes "in") then in_event first second
     else if says word (codes "drain") then drain_event first second
+    else if says word (codes "respond") then respond_event first second
     else None
 
 -- The event of a word with three values.

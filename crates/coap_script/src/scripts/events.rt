@@ -87,6 +87,23 @@ fn arrival(alloc: Global, id: &[u8], hex: &[u8]) -> Result<Option<Event>, AllocE
     Ok(Some(Event::In { connection, bytes }))
 }
 
+/// Returns the event of `respond` with a connection id and a response.
+#[tactic(auto, unfolding(crate::specs::script::Events::respond_event))]
+fn application_response(alloc: Global, id: &[u8], hex: &[u8]) -> Result<Option<Event>, AllocError>
+    ensures { IfOk result (λ event. option_map event_value event ≡ spec.respond_event id.now hex.now) }
+{
+    let Some(connection) = number_in(id) else {
+        return Ok(None);
+    };
+    let Some(response) = bytes_in(alloc, hex)? else {
+        return Ok(None);
+    };
+    Ok(Some(Event::Respond {
+        connection,
+        response,
+    }))
+}
+
 /// Returns the event of `drain` with a connection id and a count.
 #[tactic(auto, unfolding(crate::specs::script::Events::drain_event))]
 fn drain(id: &[u8], count: &[u8]) -> Option<Event>
@@ -114,6 +131,8 @@ fn with_two(
         arrival(alloc, first, second)
     } else if word == b"drain".as_slice() {
         Ok(drain(first, second))
+    } else if word == b"respond".as_slice() {
+        application_response(alloc, first, second)
     } else {
         Ok(None)
     }

@@ -10,6 +10,7 @@ use Rattle.coap_server_engine.specs.Prelude.{lines_of, other_lines, IsInTime, Ar
 use Rattle.coap_server_engine.specs.Prelude.{session_of, server_opened, server_taken, server_ticked, server_put}
 use Rattle.coap_server_engine.specs.Prelude.{server_removed, server_ended, server_released, server_dropped, open_refusal}
 use Rattle.coap_server_engine.specs.Prelude.{released_refusal_on, released_refusal, AcceptedCall, Shows}
+use Rattle.coap_server_engine.specs.Prelude.{Respond, response_number, responded_refusal, server_given}
 use Rattle.std.proofs.lemmas.Bool.{leb-true, leb-false, eqb-true, eqb-false, true_from_ne_false, cond_both}
 use Rattle.std.proofs.lemmas.List.{length-take}
 use Rattle.coap_script.specs.script.Events.{Put, End}
@@ -17,7 +18,7 @@ use Rattle.coap_model.specs.declared.answers.OpenFault.TheVariants as opening
 use Rattle.coap_server_engine.proofs.world.ShowLaws.{shows_opened, shows_taken, shows_written, shows_ticked, shows_put, shows_removed, shows_ended, shows_released, shows_dropped}
 use Rattle.coap_server_engine.proofs.scripting.CutTakes.{fed_in_parts}
 use Rattle.coap_server_engine.proofs.scripting.ShownLemmas.{turns_keep, absent_stuck, stuck_turns}
-use Rattle.coap_server_engine.proofs.world.CallLaws.{not_refused}
+use Rattle.coap_server_engine.proofs.world.CallLaws.{shows_given, not_refused}
 use Rattle.coap_model.proofs.OptionLemmas.{none_made}
 use Rattle.coap_store.proofs.RefusalLemmas.{passed}
 
@@ -90,6 +91,9 @@ event_shown v (Release id) in_time shown =
     (λ none.
     let may = release_finds v id (session_of id v.sessions) refl (none_made release_number (released_refusal v id) none) in
     record { events = _; shows = shows_released v shown.events id may.0 shown.shows may.1 may.2; ids = shown.ids })
+event_shown v (Respond id bytes) in_time shown =
+    unless_shown v (codes "respond") (Some id) (comes_to (server_given v id bytes) (word_line (codes "respond") id)) (option_map response_number (responded_refusal v id bytes)) shown
+    (λ none. record { events = _; shows = shows_given v shown.events id bytes shown.shows (none_made response_number (responded_refusal v id bytes) none); ids = shown.ids })
 event_shown v (Drop id) in_time shown =
     connection_shown v (codes "drop") id (λ s. comes_to (server_dropped v id) (word_line (codes "drop") id)) (session_of id v.sessions) shown
     (λ s at. record { events = _; shows = shows_dropped v shown.events id s shown.shows at; ids = shown.ids })

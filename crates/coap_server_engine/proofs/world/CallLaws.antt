@@ -1,5 +1,5 @@
 -- A server that meets the clauses of a call on its value shows the event of this call.
-use Rattle.std.proofs.Common.{◌≡◌, ℕ, ◌+◌, ◌<◌, ◌^◌, true, List, [], ◌∷◌, ◌++◌, take, Option, Some, None, Result, Ok, Err, refl, sym, ◌∙◌, arith, is_ok, nat_le, option_map, IfOk, IfErr, OnOk}
+use Rattle.std.proofs.Common.{◌≡◌, ℕ, ◌+◌, ◌<◌, ◌^◌, true, List, [], ◌∷◌, ◌++◌, take, Option, Some, None, Result, Ok, Err, refl, sym, subst, ◌∙◌, arith, is_ok, nat_le, option_map, IfOk, IfErr, OnOk}
 use Rattle.std.proofs.lemmas.Bool.Decides.{nat_tests}
 use Rattle.std.proofs.lemmas.Bool.{leb-true}
 use Rattle.std.proofs.lemmas.Result.{IfOk-weaker, IfErr-weaker}
@@ -12,13 +12,18 @@ use Rattle.coap_server_engine.specs.Prelude.{open_refusal, written_refusal, writ
 use Rattle.coap_server_engine.specs.Prelude.{released_refusal_on, release_fault, session_refusal, announced_refusal_on}
 use Rattle.coap_server_engine.specs.Prelude.{IsAnnounced, IsNotTaken, Taken, OpenFault, TakeFault, WrittenFault}
 use Rattle.coap_server_engine.specs.Prelude.{ReleaseFault, AnnounceFault, AcceptedCall, Opened, Took, Wrote, Ticked, Stored}
+use Rattle.coap_server_engine.specs.Prelude.{Message, message_of, FormatFault, ResponseFault, response_fault}
+use Rattle.coap_server_engine.specs.Prelude.{frame_refusal, response_refusal, OnMessage, session_given, session_given_by}
+use Rattle.coap_server_engine.specs.Prelude.{server_given, response_event, responded_refusal, responded_refusal_on, on_session}
+use Rattle.coap_server_engine.specs.Prelude.{server_settled}
 use Rattle.coap_server_engine.specs.Prelude.{Removed, Ended, Released, Announced, Dropped, takes, AreAcceptedBehind, Shows}
 use Rattle.coap_server_engine.specs.Prelude.{ShowsRefused, server_of}
 use Rattle.coap_model.specs.declared.answers.TakeFault.TheVariants as taken
 use Rattle.coap_model.specs.declared.answers.WrittenFault.TheVariants as writing
 use Rattle.coap_model.specs.declared.answers.ReleaseFault.TheVariants as releasing
+use Rattle.coap_model.specs.declared.answers.ResponseFault.TheVariants as responding
 use Rattle.coap_model.specs.declared.answers.AnnounceFault.TheVariants as announcing
-use Rattle.coap_server_engine.proofs.world.ShowLaws.{shows_opened, shows_written, shows_ticked, shows_put, shows_removed, shows_ended, shows_released, shows_announced, shows_dropped, shows_taken, takes_shown, refused_on, shows_refused_take}
+use Rattle.coap_server_engine.proofs.world.ShowLaws.{shows_opened, shows_written, shows_ticked, shows_put, shows_removed, shows_ended, shows_released, shows_responded, shows_announced, shows_dropped, shows_taken, takes_shown, refused_on, shows_refused_take}
 use Rattle.coap_model.proofs.world.StepLaws.{world_first}
 use Rattle.coap_model.proofs.OptionLemmas.{none_made}
 
@@ -108,6 +113,31 @@ release_shows (Ok x) v new id none is = λ es shows.
     let at = where_free released_refusal_on releasing.NoSuch (session_of id v.sessions) refl none in
     rw is (shows_released v es id at.0 shows at.1 (not_refused (release_refusal at.0.link) at.2))
 release_shows (Err e) v new id none is = tt
+
+-- ---- respond
+
+-- A response that was accepted is a message, and a request waits for it.
+accepted_response : (s : SessionValue) (read : Result Message FormatFault) → option_map response_fault (frame_refusal s.link read) ≡ None → (m : Message) × (read ≡ Ok m) × (response_refusal s.link m ≡ None)
+accepted_response s (Ok m) none = (m, refl, none_made response_fault (response_refusal s.link m) none)
+accepted_response s (Err e) none = absurd cc
+
+-- The connection after it.
+pub given_is : (v w : SessionValue) (read : Result Message FormatFault) → frame_refusal v.link read ≡ None → OnMessage read (λ m. w ≡ session_given v m) → w ≡ session_given_by read v
+given_is v w (Ok m) none is = is
+given_is v w (Err e) none is = absurd cc
+
+-- The server shows the event of a response that was accepted.
+pub shows_given : (v : ServerValue) (es : List AcceptedCall) (id : ℕ) (bytes : List ℕ) → Shows v es → responded_refusal v id bytes ≡ None → Shows (server_given v id bytes) (es ++ response_event id (message_of bytes))
+shows_given v es id bytes shows none =
+    let at = where_free (responded_refusal_on bytes) responding.NoSuch (session_of id v.sessions) refl none in
+    let read = accepted_response at.0 (message_of bytes) at.2 in
+    subst (λ (o : Result Message FormatFault). Shows (server_settled (on_session id (session_given_by o) v)) (es ++ response_event id o)) (sym read.1)
+    (shows_responded v es id read.0 at.0 shows at.1 read.2)
+
+pub respond_shows : {T : Type 0} (r : Result T ResponseFault) (v new : ServerValue) (id : ℕ) (bytes : List ℕ) → RefusedBy r (responded_refusal v id bytes) → OnOk r (new ≡ server_given v id bytes)
+    → OnOk r ((es : List AcceptedCall) → Shows v es → Shows new (es ++ response_event id (message_of bytes)))
+respond_shows (Ok x) v new id bytes none is = λ es shows. rw is (shows_given v es id bytes shows none)
+respond_shows (Err e) v new id bytes none is = tt
 
 -- ---- take
 

@@ -210,6 +210,7 @@ module _ (c : ConfigValues) (es : List AcceptedCall) (id : ℕ) (is : IsReached 
   event_agrees (event.Ended n) all = step_agrees (event.Ended n) _ refl tt tt refl
   event_agrees (event.Released n) all = step_agrees (event.Released n) (world.Released n) refl tt tt refl
   event_agrees (event.Announced n size) all = step_agrees (event.Announced n size) (world.Announced n size) refl tt tt refl
+  event_agrees (event.Responded n m) all = step_agrees (event.Responded n m) (world.Responded n m) refl tt tt refl
   event_agrees (event.Dropped n) all = step_agrees (event.Dropped n) (world.Dropped n) refl tt tt refl
 
 pub handled_agrees : (c : ConfigValues) (es : List AcceptedCall) (id : ℕ) (s : Connection) → AreAccepted c es → side_of id (world_after c es).sides ≡ Some s → Agrees (stream_on c.limits.max_message id es) s

@@ -19,6 +19,7 @@ use Rattle.coap_server_engine.specs.Prelude.{new_side, side_written, side_ended,
 use Rattle.coap_server_engine.specs.Prelude.{Step, side_of, on_side, stored_after, acted, settled_place, all_settled, ticks}
 use Rattle.coap_server_engine.specs.Prelude.{AcceptedCall, Took, taken_in, stream_on, steps_by, world_after, size_on, Opened, Wrote}
 use Rattle.coap_server_engine.specs.Prelude.{Ticked, Stored, Removed, Ended, Released, Dropped, takes_of, takes, OnSide}
+use Rattle.coap_server_engine.specs.Prelude.{Responded, Message, response_refusal, side_responded, session_given, server_responded}
 use Rattle.coap_server_engine.specs.Prelude.{IsAccepted, Announced, session_shown, place_shown, server_shown, server_of}
 use Rattle.coap_server_engine.specs.Prelude.{Shows, Server, LinkValue, new_link, IsHistory, release_refusal, Path}
 use Rattle.coap_server_engine.specs.Prelude.{put_refusal, remove_refusal}
@@ -33,7 +34,7 @@ use Rattle.coap_model.proofs.world.EntryLemmas.{all_to, maps_alike, mapped_filte
 use Rattle.coap_model.proofs.world.ReachedLaws.{IsReached, handling_goes_on, accepted_is, takes_there, piece_accepted, events_distinct, opens}
 use Rattle.coap_model.proofs.world.SideLaws.{IsKnownSide, handles_parts}
 use Rattle.coap_server_session.proofs.world.SideShown.{host_of, faulted_shown, handled_shown, change_shown, written_shown}
-use Rattle.coap_server_session.proofs.world.SideShown.{ended_side_shown, released_shown, announced_shown, settled_shown}
+use Rattle.coap_server_session.proofs.world.SideShown.{ended_side_shown, released_shown, given_shown, announced_shown, settled_shown}
 use Rattle.coap_model.proofs.world.HearingLaws.{world_stays, IsKnownPlace, IsKnownWorld, acted_known, world_known, world_hears}
 use Rattle.coap_model.proofs.OptionLemmas.{one_made}
 use Rattle.coap_conn.proofs.LinkLemmas.{new_shown}
@@ -328,6 +329,13 @@ unfolding IsAccepted acted steps_by
 shows_released v es id s shows there none =
     shows_on v es id s (Released id) _ side_released session_released (λ u. release_refusal u.link ≡ None) shows there none
     refl (λ k. refl) refl (λ ok. ok) (released_shown (rest_on v es id))
+
+-- `respond`.
+pub shows_responded : (v : ServerValue) (es : List AcceptedCall) (id : ℕ) (m : Message) (s : SessionValue) → Shows v es → session_of id v.sessions ≡ Some s → response_refusal s.link m ≡ None → Shows (server_responded v id m) (es ++ Responded id m ∷ [])
+unfolding IsAccepted acted steps_by
+shows_responded v es id m s shows there none =
+    shows_on v es id s (Responded id m) _ (λ t. side_responded t m) (λ u. session_given u m) (λ u. response_refusal u.link m ≡ None) shows there none
+    refl (λ k. refl) refl (λ ok. ok) (λ t history may. given_shown (rest_on v es id) t m history)
 
 -- `announce`.
 pub shows_announced : (v : ServerValue) (es : List AcceptedCall) (id size : ℕ) (s : SessionValue) → Shows v es → session_of id v.sessions ≡ Some s → session_raises s size ≡ true → Shows (server_announced v id size) (es ++ Announced id size ∷ [])

@@ -5,16 +5,18 @@ use Rattle.coap_conn.specs.Reasons.{reason_number}
 use Rattle.coap_store.specs.Refusals.{put_refusal, remove_refusal}
 use Rattle.coap_store.specs.declared.fault.StoreFault.{StoreFault}
 use Rattle.coap_store.specs.declared.fault.StoreFault.TheVariants as storing
-use Rattle.coap_script.specs.script.Events.{ScriptEventValue, Open, In, Drain, Tick, Put, Remove, End, Release, Drop, Status}
+use Rattle.coap_script.specs.script.Events.{ScriptEventValue, Open, In, Drain, Tick, Put, Remove, End, Release, Respond, Drop, Status}
 use Rattle.coap_script.specs.script.Lines.{open_line, in_line, out_line, tick_line, put_line, remove_line, word_line, status_line, fault_line}
 use Rattle.coap_server_engine.specs.values.InResults.{InResult, in_result}
 use Rattle.coap_server_session.specs.values.Sessions.{SessionValue}
-use Rattle.coap_server_engine.specs.values.Servers.{ServerValue, session_of, server_opened, server_written, server_ticked, server_put, server_removed, server_ended, server_released, server_dropped}
-use Rattle.coap_server_engine.specs.values.ServerAnswers.{open_refusal, released_refusal}
+use Rattle.coap_server_engine.specs.values.Servers.{ServerValue, session_of, server_opened, server_written, server_ticked, server_put, server_removed, server_ended, server_released, server_given, server_dropped}
+use Rattle.coap_server_engine.specs.values.ServerAnswers.{open_refusal, released_refusal, responded_refusal}
 use Rattle.coap_model.specs.declared.answers.OpenFault.{OpenFault}
 use Rattle.coap_model.specs.declared.answers.OpenFault.TheVariants as opening
 use Rattle.coap_model.specs.declared.answers.ReleaseFault.{ReleaseFault}
 use Rattle.coap_model.specs.declared.answers.ReleaseFault.TheVariants as releasing
+use Rattle.coap_model.specs.declared.answers.ResponseFault.{ResponseFault}
+use Rattle.coap_model.specs.declared.answers.ResponseFault.TheVariants as responding
 
 -- The result of events: the server after them, and the text that they write.
 pub record EventResult : Type 0 where
@@ -45,6 +47,12 @@ release_number releasing.NoSuch = 1
 release_number releasing.NotOpen = 2
 release_number releasing.NoRoom = 3
 release_number releasing.PeerTooSmall = 4
+
+abbrev pub response_number : ResponseFault → ℕ
+response_number responding.NoSuch = 1
+response_number responding.NoSuchRequest = 2
+response_number responding.NotAResponse = 3
+response_number responding.NoRoom = 4
 
 -- The number of the error of `tick`, if the time is before that of the server.
 abbrev pub tick_refusal : ServerValue → ℕ → Option ℕ
@@ -105,6 +113,7 @@ event_ran v (Put path format bytes) =
 event_ran v (Remove path text) = unless_refused v (codes "remove") None (comes_to (server_removed v path) (remove_line text)) (option_map store_number (remove_refusal v.host.store path))
 event_ran v (End id) = on_connection v (codes "end") id (λ s. comes_to (server_ended v id) (word_line (codes "end") id)) (session_of id v.sessions)
 event_ran v (Release id) = unless_refused v (codes "release") (Some id) (comes_to (server_released v id) (word_line (codes "release") id)) (option_map release_number (released_refusal v id))
+event_ran v (Respond id bytes) = unless_refused v (codes "respond") (Some id) (comes_to (server_given v id bytes) (word_line (codes "respond") id)) (option_map response_number (responded_refusal v id bytes))
 event_ran v (Drop id) = on_connection v (codes "drop") id (λ s. comes_to (server_dropped v id) (word_line (codes "drop") id)) (session_of id v.sessions)
 event_ran v (Status id) = on_connection v (codes "status") id (status_ran v id) (session_of id v.sessions)
 

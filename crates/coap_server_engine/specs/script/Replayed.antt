@@ -1,7 +1,7 @@
 -- Defined by this project: the results of a replay of events.
 use Rattle.std.specs.Prelude.{◌≡◌, ◌≢◌, ℕ, ◌+◌, Bool, true, false, List, [], ◌∷◌, ◌++◌, length, None, Result, Ok, Err}
 use Rattle.coap_store.specs.Refusals.{put_refusal, remove_refusal}
-use Rattle.coap_script.specs.script.Events.{ScriptEventValue, Open, In, Drain, Tick, Put, Remove, End, Release, Drop, Status}
+use Rattle.coap_script.specs.script.Events.{ScriptEventValue, Open, In, Drain, Tick, Put, Remove, End, Release, Respond, Drop, Status}
 use Rattle.coap_server_engine.specs.script.Replay.{event_ran, replayed}
 use Rattle.coap_server_engine.specs.script.Shown.{events_ran}
 use Rattle.coap_server_engine.specs.values.InResults.{IsPartialIn, ShowsMore}
@@ -27,6 +27,7 @@ IsUnrun v (Put path format bytes) after = (put_refusal v.host.store path bytes �
 IsUnrun v (Remove path text) after = (remove_refusal v.host.store path ≡ None) × (after ≡ v)
 IsUnrun v (End id) after = ⊥
 IsUnrun v (Release id) after = ⊥
+IsUnrun v (Respond id bytes) after = ⊥
 IsUnrun v (Drop id) after = ⊥
 IsUnrun v (Status id) after = (is_there (session_of id v.sessions) ≡ true) × (after ≡ v)
 

@@ -2,11 +2,12 @@
 use Rattle.std.specs.Prelude.{◌≡◌, ℕ, ◌+◌, List, [], ◌∷◌, ◌++◌, length, Option, Some, None, Result, Ok, Err}
 use Rattle.std.specs.declared.alloc.AllocError.{AllocError}
 use Rattle.coap_store.specs.Refusals.{put_refusal, remove_refusal}
-use Rattle.coap_script.specs.script.Events.{ScriptEventValue, Open, In, Drain, Tick, Put, Remove, End, Release, Drop, Status}
+use Rattle.coap_script.specs.script.Events.{ScriptEventValue, Open, In, Drain, Tick, Put, Remove, End, Release, Respond, Drop, Status}
+use Rattle.coap_wire.specs.Reading.{message_of}
 use Rattle.coap_server_engine.specs.script.Replay.{drained, tick_refusal, event_ran, replayed}
 use Rattle.coap_server_engine.specs.values.InResults.{where_there, took, ShowsMore, IsPartlyTaken}
 use Rattle.coap_server_engine.specs.values.Servers.{ServerValue, session_of}
-use Rattle.coap_server_engine.specs.values.ServerAnswers.{open_refusal, released_refusal}
+use Rattle.coap_server_engine.specs.values.ServerAnswers.{open_refusal, released_refusal, responded_refusal, response_event}
 use Rattle.coap_model.specs.world.Events.{AcceptedCall, Opened, Wrote, Ticked, Stored, Removed, Ended, Released, Dropped}
 use Rattle.coap_server_engine.specs.world.Shows.{Shows}
 use Rattle.coap_server_engine.specs.declared.replay.ReplayFault.{ReplayFault}
@@ -19,6 +20,11 @@ abbrev pub unless : {F : Type 0} → Option F → AcceptedCall → List Accepted
 unless None e = e ∷ []
 unless (Some refusal) e = []
 
+-- These events of a call, unless the call fails.
+abbrev pub unless_any : {F : Type 0} → Option F → List AcceptedCall → List AcceptedCall
+unless_any None es = es
+unless_any (Some refusal) es = []
+
 -- The calls that an event of a script makes and that succeed.
 unfoldable pub events_made : ServerValue → ScriptEventValue → List AcceptedCall
 events_made v Open = unless (open_refusal v) (Opened (v.ids + 1))
@@ -29,6 +35,7 @@ events_made v (Put path format bytes) = unless (put_refusal v.host.store path by
 events_made v (Remove path text) = unless (remove_refusal v.host.store path) (Removed path)
 events_made v (End id) = where_there (session_of id v.sessions) (λ s. Ended id)
 events_made v (Release id) = unless (released_refusal v id) (Released id)
+events_made v (Respond id bytes) = unless_any (responded_refusal v id bytes) (response_event id (message_of bytes))
 events_made v (Drop id) = where_there (session_of id v.sessions) (λ s. Dropped id)
 events_made v (Status id) = []
 
@@ -49,6 +56,7 @@ IsPartlyMade v (Put path format bytes) after more = more ≡ []
 IsPartlyMade v (Remove path text) after more = more ≡ []
 IsPartlyMade v (End id) after more = more ≡ []
 IsPartlyMade v (Release id) after more = more ≡ []
+IsPartlyMade v (Respond id bytes) after more = more ≡ []
 IsPartlyMade v (Drop id) after more = more ≡ []
 IsPartlyMade v (Status id) after more = more ≡ []
 

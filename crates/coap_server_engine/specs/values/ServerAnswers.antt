@@ -1,12 +1,22 @@
 -- Defined by this project: the results of a server's calls, and the reasons for which they fail.
-use Rattle.std.specs.Prelude.{◌≡◌, ℕ, Bool, true, false, List, length, take, Option, Some, None, Result, Ok, Err, option_map, nat_le, nat_lt, ◌==◌, if◌then◌else◌}
+use Rattle.std.specs.Prelude.{◌≡◌, ℕ, Bool, true, false, List, [], ◌∷◌, length, take, Option, Some, None, Result, Ok, Err, option_map, nat_le, nat_lt, ◌==◌, if◌then◌else◌}
 use Rattle.coap_conn.specs.declared.reason.Reason.{Reason}
 use Rattle.coap_conn.specs.Phases.{stop_of}
 use Rattle.coap_conn.specs.LinkValue.{is_finished}
 use Rattle.coap_conn.specs.Release.{release_refusal}
 use Rattle.coap_server_session.specs.values.Sessions.{SessionValue, session_takes, taking, RefusesPiece}
 use Rattle.coap_server_engine.specs.values.Servers.{ServerValue, session_of, server_taken}
-use Rattle.coap_model.specs.Answers.{release_fault}
+use Rattle.coap_wire.specs.Message.{Message}
+use Rattle.coap_wire.specs.Reading.{message_of}
+use Rattle.coap_wire.specs.declared.fault.FormatFault.{FormatFault}
+use Rattle.coap_model.specs.world.Events.{AcceptedCall, Responded}
+use Rattle.coap_conn.specs.Fit.{fit, bare_response}
+use Rattle.coap_conn.specs.LinkValue.{limit_in}
+use Rattle.coap_conn.specs.Responses.{frame_refusal, OnMessage}
+use Rattle.coap_conn.specs.declared.phase.Reply.{Reply}
+use Rattle.coap_model.specs.declared.answers.ResponseFault.{ResponseFault}
+use Rattle.coap_model.specs.declared.answers.ResponseFault.TheVariants as responding
+use Rattle.coap_model.specs.Answers.{release_fault, response_fault}
 use Rattle.coap_model.specs.declared.answers.Handled.{Handled}
 use Rattle.coap_model.specs.declared.answers.Handled.TheVariants as handled
 use Rattle.coap_model.specs.declared.answers.Status.{Status}
@@ -124,3 +134,24 @@ session_status s = record {
 -- The status of the connection with this id.
 abbrev pub status_of : ServerValue → ℕ → Option Status
 status_of v id = option_map session_status (session_of id v.sessions)
+
+-- ---- responses of the application
+
+-- The reason for which `respond` fails: there is no connection, or its link does not accept the response.
+abbrev pub responded_refusal_on : List ℕ → Option SessionValue → Option ResponseFault
+responded_refusal_on bytes None = Some responding.NoSuch
+responded_refusal_on bytes (Some s) = option_map response_fault (frame_refusal s.link (message_of bytes))
+
+-- The same for the connection with this id.
+abbrev pub responded_refusal : ServerValue → ℕ → List ℕ → Option ResponseFault
+responded_refusal v id bytes = responded_refusal_on bytes (session_of id v.sessions)
+
+-- The response was sent whole or reduced, or stopped the connection, by the limit of the peer.
+abbrev pub IsReplyOn : List ℕ → Reply → Option SessionValue → Type 0
+IsReplyOn bytes reply None = ⊥
+IsReplyOn bytes reply (Some s) = OnMessage (message_of bytes) (λ m. reply ≡ fit (limit_in s.link) m (bare_response m))
+
+-- The event of a response, by the message that its bytes encode, if they encode one.
+abbrev pub response_event : ℕ → Result Message FormatFault → List AcceptedCall
+response_event id (Ok m) = Responded id m ∷ []
+response_event id (Err e) = []

@@ -1,12 +1,16 @@
 -- Defined by this project: the value of a server, and the effect of each call on it.
-use Rattle.std.specs.Prelude.{◌≡◌, ℕ, zero, suc, ◌+◌, ◌<◌, Bool, true, false, not, List, [], ◌∷◌, ◌++◌, length, map, filter, Option, Some, None, slice_get, nat_eq, ◌==◌, if◌then◌else◌}
+use Rattle.std.specs.Prelude.{◌≡◌, ℕ, zero, suc, ◌+◌, ◌<◌, Bool, true, false, not, List, [], ◌∷◌, ◌++◌, length, map, filter, Option, Some, None, Result, Ok, Err, slice_get, nat_eq, ◌==◌, if◌then◌else◌}
 use Rattle.std.specs.List.{AllByRecursion, IsDistinct, position_or_len}
 use Rattle.std.specs.Map.{keys_of, values_of}
+use Rattle.coap_wire.specs.Message.{Message}
+use Rattle.coap_wire.specs.Reading.{message_of}
+use Rattle.coap_wire.specs.declared.fault.FormatFault.{FormatFault}
 use Rattle.coap_path.specs.Paths.{Path}
+use Rattle.coap_application.specs.Applications.{ApplicationsValue}
 use Rattle.coap_store.specs.Store.{put_in, removed_in}
 use Rattle.coap_model.specs.Configs.{ConfigValues}
 use Rattle.coap_server_session.specs.declared.server_state.ServerState.{ServerState}
-use Rattle.coap_server_session.specs.values.Sessions.{empty_host, SessionValue, MarkedSession, IsMarked, TakeOutcome, new_session, taking, host_changed, session_written, session_ended, session_released, session_announced, session_settled, IsSettled}
+use Rattle.coap_server_session.specs.values.Sessions.{empty_host, host_with, SessionValue, MarkedSession, IsMarked, TakeOutcome, new_session, taking, host_changed, session_written, session_ended, session_released, session_announced, session_given, session_settled, IsSettled}
 
 -- A server: its configuration, the resources with the time, the last id, and the connections in ascending order of ids.
 pub record ServerValue : Type 0 where
@@ -80,7 +84,11 @@ is_there (Some x) = true
 
 -- The server state (`ServerState`) of a new server, which stores nothing.
 abbrev pub new_host : ConfigValues → ServerState
-new_host c = empty_host c.dynamic_max c.rep_max c.starts.versions c.starts.moment
+new_host c = host_with (empty_host c.dynamic_max c.rep_max c.starts.versions c.starts.moment) c.applications
+
+-- The configuration with these applications.
+abbrev pub config_with : ConfigValues → Option ApplicationsValue → ConfigValues
+config_with c applications = record c { applications = applications }
 
 -- A new server, which has no connection.
 abbrev pub new_server : ConfigValues → ServerValue
@@ -136,6 +144,18 @@ server_released v id = server_settled (on_session id session_released v)
 
 abbrev pub server_announced : ServerValue → ℕ → ℕ → ServerValue
 server_announced v id size = server_settled (on_session id (λ s. session_announced s size) v)
+
+-- A connection after a response of the application, by the message that its bytes encode, if they encode one.
+abbrev pub session_given_by : Result Message FormatFault → SessionValue → SessionValue
+session_given_by (Ok m) s = session_given s m
+session_given_by (Err e) s = s
+
+-- The server after these bytes were given as a response of the application on a connection.
+abbrev pub server_given : ServerValue → ℕ → List ℕ → ServerValue
+server_given v id bytes = server_settled (on_session id (session_given_by (message_of bytes)) v)
+
+abbrev pub server_responded : ServerValue → ℕ → Message → ServerValue
+server_responded v id m = server_settled (on_session id (λ s. session_given s m) v)
 
 abbrev pub server_dropped : ServerValue → ℕ → ServerValue
 server_dropped v id = server_settled (record v { sessions = filter (λ e. not (e.0 == id)) v.sessions })

@@ -1,11 +1,17 @@
 -- The value that contracts see for `Server`, and its invariant.
 use Rattle.std.specs.Prelude.{◌≤◌, length}
 use Rattle.std.specs.List.{AllByRecursion}
-use Rattle.coap_server_engine.specs.values.Servers.{ServerValue, AreSettled, unmarked, AreAllMarked}
+use Rattle.coap_server_engine.specs.values.Servers.{ServerValue, config_with, AreSettled, unmarked, AreAllMarked}
 use Rattle.coap_server_engine.specs.declared.server.Server.TheInside.{Inside}
 
+-- The configuration of the value has the applications, which the store of the server has.
 abbrev pub server_value : Inside → ServerValue
-server_value s = record { config = s.config; host = s.host; ids = s.ids; sessions = unmarked s.sessions.entries }
+server_value s = record {
+  config = config_with s.config s.host.store.applications;
+  host = s.host;
+  ids = s.ids;
+  sessions = unmarked s.sessions.entries;
+}
 
 -- Holds if every connection is settled and its id was given, and the connection limit is not exceeded.
 pub record IsServer (v : ServerValue) : Type 0 where

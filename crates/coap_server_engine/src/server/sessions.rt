@@ -8,12 +8,13 @@ ghost use Rattle.coap_server_engine.specs.Prelude.{IsFlushedAt, session_written,
 ghost use Rattle.coap_server_engine.specs.Prelude.{session_announced, session_settled, LiesAt, session_of, changed_at};
 ghost use Rattle.coap_server_engine.specs.Prelude.{settled_entry, AreSettled, UnaffectedAreSettled, AreUntouched};
 ghost use Rattle.coap_server_engine.specs.Prelude.{AreOthersSettled, settled_held, released_refusal_on, IsAnnounced};
-ghost use Rattle.coap_server_engine.specs.Prelude.{handled_so};
+ghost use Rattle.coap_server_engine.specs.Prelude.{handled_so, responded_refusal_on, IsReplyOn, message_of};
+ghost use Rattle.coap_server_engine.specs.Prelude.{session_given_by};
 
 use super::Sessions;
-use coap_conn::Reason;
+use coap_conn::{Reason, Reply};
 use coap_io::{Outlet, WriteFailed, write_parts};
-use coap_model::{AnnounceFault, ConnId, Handled, ReleaseFault};
+use coap_model::{AnnounceFault, ConnId, Handled, ReleaseFault, ResponseFault};
 use coap_server_session::{Cause, ServerState};
 
 /// Returns the index of a connection, or `None` if no connection has this id.
@@ -158,6 +159,36 @@ pub(super) fn release_at(
     session.release()?;
     session.settle(host);
     Ok(())
+}
+
+/// Queues a response of the application on the connection at an index, and settles it.
+///
+/// # Errors
+///
+/// As `Session::respond`. Nothing has changed then.
+#[tactic(auto, using(crate::proofs::values::ServerLemmas::unmarked_at))]
+pub(super) fn respond_at(
+    sessions: &mut Sessions,
+    at: usize,
+    host: &ServerState,
+    response: &[u8],
+) -> Result<Reply, ResponseFault>
+    requires within { at < length sessions.old.entries }
+    requires marked { AreAllMarked host.now sessions.old.entries }
+    ensures answer { RefusedBy result
+        (responded_refusal_on response.now (slice_get (values_of (unmarked sessions.old.entries)) at)) }
+    ensures reply { IfOk result (λ r.
+        IsReplyOn response.now r (slice_get (values_of (unmarked sessions.old.entries)) at)) }
+    ensures ok { OnOk result (unmarked sessions.new.entries ≡ changed_at at
+        (λ s. session_settled host.entry.now (session_given_by (message_of response.now) s))
+        (unmarked sessions.old.entries)) }
+    ensures marked { AreAllMarked host.entry.now sessions.new.entries }
+    ensures err { OnErr result (sessions.new.entries ≡ sessions.old.entries) }
+{
+    let session = &mut sessions[at];
+    let reply = session.respond(response)?;
+    session.settle(host);
+    Ok(reply)
 }
 
 /// Announces a size on the connection at an index, and settles it.

@@ -10,7 +10,7 @@ use Rattle.coap_server_engine.specs.values.InResults.{ShowsMore}
 use Rattle.coap_server_engine.specs.values.ServerDeadlines.{stamp_of}
 use Rattle.coap_server_engine.specs.values.ServerAnswers.{open_refusal}
 use Rattle.coap_server_engine.specs.values.Servers.{ServerValue, server_opened, server_dropped}
-use Rattle.coap_model.specs.world.Events.{AcceptedCall, Opened, Took, Wrote, Ticked, Stored, Removed, Ended, Released, Announced, Dropped}
+use Rattle.coap_model.specs.world.Events.{AcceptedCall, Opened, Took, Wrote, Ticked, Stored, Removed, Ended, Released, Announced, Responded, Dropped}
 use Rattle.coap_server_listener.specs.declared.door.peer.PeerOutcome.{PeerOutcome}
 use Rattle.coap_server_listener.specs.declared.door.peer.PeerOutcome.TheVariants.{Open, Over}
 use Rattle.coap_server_listener.specs.declared.door.peer.Peer.{Peer}
@@ -34,6 +34,7 @@ IsServing (Removed path) = ⊥
 IsServing (Ended id) = Unit {0}
 IsServing (Released id) = ⊥
 IsServing (Announced id size) = ⊥
+IsServing (Responded id m) = ⊥
 IsServing (Dropped id) = Unit {0}
 
 -- Connections were served, and nothing else happened. If the server showed some events before, it now shows them

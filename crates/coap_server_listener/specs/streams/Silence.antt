@@ -5,7 +5,7 @@ use Rattle.indexmap.specs.IndexMap.{insert_entry, shift_remove_entry}
 use Rattle.coap_conn.specs.Phases.{is_waiting}
 use Rattle.coap_model.specs.declared.answers.ReleaseFault.{ReleaseFault}
 use Rattle.coap_model.specs.declared.answers.Status.{Status}
-use Rattle.coap_model.specs.world.Events.{AcceptedCall, Opened, Took, Wrote, Ticked, Stored, Removed, Ended, Released, Announced, Dropped}
+use Rattle.coap_model.specs.world.Events.{AcceptedCall, Opened, Took, Wrote, Ticked, Stored, Removed, Ended, Released, Announced, Responded, Dropped}
 use Rattle.coap_server_engine.specs.values.InResults.{ShowsMore}
 use Rattle.coap_server_engine.specs.values.ServerAnswers.{released_refusal, status_of}
 use Rattle.coap_server_engine.specs.values.Servers.{ServerValue, server_released, server_dropped}
@@ -66,6 +66,7 @@ activities_after now all (Removed path) = all
 activities_after now all (Ended id) = all
 activities_after now all (Released id) = changed_by id (λ a. record a { released = Some now }) all
 activities_after now all (Announced id size) = all
+activities_after now all (Responded id m) = all
 activities_after now all (Dropped id) = shift_remove_entry (nat_eq id) all
 
 -- ---- a sweep

@@ -1,10 +1,12 @@
 -- The link and the entries after a request, after a due entry was sent, and after a notification.
 use Rattle.std.proofs.Common.{◌≡◌, ℕ, Bool, true, false, ◌&&◌, List, [], Option, Some, None, refl, sym, ap, ◌∙◌, ◌==◌, slice_get, slice_set, if◌then◌else◌}
 use Rattle.coap_server_session.specs.Prelude.{remove, Message, Reply, fit, bare_response, first_due, link_after, LinkValue}
-use Rattle.coap_server_session.specs.Prelude.{limit_in, can_hold, path_of, says, answer_of, without_hold, immediate_answer, changes}
+use Rattle.coap_server_session.specs.Prelude.{limit_in, can_hold, path_of, says, only, answer_of, immediate_answer, changes}
+use Rattle.coap_server_session.specs.Prelude.{StoreValue, application_deadline, prompt_answer, unless_handed, Application}
+use Rattle.coap_server_session.specs.Prelude.{Delay, delay_by, delay_or, hold_call, Engine}
 use Rattle.coap_server_session.specs.Prelude.{response_message, response_with_observe, notification_of, MayObserve, ServerState}
 use Rattle.coap_server_session.specs.Prelude.{moment_after, asks_entry, is_whole, with_entry, goes_on, ObserverValue}
-use Rattle.coap_server_session.specs.Prelude.{new_entry, answer_on, hold_on, held_in, is_stale, mark_of, notification_on}
+use Rattle.coap_server_session.specs.Prelude.{new_entry, answer_on, delay_on, held_in, is_stale, mark_of, notification_on}
 use Rattle.coap_server_session.specs.Prelude.{state_on, first_index, is_observed, response_on, is_sent, link_replied}
 use Rattle.coap_server_session.specs.Prelude.{entries_replied, entries_notified, Response}
 use Rattle.std.proofs.lemmas.List.{append-nil}
@@ -14,7 +16,9 @@ use Rattle.coap_conn.specs.Calls as call
 use Rattle.coap_conn.proofs.PendingLaws.{due_nothing}
 use Rattle.coap_store.specs.Answer as answer
 use Rattle.coap_store.specs.Answer.{Answer}
-use Rattle.coap_store.proofs.HoldLaws.{held_of, held_unwatched, same_change, same_at_once}
+use Rattle.coap_store.specs.declared.plan.Watch.TheVariants as watch
+use Rattle.coap_store.proofs.ApplicationLaws.{prompt_cases}
+use Rattle.coap_store.proofs.HoldLaws.{held_of, held_unwatched, same_change, same_at_once, refused_for_now}
 use Rattle.coap_store.proofs.WatchLaws.{promptly_watched_is_there}
 use Rattle.coap_server_session.proofs.values.EntryLemmas.{is_first}
 use Rattle.coap_model.proofs.world.EntryLemmas.{asks_to_enter}
@@ -22,7 +26,9 @@ use Rattle.coap_model.proofs.world.EntryLemmas.{asks_to_enter}
 -- ---- a request
 
 pub may_watch : (host : ServerState) (m : Message) → asks_entry (answer_on host m).watch ≡ true → MayObserve host.store host.now (path_of m) (answer_on host m)
-may_watch host m asks = promptly_watched_is_there host.store host.now m (asks_to_enter (answer_on host m).watch asks)
+may_watch host m asks =
+    prompt_cases host.store host.now m (λ a. a.watch ≡ watch.Add → MayObserve host.store host.now (path_of m) a)
+    (λ e. absurd cc) (promptly_watched_is_there host.store host.now m) (asks_to_enter (answer_on host m).watch asks)
 
 -- A request that changes the store gets no entry.
 unobserved : (host : ServerState) (m : Message) (room : ℕ) (others : List ObserverValue) → changes (answer_on host m).change ≡ true → is_observed host room others m ≡ false
@@ -37,58 +43,95 @@ nothing_changed (answer.Delete path) e = absurd cc
 
 -- ---- a request whose response is to be delayed
 
-module _ (host : ServerState) (m : Message) (seconds room : ℕ) (others : List ObserverValue) (holds : hold_on host m ≡ Some seconds) where
+-- The answer with a full pending list: 5.03 and nothing else.
+pub record IsRefusedDelay (a : Answer) : Type 0 where
+  pub quiet : a.change ≡ answer.Nothing
+  pub refused : a.response ≡ only code.service_unavailable
+  pub unwatched : asks_entry a.watch ≡ false
+
+refused_immediately : (s : StoreValue) (now : ℕ) (m : Message) (seconds : ℕ) → (answer_of s now m).hold ≡ Some seconds → IsRefusedDelay (immediate_answer s now m)
+unfolding immediate_answer
+refused_immediately s now m seconds holds =
+    let same : (answer_of s now m).watch ≡ (immediate_answer s now m).watch = cc holds in
+    record {
+      quiet = same_change s now m ∙ (held_of s now m seconds holds).change;
+      refused = refused_for_now s now m seconds holds;
+      unwatched = false_from_ne_true (asks_entry (immediate_answer s now m).watch)
+          (λ asks. held_unwatched s now m seconds holds (same ∙ asks_to_enter (immediate_answer s now m).watch asks));
+    }
+
+refused_by : (s : StoreValue) (now : ℕ) (m : Message) (d : Delay) (deadline hold : Option ℕ) → (answer_of s now m).hold ≡ hold → delay_or deadline hold ≡ Some d → IsRefusedDelay (unless_handed deadline (immediate_answer s now m))
+refused_by s now m d (Some seconds) hold holds is = record { quiet = refl; refused = refl; unwatched = refl }
+refused_by s now m d None None holds is = absurd cc
+refused_by s now m d None (Some seconds) holds is = refused_immediately s now m seconds holds
+
+refused_delay_of : (host : ServerState) (m : Message) (d : Delay) → delay_on host m ≡ Some d → IsRefusedDelay (answer_on host m)
+unfolding prompt_answer
+refused_delay_of host m d = refused_by host.store host.now m d (application_deadline host.store.applications m) (answer_of host.store host.now m).hold refl
+
+module _ (host : ServerState) (m : Message) (d : Delay) (room : ℕ) (others : List ObserverValue) (delays : delay_on host m ≡ Some d) where
   pub late_quiet : (answer_on host m).change ≡ answer.Nothing
-  late_quiet = same_change host.store host.now m ∙ (held_of host.store host.now m seconds holds).change
+  late_quiet = (refused_delay_of host m d delays).quiet
 
   -- It gets no entry.
   late_unobserved : is_observed host room others m ≡ false
-  unfolding immediate_answer
-  late_unobserved =
-      let same : (answer_of host.store host.now m).watch ≡ (answer_on host m).watch = cc holds in
-      and_left _ _ (false_from_ne_true (asks_entry (answer_on host m).watch) (λ asks. held_unwatched host.store host.now m seconds holds (same ∙ asks_to_enter (answer_on host m).watch asks)))
+  late_unobserved = and_left _ _ (refused_delay_of host m d delays).unwatched
 
   -- Its response is delayed if the pending list has room, and is 5.03 otherwise.
-  pub late_link : (l after : LinkValue) (moment : ℕ) → moment ≡ moment_after host.now seconds
-      → after ≡ (if can_hold l then link_after l (call.Hold m.token moment) else link_after l (call.Reply (response_message m.token (without_hold (answer_of host.store host.now m)).response))) → after ≡ link_replied host l room others m (held_in l (hold_on host m))
-  unfolding immediate_answer
+  pub late_link : (l after : LinkValue) (moment : ℕ) → moment ≡ moment_after host.now d.seconds
+      → after ≡ (if can_hold l then link_after l (hold_call d.by m.token moment) else link_after l (call.Reply (response_message m.token (only code.service_unavailable)))) → after ≡ link_replied host l room others m (held_in l (delay_on host m))
   late_link l after moment at is =
-      let refused : response_message m.token (without_hold (answer_of host.store host.now m)).response ≡ response_on host room others m = cc late_unobserved in
+      let refused : response_message m.token (only code.service_unavailable) ≡ response_on host room others m =
+      cc (late_unobserved, (refused_delay_of host m d delays).refused) in
       is
-      ∙ elim (can_hold l) as (λ b. (if b then link_after l (call.Hold m.token moment) else link_after l (call.Reply (response_message m.token (without_hold (answer_of host.store host.now m)).response))) ≡ link_replied host l room others m (if b then Some seconds else None)) [
+      ∙ elim (can_hold l) as (λ b. (if b then link_after l (hold_call d.by m.token moment) else link_after l (call.Reply (response_message m.token (only code.service_unavailable)))) ≡ link_replied host l room others m (if b then Some d else None)) [
         | true ↦ cc at
         | false ↦ cc refused
       ]
-      ∙ ap (λ (hold : Option ℕ). link_replied host l room others m (held_in l hold)) (sym holds)
+      ∙ ap (λ (delay : Option Delay). link_replied host l room others m (held_in l delay)) (sym delays)
 
-  pub late_entries : (l : LinkValue) → others ≡ entries_replied host l room others m (held_in l (hold_on host m))
+  pub late_entries : (l : LinkValue) → others ≡ entries_replied host l room others m (held_in l (delay_on host m))
   late_entries l =
-      rw holds (elim (can_hold l) as (λ b. others ≡ entries_replied host l room others m (if b then Some seconds else None)) [ true ↦ refl | false ↦ cc late_unobserved ])
+      rw delays (elim (can_hold l) as (λ b. others ≡ entries_replied host l room others m (if b then Some d else None)) [ true ↦ refl | false ↦ cc late_unobserved ])
 
--- ---- a request that is answered at once
+-- ---- a request that the application does not answer
 
-pub prompt_is : (host : ServerState) (m : Message) (a : Answer) → a ≡ answer_of host.store host.now m → a.hold ≡ None → (hold_on host m ≡ None) × (a ≡ answer_on host m)
-prompt_is host m a is at_once =
-    let none : hold_on host m ≡ None = cc in
-    (none, is ∙ sym (same_at_once host.store host.now m none))
+module _ (host : ServerState) (m : Message) (unhanded : application_deadline host.store.applications m ≡ None) where
+  pub delay_unhanded : delay_on host m ≡ delay_by Engine (answer_of host.store host.now m).hold
+  delay_unhanded = ap (λ deadline. delay_or deadline (answer_of host.store host.now m).hold) unhanded
 
-module _ (host : ServerState) (m : Message) (l : LinkValue) (room : ℕ) (others : List ObserverValue) (none : hold_on host m ≡ None) where
-  pub prompt_link : link_after l (call.Reply (response_on host room others m)) ≡ link_replied host l room others m (held_in l (hold_on host m))
+  answer_unhanded : answer_on host m ≡ immediate_answer host.store host.now m
+  unfolding prompt_answer
+  answer_unhanded = ap (λ deadline. unless_handed deadline (immediate_answer host.store host.now m)) unhanded
+
+  -- ---- a request that is answered at once
+
+  pub prompt_is : (a : Answer) → a ≡ answer_of host.store host.now m → a.hold ≡ None → (delay_on host m ≡ None) × (a ≡ answer_on host m)
+  prompt_is a is at_once =
+      let none : (answer_of host.store host.now m).hold ≡ None = cc in
+      (delay_unhanded ∙ ap (delay_by Engine) none, is ∙ sym (same_at_once host.store host.now m none) ∙ sym answer_unhanded)
+
+-- The delay of a request that the application answers.
+pub delay_handed : (host : ServerState) (m : Message) (deadline : ℕ) → application_deadline host.store.applications m ≡ Some deadline → delay_on host m ≡ Some (record { by = Application; seconds = deadline })
+delay_handed host m deadline is = ap (λ (d : Option ℕ). delay_or d (answer_of host.store host.now m).hold) is
+
+module _ (host : ServerState) (m : Message) (l : LinkValue) (room : ℕ) (others : List ObserverValue) (none : delay_on host m ≡ None) where
+  pub prompt_link : link_after l (call.Reply (response_on host room others m)) ≡ link_replied host l room others m (held_in l (delay_on host m))
   prompt_link = cc none
 
-  pub prompt_entries : (enters : Bool) → enters ≡ (is_observed host room others m && is_sent l (response_on host room others m)) → with_entry enters others (new_entry host m) ≡ entries_replied host l room others m (held_in l (hold_on host m))
+  pub prompt_entries : (enters : Bool) → enters ≡ (is_observed host room others m && is_sent l (response_on host room others m)) → with_entry enters others (new_entry host m) ≡ entries_replied host l room others m (held_in l (delay_on host m))
   prompt_entries enters is = cc
 
   -- A request that changes the store gets no entry.
   module _ (does : changes (answer_on host m).change ≡ true) where
-    pub change_link : (after : LinkValue) (r : Response) → r ≡ (answer_on host m).response → after ≡ link_after l (call.Reply (response_with_observe m.token false r)) → after ≡ link_replied host l room others m (held_in l (hold_on host m))
+    pub change_link : (after : LinkValue) (r : Response) → r ≡ (answer_on host m).response → after ≡ link_after l (call.Reply (response_with_observe m.token false r)) → after ≡ link_replied host l room others m (held_in l (delay_on host m))
     change_link after r same is =
         is
         ∙ ap (λ (s : Response). link_after l (call.Reply (response_with_observe m.token false s))) same
         ∙ ap (λ (b : Bool). link_after l (call.Reply (response_with_observe m.token b (answer_on host m).response))) (sym (unobserved host m room others does))
         ∙ prompt_link
 
-    pub change_entries : others ≡ entries_replied host l room others m (held_in l (hold_on host m))
+    pub change_entries : others ≡ entries_replied host l room others m (held_in l (delay_on host m))
     change_entries = prompt_entries false (cc (unobserved host m room others does))
 
 -- ---- pending entries

@@ -9,11 +9,13 @@ use Rattle.coap_server_session.specs.Prelude.{Pong, first_due, fits, LinkValue, 
 use Rattle.coap_server_session.specs.Prelude.{link_after, is_open, takes_messages, answers, is_request, IsPut, ServerState, Inside}
 use Rattle.coap_server_session.specs.Prelude.{ObserverValue, ObserversValue, SessionValue, is_stale, session_ready}
 use Rattle.coap_server_session.specs.Prelude.{session_takes, sizes_of, frame_on, session_with, without_entry}
-use Rattle.coap_server_session.specs.Prelude.{hold_on, held_in, session_replied, asks_this, session_handled, change_by}
+use Rattle.coap_server_session.specs.Prelude.{Delay, delay_on, held_in, session_replied, asks_this, session_handled, change_by}
 use Rattle.coap_server_session.specs.Prelude.{TakeOutcome, taking_read, taking, RefusesPiece, notification_on, session_notified}
 use Rattle.coap_server_session.specs.Prelude.{next_held_in, next_stale, link_sent, session_settled_once, first_index}
 use Rattle.coap_server_session.specs.Prelude.{link_replied, entries_replied, entries_notified, framer_on, IsSession}
-use Rattle.coap_server_session.specs.Prelude.{session_value, observers_left}
+use Rattle.coap_server_session.specs.Prelude.{session_value, observers_left, frame_refusal, OnMessage, response_refusal}
+use Rattle.coap_server_session.specs.Prelude.{FormatFault}
+use Rattle.std.specs.Prelude.{is_none, ◌&&◌}
 use Rattle.coap_frame.proofs.RaiseLemmas.{raise_allowed, raised_is_framer}
 use Rattle.coap_frame.proofs.FramingLemmas.{empty_framer, framing_is_framer}
 use Rattle.coap_frame.proofs.FrontLaws.{frame_first}
@@ -27,6 +29,11 @@ use Rattle.coap_server_session.proofs.values.SettleLemmas.{found_ready}
 use Rattle.coap_model.proofs.OptionLemmas.{there_is, there_at}
 
 -- ---- the state that a stop discards
+
+-- A response of the application keeps the sizes of the link.
+pub sizes_responded : (l new : LinkValue) (read : Result Message FormatFault) → frame_refusal l read ≡ None → OnMessage read (λ m. new ≡ link_after l (call.Respond m)) → sizes_of new ≡ sizes_of l
+sizes_responded l new (Ok m) none is = ap sizes_of is ∙ stays_so sizes_of (answers l.phase && is_none (response_refusal l m)) l _ refl
+sizes_responded l new (Err e) none is = absurd cc
 
 -- The invariant holds after fields were changed and the state that a stop discards was removed.
 pub given_up : (s : Inside) (l : LinkValue) (f g : FramerValue) (o p : ObserversValue) → IsSession s → sizes_of l ≡ sizes_of s.link → f.max ≡ s.framer.max → IsFramer f → o.room ≡ s.observers.room → g ≡ framer_on l f → p ≡ observers_left l o
@@ -54,19 +61,19 @@ announced_session s size f l is opened fit allowed f_is l_is =
 -- ---- a message
 
 -- The connection after a request, from its link and its entries.
-replied_as : (host : ServerState) (l : LinkValue) (others : List ObserverValue) (m : Message) (hold : Option ℕ) → session_with [] (link_replied host l l.limits.observers others m hold) (entries_replied host l l.limits.observers others m hold) ≡ session_replied host l others m hold
+replied_as : (host : ServerState) (l : LinkValue) (others : List ObserverValue) (m : Message) (hold : Option Delay) → session_with [] (link_replied host l l.limits.observers others m hold) (entries_replied host l l.limits.observers others m hold) ≡ session_replied host l others m hold
 replied_as host l others m None = refl
 replied_as host l others m (Some seconds) = refl
 
 pub on_request : {T E : Type 0} (r : Result T E) (host : ServerState) (v : SessionValue) (m : Message) (l after : LinkValue) (o p : ObserversValue) → asks_this v.link m ≡ true → l ≡ link_after v.link (call.Handle m) → o.room ≡ v.link.limits.observers → o.entries ≡ v.observers
-    → OnOk r (after ≡ link_replied host l o.room (without_entry m.token o.entries) m (held_in l (hold_on host m))) → OnOk r (p.entries ≡ entries_replied host l o.room (without_entry m.token o.entries) m (held_in l (hold_on host m)))
+    → OnOk r (after ≡ link_replied host l o.room (without_entry m.token o.entries) m (held_in l (delay_on host m))) → OnOk r (p.entries ≡ entries_replied host l o.room (without_entry m.token o.entries) m (held_in l (delay_on host m)))
     → OnOk r ((frame : List ℕ) → session_with [] after p.entries ≡ session_handled host (record v { frame = frame }) m)
 unfolding session_handled
 on_request (Ok x) host v m l after o p asks is room entries link_is p_is = λ frame.
     let first : LinkValue = link_after v.link (call.Handle m) in
     let rooms : o.room ≡ first.limits.observers =
     room ∙ ap (λ (both : LimitValues × ℕ). both.0.observers) (sym (stays_so sizes_of (takes_messages v.link.phase) v.link _ refl)) in
-    cc (replied_as host first (without_entry m.token v.observers) m (held_in first (hold_on host m)))
+    cc (replied_as host first (without_entry m.token v.observers) m (held_in first (delay_on host m)))
 on_request (Err e) host v m l after o p asks is room entries link_is p_is = tt
 
 -- A verdict other than `Request` is no request.

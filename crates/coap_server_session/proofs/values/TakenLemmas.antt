@@ -7,7 +7,7 @@ use Rattle.coap_server_session.specs.Prelude.{bare_response, LinkValue, limit_in
 use Rattle.coap_server_session.specs.Prelude.{same_bytes, Change, changes, IsPut, ServerState, moment_after, asks_entry, has_place}
 use Rattle.coap_server_session.specs.Prelude.{with_entry, is_whole, ObserverValue, SessionValue, TakeOutcome, is_stale}
 use Rattle.coap_server_session.specs.Prelude.{session_ready, session_takes, session_max, without_entry, new_entry}
-use Rattle.coap_server_session.specs.Prelude.{session_with, answer_on, hold_on, held_in, session_replied, asks_this}
+use Rattle.coap_server_session.specs.Prelude.{session_with, answer_on, Delay, delay_on, hold_call, held_in, session_replied, asks_this}
 use Rattle.coap_server_session.specs.Prelude.{session_handled, taking_read, taking_found, taking, host_changed}
 use Rattle.coap_server_session.specs.Prelude.{next_held_in, next_stale, session_settled, IsSettled, RefusesPiece}
 use Rattle.coap_server_session.specs.Prelude.{settled_held}
@@ -42,7 +42,7 @@ settled_held_none host v none =
 -- ---- a message
 
 -- The entry that a request adds is not stale.
-replied_none : (host : ServerState) (l : LinkValue) (others : List ObserverValue) (m : Message) (hold : Option ℕ) → NoneStale host others → NoneStale host (session_replied host l others m hold).observers
+replied_none : (host : ServerState) (l : LinkValue) (others : List ObserverValue) (m : Message) (hold : Option Delay) → NoneStale host others → NoneStale host (session_replied host l others m hold).observers
 replied_none host l others m None none =
     let fresh : ObserverValue → Type 0 = λ o. is_stale host o ≡ false in
     let a : Answer = answer_on host m in
@@ -54,8 +54,8 @@ replied_none host l others m None none =
     let may = may_watch host m (and_parts (asks_entry a.watch) (nat_lt (length others) l.limits.observers) asks).0 in
     marked_now host (new_entry host m) may.representation may.there in
     all_if fresh (is_open (link_after l (call.Reply response)).phase) (with_entry enters others (new_entry host m)) (all_entered fresh enters others (new_entry host m) none told)
-replied_none host l others m (Some seconds) none =
-    all_if (λ o. is_stale host o ≡ false) (is_open (link_after l (call.Hold m.token (moment_after host.now seconds))).phase) others none
+replied_none host l others m (Some d) none =
+    all_if (λ o. is_stale host o ≡ false) (is_open (link_after l (hold_call d.by m.token (moment_after host.now d.seconds))).phase) others none
 
 -- ---- an input slice
 
@@ -63,7 +63,7 @@ read_none : (host : ServerState) (v : SessionValue) (count : ℕ) (r : Result Me
 unfolding session_handled without_entry
 read_none host v count (Ok m) none =
     let l : LinkValue = link_after v.link (call.Handle m) in
-    let hold : Option ℕ = held_in l (hold_on host m) in
+    let hold : Option Delay = held_in l (delay_on host m) in
     let fresh : ObserverValue → Type 0 = λ o. is_stale host o ≡ false in
     cond_both (asks_this v.link m) (session_replied host l (without_entry m.token v.observers) m hold) (session_with [] l v.observers) (λ w. NoneStale host w.observers)
     (λ _. replied_none host l (without_entry m.token v.observers) m hold (all_filter fresh (λ o. not (same_bytes o.token m.token)) v.observers none))

@@ -5,8 +5,8 @@ use Rattle.std.proofs.Common.{refl, sym, ap, ◌∙◌, ◌&&◌, if◌then◌el
 use Rattle.coap_server_session.specs.Prelude.{Message, StreamFault, takes_messages, is_open, fit, bare_response, reject_of}
 use Rattle.coap_server_session.specs.Prelude.{release_refusal, stop, History, IsHistory, limit_now, after, link_of, Call}
 use Rattle.coap_server_session.specs.Prelude.{end_reason, link_after, LinkValue, link_with, standing_in, StoreValue, path_of}
-use Rattle.coap_server_session.specs.Prelude.{Nothing, answer_of, immediate_answer, response_with_observe, ServerState, is_cut}
-use Rattle.coap_server_session.specs.Prelude.{side_announced, may_raise, Connection, handles, waiting_on, has_room, side_with}
+use Rattle.coap_server_session.specs.Prelude.{Nothing, prompt_answer, Delay, delay_of, hold_call, Responder, Engine, Application, response_with_observe, ServerState, is_cut}
+use Rattle.coap_server_session.specs.Prelude.{side_responded, session_given, side_announced, may_raise, Connection, handles, waiting_on, has_room, side_with}
 use Rattle.coap_server_session.specs.Prelude.{with_history, moment_after, held_for, side_replied, asks_answer, side_after}
 use Rattle.coap_server_session.specs.Prelude.{change_after, side_faulted, side_written, side_ended, side_released, next_due}
 use Rattle.coap_server_session.specs.Prelude.{notified, next_held, settled_so, settled_once, settled_within, settled}
@@ -79,6 +79,10 @@ pub released_shown : (rest : List ℕ) (s : Connection) → IsHistory s.history 
 unfolding side_released
 released_shown rest s is none = rw none (side_shown rest s _ _ s.observers (call_goes_on s.history call.Release tt) (after_link s.history call.Release tt is))
 
+pub given_shown : (rest : List ℕ) (s : Connection) (m : Message) → IsHistory s.history → session_shown rest (side_responded s m) ≡ session_given (session_shown rest s) m
+unfolding side_responded
+given_shown rest s m is = side_shown rest s _ _ s.observers (call_goes_on s.history (call.Respond m) tt) (after_link s.history (call.Respond m) tt is)
+
 pub announced_shown : (rest : List ℕ) (s : Connection) (size : ℕ) → IsHistory s.history → may_raise s size ≡ true → session_shown rest (side_announced s size) ≡ session_announced (session_shown rest s) size
 unfolding side_announced
 announced_shown rest s size is may =
@@ -87,10 +91,10 @@ announced_shown rest s size is may =
 -- ---- a message
 
 module _ (store : StoreValue) (now : ℕ) (small : now ≤ 18446744073709551615) (is : IsVersioned store) where
-  replied_shown : (h : History) (os : List Observer) (m : Message) (hold : Option ℕ) → IsHistory h
+  replied_shown : (h : History) (os : List Observer) (m : Message) (hold : Option Delay) → IsHistory h
       → session_shown [] (side_replied store now h os m hold) ≡ session_replied (host_of store now) (link_of h) (map observer_shown os) m hold
   replied_shown h os m None history =
-      let a = immediate_answer store now m in
+      let a = prompt_answer store now m in
       let observes = has_place h.limits.observers os a.watch in
       let response = response_with_observe m.token observes a.response in
       let enters = observes && is_whole (fit (limit_now h) response (bare_response response)) in
@@ -100,8 +104,12 @@ module _ (store : StoreValue) (now : ℕ) (small : now ≤ 18446744073709551615)
       let entered = entered_shown enters os entry (new_entry (host_of store now) m) (λ e. cc (mark_now store now (path_of m) small is (watchable e))) in
       shown_as [] (after h (call.Reply response)) _ (with_entry enters os entry) (after_link h (call.Reply response) tt history)
       ∙ cc (length-map os observer_shown, entered)
-  replied_shown h os m (Some seconds) history =
-      let held : Call = call.Hold m.token (moment_after now seconds) in shown_as [] (after h held) _ os (after_link h held tt history)
+  replied_shown h os m (Some d) history = held_shown d.by
+    where
+      held_shown : (by : Responder) → session_shown [] (side_with (after h (hold_call by m.token (moment_after now d.seconds))) os)
+          ≡ session_with [] (link_after (link_of h) (hold_call by m.token (moment_after now d.seconds))) (map observer_shown os)
+      held_shown Engine = let held : Call = call.Hold m.token (moment_after now d.seconds) in shown_as [] (after h held) _ os (after_link h held tt history)
+      held_shown Application = let held : Call = call.HoldRequest m.token (moment_after now d.seconds) in shown_as [] (after h held) _ os (after_link h held tt history)
 
   -- A message that is processed.
   pub handled_shown : (rest : List ℕ) (s : Connection) (m : Message) → IsHistory s.history → handles s ≡ true → session_shown [] (side_after store now s m) ≡ session_handled (host_of store now) (session_shown rest s) m
@@ -110,8 +118,8 @@ module _ (store : StoreValue) (now : ℕ) (small : now ≤ 18446744073709551615)
       let h = after s.history (call.Handle m) in
       let l = link_after (link_of s.history) (call.Handle m) in
       let same : link_of h ≡ l = after_link s.history (call.Handle m) tt history in
-      let hold = (answer_of store now m).hold in
-      let held = elim hold as (λ o. held_for h o ≡ held_in (link_of h) o) [ None ↦ refl | Some seconds ↦ refl ] in
+      let hold = delay_of store now m in
+      let held = elim hold as (λ o. held_for h o ≡ held_in (link_of h) o) [ None ↦ refl | Some d ↦ refl ] in
       let host = host_of store now in
       let others = without_token m.token s.observers in
       let vs = without_entry m.token (map observer_shown s.observers) in
@@ -126,7 +134,7 @@ module _ (store : StoreValue) (now : ℕ) (small : now ≤ 18446744073709551615)
 
 pub change_shown : (store : StoreValue) (now : ℕ) (s : Connection) (m : Message) → handles s ≡ true → change_after store now s m ≡ change_by (host_of store now) (link_of s.history) m
 unfolding change_after
-change_shown store now s m e = ap (λ b. cond (b && asks_answer s m) (immediate_answer store now m).change Nothing) e
+change_shown store now s m e = ap (λ b. cond (b && asks_answer s m) (prompt_answer store now m).change Nothing) e
 
 -- ---- the link after a pending entry was sent
 

@@ -12,7 +12,7 @@ use Rattle.coap_store.specs.Messages.{response_with_observe}
 use Rattle.coap_store.specs.Notifications.{notification_of}
 use Rattle.coap_server_session.specs.declared.server_state.ServerState.{ServerState}
 use Rattle.coap_server_session.specs.declared.observers.StaleObserver.{StaleObserver}
-use Rattle.coap_model.specs.world.Connections.{moment_after}
+use Rattle.coap_model.specs.world.Connections.{moment_after, Delay, hold_call}
 use Rattle.coap_model.specs.world.Observers.{has_place, is_whole, with_entry, goes_on, first_becomes}
 use Rattle.coap_server_session.specs.values.Sessions.{ObserverValue, SessionValue, new_entry, answer_on, entry_left, mark_of, state_on, is_stale, notification_on, session_settled}
 
@@ -51,15 +51,15 @@ abbrev pub entries_asked : ServerState → LinkValue → ℕ → List ObserverVa
 entries_asked host l room others m =
     with_entry (is_observed host room others m && is_sent l (response_on host room others m)) others (new_entry host m)
 
--- The link after a request: its response is sent at once, or is delayed by `seconds`.
-abbrev pub link_replied : ServerState → LinkValue → ℕ → List ObserverValue → Message → Option ℕ → LinkValue
+-- The link after a request: its response is sent at once, or is delayed.
+abbrev pub link_replied : ServerState → LinkValue → ℕ → List ObserverValue → Message → Option Delay → LinkValue
 link_replied host l room others m None = link_after l (call.Reply (response_on host room others m))
-link_replied host l room others m (Some seconds) = link_after l (call.Hold m.token (moment_after host.now seconds))
+link_replied host l room others m (Some d) = link_after l (hold_call d.by m.token (moment_after host.now d.seconds))
 
 -- The entries after a request. A request whose response is delayed has no entry.
-abbrev pub entries_replied : ServerState → LinkValue → ℕ → List ObserverValue → Message → Option ℕ → List ObserverValue
+abbrev pub entries_replied : ServerState → LinkValue → ℕ → List ObserverValue → Message → Option Delay → List ObserverValue
 entries_replied host l room others m None = entries_asked host l room others m
-entries_replied host l room others m (Some seconds) = others
+entries_replied host l room others m (Some d) = others
 
 -- ---- a notification (RFC 7641 section 4.2)
 

@@ -23,12 +23,14 @@ use Rattle.coap_path.specs.Paths.{Path, same_bytes}
 use Rattle.coap_store.specs.Store.{Representation}
 use Rattle.coap_store.specs.State.{state_of}
 use Rattle.coap_store.specs.Requests.{path_of}
-use Rattle.coap_store.specs.Answer.{Answer, Change, answer_of, immediate_answer, changed}
+use Rattle.coap_application.specs.Applications.{ApplicationsValue}
+use Rattle.coap_store.specs.Answer.{Answer, Change, changed}
+use Rattle.coap_store.specs.ApplicationRequests.{prompt_answer}
 use Rattle.coap_store.specs.Changes.{IsPut}
 use Rattle.coap_store.specs.Messages.{response_with_observe}
 use Rattle.coap_store.specs.Notifications.{notification_of}
 use Rattle.coap_server_session.specs.declared.server_state.ServerState.{ServerState}
-use Rattle.coap_model.specs.world.Connections.{is_cut, moment_after, held_message}
+use Rattle.coap_model.specs.world.Connections.{is_cut, moment_after, held_message, Delay, delay_of, hold_call}
 use Rattle.coap_model.specs.world.Observers.{format_of, has_place, is_whole, with_entry, goes_on, notification_message, first_becomes}
 use Rattle.coap_wire.specs.declared.sizes.TheConstants.{LARGEST_MESSAGE}
 
@@ -62,12 +64,16 @@ session_max v = v.link.own_max
 
 -- ---- the server state
 
--- The server state at the time `now`, with an empty store.
+-- The server state at the time `now`, with an empty store and without applications.
 abbrev pub empty_host : (dynamic_max rep_max versions now : ℕ) → ServerState
 empty_host dynamic_max rep_max versions now = record {
-  store = record { dynamic_max = dynamic_max; rep_max = rep_max; resources = []; versions = versions };
+  store = record { dynamic_max = dynamic_max; rep_max = rep_max; resources = []; versions = versions; applications = None };
   now = now;
 }
+
+-- The server state with these applications.
+abbrev pub host_with : ServerState → Option ApplicationsValue → ServerState
+host_with host applications = record host { store = record host.store { applications = applications } }
 
 -- ---- marks
 
@@ -179,21 +185,21 @@ session_answered host l others m a = session_answered_as host l others m a (has_
 
 -- The answer to a request that is answered at once.
 abbrev pub answer_on : ServerState → Message → Answer
-answer_on host m = immediate_answer host.store host.now m
+answer_on host m = prompt_answer host.store host.now m
 
--- The number of seconds by which the response to a request is delayed, if it is.
-abbrev pub hold_on : ServerState → Message → Option ℕ
-hold_on host m = (answer_of host.store host.now m).hold
+-- The delay of the response to a request, if it is delayed.
+abbrev pub delay_on : ServerState → Message → Option Delay
+delay_on host m = delay_of host.store host.now m
 
--- The same number, or `None` if the pending list is full.
-abbrev pub held_in : LinkValue → Option ℕ → Option ℕ
+-- The same delay, or `None` if the pending list is full.
+abbrev pub held_in : LinkValue → Option Delay → Option Delay
 held_in l None = None
-held_in l (Some seconds) = if can_hold l then Some seconds else None
+held_in l (Some d) = if can_hold l then Some d else None
 
--- The connection after a request: its response is delayed by `seconds`, or was sent at once.
-abbrev pub session_replied : ServerState → LinkValue → List ObserverValue → Message → Option ℕ → SessionValue
+-- The connection after a request: its response is delayed, or was sent at once.
+abbrev pub session_replied : ServerState → LinkValue → List ObserverValue → Message → Option Delay → SessionValue
 session_replied host l others m None = session_answered host l others m (answer_on host m)
-session_replied host l others m (Some seconds) = session_with [] (link_after l (call.Hold m.token (moment_after host.now seconds))) others
+session_replied host l others m (Some d) = session_with [] (link_after l (hold_call d.by m.token (moment_after host.now d.seconds))) others
 
 -- `true` if a message is a request that this connection answers.
 abbrev pub asks_this : LinkValue → Message → Bool
@@ -202,7 +208,7 @@ asks_this l m = is_request (react (standing_in l) m).verdict
 -- The connection after it processed a message.
 unfoldable pub session_handled : ServerState → SessionValue → Message → SessionValue
 session_handled host v m =
-    if asks_this v.link m then session_replied host (link_after v.link (call.Handle m)) (without_entry m.token v.observers) m (held_in (link_after v.link (call.Handle m)) (hold_on host m))
+    if asks_this v.link m then session_replied host (link_after v.link (call.Handle m)) (without_entry m.token v.observers) m (held_in (link_after v.link (call.Handle m)) (delay_on host m))
     else session_with [] (link_after v.link (call.Handle m)) v.observers
 
 -- The change of the store that a message makes.
@@ -261,6 +267,10 @@ session_ended v = session_with v.frame (link_after v.link (call.End (is_cut v.fr
 
 abbrev pub session_released : SessionValue → SessionValue
 session_released v = session_with v.frame (link_after v.link call.Release) v.observers
+
+-- The connection after a response of the application.
+abbrev pub session_given : SessionValue → Message → SessionValue
+session_given v m = session_with v.frame (link_after v.link (call.Respond m)) v.observers
 
 -- `true` if a size may be announced: it is not below the current one and not above the maximum. Also, the connection
 -- must be open, its queue must have room, and the CSM must fit.

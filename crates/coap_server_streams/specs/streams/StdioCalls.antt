@@ -5,7 +5,7 @@ use Rattle.std.specs.List.{AllByRecursion, concat}
 use Rattle.coap_conn.specs.declared.reason.Reason.{Reason}
 use Rattle.coap_model.specs.Configs.{ConfigValues}
 use Rattle.coap_model.specs.streams.Output.{only_id, outcome, waiting_of}
-use Rattle.coap_model.specs.world.Events.{AcceptedCall, Opened, Took, Wrote, Ticked, Stored, Removed, Ended, Released, Announced, Dropped, taken_on, world_after}
+use Rattle.coap_model.specs.world.Events.{AcceptedCall, Opened, Took, Wrote, Ticked, Stored, Removed, Ended, Released, Announced, Responded, Dropped, taken_on, world_after}
 use Rattle.coap_model.specs.world.World.{side_of}
 use Rattle.coap_server_engine.specs.values.Flushes.{IsFlushed, flush_turns, more_at, waiting_at}
 use Rattle.coap_server_engine.specs.values.Servers.{ServerValue}
@@ -57,6 +57,7 @@ written_in id (Removed path) = 0
 written_in id (Ended other) = 0
 written_in id (Released other) = 0
 written_in id (Announced other size) = 0
+written_in id (Responded other m) = 0
 written_in id (Dropped other) = 0
 
 -- The number of all bytes written on a connection.
@@ -75,6 +76,7 @@ IsTransfer id (Removed path) = ⊥
 IsTransfer id (Ended other) = ⊥
 IsTransfer id (Released other) = ⊥
 IsTransfer id (Announced other size) = ⊥
+IsTransfer id (Responded other m) = ⊥
 IsTransfer id (Dropped other) = ⊥
 
 -- If the event follows these earlier ones and is a `Took`, then no byte is queued on its connection before it.
@@ -88,6 +90,7 @@ IsAfterOutput c earlier (Removed path) = Unit {0}
 IsAfterOutput c earlier (Ended id) = Unit {0}
 IsAfterOutput c earlier (Released id) = Unit {0}
 IsAfterOutput c earlier (Announced id size) = Unit {0}
+IsAfterOutput c earlier (Responded id m) = Unit {0}
 IsAfterOutput c earlier (Dropped id) = Unit {0}
 
 -- The same for each of these events, which follow the earlier ones.

@@ -1,4 +1,4 @@
-use Rattle.coap_model.proofs.world.CustodyLaws.{Stands, stands_keeps, custody_waits, custody_comes_first, held_when_asked, sent_when_due, plain_queues_no_custody}
+use Rattle.coap_model.proofs.world.CustodyLaws.{responded_no_custody, Stands, stands_keeps, custody_waits, custody_comes_first, held_when_asked, sent_when_due, plain_queues_no_custody}
 use Rattle.coap_model.proofs.world.GoingOn.{kept_after}
 use Rattle.coap_model.proofs.laws.custody_comes_last.Goals as goal
 use Rattle.coap_model.proofs.world.WalkLaws.{faulted_between, ended_between, released_between, announced_between, written_between}
@@ -8,7 +8,7 @@ use Rattle.coap_conn.proofs.ReactionLaws.{IsPlain}
 
 pub returns : goal.returns
 returns c = record {
-  order = λ k. kept_after k (λ s. Stands s.history) (stands_keeps k.limits);
+  order = λ k. kept_after k (λ s. Stands k.applications s.history) (stands_keeps k.limits k.applications);
   at_once = custody_waits;
   later = custody_comes_first;
   held = held_when_asked;
@@ -17,5 +17,6 @@ returns c = record {
   ended = λ s cut. plain_queues_no_custody s (side_ended s cut) (ended_between (Queues IsPlain) (queues_none IsPlain) end_queues s cut);
   released = λ s. plain_queues_no_custody s (side_released s) (released_between (Queues IsPlain) (queues_none IsPlain) release_queues s);
   announced = λ s size. plain_queues_no_custody s (side_announced s size) (announced_between (Queues IsPlain) (queues_none IsPlain) (λ h n opened room fit. announcing_queues h n) s size);
+  responded = responded_no_custody;
   written = λ s n. plain_queues_no_custody s (side_written s n) (written_between (Queues IsPlain) (queues_none IsPlain) (λ h k within. written_queues IsPlain h k) s n);
 }

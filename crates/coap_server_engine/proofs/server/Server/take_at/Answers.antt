@@ -26,8 +26,9 @@ invariant_of-self c =
     let new = c.take.new.self in
     let v = server_value c.self.inside in
     let server = refused_server v _ _ _ c.args.piece.now _ c.self.invariant.server lies (unmarked_at es at _ c.index_mut.ensures.value) e.refused c.take.new.host new.session e.kept e.unchanged in
+    let written = subst (λ (fs : Entries). IsServer (record v { host = c.take.new.host; sessions = fs })) (sym (set_unmarked es at new new.session refl)) server in
     record {
-      server = subst (λ (fs : Entries). IsServer (record v { host = c.take.new.host; sessions = fs })) (sym (set_unmarked es at new new.session refl)) server;
+      server = record { settled = written.settled; numbered = written.numbered; few = written.few };
       marked = rw e.unchanged (all_written (IsMarked c.self.inside.host) es at new c.self.invariant.marked (rw e.unchanged at c.take.ensures.marked));
     }
 
@@ -86,8 +87,9 @@ invariant_of-self-in-Ok c =
     let settles : Entries → Entries = λ fs. if is_some c.in-Ok.taking.changed then map (settled_entry c.take.new.host) fs else changed_at at (settled_held c.take.new.host) fs in
     let entries = c.settle_after.ensures.after ∙ ap settles (set_unmarked es at new new.session refl) in
     let here = unmarked_at es at _ c.index_mut.ensures.value in
+    let taken = taken_server _ c.args._id _ _ c.args.piece.now c.self.invariant.server lies here _ _ _ _ e.after e.host (ap is_some e.changed ∙ hash_where_changed _) entries in
     record {
-      server = taken_server _ c.args._id _ _ c.args.piece.now c.self.invariant.server lies here _ _ _ _ e.after e.host (ap is_some e.changed ∙ hash_where_changed _) entries;
+      server = record { settled = taken.settled; numbered = taken.numbered; few = taken.few };
       marked = c.settle_after.ensures.marked;
     }
 
