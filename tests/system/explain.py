@@ -136,8 +136,8 @@ def check_scripts(checks):
     status, said, error = explain([
         "# options: -d 1 --connections 1",
         "put /a/b%20c 0 32312e35", "put /a/b%20c - 00ff", "put /d - -", "put /time - -", "remove /a/b%20c", "remove /a",
-        "open", "open", "drain 1 100", "drain 1", "status 1", "in 1 00e1", "release 1", "in 1 0001", "status 1",
-        "in 123456 00", "drain 1234567 5", "end 2", "release 2", "drop 2", "status 2", "tick 9", "tick 8",
+        "open", "open", "drain 1 100", "drain 1", "status 1", "in 1 00e1", "respond 1 01412a", "respond 1 0141", "release 1", "in 1 0001", "status 1",
+        "in 123456 00", "drain 1234567 5", "end 2", "release 2", "respond 2 01412a", "drop 2", "status 2", "tick 9", "tick 8",
         "# options: --nothing", "", "#\xff",
     ])
     checks.same("status of a script", (status, error), (0, ""))
@@ -156,6 +156,8 @@ def check_scripts(checks):
         "     1  ->  no bytes",
         "     1  status 1 waiting kept 0 waiting 0 pending 0 observers 0",
         "     1  <-  7.01 CSM",
+        "     1  respond 1 fault 2",
+        "     1  respond 1 fault 3",
         "     1  released",
         "     1  <-  bytes accepted: 0 of 2",
         "     1  status 1 stopped 13 kept 0 waiting 2 pending 0 observers 0",
@@ -163,6 +165,7 @@ def check_scripts(checks):
         "1234567  drain 1234567 fault 1",
         "     2  end 2 fault 1",
         "     2  release 2 fault 1",
+        "     2  respond 2 fault 1",
         "     2  drop 2 fault 1",
         "     2  status 2 fault 1",
         "        time 9 (1970-01-01T00:00:09Z)",

@@ -140,6 +140,10 @@ impl<O: Outlet + Drop> Explainer<O> {
             Event::Remove { path, text } => self.remove(path, text),
             Event::End { connection } => self.end(*connection),
             Event::Release { connection } => self.release(*connection),
+            Event::Respond {
+                connection,
+                response,
+            } => self.respond(*connection, response),
             Event::Drop { connection } => self.drop_connection(*connection),
             Event::Status { connection } => self.status(*connection),
         }
@@ -322,6 +326,22 @@ impl<O: Outlet + Drop> Explainer<O> {
         match self.server.release(id) {
             Ok(()) => self.show_words(id, "released"),
             Err(fault) => self.refuse("release", Some(id), fault as u8),
+        }
+    }
+
+    /// Runs a `respond` event.
+    #[tactic(auto, unfolding(coap_server_engine::specs::script::Replay::event_ran))]
+    fn respond(&mut self, id: ConnId, response: &[u8]) -> Result<(), Trouble>
+        requires { O.is_failed self.old.printer.out ≡ false }
+        ensures server { OnOk result (self.new.server
+            ≡ (event_ran self.old.server (event.Respond id response.now)).server) }
+        ensures shown { IsShown (O.written self.old.printer.out) → IsShown (O.written self.new.printer.out) }
+        ensures failure { O.is_failed self.new.printer.out ≡ fails_write result }
+        ensures err { IfErr result IsOfDevice }
+    {
+        match self.server.respond(id, response) {
+            Ok(_) => self.show_words(id, "response of the application"),
+            Err(fault) => self.refuse("respond", Some(id), fault as u8),
         }
     }
 

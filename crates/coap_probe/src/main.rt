@@ -2,6 +2,7 @@
 //! each (`probe_support`).
 #![tactic(auto)]
 
+mod application;
 mod devices;
 mod faults;
 mod frame;
@@ -72,6 +73,11 @@ fn opened(alloc: Global, opening: &str, told: &mut RowLine) -> Value {
             None => told.word("refused"),
         },
         "serve" => match serve::opened(alloc, rest) {
+            Some(Ok(server)) => return Value::Serve(server),
+            Some(Err(AllocError)) => told.word("memory"),
+            None => told.word("refused"),
+        },
+        "application" => match application::opened(alloc, rest) {
             Some(Ok(server)) => return Value::Serve(server),
             Some(Err(AllocError)) => told.word("memory"),
             None => told.word("refused"),

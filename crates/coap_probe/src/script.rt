@@ -56,6 +56,13 @@ fn event(event: &Event, told: &mut RowLine) {
         }
         Event::End { connection } => on("End", *connection, told),
         Event::Release { connection } => on("Release", *connection, told),
+        Event::Respond {
+            connection,
+            response,
+        } => {
+            on("Respond", *connection, told);
+            told.hex(response);
+        }
         Event::Drop { connection } => on("Drop", *connection, told),
         Event::Status { connection } => on("Status", *connection, told),
     }

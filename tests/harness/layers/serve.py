@@ -1,5 +1,8 @@
 """Rows for servers. `= TITLE NAME=VALUE ..` creates one. A row has a line of a script, and the line that the server writes for it.
 
+`deadline=10 answers=/rd:POST+DELETE,/lamp:PUT` creates one with an application, which answers these methods at the paths that begin so, within 10
+seconds.
+
 Several events can be in one row with `|` between them, and are then replayed in one call. `each 1..256 ROW` is a row for each of these numbers,
 with `{n}` for the number, and `{token}` for the number as a token of two bytes. `meanwhile ROW` is played only if an allocation failed in the
 row before it, before that row is repeated.
@@ -9,7 +12,7 @@ import itertools
 import re
 
 from layers import Step
-from message_syntax import spelled
+from message_syntax import CODES, spelled
 
 PROBE = "coap_probe"
 
@@ -21,14 +24,31 @@ MEANWHILE = "meanwhile "
 SETTINGS = {"max": 65536, "sent": 65536, "queue": 131072, "pending": 16, "observers": 16, "outstanding": 16, "connections": 16, "dynamic": 0,
             "rep": 65000, "turns": 1, "moment": 0, "versions": 0, "ids": 0}
 
+# Settings of a server with an application.
+APPLICATION = {"deadline", "answers"}
+
 
 def said_of(opening):
     """Returns the settings of an opening."""
     said = dict(word.split("=") for word in opening.split() if "=" in word)
-    strange = said.keys() - SETTINGS.keys()
+    strange = said.keys() - SETTINGS.keys() - APPLICATION
     if strange:
         raise KeyError(f"= {opening}: no {', '.join(sorted(strange))}")
     return said
+
+
+def entry_of(text):
+    """Returns an entry of an application with the codes of its methods in hex digits."""
+    path, _, methods = text.partition(":")
+    return f"{path}:{''.join(f'{CODES[method]:02x}' for method in methods.split('+'))}"
+
+
+def opened(said):
+    """Returns the row that creates a server with these settings."""
+    numbers = " ".join(str(said.get(name, usual)) for name, usual in SETTINGS.items())
+    if "answers" not in said:
+        return f"= serve {numbers}"
+    return f"= application {said['deadline']} {','.join(map(entry_of, said['answers'].split(',')))} {numbers}"
 
 
 def spelled_lines(text):
@@ -59,7 +79,7 @@ def meanwhile_of(rows):
 
 def steps(opening, rows):
     said = said_of(opening)
-    yield Step("= serve " + " ".join(str(said.get(name, usual)) for name, usual in SETTINGS.items()), "")
+    yield Step(opened(said), "")
     for place, row in enumerate(rows):
         for event, line in lines_of([row]):
             yield Step(event, line, meanwhile=meanwhile_of(rows[place:]))
@@ -127,7 +147,7 @@ BUT_THE_LAST = "the bytes before the message's last, and nothing of it handled"
 def refused(event, line, again):
     """Returns the call whose allocation failed, and the state that is left."""
     if event.startswith("= "):
-        return "`Server::new`", "nothing"
+        return "`Server::with_applications`" if event.startswith("= application ") else "`Server::new`", "nothing"
     if not line.rpartition("memory ")[2].strip().isdigit():
         return "`script`", "nothing"
     word = event.split(" ")[0]

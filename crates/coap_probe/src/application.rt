@@ -1,0 +1,60 @@
+//! Servers with an application: `= application` with a deadline, entries, and the thirteen numbers of `= serve`.
+//!
+//! The entries are in one word with commas between them. Each is a path and hex digits of the codes of its methods:
+//! `/rd:0204,/lamp:03`. The events are those of `serve`.
+
+use crate::serve::configured;
+use arrayvec::ArrayVec;
+use coap_serve::{ApplicationFault, Applications, PathKey, Server};
+use coap_wire::Code;
+use probe_support::{cut, next_number, read_hex};
+use std::alloc::{AllocError, Global};
+
+/// Returns the key of a path such as `/rd/new`, or `None` if there is no such key.
+fn path_of(text: &str) -> Option<PathKey> {
+    let mut segments: ArrayVec<&[u8], 17> = ArrayVec::new();
+    for segment in text.strip_prefix("/")?.split('/') {
+        let _ = segments.try_push(segment.as_bytes());
+    }
+    PathKey::from_segments(segments.as_slice())
+}
+
+/// Adds an entry to an application. Returns `None` if it is malformed or rejected.
+fn add(
+    applications: &mut Applications,
+    entry: &str,
+    bytes: &mut Vec<u8>,
+) -> Option<Result<(), AllocError>> {
+    let (path, digits) = entry.split_once(':')?;
+    read_hex(digits, bytes);
+    let mut methods = [Code::EMPTY; 31];
+    for (method, code) in methods.iter_mut().zip(bytes.iter()) {
+        *method = Code::new(*code);
+    }
+    let methods = &methods[..bytes.len().min(31)];
+    match applications.add(&path_of(path)?, methods, b"") {
+        Ok(()) => Some(Ok(())),
+        Err(ApplicationFault::Memory) => Some(Err(AllocError)),
+        Err(_) => None,
+    }
+}
+
+/// Creates a server with an application. Returns `None` if a number or an entry is out of range.
+pub(crate) fn opened(alloc: Global, text: &str) -> Option<Result<Server, AllocError>> {
+    let (deadline, text) = next_number(text);
+    let (entries, numbers) = cut(text);
+    let config = configured(numbers)?;
+    let deadline = deadline.clamp(1, 4_294_967_295) as u32;
+    let (Ok(mut applications), Ok(mut bytes)) = (
+        Applications::new(alloc, deadline),
+        Vec::with_capacity(alloc, 31),
+    ) else {
+        return Some(Err(AllocError));
+    };
+    for entry in entries.split(',') {
+        if let Err(fault) = add(&mut applications, entry, &mut bytes)? {
+            return Some(Err(fault));
+        }
+    }
+    Some(Server::with_applications(alloc, config, applications))
+}
