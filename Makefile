@@ -1,8 +1,8 @@
 # Proves, builds, runs, tests and measures. Requires Rattle's toolchain (`rt`) and Python 3. `make test` installs Debian's dpkg-dev,
-# gcc, haproxy, libc6-dev, libcoap3-bin, lintian, mandoc, openssl, tshark and valgrind if they are missing. `make bench` installs gcc,
-# gnuplot-nox, haproxy, libc6-dev, libcoap3-bin and valgrind. `make deb` needs dpkg-dev.
+# g++, gcc, haproxy, libc6-dev, libcoap3-bin, libcoap3-dev, lintian, mandoc, openssl, pkg-config, tshark and valgrind if they are missing.
+# `make bench` installs gcc, gnuplot-nox, haproxy, libc6-dev, libcoap3-bin and valgrind. `make lib` needs binutils, and `make deb` dpkg-dev too.
 
-.PHONY: all run test mutants faults bench try install uninstall deb clean
+.PHONY: all lib run test mutants faults bench try install install-lib uninstall deb clean
 
 # Prefix under which `make install` puts the programs, their manuals, the systemd unit and the configuration of HAProxy. DESTDIR
 # is put before the prefix, for packaging.
@@ -20,6 +20,18 @@ bin/coap-server bin/coap-client &: $(SOURCES)
 # Waits for the other programs, so that only one build runs at a time.
 bin/coap-explain: $(SOURCES) | bin/coap-server
 	tests/build coap_explain
+
+# Proves the C library and builds its archive and its pkg-config file.
+lib: bin/libcoap_proved.a bin/coap_proved.pc
+
+bin/libcoap_proved.a: $(SOURCES) install/library/build | bin/coap-explain
+	tests/build coap_c
+	cd crates/coap_c && rt lib
+	install/library/build crates/coap_c/out/libcoap_c.a bin
+
+bin/coap_proved.pc: install/library/coap_proved.pc.in VERSION
+	@mkdir -p bin
+	sed -e 's|@PREFIX@|$(PREFIX)|g' -e 's|@LIBDIR@|lib|g' -e "s|@VERSION@|$$(cat VERSION)|g" $< > $@
 
 # Runs the server on short recorded streams, and prints the meaning of each message. If the program is not built yet, the same
 # source runs unproved while the proofs begin. At the end, the program that they build runs.
@@ -46,7 +58,7 @@ faults: bin/coap-server
 
 # Measures the server and libcoap's, then the server with a record, behind HAProxy, and with observers that do not read. Then counts instructions,
 # copies and memory. Draws the new figures in docs/pictures. Fails if a target is missed.
-bench: bin/coap-server
+bench: bin/coap-server bin/libcoap_proved.a
 	tests/build coap_probe
 	bench/throughput; missed=$$?; bench/record || missed=1; bench/front || missed=1; tests/system/flood.py bin/coap-server observers || missed=1; \
 	bench/asymptotics || missed=1; bench/instructions && exit $$missed
@@ -63,6 +75,15 @@ install:
 	install -D -m 0644 install/coap-server.service.in "$(DESTDIR)$(PREFIX)/lib/systemd/system/coap-server.service"
 	sed -i 's|@PREFIX@|$(PREFIX)|g' "$(DESTDIR)$(PREFIX)/lib/systemd/system/coap-server.service"
 	install -D -m 0644 -t "$(DESTDIR)$(PREFIX)/share/doc/coap-server/examples" install/haproxy.cfg
+	@if [ -e bin/libcoap_proved.a ]; then $(MAKE) --silent --no-print-directory install-lib; fi
+
+# Installs the output of `make lib`. `make install` does so too, if it exists.
+install-lib:
+	install -D -m 0644 -t "$(DESTDIR)$(PREFIX)/lib" bin/libcoap_proved.a
+	install -D -m 0644 -t "$(DESTDIR)$(PREFIX)/include" include/coap_proved.h
+	install -D -m 0644 -t "$(DESTDIR)$(PREFIX)/share/man/man3" man/coap_proved.3
+	install -D -m 0644 install/library/coap_proved.pc.in "$(DESTDIR)$(PREFIX)/lib/pkgconfig/coap_proved.pc"
+	sed -i -e 's|@PREFIX@|$(PREFIX)|g' -e 's|@LIBDIR@|lib|g' -e "s|@VERSION@|$$(cat VERSION)|g" "$(DESTDIR)$(PREFIX)/lib/pkgconfig/coap_proved.pc"
 
 # Removes the files that `make install` installed, and leaves the directories.
 uninstall:
@@ -71,10 +92,13 @@ uninstall:
 	rm -f "$(DESTDIR)$(PREFIX)/share/man/man1/coap-explain.1"
 	rm -f "$(DESTDIR)$(PREFIX)/lib/systemd/system/coap-server.service"
 	rm -f "$(DESTDIR)$(PREFIX)/share/doc/coap-server/examples/haproxy.cfg"
+	rm -f "$(DESTDIR)$(PREFIX)/lib/libcoap_proved.a" "$(DESTDIR)$(PREFIX)/lib/pkgconfig/coap_proved.pc"
+	rm -f "$(DESTDIR)$(PREFIX)/include/coap_proved.h" "$(DESTDIR)$(PREFIX)/share/man/man3/coap_proved.3"
 
-# Builds the Debian package of the output of `make all`, bin/dachreup_VERSION_ARCHITECTURE.deb.
-deb: all
-	install/debian/build bin/coap-server bin/coap-client bin/coap-explain bin
+# Builds the Debian packages of the output of `make all` and `make lib`, bin/dachreup_VERSION_ARCHITECTURE.deb and
+# bin/libdachreup-dev_VERSION_ARCHITECTURE.deb.
+deb: all lib
+	install/debian/build bin/coap-server bin/coap-client bin/coap-explain bin/libcoap_proved.a bin
 
 clean:
 	rm -rf bin crates/*/out

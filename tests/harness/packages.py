@@ -1,4 +1,4 @@
-"""Installs programs of Debian packages if they are missing."""
+"""Installs Debian packages whose programs or files are missing."""
 
 import os
 import shutil
@@ -16,9 +16,14 @@ def apt(words):
                           stderr=subprocess.STDOUT, timeout=300)
 
 
+def exists(name):
+    """Returns true if a program exists, or a file that is named by its full path, such as a header."""
+    return os.path.isfile(name) if name.startswith("/") else bool(shutil.which(name))
+
+
 def install(packages):
-    """Installs the missing programs, each from its package, and returns true if all exist afterwards."""
-    missing = [package for program, package in packages.items() if not shutil.which(program)]
+    """Installs the missing programs and files, each from its package, and returns true if all exist afterwards."""
+    missing = [package for name, package in packages.items() if not exists(name)]
     if not missing:
         return True
     words = ["install", "--no-install-recommends"] + missing
@@ -29,4 +34,4 @@ def install(packages):
         done = apt(words)
     if done.returncode:
         sys.stdout.write(done.stdout.decode(errors="replace"))
-    return all(shutil.which(program) for program in packages)
+    return all(exists(name) for name in packages)

@@ -10,6 +10,9 @@ import shutil
 ROOT = os.path.dirname(os.path.dirname(os.path.dirname(os.path.abspath(__file__))))
 
 
+# Folder of Rattle's kit.
+KIT = os.path.dirname(os.path.dirname(os.path.realpath(shutil.which("rt") or "/opt/rattle/bin/rt")))
+
 # Directories of a crate.
 PARTS = ("src", "specs", "proofs")
 
@@ -21,7 +24,7 @@ def listed():
         for line in lines:
             name, _, uses = line.partition("#")[0].partition(":")
             if name.strip():
-                found[name.strip()] = uses.split()
+                found[name.split()[0]] = uses.split()
     return found
 
 
@@ -36,6 +39,30 @@ def crates():
 
 def is_program(crate):
     return os.path.isfile(f"{ROOT}/crates/{crate}/src/main.rt")
+
+
+def is_static(crate):
+    """Returns true if the crate is built as a static library. No other crate depends on one."""
+    with open(f"{ROOT}/crates.txt", encoding="utf-8") as lines:
+        return any(line.partition(":")[0].split() == [crate, "staticlib"] for line in lines)
+
+
+def rlib(library):
+    return f"{ROOT}/crates/{library}/out/rlib/{library}.rlib"
+
+
+def rattle_words(verb, crate):
+    """Returns the command line by which Rattle itself checks or builds a crate with one job, over the libraries in out/rlib. It writes none of them,
+    so it can run beside other checks."""
+    libraries = listed()
+    words = [f"{KIT}/bin/rattle", verb, "--crate-name", crate, "src/main.rt" if is_program(crate) else "src/lib.rt"]
+    for it in ["std", *libraries[crate]]:
+        words += ["--extern", f"{it}={rlib(it) if it in libraries else f'{KIT}/rlibs/{it}.rlib'}"]
+    for folder in [f"{KIT}/rlibs", *(os.path.dirname(rlib(it)) for it in crates()[crate])]:
+        words += ["-L", f"dependency={folder}"]
+    words += ["--antt-project", f"{KIT}/rattle/logic/antt-project.json", "--logic-built", f"{KIT}/logic_built"]
+    words += ["--crate-type", "staticlib"] if is_static(crate) else []
+    return [*words, "--links", f"{crate}=", "--jobs", "1"]
 
 
 def linked(source, target):

@@ -74,13 +74,12 @@ from dataclasses import dataclass, field
 sys.path.insert(0, os.path.join(os.path.dirname(os.path.abspath(__file__)), "..", "harness"))
 import quotes  # noqa: E402
 import rows  # noqa: E402
-from workspace import PARTS, ROOT, crates, furnish, is_program, listed  # noqa: E402
+from workspace import PARTS, ROOT, crates, furnish, is_program, rattle_words, rlib  # noqa: E402
 from unproved import Unproved  # noqa: E402
 
-KIT = os.path.dirname(os.path.dirname(os.path.realpath(shutil.which("rt") or "/opt/rattle/bin/rt")))
 # Number of rounds of a crate without incremental data that run in turn on its folder. After two, nearly every function was proved once.
 IN_TURN = 2
-FUNCTION = re.compile(r"( *)(?:pub(?:\([a-z ]+\))? )?(?:const )?fn (\w+)")
+FUNCTION = re.compile(r"( *)(?:pub(?:\([a-z ]+\))? )?(?:const )?(?:extern \S+ )?fn (\w+)")
 BLOCK = re.compile(r"(?:pub(?:\([a-z]+\))? )?(?:impl\b *(.*?)|trait (\w+).*?) ?\{?$")
 # The layers of the edits that tests of a program detect.
 PROGRAMS = ("server", "client")
@@ -303,18 +302,6 @@ def rounds_of(edits):
     return rounds
 
 
-def words_to_check(name):
-    """Returns the command line of a check of the crate with the libraries in out/rlib."""
-    uses, below = listed()[name], crates()[name]
-    words = [f"{KIT}/bin/rattle", "check", "--crate-name", name, "src/main.rt" if is_program(name) else "src/lib.rt"]
-    for it in ["std", *uses]:
-        words += ["--extern", f"{it}={rlib(it) if it in listed() else f'{KIT}/rlibs/{it}.rlib'}"]
-    for folder in [f"{KIT}/rlibs", *(os.path.dirname(rlib(it)) for it in below)]:
-        words += ["-L", f"dependency={folder}"]
-    words += ["--antt-project", f"{KIT}/rattle/logic/antt-project.json", "--logic-built", f"{KIT}/logic_built"]
-    return [*words, "--links", f"{name}=", "--jobs", "1"]
-
-
 def check(name, kept, edits):
     """Returns the lines of a check of the crate with these edits, on top of the incremental data in that folder. Only the functions that the
     edits change are checked, and those that they call. An edit of a constant may concern any function, so then all are checked."""
@@ -339,7 +326,7 @@ def check_texts(name, texts, more):
             with open(f"{room}/{file}", "w", encoding="utf-8") as it:
                 it.write(text)
         how = {"cwd": room, "stdin": subprocess.DEVNULL, "stdout": subprocess.PIPE, "stderr": subprocess.STDOUT}
-        ran = subprocess.run([*words_to_check(name), *more], text=True, errors="replace", **how)
+        ran = subprocess.run([*rattle_words("check", name), *more], text=True, errors="replace", **how)
     return ran.stdout.splitlines()
 
 
@@ -587,10 +574,6 @@ def judge_by_tests(edits):
         unproved = Unproved(room)
         whys = ((it, unproved.missed(it)) for it in edits)
         return {(it.crate, it.name): tell(it, not why, why or "by a test") for it, why in whys}
-
-
-def rlib(library):
-    return f"{ROOT}/crates/{library}/out/rlib/{library}.rlib"
 
 
 def files_of(crate):

@@ -18,7 +18,7 @@ from dataclasses import dataclass
 sys.path.insert(0, os.path.join(os.path.dirname(os.path.abspath(__file__)), "..", "harness"))
 from workspace import ROOT, crates  # noqa: E402
 
-FUNCTION = re.compile(r"( *)(?:pub(?:\([a-z ]+\))? )?(?:const )?fn (\w+)")
+FUNCTION = re.compile(r"( *)(?:pub(?:\([a-z ]+\))? )?(?:const )?(?:extern \S+ )?fn (\w+)")
 CLAUSE = re.compile(r" *(?:requires|ensures|ghost)\b")
 CLAUSES = re.compile(r" (?=(?:requires|ensures|ghost)\b)")
 QUOTED = re.compile(r"'(\w+)'|\"([^\"]*)\"")

@@ -25,7 +25,7 @@ import sys
 sys.path.insert(0, os.path.join(os.path.dirname(os.path.abspath(__file__)), "..", "harness"))
 from workspace import ROOT, is_program, listed  # noqa: E402
 
-FUNCTION = re.compile(r" *(pub )?(?:const )?fn (\w+)")
+FUNCTION = re.compile(r" *(pub )?(?:const )?(?:extern \S+ )?fn (\w+)")
 BLOCK = re.compile(r"(?:pub )?(?:impl|trait)\b *(.*?) *\{?$")
 CLAUSE = re.compile(r"(?:ensures|requires)\b")
 

@@ -18,7 +18,7 @@ from workspace import ROOT, listed  # noqa: E402
 
 FUNCTIONS, LINES, FILE_LINES, COLUMNS = 160, 2_600, 450, 120
 
-FUNCTION = re.compile(r"^ *(?:pub(?:\([a-z ]+\))? )?(?:const )?fn \w+", re.M)
+FUNCTION = re.compile(r"^ *(?:pub(?:\([a-z ]+\))? )?(?:const )?(?:extern \S+ )?fn \w+", re.M)
 GHOST = re.compile(r"^( *)(ghost use [\w.]+)\.\{(.*)\};$")
 IMPORT = re.compile(r"^ *(?:pub(?:\([a-z ]+\))? )?use crate::([\w:]+)", re.M)
 

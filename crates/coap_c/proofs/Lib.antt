@@ -1,0 +1,3 @@
+pub mod ServerSlots
+pub mod ServerLemmas
+pub mod PathLemmas

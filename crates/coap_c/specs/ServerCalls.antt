@@ -1,0 +1,144 @@
+-- Defined by this project: the results of the calls on the handle of a server.
+use Rattle.std.specs.Prelude.{◌≡◌, ℕ, ◌+◌, List, [], ◌∷◌, ◌++◌, true, length, take, Option, Some, None, option_map, nat_le, if◌then◌else◌, ◌⊎◌}
+use Rattle.coap_path.specs.Paths.{Path}
+use Rattle.coap_store.specs.Refusals.{put_refusal, remove_refusal}
+use Rattle.coap_model.specs.declared.answers.Status.{Status}
+use Rattle.coap_model.specs.world.Events.{AcceptedCall, Opened, Took, Wrote, Ticked, Stored, Removed, Ended, Released, Announced, Dropped}
+use Rattle.coap_server_session.specs.values.SessionAnswers.{announced_refusal_on, WantsRoom}
+use Rattle.coap_server_session.specs.values.Sessions.{SessionValue}
+use Rattle.coap_server_engine.specs.values.Flushes.{waiting_at}
+use Rattle.coap_server_engine.specs.values.ServerAnswers.{open_refusal, written_refusal, released_refusal, handled_by, RefusesPieceOn, status_of}
+use Rattle.coap_server_engine.specs.values.Servers.{ServerValue, session_of, is_there, new_server, count_taken, server_opened, server_taken, server_written, server_ticked, server_put, server_removed, server_ended, server_released, server_announced, server_dropped}
+use Rattle.coap_server_engine.specs.world.Shows.{Shows}
+use Rattle.coap_c.specs.Numbers.{open_code, written_code, store_code, release_code, announce_code, handled_code, handled_reason, phase_code, phase_reason}
+use Rattle.coap_c.specs.PathTexts.{text_path}
+use Rattle.coap_c.specs.Results.{OnHandle, Answers, AnswersOrMemory}
+use Rattle.coap_c.specs.Settings.{settings_config, settings_refusal}
+use Rattle.coap_c.specs.declared.settings.Settings.{Settings}
+use Rattle.coap_c.specs.declared.server.Took.{Took as TookResult}
+use Rattle.coap_c.specs.declared.server.ConnectionStatus.{ConnectionStatus}
+use Rattle.coap_handle.specs.declared.span.Parts.{Parts}
+
+-- No result besides the number.
+abbrev pub Nothing : Type 0
+Nothing = Unit {0}
+
+-- The server is `after`, and shows one more event.
+abbrev pub Does : AcceptedCall → ServerValue → ServerValue → ServerValue → Type 0
+Does e after v v' = (v' ≡ after) × ((events : List AcceptedCall) → Shows v events → Shows v' (events ++ e ∷ []))
+
+-- ---- new
+
+-- A new server shows no event.
+abbrev pub IsNew : Settings → Option ServerValue → ℕ → Type 0
+IsNew s None r = r ≡ 2
+IsNew s (Some v) r = (r ≡ 0) × ((v ≡ new_server (settings_config s)) × Shows v [])
+
+abbrev pub MadeUnless : Option ℕ → Settings → Option ServerValue → ℕ → Type 0
+MadeUnless None s v' r = IsNew s v' r
+MadeUnless (Some number) s v' r = (r ≡ number) × (v' ≡ None)
+
+-- `new` returns 3 if the handle has a server. Otherwise it fails with the number of a value out of range, or with 2,
+-- and the handle stays empty; or it makes the server.
+abbrev pub IsMade : Settings → Option ServerValue → Option ServerValue → ℕ → Type 0
+IsMade s None v' r = MadeUnless (settings_refusal s) s v' r
+IsMade s (Some v) v' r = (r ≡ 3) × (v' ≡ Some v)
+
+-- ---- open, take, written
+
+abbrev pub IsOpened : (id id' : ℕ) → Option ServerValue → Option ServerValue → ℕ → Type 0
+IsOpened id id' = OnHandle (id' ≡ id) (λ v v' r. AnswersOrMemory (id' ≡ id) (option_map open_code (open_refusal v))
+    ((id' ≡ v.ids + 1) × Does (Opened id') (server_opened v) v v') v v' r)
+
+-- A result that reports nothing.
+abbrev pub IsBlank : TookResult → Type 0
+IsBlank t = (t.bytes ≡ 0) × ((t.handled ≡ 0) × (t.reason ≡ 0))
+
+-- A `take` that accepted bytes of `piece`, or none.
+abbrev pub HasTaken : ℕ → List ℕ → TookResult → ServerValue → ServerValue → Type 0
+HasTaken id piece t v v' = (t.bytes ≡ count_taken v id piece)
+    × ((t.handled ≡ handled_code (handled_by v id piece)) × ((t.reason ≡ handled_reason (handled_by v id piece))
+    × Does (Took id (take t.bytes piece)) (server_taken v id piece) v v'))
+
+-- A `take` in which an allocation failed: the bytes before the last one of the message are accepted.
+abbrev pub HasTakenPart : ℕ → List ℕ → TookResult → ServerValue → ServerValue → Type 0
+HasTakenPart id piece t v v' = RefusesPieceOn v piece t.bytes (session_of id v.sessions)
+    × ((t.handled ≡ 0) × ((t.reason ≡ 0)
+    × Does (Took id (take t.bytes piece)) (server_taken v id (take t.bytes piece)) v v'))
+
+-- `take` returns 0 and what it accepted and handled, 16 if there is no connection, or 2 if an allocation failed.
+abbrev pub IsTaken : ℕ → List ℕ → TookResult → Option ServerValue → Option ServerValue → ℕ → Type 0
+IsTaken id piece t = OnHandle (IsBlank t) (λ v v' r.
+    ((r ≡ 0) × ((is_there (session_of id v.sessions) ≡ true) × HasTaken id piece t v v'))
+    ⊎ (((r ≡ 16) × ((session_of id v.sessions ≡ None) × ((v' ≡ v) × IsBlank t)))
+    ⊎ ((r ≡ 2) × HasTakenPart id piece t v v')))
+
+abbrev pub IsWritten : (id count : ℕ) → Option ServerValue → Option ServerValue → ℕ → Type 0
+IsWritten id count = OnHandle Nothing (λ v v' r. Answers Nothing (option_map written_code (written_refusal v id count))
+    (Does (Wrote id count) (server_written v id count) v v') v v' r)
+
+-- ---- tick, put, remove
+
+abbrev pub IsTicked : ℕ → Option ServerValue → Option ServerValue → ℕ → Type 0
+IsTicked now = OnHandle Nothing (λ v v' r. Answers Nothing (if nat_le v.host.now now then None else Some 16)
+    (Does (Ticked now) (server_ticked v now) v v') v v' r)
+
+-- A call at the path that a text names. It fails with 4 if the text names none.
+abbrev pub AtPath : Type 0 → Option Path → (Path → ServerValue → ServerValue → ℕ → Type 0) → ServerValue → ServerValue → ℕ → Type 0
+AtPath same None call v v' r = (r ≡ 4) × ((v' ≡ v) × same)
+AtPath same (Some path) call v v' r = call path v v' r
+
+abbrev pub IsPut : List ℕ → Option ℕ → List ℕ → (version version' : ℕ) → Option ServerValue → Option ServerValue → ℕ → Type 0
+IsPut text format bytes version version' = OnHandle (version' ≡ version) (AtPath (version' ≡ version) (text_path text) (λ path v v' r.
+    AnswersOrMemory (version' ≡ version) (option_map store_code (put_refusal v.host.store path bytes))
+    ((version' ≡ v.host.store.versions + 1) × Does (Stored path format bytes) (server_put v path format bytes) v v') v v' r))
+
+abbrev pub IsRemoved : List ℕ → Option ServerValue → Option ServerValue → ℕ → Type 0
+IsRemoved text = OnHandle Nothing (AtPath Nothing (text_path text) (λ path v v' r.
+    Answers Nothing (option_map store_code (remove_refusal v.host.store path)) (Does (Removed path) (server_removed v path) v v') v v' r))
+
+-- ---- connections
+
+-- 16 if there is no connection.
+abbrev pub absent_code : Option SessionValue → Option ℕ
+absent_code None = Some 16
+absent_code (Some s) = None
+
+abbrev pub IsEnded : ℕ → Option ServerValue → Option ServerValue → ℕ → Type 0
+IsEnded id = OnHandle Nothing (λ v v' r. Answers Nothing (absent_code (session_of id v.sessions)) (Does (Ended id) (server_ended v id) v v') v v' r)
+
+abbrev pub IsDropped : ℕ → Option ServerValue → Option ServerValue → ℕ → Type 0
+IsDropped id = OnHandle Nothing (λ v v' r. Answers Nothing (absent_code (session_of id v.sessions)) (Does (Dropped id) (server_dropped v id) v v') v v' r)
+
+abbrev pub IsReleased : ℕ → Option ServerValue → Option ServerValue → ℕ → Type 0
+IsReleased id = OnHandle Nothing (λ v v' r. Answers Nothing (option_map release_code (released_refusal v id)) (Does (Released id) (server_released v id) v v') v v' r)
+
+-- An announcement can also fail with 2, but only if the size is above the current one.
+abbrev pub AnnouncedOrMemory : ℕ → ℕ → Option ℕ → ServerValue → ServerValue → ℕ → Type 0
+AnnouncedOrMemory id size None v v' r = ((r ≡ 0) × Does (Announced id size) (server_announced v id size) v v')
+    ⊎ ((r ≡ 2) × (WantsRoom size (session_of id v.sessions) × (v' ≡ v)))
+AnnouncedOrMemory id size (Some number) v v' r = (r ≡ number) × (v' ≡ v)
+
+abbrev pub IsAnnouncedTo : (id size : ℕ) → Option ServerValue → Option ServerValue → ℕ → Type 0
+IsAnnouncedTo id size = OnHandle Nothing (λ v v' r.
+    AnnouncedOrMemory id size (option_map announce_code (announced_refusal_on size (session_of id v.sessions))) v v' r)
+
+-- ---- queries
+
+-- A query changes nothing. It returns 16 if there is no connection, and leaves its result as it was then.
+abbrev pub AsksOn : {A : Type 0} → Type 0 → (A → Type 0) → Option A → ServerValue → ServerValue → ℕ → Type 0
+AsksOn same told None v v' r = (r ≡ 16) × ((v' ≡ v) × same)
+AsksOn same told (Some x) v v' r = (r ≡ 0) × ((v' ≡ v) × told x)
+
+-- The queued bytes of a connection have this length. Their addresses are not specified.
+abbrev pub HasParts : ℕ → Option ServerValue → Option ServerValue → (parts parts' : Parts) → ℕ → Type 0
+HasParts id v v' parts parts' r = OnHandle (parts' ≡ parts) (λ x x' n. AsksOn (parts' ≡ parts)
+    (λ s. parts'.first.count + parts'.second.count ≡ length (waiting_at id x)) (session_of id x.sessions) x x' n) v v' r
+
+-- The fields of a status.
+abbrev pub ShowsStatus : ConnectionStatus → Status → Type 0
+ShowsStatus c s = (c.phase ≡ phase_code s.phase) × ((c.reason ≡ phase_reason s.phase) × ((c.kept ≡ s.kept) × ((c.waiting ≡ s.waiting)
+    × ((c.pending ≡ s.pending) × ((c.observers ≡ s.observers) × ((c.peer_max ≡ s.peer_max) × (c.finished ≡ (if s.finished then 1 else 0))))))))
+
+abbrev pub HasStatus : ℕ → (status status' : ConnectionStatus) → Option ServerValue → Option ServerValue → ℕ → Type 0
+HasStatus id status status' = OnHandle (status' ≡ status) (λ v v' r. AsksOn (status' ≡ status) (ShowsStatus status') (status_of v id) v v' r)
