@@ -1,9 +1,10 @@
-"""Installs the programs, their manuals, the systemd unit and the configuration of HAProxy into temporary folders, and uninstalls them.
+"""Installs the programs, their manuals, the systemd unit, the configuration of HAProxy and the C library into temporary folders, and uninstalls them.
 
-    tests/system/install.py bin/coap-server bin/coap-client bin/coap-explain
+    tests/system/install.py bin/coap-server bin/coap-client bin/coap-explain [bin/libcoap_proved.a]
 
 `make` runs on a copy of the installed files, with sources that are newer than the programs and a build script that fails. A build would therefore
-be noticed. If systemd-analyze exists, it checks the unit. The script does not install systemd-analyze.
+be noticed. Without the archive of the C library, only the programs are installed. If systemd-analyze exists, it checks the unit. The script does not
+install systemd-analyze, but Debian's package pkg-config if it is missing.
 """
 
 import os
@@ -16,6 +17,7 @@ import tempfile
 
 sys.path.insert(0, os.path.join(os.path.dirname(os.path.abspath(__file__)), "..", "harness"))
 from checks import Checks  # noqa: E402
+from packages import install  # noqa: E402
 from workspace import ROOT  # noqa: E402
 
 PROGRAMS = ["coap-server", "coap-client", "coap-explain"]
@@ -24,24 +26,33 @@ UNIT = "lib/systemd/system/coap-server.service"
 
 FRONT = "share/doc/coap-server/examples/haproxy.cfg"
 
+# The files of the C library, each with its source. The pkg-config file differs from its source.
+LIBRARY = {
+    "lib/libcoap_proved.a": "bin/libcoap_proved.a",
+    "include/coap_proved.h": "include/coap_proved.h",
+    "share/man/man3/coap_proved.3": "man/coap_proved.3",
+    "lib/pkgconfig/coap_proved.pc": None,
+}
+
 # Maximum exposure of the unit, of 10, as systemd-analyze reports it. The rest is the access to all networks.
 EXPOSURE = 1.1
 
 LIMIT = 60
 
 
-def wanted_files():
+def wanted_files(has_library):
     """Returns the files installed below the prefix, each with its mode."""
     files = {"bin/%s" % name: 0o755 for name in PROGRAMS}
+    files.update({name: 0o644 for name in LIBRARY if has_library})
     files.update({"share/man/man1/%s.1" % name: 0o644 for name in PROGRAMS})
     files.update({UNIT: 0o644, FRONT: 0o644})
     return files
 
 
-def run(words, folder):
+def run(words, folder, **how):
     """Runs a command with a umask of 077. Returns its status and output."""
     done = subprocess.run(words, cwd=folder, stdin=subprocess.DEVNULL, stdout=subprocess.PIPE, stderr=subprocess.STDOUT,
-                          umask=0o077, timeout=LIMIT)
+                          umask=0o077, timeout=LIMIT, **how)
     return done.returncode, done.stdout.decode(errors="replace")
 
 
@@ -51,15 +62,17 @@ def make(folder, target, prefix, destination):
     return run(words, folder)
 
 
-def copy_tree(folder, programs):
+def copy_tree(folder, programs, archive):
     """Copies the installed files, with newer sources and a build script that fails."""
     os.makedirs(os.path.join(folder, "bin"))
     for name, program in zip(PROGRAMS, programs):
         shutil.copy(program, os.path.join(folder, "bin", name))
         os.utime(os.path.join(folder, "bin", name), (0, 0))
-    for name in ("man", "install"):
+    shutil.copy(archive, os.path.join(folder, "bin/libcoap_proved.a"))
+    os.utime(os.path.join(folder, "bin/libcoap_proved.a"), (0, 0))
+    for name in ("include", "install", "man"):
         shutil.copytree(os.path.join(ROOT, name), os.path.join(folder, name))
-    for name in ("Makefile", "crates.txt"):
+    for name in ("Makefile", "VERSION", "crates.txt"):
         shutil.copy(os.path.join(ROOT, name), folder)
     os.makedirs(os.path.join(folder, "crates"))
     os.makedirs(os.path.join(folder, "tests"))
@@ -88,12 +101,29 @@ def read(*parts):
         return file.read()
 
 
-def check_prefix(checks, tree, prefix):
+def check_library(checks, tree, told, place):
+    """Checks the content of the installed C library, and what pkg-config says of it."""
+    for name, source in LIBRARY.items():
+        if source:
+            checks.same("%s: %s" % (told, name), read(place, name) == read(tree, source), True)
+    written = read(place, "lib/pkgconfig/coap_proved.pc").decode()
+    checks.same("%s: placeholders in coap_proved.pc" % told, re.findall(r"@\w+@", written), [])
+    environment = dict(os.environ, PKG_CONFIG_PATH=os.path.join(place, "lib/pkgconfig"))
+    for words, wanted in (
+        (["--modversion"], read(tree, "VERSION").decode().strip()),
+        (["--variable=prefix"], told),
+        (["--cflags", "--libs"], "-I%s/include -L%s/lib -lcoap_proved" % (told, told)),
+    ):
+        status, said = run(["pkg-config", *words, "coap_proved"], tree, env=environment)
+        checks.same("%s: pkg-config %s" % (told, words[0]), (status, said.strip()), (0, wanted))
+
+
+def check_prefix(checks, tree, prefix, has_library):
     """Checks one installation: the installed files, their content, and the files left after it is uninstalled."""
     told = prefix or "/usr/local"
     with tempfile.TemporaryDirectory(prefix="a folder ") as destination:
         checks.same("%s: install" % told, make(tree, "install", prefix, destination)[0], 0)
-        below = {"%s/%s" % (told[1:], name): mode for name, mode in wanted_files().items()}
+        below = {"%s/%s" % (told[1:], name): mode for name, mode in wanted_files(has_library).items()}
         checks.same("%s: files" % told, files_below(destination), below)
         checks.same("%s: folders" % told, folder_modes(destination), {0o755})
         place = destination + told
@@ -101,6 +131,8 @@ def check_prefix(checks, tree, prefix):
             checks.same("%s: %s" % (told, name), read(place, "bin", name) == read(tree, "bin", name), True)
             checks.same("%s: %s.1" % (told, name), read(place, "share/man/man1", name + ".1") == read(tree, "man", name + ".1"), True)
         checks.same("%s: HAProxy's configuration" % told, read(place, FRONT) == read(tree, "install", "haproxy.cfg"), True)
+        if has_library:
+            check_library(checks, tree, told, place)
         unit = read(place, UNIT).decode()
         starts = re.findall(r"(?m)^ExecStart=(.*)$", unit)
         checks.same("%s: command of the unit" % told, starts, ["%s/bin/coap-server $COAP_SERVER_OPTIONS" % told])
@@ -154,13 +186,23 @@ def check_numbered_unit(checks, tree):
         checks.same("remarks of systemd-analyze on the numbered unit", (status, [line for line in said.splitlines() if "coap-server" in line]), (0, []))
 
 
-def check(programs):
+def check_without_library(checks, tree):
+    """Checks that nothing of the C library is installed if its archive is missing."""
+    archive = os.path.join(tree, "bin/libcoap_proved.a")
+    os.rename(archive, archive + ".away")
+    check_prefix(checks, tree, "", False)
+    os.rename(archive + ".away", archive)
+
+
+def check(programs, archive):
     checks = Checks()
+    checks.same("packages can be installed", install({"pkg-config": "pkg-config"}), True)
     with tempfile.TemporaryDirectory() as folder:
         tree = os.path.join(folder, "tree")
-        copy_tree(tree, programs)
+        copy_tree(tree, programs, archive)
         for prefix in ("", "/opt/coap"):
-            check_prefix(checks, tree, prefix)
+            check_prefix(checks, tree, prefix, True)
+        check_without_library(checks, tree)
         check_unbuilt(checks, tree)
         if shutil.which("systemd-analyze"):
             check_unit(checks, tree)
@@ -173,7 +215,8 @@ def check(programs):
 
 def main(words):
     try:
-        return check([os.path.abspath(word) for word in words])
+        *programs, archive = map(os.path.abspath, words if len(words) > len(PROGRAMS) else [*words, os.path.join(ROOT, "bin/libcoap_proved.a")])
+        return check(programs, archive)
     except (OSError, subprocess.SubprocessError) as trouble:
         print("FAILED install: %s" % trouble)
         return 1

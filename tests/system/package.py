@@ -1,14 +1,17 @@
-"""Builds the Debian package, checks it with lintian, and installs, upgrades, removes and purges it.
+"""Builds the Debian packages, checks them with lintian, and installs, upgrades, removes and purges them.
 
-    tests/system/package.py bin/coap-server bin/coap-client bin/coap-explain
+    tests/system/package.py bin/coap-server bin/coap-client bin/coap-explain [bin/libcoap_proved.a]
 
-The script needs Debian's packages dpkg-dev, libcoap3-bin and lintian, and installs the missing ones. `make deb` runs on a copy of its inputs.
+The script needs Debian's packages dpkg-dev, gcc, libc6-dev, libcoap3-bin, lintian and pkg-config, and installs the missing ones. `make deb` runs on a
+copy of its inputs.
 
-The installation needs root. The script does not install the package if any of its files already exists, and prints the first of these. It starts
-the server by the command of the installed unit, because systemd may not run. In the end it purges the package, also after a failure.
+The installation needs root. The script installs no package if any of their files already exists, and prints the first of these. It starts the server
+by the command of the installed unit, because systemd may not run. It compiles the installed example of the C library, and runs it. In the end it
+purges the packages, also after a failure.
 """
 
 import contextlib
+import functools
 import glob
 import os
 import re
@@ -22,22 +25,36 @@ import tempfile
 import time
 
 sys.path.insert(0, os.path.join(os.path.dirname(os.path.abspath(__file__)), "..", "harness"))
+from c_library import check_example  # noqa: E402
 from checks import Checks  # noqa: E402
 from packages import install  # noqa: E402
 from peers import LOCAL, Server, free_port  # noqa: E402
 from workspace import ROOT, crates, listed  # noqa: E402
 
-PACKAGES = {"dpkg-shlibdeps": "dpkg-dev", "lintian": "lintian", "coap-client-notls": "libcoap3-bin"}
+PACKAGES = {
+    "dpkg-shlibdeps": "dpkg-dev",
+    "cc": "gcc",
+    "/usr/include/stdlib.h": "libc6-dev",
+    "coap-client-notls": "libcoap3-bin",
+    "lintian": "lintian",
+    "pkg-config": "pkg-config",
+}
 
-NAME = "dachreup"
+# The package of the programs, and that of the C library.
+NAME, LIBRARY = "dachreup", "libdachreup-dev"
 
 PROGRAMS = ["coap-server", "coap-client", "coap-explain"]
 
 # The text of each manual's first section.
-TITLES = {"coap-server": "CoAP server over TCP", "coap-client": "CoAP client over TCP", "coap-explain": "explain a record of a CoAP server"}
+TITLES = {
+    "coap-server": "CoAP server over TCP",
+    "coap-client": "CoAP client over TCP",
+    "coap-explain": "explain a record of a CoAP server",
+    "coap_proved": "server engine for CoAP over TCP (RFC 8323), as a C library",
+}
 
-# The crates of the programs.
-CRATES = ["coap_server", "coap_client_main", "coap_explain"]
+# The crates of each package.
+CRATES = {NAME: ["coap_server", "coap_client_main", "coap_explain"], LIBRARY: ["coap_c"]}
 
 OPTIONS = "/etc/default/coap-server"
 
@@ -52,8 +69,15 @@ RECORDS = "/var/lib/systemd/deb-systemd-helper-enabled"
 # Files that a purge may leave if the maintainer scripts are wrong.
 LEFTOVERS = [OPTIONS, ENABLED, RECORDS + "/coap-server.service.dsh-also", RECORDS + "/multi-user.target.wants/coap-server.service"]
 
-# Installed files, each with its mode, and with its source if it is a copy.
-FILES = {
+EXAMPLE = "/usr/share/doc/libdachreup-dev/examples/server.c"
+
+# Directory of libraries. The function `here` replaces the placeholder.
+LIBRARIES = "/usr/lib/@TRIPLET@"
+
+ARCHIVE = LIBRARIES + "/libcoap_proved.a"
+
+# Installed files of each package, each with its mode, and with its source if it is a copy.
+FILES = {NAME: {
     "/usr/bin/coap-server": (0o755, None),
     "/usr/bin/coap-client": (0o755, None),
     "/usr/bin/coap-explain": (0o755, None),
@@ -68,11 +92,25 @@ FILES = {
     "/usr/share/doc/dachreup/examples/haproxy.cfg": (0o644, "install/haproxy.cfg"),
     UNIT: (0o644, None),
     OPTIONS: (0o644, "install/debian/coap-server.default"),
-}
+}, LIBRARY: {
+    "/usr/include/coap_proved.h": (0o644, "include/coap_proved.h"),
+    ARCHIVE: (0o644, None),
+    LIBRARIES + "/pkgconfig/coap_proved.pc": (0o644, None),
+    "/usr/share/doc/libdachreup-dev/changelog.gz": (0o644, None),
+    "/usr/share/doc/libdachreup-dev/copyright": (0o644, "install/debian/copyright"),
+    EXAMPLE: (0o644, "examples/c/server.c"),
+    "/usr/share/man/man3/coap_proved.3.gz": (0o644, None),
+}}
 
 # Folders in which the installation may create files, folders and links.
-PLACES = ["/etc", "/usr/bin", "/usr/lib/systemd", "/usr/share/bash-completion", "/usr/share/doc", "/usr/share/lintian", "/usr/share/man",
-          "/var/lib/dpkg/info", "/var/lib/systemd"]
+PLACES = ["/etc", "/usr/bin", "/usr/include", "/usr/lib/systemd", LIBRARIES + "/pkgconfig", "/usr/share/bash-completion", "/usr/share/doc",
+          "/usr/share/lintian", "/usr/share/man", "/var/lib/dpkg/info", "/var/lib/systemd"]
+
+# Control fields of each package.
+FIELDS = {
+    NAME: {"Package": NAME, "Section": "net", "Depends": r"libc6 \(>= [\d.]+\)"},
+    LIBRARY: {"Package": LIBRARY, "Source": NAME, "Section": "libdevel", "Depends": r"libc6-dev \| libc-dev", "Multi-Arch": "same"},
+}
 
 # Maintainer scripts with their arguments, and the calls that they make on a machine with systemd. None starts or restarts the server.
 SCRIPT_CALLS = [
@@ -152,6 +190,22 @@ def write(text, path):
         file.write(text)
 
 
+@functools.cache
+def triplet():
+    """Returns Debian's name of this architecture in the directories of libraries."""
+    return run(["dpkg-architecture", "-qDEB_HOST_MULTIARCH"])[1].strip()
+
+
+def here(path):
+    """Returns a path for this architecture."""
+    return path.replace("@TRIPLET@", triplet())
+
+
+def files(name):
+    """Returns the installed files of a package, each with its mode and source."""
+    return {here(path): how for path, how in FILES[name].items()}
+
+
 def version():
     return read(ROOT, "VERSION").strip()
 
@@ -198,11 +252,12 @@ def check_completion(checks, programs):
 
 
 def check_copyright(checks):
-    """Checks that the copyright file names each library of Rattle's kit that crates.txt lists for the programs."""
+    """Checks that the copyright file names each library of Rattle's kit that crates.txt lists for a package."""
     text, below, uses = read(ROOT, "install/debian/copyright"), crates(), listed()
-    used = {library for program in CRATES for crate in [program, *below[program]] for library in uses[crate] if library not in uses}
-    missing = [library for library in sorted(used) if not re.search(r"(?m)^(?:Files:)? kit/rattle/%s/\*$" % library, text)]
-    checks.same("libraries of the kit without copyright", (len(used) > 1, missing), (True, []))
+    for name, built in CRATES.items():
+        used = {library for top in built for crate in [top, *below[top]] for library in uses[crate] if library not in uses}
+        missing = [library for library in sorted(used) if not re.search(r"(?m)^(?:Files:)? kit/rattle/%s/\*$" % library, text)]
+        checks.same("%s: libraries of the kit without copyright" % name, (len(used) > 1, missing), (True, []))
     named = set(re.findall(r"(?m)^License: (.*)$", text))
     names = {name for line in named for name in re.split(r" (?:and|or) ", line.replace("(", "").replace(")", ""))}
     checks.same("licences without a text", [name for name in sorted(names) if not re.search(r"(?m)^License: %s\n " % re.escape(name), text)], [])
@@ -229,10 +284,10 @@ def check_scripts(checks):
             checks.same(" ".join([script, *words]), script_calls(script, words, folder), (0, "", wanted))
 
 
-def copy_tree(tree, programs):
-    """Copies the inputs of `make deb`. The programs are newer than the sources, so that they are not built again."""
+def copy_tree(tree, programs, archive):
+    """Copies the inputs of `make deb`. The programs and the archive are newer than the sources, so that they are not built again."""
     os.makedirs(os.path.join(tree, "crates"))
-    for name in ("man", "install"):
+    for name in ("examples", "include", "install", "man"):
         shutil.copytree(os.path.join(ROOT, name), os.path.join(tree, name))
     for name in ("Makefile", "VERSION", "crates.txt"):
         shutil.copy(os.path.join(ROOT, name), tree)
@@ -240,16 +295,19 @@ def copy_tree(tree, programs):
     for name, program in zip(PROGRAMS, programs):
         shutil.copyfile(program, os.path.join(tree, "bin", name))
         os.chmod(os.path.join(tree, "bin", name), 0o755)
+    shutil.copyfile(archive, os.path.join(tree, "bin/libcoap_proved.a"))
 
 
 def make_deb(checks, tree, wanted, mask=0o022):
-    """Builds the package of this version from a copy, and returns its path."""
+    """Builds the packages of this version from a copy. Returns their paths, that of the programs first."""
     status, said = run(["make", "deb"], cwd=tree, umask=mask)
-    made = [name for name in os.listdir(os.path.join(tree, "bin")) if name.startswith("%s_%s_" % (NAME, wanted))]
-    checks.same("make deb, version %s" % wanted, (status, len(made)), (0, 1))
-    if not made:
+    architecture = run(["dpkg", "--print-architecture"])[1].strip()
+    made = [os.path.join(tree, "bin", "%s_%s_%s.deb" % (name, wanted, architecture)) for name in (NAME, LIBRARY)]
+    missing = [path for path in made if not os.path.isfile(path)]
+    checks.same("make deb, version %s" % wanted, (status, missing), (0, []))
+    if missing:
         raise OSError(said)
-    return os.path.join(tree, "bin", made[0])
+    return made
 
 
 def raise_version(tree):
@@ -265,7 +323,7 @@ def check_wrong_version(checks, tree):
     """Checks that no package is built if the changelog has another version than the file VERSION."""
     write("9\n", os.path.join(tree, "VERSION"))
     status, said = run(["make", "deb"], cwd=tree)
-    checks.same("VERSION differs from the changelog", (status != 0, "has another version" in said), (True, True))
+    checks.same("VERSION differs from the changelog", (status != 0, "has another version" in said, glob.glob(tree + "/bin/*.deb")), (True, True, []))
     shutil.copy(os.path.join(ROOT, "VERSION"), tree)
 
 
@@ -279,32 +337,58 @@ def members(package):
             return {member.name.removeprefix("."): (member.mode, member.uname, it.extractfile(member).read()) for member in it if not member.isdir()}
 
 
-def check_content(checks, package):
-    """Checks the files of the package, its fields, and that lintian has no remark."""
+def check_content(checks, name, package):
+    """Checks the files of a package, its fields, and that lintian has no remark."""
     packed = members(package)
-    checks.same("files of the package", {path: (mode, owner) for path, (mode, owner, _) in packed.items()},
-                {path: (mode, "root") for path, (mode, _) in FILES.items()})
-    for path, (_, source) in FILES.items():
-        if source:
-            checks.same("content of %s" % path, packed[path][2] == read(ROOT, source).encode(), True)
+    checks.same("%s: files" % name, {path: (mode, owner) for path, (mode, owner, _) in packed.items()},
+                {path: (mode, "root") for path, (mode, _) in files(name).items()})
+    for path, (_, source) in files(name).items():
+        if source and path in packed:
+            checks.same("%s: content of %s" % (name, path), packed[path][2] == read(ROOT, source).encode(), True)
+    for field, wanted in FIELDS[name].items():
+        status, value = run(["dpkg-deb", "-f", package, field])
+        checks.same("%s: %s is %r" % (name, field, value), (status, bool(re.fullmatch(wanted, value.strip()))), (0, True))
+    status, said = run(["lintian", "--fail-on", "error,warning", package])
+    checks.same("%s: lintian" % name, (status, [line for line in said.splitlines() if re.match("[EW]:", line)]), (0, []))
+    return packed
+
+
+def check_programs(checks, package):
+    packed = check_content(checks, NAME, package)
     checks.same("options in the installed file", options_in(packed[OPTIONS][2].decode()), {})
     checks.same("configuration files", run(["dpkg-deb", "-I", package, "conffiles"]), (0, OPTIONS + "\n"))
-    checks.same("needs the C library", bool(re.match(r"libc6 \(>= [\d.]+\)\n$", run(["dpkg-deb", "-f", package, "Depends"])[1])), True)
-    status, said = run(["lintian", "--fail-on", "error,warning", package])
-    checks.same("lintian", (status, [line for line in said.splitlines() if re.match("[EW]:", line)]), (0, []))
 
 
-def check_package(checks, folder, programs):
-    """Builds the package twice, and a higher version. Returns the paths of both versions."""
+def exported(archive):
+    """Returns the exported names of an archive."""
+    status, said = run(["nm", "--defined-only", "--extern-only", "--format=just-symbols", archive])
+    return sorted(said.split()) if status == 0 else said
+
+
+def check_library(checks, package, archive, folder):
+    packed = check_content(checks, LIBRARY, package)
+    placed = os.path.join(folder, "packed.a")
+    with open(placed, "wb") as file:
+        file.write(packed[here(ARCHIVE)][2])
+    checks.same("exported names of the packed archive", exported(placed), exported(archive))
+    status, said = run(["sh", "-c", 'dpkg-deb --ctrl-tarfile "$0" | tar -t', package])
+    checks.same("%s: control files" % LIBRARY, (status, sorted(line.strip("./") for line in said.splitlines())), (0, ["", "control", "md5sums"]))
+
+
+def check_packages(checks, folder, programs, archive):
+    """Builds the packages twice, and a higher version. Returns the paths of both versions of each."""
     trees = [os.path.join(folder, name) for name in ("one", "another folder")]
     for tree in trees:
-        copy_tree(tree, programs)
+        copy_tree(tree, programs, archive)
     check_wrong_version(checks, trees[0])
     first, second = make_deb(checks, trees[0], version()), make_deb(checks, trees[1], version(), 0o077)
-    with open(first, "rb") as one, open(second, "rb") as other:
-        checks.same("equal bytes of two packages", one.read() == other.read(), True)
-    check_content(checks, first)
-    return first, make_deb(checks, trees[1], raise_version(trees[1]))
+    for one, other in zip(first, second):
+        with open(one, "rb") as left, open(other, "rb") as right:
+            checks.same("equal bytes of two packages %s" % os.path.basename(one), left.read() == right.read(), True)
+    checks.same("files of both packages", sorted(files(NAME).keys() & files(LIBRARY).keys()), [])
+    check_programs(checks, first[0])
+    check_library(checks, first[1], archive, folder)
+    return list(zip(first, make_deb(checks, trees[1], raise_version(trees[1]))))
 
 
 def options_in(text):
@@ -334,15 +418,15 @@ def dpkg(*words):
         time.sleep(1)
 
 
-def dpkg_status():
-    """Returns the version of the installed package and its state, or nothing."""
-    status, said = run(["dpkg-query", "-W", "-f", "${Version} ${db:Status-Status}", NAME])
+def dpkg_status(name):
+    """Returns the version of an installed package and its state, or nothing."""
+    status, said = run(["dpkg-query", "-W", "-f", "${Version} ${db:Status-Status}", name])
     return said if status == 0 else ""
 
 
 def files_in_places():
     """Returns the paths of all files, folders and links below PLACES."""
-    return {os.path.join(at, name) for place in PLACES for at, folders, names in os.walk(place) for name in [*folders, *names]}
+    return {os.path.join(at, name) for place in map(here, PLACES) for at, folders, names in os.walk(place) for name in [*folders, *names]}
 
 
 def ask(program, *words):
@@ -361,82 +445,122 @@ def check_served(checks, name, port):
         checks.same("%s: get by libcoap" % name, ask("/usr/bin/coap-client-notls", "-m", "get", server.uri("/a")), (0, "21.5\n"))
 
 
-def check_manuals(checks):
-    """Checks that `man` finds the installed manuals."""
-    for name in PROGRAMS:
-        environment = dict(os.environ, MANPAGER="cat", MANWIDTH="80", LC_ALL="C.UTF-8")
+def check_manuals(checks, names):
+    """Checks that `man` finds the installed manuals, if it exists."""
+    for name in names if shutil.which("man") else ():
+        environment = dict(os.environ, MANPAGER="cat", MANWIDTH="100", LC_ALL="C.UTF-8")
         status, said = run(["man", "-M", "/usr/share/man", name], env=environment)
-        checks.same("man %s" % name, (status, re.findall(r"(?m)^ +(\S+) \S (%s)$" % TITLES[name], said)), (0, [(name, TITLES[name])]))
+        checks.same("man %s" % name, (status, re.findall(r"(?m)^ +(\S+) \S (%s)$" % re.escape(TITLES[name]), said)), (0, [(name, TITLES[name])]))
+
+
+def check_compiled(checks, client):
+    """Compiles the installed example by the paths of pkg-config, and runs it. Variables that name other folders are not passed on."""
+    environment = {name: value for name, value in os.environ.items() if not name.startswith("PKG_CONFIG")}
+    for words, wanted in (["--modversion"], version()), (["--variable=libdir"], here(LIBRARIES)), (["--variable=includedir"], "/usr/include"):
+        checks.same("pkg-config %s" % words[0], run(["pkg-config", *words, "coap_proved"], env=environment), (0, wanted + "\n"))
+    with tempfile.TemporaryDirectory() as folder:
+        command = "cc -std=c11 -Wall -Wextra -Werror -o server %s $(pkg-config --cflags --libs coap_proved)" % EXAMPLE
+        compiled = run(["sh", "-c", command], cwd=folder, env=environment)
+        checks.same("the installed example is compiled", compiled, (0, ""))
+        if not compiled[0]:
+            check_example(checks, os.path.join(folder, "server"), client)
+
+
+def check_ended(checks, name, kept):
+    """Removes a package and purges it. Only the files `kept` stay after the removal."""
+    state = version() + "+test config-files" if kept else ""
+    checks.same("%s: remove" % name, (dpkg("-r", name)[0], dpkg_status(name)), (0, state))
+    checks.same("%s: files after the removal" % name, [path for path in files(name) if os.path.lexists(path)], kept)
+    checks.same("%s: purge" % name, (dpkg("-P", name)[0], dpkg_status(name)), (0, ""))
+
+
+def check_installed(checks, name, package):
+    """Installs a package, and checks that all its files exist."""
+    status, said = dpkg("-i", package)
+    checks.same("%s: install" % name, (status, dpkg_status(name)), (0, version() + " installed"))
+    if status:
+        raise OSError(said)
+    checks.same("%s: missing installed files" % name, [path for path in files(name) if not os.path.isfile(path)], [])
+
+
+def check_upgraded(checks, name, higher):
+    checks.same("%s: upgrade" % name, (dpkg("-i", higher)[0], dpkg_status(name)), (0, version() + "+test installed"))
 
 
 def check_life(checks, package, higher):
-    """Installs the package, changes its options, upgrades it, removes it and purges it."""
-    before, libcoap = files_in_places(), run(["dpkg-query", "-L", "libcoap3-bin"])[1].split()
+    """Installs the package of the programs, changes its options, upgrades it, removes it and purges it."""
+    libcoap = run(["dpkg-query", "-L", "libcoap3-bin"])[1].split()
     port = free_port()
-    status, said = dpkg("-i", package)
-    checks.same("install", (status, dpkg_status()), (0, version() + " installed"))
-    if status:
-        raise OSError(said)
-    checks.same("missing installed files", [path for path in FILES if not os.path.isfile(path)], [])
+    check_installed(checks, NAME, package)
     checks.same("missing files of libcoap3-bin", [path for path in libcoap if path.startswith("/usr/bin/") and not os.path.exists(path)], [])
     checks.same("the unit is disabled", os.path.lexists(ENABLED), False)
     checks.same("command of the unit without options", unit_command(), ["/usr/bin/coap-server"])
-    if shutil.which("man"):
-        check_manuals(checks)
+    check_manuals(checks, PROGRAMS)
 
     changed = read(OPTIONS) + 'COAP_SERVER_OPTIONS="-A %s -p %d %s"\n' % (LOCAL, port, " ".join(STORES))
     write(changed, OPTIONS)
     can_enable = shutil.which("systemctl") and run(["systemctl", "--root=/", "enable", "coap-server"])[0] == 0
     check_served(checks, "installed", port)
 
-    checks.same("upgrade", (dpkg("-i", higher)[0], dpkg_status()), (0, version() + "+test installed"))
+    check_upgraded(checks, NAME, higher)
     checks.same("options after the upgrade", read(OPTIONS), changed)
     checks.same("the upgraded unit is enabled", os.path.lexists(ENABLED), bool(can_enable))
     check_served(checks, "upgraded", port)
 
-    checks.same("remove", (dpkg("-r", NAME)[0], dpkg_status()), (0, version() + "+test config-files"))
-    checks.same("files after the removal", [path for path in FILES if os.path.lexists(path)], [OPTIONS])
-    checks.same("purge", (dpkg("-P", NAME)[0], dpkg_status()), (0, ""))
-    after = files_in_places()
-    checks.same("files after the purge", sorted(after - before), [])
-    checks.same("missing files after the purge", sorted(before - after), [])
+    check_ended(checks, NAME, [OPTIONS])
+
+
+def check_library_life(checks, package, higher, client):
+    """Installs the package of the C library, compiles and runs its example, upgrades it, removes it and purges it."""
+    check_installed(checks, LIBRARY, package)
+    check_manuals(checks, ["coap_proved"])
+    check_compiled(checks, client)
+    check_upgraded(checks, LIBRARY, higher)
+    check_ended(checks, LIBRARY, [])
 
 
 def clean_up():
-    """Removes all that is left of the package after a failed check."""
-    if dpkg_status() and dpkg("-P", NAME)[0]:
-        # A wrong maintainer script prevents the purge.
-        for path in glob.glob("/var/lib/dpkg/info/%s.p*" % NAME):
-            os.remove(path)
-        dpkg("--force-all", "-P", NAME)
+    """Removes all that is left of the packages after a failed check."""
+    for name in (NAME, LIBRARY):
+        if dpkg_status(name) and dpkg("-P", name)[0]:
+            # A wrong maintainer script prevents the purge.
+            for path in glob.glob("/var/lib/dpkg/info/%s.p*" % name):
+                os.remove(path)
+            dpkg("--force-all", "-P", name)
     for path in LEFTOVERS:
         with contextlib.suppress(FileNotFoundError):
             os.remove(path)
 
 
 def hindrance():
-    """Returns the reason for which the package is not installed, or nothing."""
+    """Returns the reason for which no package is installed, or nothing."""
     if os.geteuid() != 0:
         return "the script does not run as root"
-    if dpkg_status():
-        return "the package is already installed"
-    found = [path for path in [*FILES, *LEFTOVERS] if os.path.lexists(path)]
+    for name in (NAME, LIBRARY):
+        if dpkg_status(name):
+            return "the package %s is already installed" % name
+    found = [path for path in [*files(NAME), *files(LIBRARY), *LEFTOVERS] if os.path.lexists(path)]
     return "%s already exists" % found[0] if found else ""
 
 
-def check(programs):
+def check(programs, archive):
     checks = Checks()
     check_versions(checks, programs)
     check_completion(checks, programs)
     check_copyright(checks)
     check_scripts(checks)
     with tempfile.TemporaryDirectory() as folder:
-        package, higher = check_package(checks, folder, programs)
+        built, library = check_packages(checks, folder, programs, archive)
         if reason := hindrance():
-            print("%s: the package was not installed" % reason)
+            print("%s: no package was installed" % reason)
         else:
+            before = files_in_places()
             try:
-                check_life(checks, package, higher)
+                check_library_life(checks, *library, programs[1])
+                check_life(checks, *built)
+                after = files_in_places()
+                checks.same("files after the purge", sorted(after - before), [])
+                checks.same("missing files after the purge", sorted(before - after), [])
             finally:
                 clean_up()
     print("package: %d passed, %d failed" % (checks.passed, checks.failed))
@@ -444,13 +568,14 @@ def check(programs):
 
 
 def main(words):
-    # A signal ends the script by an exception, so that it purges the package.
+    # A signal ends the script by an exception, so that it purges the packages.
     signal.signal(signal.SIGTERM, lambda *_: sys.exit(1))
     try:
         if not install(PACKAGES):
             print("FAILED package: the packages %s cannot be installed" % ", ".join(PACKAGES.values()))
             return 1
-        return check([os.path.abspath(word) for word in words])
+        *programs, archive = map(os.path.abspath, words if len(words) > len(PROGRAMS) else [*words, os.path.join(ROOT, "bin/libcoap_proved.a")])
+        return check(programs, archive)
     except (OSError, subprocess.SubprocessError) as trouble:
         print("FAILED package: %s" % trouble)
         return 1
