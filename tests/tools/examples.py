@@ -20,7 +20,7 @@ sys.path.insert(0, os.path.join(os.path.dirname(os.path.abspath(__file__)), ".."
 from workspace import ROOT  # noqa: E402
 
 TESTS = "crates/coap_tests/src/examples.rt"
-SOURCES = ["crates/coap_tests/src/examples/*.rt", "crates/example_gateway/src/*.rt"]
+SOURCES = [TESTS, "crates/coap_tests/src/examples/*.rt", "crates/example_gateway/src/*.rt"]
 
 TEST = re.compile(r"#\[test\]\nfn (\w+)\(.*?\{\n(.*?)^\}", re.S | re.M)
 FENCED = re.compile(r"^``` ?(\w*)\n(.*?)^```$", re.S | re.M)

@@ -72,7 +72,7 @@ HEADING = re.compile(r"#+\s+")
 FENCE = re.compile(r"\s*(?:```|~~~)")
 
 RUST = re.compile(r"(\s*)(//[/!]?)(?!/) ?(.*)")
-FUNCTION = re.compile(r"\s*(?:pub(?:\([^)]*\))? )?(?:const )?fn \w")
+FUNCTION = re.compile(r"\s*(?:pub(?:\([^)]*\))? )?(?:const )?(?:extern \S+ )?fn \w")
 ERROR = re.compile(r'#\[error\("((?:\\.|[^"\\])*)"')
 STRING = re.compile(r'"(?:\\.|[^"\\])*"')
 ANTT = re.compile(r"(?:^|\s)-{2,} ?(.*)")
