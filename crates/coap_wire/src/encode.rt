@@ -57,8 +57,23 @@ pub(crate) fn write_head<S: Sink>(out: &mut S, code: Code, token: &[u8], body: u
 }
 
 /// Appends bytes as `Sink::append` does. There must be space for them. At most 8 bytes are moved without a call of
-/// memcpy, which costs more.
+/// memcpy, which costs more. No byte or one, as of most tokens, costs no call at all.
+#[inline(always)]
 pub fn append_short<S: Sink>(out: &mut S, bytes: &[u8])
+    requires { length bytes.now ≤ S.space out.old }
+    ensures appended { S.contents out.new ≡ S.contents out.old ++ bytes.now }
+    ensures less_room { S.space out.new + length bytes.now ≡ S.space out.old }
+{
+    match bytes {
+        [] => {}
+        [one] => out.push(*one),
+        _ => append_several(out, bytes),
+    }
+}
+
+/// Does the same as `append_short`, and is never inlined.
+#[inline(never)]
+fn append_several<S: Sink>(out: &mut S, bytes: &[u8])
     requires { length bytes.now ≤ S.space out.old }
     ensures appended { S.contents out.new ≡ S.contents out.old ++ bytes.now }
     ensures less_room { S.space out.new + length bytes.now ≡ S.space out.old }

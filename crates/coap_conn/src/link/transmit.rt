@@ -205,6 +205,21 @@ impl Link {
             self.queue.put_compact(&plain);
             return Verdict::Done;
         }
+        self.pong_fitted(token, custody)
+    }
+
+    /// Queues the Pong as `pong` does, without Custody if only that fits the peer's limit. (A separate function: a function
+    /// clears all its locals, so these would slow down `pong`.)
+    #[inline(never)]
+    fn pong_fitted(&mut self, token: &TokenRef, custody: bool) -> Verdict<'static>
+        requires { IsReady self.old }
+        ensures verdict { verdict_value result
+            ≡ (sends (standing_in self.old) (pong_with custody token.now)
+            (pong_with false token.now)).verdict }
+        ensures after { self.new
+            ≡ link_with self.old (sends (standing_in self.old) (pong_with custody token.now)
+            (pong_with false token.now)).effect }
+    {
         let pong = pong_to(token, custody);
         let less = ShortBuilder::new(Code::PONG, token.copy());
         self.answer(&pong, &less)
