@@ -1,2 +1,4 @@
 mod EntryLemmas
 mod MoveLemmas
+mod EscapeLemmas
+pub mod LinkLemmas

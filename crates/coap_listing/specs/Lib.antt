@@ -1,3 +1,4 @@
+pub mod Links
 pub mod Texts
 pub mod TextViews
 pub mod ListingViews

@@ -93,6 +93,26 @@ impl Listing {
         Ok(())
     }
 
+    /// Replaces an entry. Moves the bytes of the later entries once.
+    ///
+    /// # Errors
+    ///
+    /// - `AllocError` if the entry becomes longer and allocation fails. The listing is unchanged.
+    ///
+    /// # Preconditions
+    ///
+    /// - The entry exists.
+    /// - The text stays shorter than 4 GiB.
+    pub fn replace(&mut self, index: usize, entry: &[u8]) -> Result<(), AllocError>
+        requires exists { index < length self.old }
+        requires short { length (joined self.old) + length entry.now < 2 ^ 32 }
+        ensures ok { OnOk result (self.new ≡ slice_set self.old index entry.now) }
+        ensures err { OnErr result (self.new ≡ self.old) }
+    {
+        let count = self.lengths[index];
+        self.replace_end(index, count as usize, entry)
+    }
+
     /// Removes an entry; the others keep their order. Moves the bytes of the later entries once, and allocates nothing.
     ///
     /// # Preconditions

@@ -1,7 +1,7 @@
 //! Servers with an application: `= application` with a deadline, entries, and the thirteen numbers of `= serve`.
 //!
-//! The entries are in one word with commas between them. Each is a path and hex digits of the codes of its methods:
-//! `/rd:0204,/lamp:03`. The events are those of `serve`.
+//! The entries are in one word with commas between them. Each is a path, hex digits of the codes of its methods, and hex
+//! digits of the attributes of its link: `/rd:0204:6f6273,/lamp:03:`. The events are those of `serve`.
 
 use crate::serve::configured;
 use arrayvec::ArrayVec;
@@ -25,14 +25,16 @@ fn add(
     entry: &str,
     bytes: &mut Vec<u8>,
 ) -> Option<Result<(), AllocError>> {
-    let (path, digits) = entry.split_once(':')?;
+    let (path, entry) = entry.split_once(':')?;
+    let (digits, attributes) = entry.split_once(':')?;
     read_hex(digits, bytes);
     let mut methods = [Code::EMPTY; 31];
     for (method, code) in methods.iter_mut().zip(bytes.iter()) {
         *method = Code::new(*code);
     }
     let methods = &methods[..bytes.len().min(31)];
-    match applications.add(&path_of(path)?, methods, b"") {
+    read_hex(attributes, bytes);
+    match applications.add(&path_of(path)?, methods, bytes) {
         Ok(()) => Some(Ok(())),
         Err(ApplicationFault::Memory) => Some(Err(AllocError)),
         Err(_) => None,
@@ -47,7 +49,7 @@ pub(crate) fn opened(alloc: Global, text: &str) -> Option<Result<Server, AllocEr
     let deadline = deadline.clamp(1, 4_294_967_295) as u32;
     let (Ok(mut applications), Ok(mut bytes)) = (
         Applications::new(alloc, deadline),
-        Vec::with_capacity(alloc, 31),
+        Vec::with_capacity(alloc, 255),
     ) else {
         return Some(Err(AllocError));
     };

@@ -346,7 +346,7 @@ IsSmall a = length a.response.payload ≤ 1048576
 
 -- The listing and the stored representations are short.
 pub record AreShort (s : StoreValue) : Type 0 where
-  pub listing : length (listing s.resources) ≤ 1048576
+  pub listing : length (listing s.applications s.resources) ≤ 1048576
   pub stored : (path : Path) (r : Representation) → found_in s.resources path ≡ Some r → length r.bytes ≤ 1048576
 
 pub state_short : (s : StoreValue) (now : ℕ) (key : Option Path) (place : ResourceKind) (r : Representation) → AreShort s → now < 2 ^ 64 → state_at s now key place ≡ Some r → length r.bytes ≤ 1048576
@@ -356,7 +356,7 @@ state_short s now key Time r short small is =
     let bytes : decimal now ≡ r.bytes = cc in
     omega (arith, length-decimal-le 20 now (omega arith) (omega arith) small, sym (ap length bytes))
 state_short s now key Async r short small is = let bytes : codes "done" ≡ r.bytes = cc in omega (arith, sym (ap length bytes))
-state_short s now key Listing r short small is = let bytes : listing s.resources ≡ r.bytes = cc in omega (arith, short.listing, sym (ap length bytes))
+state_short s now key Listing r short small is = let bytes : listing s.applications s.resources ≡ r.bytes = cc in omega (arith, short.listing, sym (ap length bytes))
 state_short s now None Dynamic r short small is = absurd cc
 state_short s now (Some path) Dynamic r short small is = short.stored path r is
 
@@ -380,7 +380,7 @@ short_finally : (b : Bool) (a : Answer) → IsSmall a → IsSmall (with_observe_
 short_finally true a is = is
 short_finally false a is = is
 
-pub short_of : (s : StoreValue) (now : ℕ) (m : Message) → length (listing s.resources) ≤ 1048576 → ((path : Path) (r : Representation) → found_in s.resources path ≡ Some r → length r.bytes ≤ 1048576) → now < 2 ^ 64 → length (answer_of s now m).response.payload ≤ 1048576
+pub short_of : (s : StoreValue) (now : ℕ) (m : Message) → length (listing s.applications s.resources) ≤ 1048576 → ((path : Path) (r : Representation) → found_in s.resources path ≡ Some r → length r.bytes ≤ 1048576) → now < 2 ^ 64 → length (answer_of s now m).response.payload ≤ 1048576
 unfolding answer_of
 short_of s now m listed each small =
     let a = answer_at s (target_of s now (path_of m)) m in

@@ -1,5 +1,5 @@
 -- The requests that the application answers, and the answer to a request that is answered at once.
-use Rattle.std.proofs.Common.{◌≡◌, ℕ, Bool, true, false, ◌&&◌, cond, Option, Some, None, refl, ap, ◌∙◌}
+use Rattle.std.proofs.Common.{◌≡◌, ℕ, true, false, ◌&&◌, Option, Some, None, refl, ap, ◌∙◌}
 use Rattle.coap_store.specs.Prelude.{Message, StoreValue, Answer, says, only, immediate_answer, prompt_answer}
 use Rattle.coap_store.specs.Prelude.{application_deadline, unless_handed, passes_checks, ApplicationsValue, is_answered}
 use Rattle.coap_store.specs.Prelude.{is_dynamic, kind_of_path, path_of, if◌then◌else◌}

@@ -5,7 +5,7 @@ use Rattle.std.specs.List.{remove}
 use Rattle.std.specs.Map.{keys_of}
 use Rattle.coap_store.specs.Prelude.{option_map, not, nat_eq, option_eq, Bor, lookup, insert_entry, set_value_at}
 use Rattle.coap_store.specs.Prelude.{if◌then◌else◌, Path, same_path, Representation, found_in, put_at, removed_at, entry_bytes}
-use Rattle.coap_store.specs.Prelude.{built_in_bytes, representation, resources_in, texts_of, Resource}
+use Rattle.coap_store.specs.Prelude.{built_in_bytes, first_bytes, representation, resources_in, texts_of, Resource}
 use Rattle.coap_store.specs.Prelude.{IsFoundAt, replaced_at, resource_at}
 use Rattle.std.specs.Option.{is_some, option_copied}
 use Rattle.std.proofs.lemmas.Bool.{eqb-true}
@@ -49,9 +49,9 @@ pub none_there : (entries : List (Path × Resource)) → entries ≡ [] → reso
 unfolding resources_in
 none_there entries none = ap resources_in none
 
-pub texts_of_none : (entries : List (Path × Resource)) → entries ≡ [] → texts_of (resources_in entries) ≡ built_in_bytes ∷ []
-unfolding resources_in texts_of
-texts_of_none entries none = ap (λ es. texts_of (resources_in es)) none
+pub texts_of_none : (entries : List (Path × Resource)) → entries ≡ [] → texts_of (first_bytes None) (resources_in entries) ≡ built_in_bytes ∷ []
+unfolding resources_in texts_of first_bytes
+texts_of_none entries none = ap (λ es. texts_of (first_bytes None) (resources_in es)) none
 
 pub equal_format : (a b : Option ℕ) → option_eq nat_eq a b ≡ true → a ≡ b
 equal_format None None is = refl
@@ -72,8 +72,8 @@ module _ (entries after : List (Path × Resource)) (path : Path) (r : Resource) 
   stored_list = ap resources_in is ∙ resources_put key_test key_equality entries path r
 
   -- The text of a new resource follows those of the others.
-  pub texts_of_created : found_in (resources_in entries) path ≡ None → texts_of (resources_in after) ≡ texts_of (resources_in entries) ++ entry_bytes path r.format ∷ []
-  texts_of_created absent = ap texts_of stored_list ∙ texts_created (resources_in entries) path (representation r) absent
+  pub texts_of_created : (first : List ℕ) → found_in (resources_in entries) path ≡ None → texts_of first (resources_in after) ≡ texts_of first (resources_in entries) ++ entry_bytes path r.format ∷ []
+  texts_of_created first absent = ap (texts_of first) stored_list ∙ texts_created first (resources_in entries) path (representation r) absent
 
 module _ (entries : List (Path × Resource)) (path : Path) (i : ℕ) (at : position (key_test path) (keys_of entries) ≡ Some i) where
   pub found_within : i < length entries

@@ -5,7 +5,6 @@ pub mod RequestLemmas
 pub mod CheckedLemmas
 pub mod OptionScanLemmas
 pub mod CatalogueLemmas
-pub mod EscapeLemmas
 pub mod ListingLemmas
 pub mod StoreLemmas
 pub mod VersionLaws

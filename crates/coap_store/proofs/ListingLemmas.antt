@@ -1,19 +1,19 @@
 -- The listing, and the texts of the resources, after a change.
-use Rattle.std.proofs.Common.{◌≡◌, ℕ, zero, suc, ◌+◌, ◌-◌, ◌*◌, ◌<◌, ◌≤◌, Bool, true, false, List, [], ◌∷◌, ◌++◌, length, take, map, get_or, set, Option, Some, None, refl, sym, ap, ◌∙◌, append_assoc, arith}
+use Rattle.std.proofs.Common.{◌≡◌, ℕ, zero, suc, ◌+◌, ◌*◌, ◌<◌, ◌≤◌, Bool, true, false, List, [], ◌∷◌, ◌++◌, length, map, get_or, set, Option, Some, None, refl, sym, ap, ◌∙◌, append_assoc, arith}
 use Rattle.std.specs.Prelude.{slice_get, position}
 use Rattle.std.specs.List.{remove}
-use Rattle.coap_store.specs.Prelude.{IfSome, option_map, if◌then◌else◌, codes, ◌/◌, ◌%◌, AllByRecursion, flat_map}
-use Rattle.coap_store.specs.Prelude.{decimal, lookup, insert_entry, set_value_at, joined}
-use Rattle.coap_store.specs.Prelude.{Path, same_path, written_length, is_path, Representation, found_in, put_at}
-use Rattle.coap_store.specs.Prelude.{removed_at, is_unreserved, hex_digit, encoded_byte, path_bytes, format_bytes}
+use Rattle.coap_store.specs.Prelude.{IfSome, option_map, if◌then◌else◌, AllByRecursion, flat_map}
+use Rattle.coap_store.specs.Prelude.{lookup, insert_entry, set_value_at, joined}
+use Rattle.coap_store.specs.Prelude.{Path, same_path, is_path, Representation, found_in, put_at}
+use Rattle.coap_store.specs.Prelude.{removed_at}
 use Rattle.coap_store.specs.Prelude.{entry_bytes, built_in_bytes, listing, representation, resource_at, resources_in}
-use Rattle.coap_store.specs.Prelude.{Resource, texts_of, end_bytes, with_end}
+use Rattle.coap_store.specs.Prelude.{ApplicationsValue, application_bytes, first_bytes}
+use Rattle.coap_store.specs.Prelude.{Resource, texts_of, head_of, end_bytes, with_end}
 use Rattle.std.specs.Map.{keys_of}
-use Rattle.std.proofs.lemmas.Fmt.{length-decimal-le}
-use Rattle.std.proofs.lemmas.List.{length-append, length-map, take_at, set-get_or}
+use Rattle.std.proofs.lemmas.List.{length-append, length-map, set-get_or}
 use Rattle.std.proofs.lemmas.List.Quantifiers.{position-Some}
 use Rattle.coap_store.specs.Store as store
-use Rattle.coap_path.proofs.PathLemmas.{path_fits}
+use Rattle.coap_listing.proofs.LinkLemmas.{entry_changed, entry_short}
 
 -- The text of a resource in the listing.
 abbrev line : store.Resource → List ℕ
@@ -34,92 +34,48 @@ lines_created (r ∷ rs) path now none =
     ] none
 
 -- A new resource is last in the listing.
-pub texts_created : (rs : List store.Resource) (path : Path) (now : Representation) → found_in rs path ≡ None → texts_of (put_at rs path now) ≡ texts_of rs ++ entry_bytes path now.format ∷ []
+pub texts_created : (first : List ℕ) (rs : List store.Resource) (path : Path) (now : Representation) → found_in rs path ≡ None → texts_of first (put_at rs path now) ≡ texts_of first rs ++ entry_bytes path now.format ∷ []
 unfolding texts_of
-texts_created rs path now none = ap (λ (ts : List (List ℕ)). built_in_bytes ∷ ts) (lines_created rs path now none)
+texts_created first rs path now none = ap (λ (ts : List (List ℕ)). first ∷ ts) (lines_created rs path now none)
 
 lines_joined : (rs : List store.Resource) → joined (map line rs) ≡ lines rs
 unfolding joined
 lines_joined [] = refl
 lines_joined (r ∷ rs) = ap (λ (t : List ℕ). line r ++ t) (lines_joined rs)
 
-pub texts_joined : (rs : List store.Resource) → joined (texts_of rs) ≡ listing rs
+pub texts_joined : (applications : Option ApplicationsValue) (rs : List store.Resource) → joined (texts_of (first_bytes applications) rs) ≡ listing applications rs
+unfolding joined texts_of first_bytes listing
+texts_joined applications rs =
+    ap (λ (t : List ℕ). (built_in_bytes ++ application_bytes applications) ++ t) (lines_joined rs)
+    ∙ append_assoc built_in_bytes (application_bytes applications) (lines rs)
+
+-- The length of the texts, by that of the listing without an application.
+pub texts_length : (first : List ℕ) (rs : List store.Resource) → length (joined (texts_of first rs)) ≤ length first + length (listing None rs)
 unfolding joined texts_of listing
-texts_joined rs = ap (λ (t : List ℕ). built_in_bytes ++ t) (lines_joined rs)
-
--- ---- the end of the text of a resource
-
-front_bytes : Path → List ℕ
-front_bytes path = codes ",<" ++ (path_bytes path ++ codes ">")
-
-entry_parts : (path : Path) (format : Option ℕ) → entry_bytes path format ≡ front_bytes path ++ end_bytes format
-unfolding entry_bytes front_bytes
-entry_parts path format =
-    ap (λ (t : List ℕ). codes ",<" ++ t) (sym (append_assoc (path_bytes path) (codes ">") (end_bytes format)))
-    ∙ sym (append_assoc (codes ",<") (path_bytes path ++ codes ">") (end_bytes format))
-
--- The text of a resource whose Content-Format changes.
-pub entry_changed : (path : Path) (old new : Option ℕ) → with_end (entry_bytes path old) (length (end_bytes old)) (end_bytes new) ≡ entry_bytes path new
-entry_changed path old new =
-    let front = front_bytes path in
-    let parts = entry_parts path old in
-    let size : length front ≡ length (entry_bytes path old) - length (end_bytes old) = omega (arith, ap length parts, length-append front (end_bytes old)) in
-    ap (λ (t : List ℕ). take (length (entry_bytes path old) - length (end_bytes old)) t ++ end_bytes new) parts
-    ∙ ap (λ (t : List ℕ). t ++ end_bytes new) (take_at front (end_bytes old) _ size)
-    ∙ sym (entry_parts path new)
-
-pub end_within : (path : Path) (format : Option ℕ) → length (end_bytes format) ≤ length (entry_bytes path format)
-end_within path format = omega (arith, ap length (entry_parts path format), length-append (front_bytes path) (end_bytes format))
+texts_length first rs =
+    omega (arith, length-append first (joined (map line rs)), ap length (lines_joined rs), length-append built_in_bytes (lines rs))
 
 -- ---- the length of the text
-
--- A byte is written as one byte or as three.
-byte_short : (b : ℕ) → length (encoded_byte b) ≤ 3
-unfolding encoded_byte
-byte_short b =
-    elim (is_unreserved b) as (λ u. length (if u then b ∷ [] else (37 ∷ hex_digit (b / 16) ∷ hex_digit (b % 16) ∷ [])) ≤ 3) [ true ↦ omega arith | false ↦ omega arith ]
-
-segment_short : (s : List ℕ) → length (flat_map encoded_byte s) ≤ 3 * length s
-segment_short [] = omega arith
-segment_short (b ∷ s) = omega (arith, byte_short b, segment_short s, length-append (encoded_byte b) (flat_map encoded_byte s))
-
-path_short : (p : Path) → length (path_bytes p) ≤ 3 * written_length p
-unfolding path_bytes
-path_short [] = omega arith
-path_short (s ∷ ss) =
-    omega (arith, path_short ss, segment_short s, length-append (47 ∷ flat_map encoded_byte s) (path_bytes ss))
-
-format_short : (format : Option ℕ) → IfSome format (λ n. n < 65536) → length (format_bytes format) ≤ 9
-format_short None h = omega arith
-format_short (Some format) h =
-    omega (arith, length-decimal-le 5 format (omega arith) (omega (arith, h)) (omega (arith, h)), length-append (codes ";ct=") (decimal format))
 
 -- A resource can have the path, and the Content-Format, if any, is a 16-bit number.
 abbrev pub CanBeListed : store.Resource → Type 0
 CanBeListed r = (is_path r.path ≡ true) × IfSome r.now.format (λ n. n < 65536)
-
-pub entry_short : (path : Path) (format : Option ℕ) → is_path path ≡ true → IfSome format (λ n. n < 65536) → length (entry_bytes path format) ≤ 781
-unfolding entry_bytes
-entry_short path format is small =
-    omega (
-      arith,
-      path_short path,
-      path_fits path is,
-      format_short format small,
-      length-append (codes ",<") (path_bytes path ++ (codes ">" ++ (format_bytes format ++ codes ";obs"))),
-      length-append (path_bytes path) (codes ">" ++ (format_bytes format ++ codes ";obs")),
-      length-append (codes ">") (format_bytes format ++ codes ";obs"),
-      length-append (format_bytes format) (codes ";obs"),
-    )
 
 lines_bound : (rs : List store.Resource) → AllByRecursion CanBeListed rs → length (lines rs) ≤ 781 * length rs
 lines_bound [] h = omega arith
 lines_bound (r ∷ rs) h = omega (arith, lines_bound rs h.1, entry_short r.path r.now.format h.0.0 h.0.1, length-append (line r) (lines rs))
 
 -- The listing of 1,000 resources fits in 1,048,576 bytes.
-pub listing_bound : (rs : List store.Resource) → AllByRecursion CanBeListed rs → length rs ≤ 1000 → length (listing rs) ≤ 1048576
-unfolding listing
-listing_bound rs each few = omega (arith, lines_bound rs each, length-append built_in_bytes (lines rs))
+pub listing_bound : (applications : Option ApplicationsValue) (rs : List store.Resource) → AllByRecursion CanBeListed rs → length rs ≤ 1000 → length (first_bytes applications) ≤ 16423 → length (listing applications rs) ≤ 1048576
+unfolding listing first_bytes
+listing_bound applications rs each few short =
+    omega (
+      arith,
+      lines_bound rs each,
+      length-append built_in_bytes (application_bytes applications),
+      length-append built_in_bytes (application_bytes applications ++ lines rs),
+      length-append (application_bytes applications) (lines rs),
+    )
 
 -- ---- the map and the list of the resources
 
@@ -165,24 +121,24 @@ lines_removed [] i within = absurd (omega arith)
 lines_removed (e ∷ es) zero within = refl
 lines_removed (e ∷ es) (suc i) within = ap (λ (ts : List (List ℕ)). line (resource_at e) ∷ ts) (lines_removed es i (omega arith))
 
-pub text_at : (es : List (Path × Resource)) (i : ℕ) (e : Path × Resource) → slice_get es i ≡ Some e → get_or (texts_of (resources_in es)) (i + 1) [] ≡ entry_bytes e.0 e.1.format
+pub text_at : (first : List ℕ) (es : List (Path × Resource)) (i : ℕ) (e : Path × Resource) → slice_get es i ≡ Some e → get_or (texts_of first (resources_in es)) (i + 1) [] ≡ entry_bytes e.0 e.1.format
 unfolding texts_of
-text_at es i e at = let next : i + 1 ≡ suc i = omega arith in ap (λ k. get_or (built_in_bytes ∷ entry_lines es) k []) next ∙ line_at es i e at
+text_at first es i e at = let next : i + 1 ≡ suc i = omega arith in ap (λ k. get_or (first ∷ entry_lines es) k []) next ∙ line_at es i e at
 
 -- The text of a resource is replaced if it is.
-pub texts_set : (es : List (Path × Resource)) (i : ℕ) (e : Path × Resource) (r : Resource) → slice_get es i ≡ Some e
-    → texts_of (resources_in (set_value_at es i r)) ≡ set (texts_of (resources_in es)) (i + 1) (entry_bytes e.0 r.format)
+pub texts_set : (first : List ℕ) (es : List (Path × Resource)) (i : ℕ) (e : Path × Resource) (r : Resource) → slice_get es i ≡ Some e
+    → texts_of first (resources_in (set_value_at es i r)) ≡ set (texts_of first (resources_in es)) (i + 1) (entry_bytes e.0 r.format)
 unfolding texts_of
-texts_set es i e r at =
+texts_set first es i e r at =
     let next : suc i ≡ i + 1 = omega arith in
-    ap (λ (ts : List (List ℕ)). built_in_bytes ∷ ts) (lines_set es i e r at) ∙ ap (λ k. set (built_in_bytes ∷ entry_lines es) k (entry_bytes e.0 r.format)) next
+    ap (λ (ts : List (List ℕ)). first ∷ ts) (lines_set es i e r at) ∙ ap (λ k. set (first ∷ entry_lines es) k (entry_bytes e.0 r.format)) next
 
 -- A resource that keeps its Content-Format keeps its text.
-pub texts_kept : (es : List (Path × Resource)) (i : ℕ) (e : Path × Resource) (r : Resource) → slice_get es i ≡ Some e → e.1.format ≡ r.format → texts_of (resources_in (set_value_at es i r)) ≡ texts_of (resources_in es)
-texts_kept es i e r at same =
-    texts_set es i e r at
-    ∙ ap (λ t. set (texts_of (resources_in es)) (i + 1) t) (ap (λ f. entry_bytes e.0 f) (sym same) ∙ sym (text_at es i e at))
-    ∙ set-get_or (texts_of (resources_in es)) (i + 1) []
+pub texts_kept : (first : List ℕ) (es : List (Path × Resource)) (i : ℕ) (e : Path × Resource) (r : Resource) → slice_get es i ≡ Some e → e.1.format ≡ r.format → texts_of first (resources_in (set_value_at es i r)) ≡ texts_of first (resources_in es)
+texts_kept first es i e r at same =
+    texts_set first es i e r at
+    ∙ ap (λ t. set (texts_of first (resources_in es)) (i + 1) t) (ap (λ f. entry_bytes e.0 f) (sym same) ∙ sym (text_at first es i e at))
+    ∙ set-get_or (texts_of first (resources_in es)) (i + 1) []
 
 -- The entry at an index, which has this Content-Format.
 pub entry_of : (es : List (Path × Resource)) (i : ℕ) (format : Option ℕ) → Some format ≡ option_map (λ e. e.1.format) (slice_get es i)
@@ -194,24 +150,37 @@ entry_of es i format is = by (slice_get es i) refl is
     by (Some e) at same = (e, at, cc)
 
 -- The listing, in which the end of the text of a resource is replaced.
-pub texts_changed : (es : List (Path × Resource)) (i : ℕ) (e : Path × Resource) (r : Resource) (ts : List (List ℕ)) (at n : ℕ) (end : List ℕ) → slice_get es i ≡ Some e
-    → ts ≡ texts_of (resources_in es) → at ≡ i + 1 → n ≡ length (end_bytes e.1.format) → end ≡ end_bytes r.format
-    → set ts at (with_end (get_or ts at []) n end) ≡ texts_of (resources_in (set_value_at es i r))
-texts_changed es i e r ts at n end found listed place count ends =
+pub texts_changed : (first : List ℕ) (es : List (Path × Resource)) (i : ℕ) (e : Path × Resource) (r : Resource) (ts : List (List ℕ)) (at n : ℕ) (end : List ℕ) → slice_get es i ≡ Some e
+    → ts ≡ texts_of first (resources_in es) → at ≡ i + 1 → n ≡ length (end_bytes e.1.format) → end ≡ end_bytes r.format
+    → set ts at (with_end (get_or ts at []) n end) ≡ texts_of first (resources_in (set_value_at es i r))
+texts_changed first es i e r ts at n end found listed place count ends =
     (λ k. set (listed k) (place k) (with_end (get_or (listed k) (place k) []) (count k) (ends k)))
-    ∙ ap (λ t. set (texts_of (resources_in es)) (i + 1) (with_end t (length (end_bytes e.1.format)) (end_bytes r.format))) (text_at es i e found)
-    ∙ ap (λ t. set (texts_of (resources_in es)) (i + 1) t) (entry_changed e.0 e.1.format r.format)
-    ∙ sym (texts_set es i e r found)
+    ∙ ap (λ t. set (texts_of first (resources_in es)) (i + 1) (with_end t (length (end_bytes e.1.format)) (end_bytes r.format))) (text_at first es i e found)
+    ∙ ap (λ t. set (texts_of first (resources_in es)) (i + 1) t) (entry_changed e.0 e.1.format r.format)
+    ∙ sym (texts_set first es i e r found)
 
-pub texts_removed : (es : List (Path × Resource)) (i : ℕ) → i < length es → texts_of (resources_in (remove es i)) ≡ remove (texts_of (resources_in es)) (i + 1)
+pub texts_removed : (first : List ℕ) (es : List (Path × Resource)) (i : ℕ) → i < length es → texts_of first (resources_in (remove es i)) ≡ remove (texts_of first (resources_in es)) (i + 1)
 unfolding texts_of
-texts_removed es i within =
+texts_removed first es i within =
     let next : suc i ≡ i + 1 = omega arith in
-    ap (λ (ts : List (List ℕ)). built_in_bytes ∷ ts) (lines_removed es i within) ∙ ap (λ k. remove (built_in_bytes ∷ entry_lines es) k) next
+    ap (λ (ts : List (List ℕ)). first ∷ ts) (lines_removed es i within) ∙ ap (λ k. remove (first ∷ entry_lines es) k) next
 
-pub texts_count : (es : List (Path × Resource)) → length (texts_of (resources_in es)) ≡ length es + 1
+pub texts_count : (first : List ℕ) (es : List (Path × Resource)) → length (texts_of first (resources_in es)) ≡ length es + 1
 unfolding texts_of resources_in
-texts_count es = omega (arith, length-map (resources_in es) line, length-map es resource_at)
+texts_count first es = omega (arith, length-map (resources_in es) line, length-map es resource_at)
+
+-- The first text is replaced.
+pub texts_first : (first new : List ℕ) (rs : List store.Resource) → set (texts_of first rs) 0 new ≡ texts_of new rs
+unfolding texts_of
+texts_first first new rs = refl
+
+-- The first text is that with which the listing begins.
+pub head_is : (first : List ℕ) (rs : List store.Resource) (ts : List (List ℕ)) → ts ≡ texts_of first rs → head_of ts ≡ first
+unfolding texts_of
+head_is first rs ts is = ap head_of is
+
+pub by_head : (first : List ℕ) (rs : List store.Resource) (ts : List (List ℕ)) → ts ≡ texts_of first rs → ts ≡ texts_of (head_of ts) rs
+by_head first rs ts is = is ∙ ap (λ f. texts_of f rs) (sym (head_is first rs ts is))
 
 module _ (eq : Path → Path → Bool) (same : (p q : Path) → eq p q ≡ same_path p q) where
   pub resources_put : (entries : List (Path × Resource)) (path : Path) (r : Resource) → resources_in (insert_entry eq entries path r) ≡ put_at (resources_in entries) path (representation r)

@@ -1,5 +1,6 @@
 -- Properties of notifications.
 use Rattle.std.proofs.Common.{◌≡◌, ℕ, ◌<◌, ◌≤◌, ◌^◌, Bool, true, false, List, length, Option, Some, None, refl, sym, ap, ◌∙◌, arith}
+use Rattle.coap_store.specs.Prelude.{listing}
 use Rattle.coap_store.specs.Prelude.{nat_eq, not, if◌then◌else◌, option_eq, Path, is_path, Representation}
 use Rattle.coap_store.specs.Prelude.{StoreValue, kind_of_path, key_for, state_of, Response, only, content, answer_of}
 use Rattle.coap_store.specs.Prelude.{ReportsState, plain_get, content_of, IsStore, notification_at, notification_of}
@@ -8,7 +9,7 @@ use Rattle.std.proofs.lemmas.Bool.{cond-true, cond-false}
 use Rattle.coap_wire.specs.Codes as code
 use Rattle.coap_store.proofs.CatalogueLemmas.{same_format}
 use Rattle.coap_store.proofs.AnswerLaws.{AreShort, state_short}
-use Rattle.coap_store.proofs.StoreLemmas.{listing_short, stored_small}
+use Rattle.coap_store.proofs.StoreLemmas.{stored_small}
 use Rattle.coap_store.proofs.StateLemmas.{state_stored}
 use Rattle.coap_store.proofs.ServingLaws.{stored_is_served}
 
@@ -64,9 +65,9 @@ short_notification_at place None format short = omega arith
 short_notification_at place (Some r) format short =
     elim (option_eq nat_eq r.format format) as (λ b. length (if b then content place r else only code.not_acceptable).payload ≤ 1048576) [ true ↦ short r refl | false ↦ omega arith ]
 
-pub notification_short : (s : StoreValue) (now : ℕ) (path : Path) (format : Option ℕ) → IsStore s → now < 2 ^ 64 → length (notification_of s now path format).payload ≤ 1048576
-notification_short s now path format is small =
-    let are : AreShort s = record { listing = listing_short s is; stored = stored_small s is } in
+pub notification_short : (s : StoreValue) (now : ℕ) (path : Path) (format : Option ℕ) → IsStore s → length (listing s.applications s.resources) ≤ 1048576 → now < 2 ^ 64 → length (notification_of s now path format).payload ≤ 1048576
+notification_short s now path format is listed small =
+    let are : AreShort s = record { listing = listed; stored = stored_small s is } in
     short_notification_at (kind_of_path path) (state_of s now path) format (λ r there. state_short s now (key_for path) (kind_of_path path) r are small there)
 
 -- ---- a GET has the same response

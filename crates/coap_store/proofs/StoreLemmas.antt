@@ -4,7 +4,7 @@ use Rattle.coap_store.specs.Prelude.{IfSome, option_map, if◌then◌else◌, Bo
 use Rattle.coap_store.specs.Prelude.{Representation, StoreValue, found_in, put_at, removed_at, put_in, removed_in}
 use Rattle.coap_store.specs.Prelude.{listing, representation, Change, Nothing, Put, Delete, changed, TakesPut}
 use Rattle.coap_store.specs.Prelude.{TakesChange, is_path, HasSmallFormat, HaveOwnVersions, IsKept, IsStore}
-use Rattle.coap_store.specs.Prelude.{ApplicationsValue}
+use Rattle.coap_store.specs.Prelude.{ApplicationsValue, first_bytes}
 use Rattle.std.specs.Option.{is_some}
 use Rattle.std.proofs.lemmas.Bool.{ltb-true}
 use Rattle.coap_store.specs.Store.{Resource}
@@ -202,5 +202,11 @@ listable : (versions rep_max : ℕ) (rs : List Resource) → AllByRecursion (IsK
 listable versions rep_max rs kept =
     all_resources_to (IsKept versions rep_max) CanBeListed (λ r is. (is.path, is.format)) rs kept
 
-pub listing_short : (s : StoreValue) → IsStore s → length (listing s.resources) ≤ 1048576
-listing_short s is = listing_bound s.resources (listable s.versions s.rep_max s.resources is.kept) (omega (arith, is.few, is.most))
+-- The listing of a store whose application has a short text.
+pub listing_short : (s : StoreValue) (applications : Option ApplicationsValue) → IsStore s → length (first_bytes applications) ≤ 16423 → length (listing applications s.resources) ≤ 1048576
+listing_short s applications is short =
+    listing_bound applications s.resources (listable s.versions s.rep_max s.resources is.kept) (omega (arith, is.few, is.most)) short
+
+pub bare_listing_short : (s : StoreValue) → IsStore s → length (listing None s.resources) ≤ 1048576
+unfolding first_bytes
+bare_listing_short s is = listing_short s None is (omega arith)

@@ -18,6 +18,7 @@ pub mod ChangePlanViews
 pub mod RequestTargetViews
 pub mod PresentViews
 pub mod StateViews
+pub mod Catalogues
 pub mod CatalogueViews
 pub mod StoreViews
 pub mod OptionScan

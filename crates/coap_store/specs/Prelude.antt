@@ -5,9 +5,6 @@ pub use Rattle.arrayvec.specs.declared.array_vec.ArrayVec.{ArrayVec}
 unfoldable pub use Rattle.coap_listing.specs.Texts.{joined}
 pub use Rattle.coap_listing.specs.Texts.{with_end}
 pub use Rattle.indexmap.specs.IndexMap.{insert_entry, set_value_at}
-unfoldable pub use Rattle.percent_encoding.specs.AsciiSet.{should_percent_encode}
-pub use Rattle.percent_encoding.specs.Percent.{encode_byte}
-unfoldable pub use Rattle.percent_encoding.specs.Percent.{percent_encode, percent_encode_byte}
 pub use Rattle.std.specs.Bool.{then_some}
 pub use Rattle.std.specs.Borrow.{Bor}
 pub use Rattle.std.specs.Fmt.{decimal}
@@ -42,7 +39,7 @@ pub use Rattle.coap_path.specs.declared.path_match.PathMatch.{PathMatch}
 pub use Rattle.coap_path.specs.declared.resource_kind.ResourceKind.TheVariants.{Async, Dynamic, Listing, Root, Time}
 pub use Rattle.coap_path.specs.declared.resource_kind.ResourceKind.{ResourceKind}
 -- ---- coap_application
-pub use Rattle.coap_application.specs.Applications.{ApplicationsValue}
+pub use Rattle.coap_application.specs.Applications.{ApplicationEntryValue, ApplicationsValue}
 unfoldable pub use Rattle.coap_application.specs.Applications.{is_answered}
 -- ---- coap_store
 pub use Rattle.coap_store.specs.Answer.{read_answer, etag_at, max_age_at, is_accepted, is_among, watch_of}
@@ -61,8 +58,10 @@ unfoldable pub use Rattle.coap_store.specs.ApplicationRequests.{application_dead
 pub use Rattle.coap_store.specs.Changes.{TakesChange, changes, says_change, HasSmallFormat, changed_by, TakesChanges}
 pub use Rattle.coap_store.specs.Changes.{TakesPut, IsPut, IsChangeAt}
 pub use Rattle.coap_store.specs.Invariant.{IsStore, AreDistinct, HaveOwnVersions, IsKept}
+pub use Rattle.coap_store.specs.Catalogues.{CatalogueValue}
 pub use Rattle.coap_store.specs.Listing.{slash, format_bytes, built_in_bytes, hex_digit, is_unreserved}
-unfoldable pub use Rattle.coap_store.specs.Listing.{listing, entry_bytes, encoded_byte, path_bytes}
+pub use Rattle.coap_store.specs.Listing.{application_bytes, attribute_bytes, end_bytes}
+unfoldable pub use Rattle.coap_store.specs.Listing.{listing, entry_bytes, encoded_byte, first_bytes, link_bytes, path_bytes}
 pub use Rattle.coap_store.specs.Messages.{each_at, response_message}
 pub use Rattle.coap_store.specs.Notifications.{notification_of}
 unfoldable pub use Rattle.coap_store.specs.Notifications.{notification_at}
@@ -79,7 +78,7 @@ pub use Rattle.coap_store.specs.Requests.{path_of, is_method, preconditions_hold
 pub use Rattle.coap_store.specs.Requests.{first_or_none, is_delete, is_digit, is_given, is_good_query, seconds_of}
 unfoldable pub use Rattle.coap_store.specs.Requests.{values_of, has_option, is_seconds, match_holds, number_of}
 unfoldable pub use Rattle.coap_store.specs.Requests.{value_of}
-pub use Rattle.coap_store.specs.ResourceViews.{representation, resource_at, end_bytes}
+pub use Rattle.coap_store.specs.ResourceViews.{representation, resource_at, head_of}
 unfoldable pub use Rattle.coap_store.specs.ResourceViews.{resources_in, texts_of}
 pub use Rattle.coap_store.specs.StateReports.{plain_get, IsStoredCode, ReportsState, ReportsEtag, IsElsewhere}
 pub use Rattle.coap_store.specs.StateReports.{content_of}
@@ -99,4 +98,3 @@ pub use Rattle.coap_store.specs.declared.fault.StoreFault.TheVariants.{BadPath, 
 pub use Rattle.coap_store.specs.declared.fault.StoreFault.TheVariants.{VersionsSpent}
 pub use Rattle.coap_store.specs.declared.plan.Watch.TheVariants.{Add, Drop}
 pub use Rattle.coap_store.specs.declared.resource.Resource.{Resource}
-pub use Rattle.coap_store.specs.declared.resource.TheConstants.{ESCAPED}

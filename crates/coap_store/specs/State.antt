@@ -34,7 +34,7 @@ unfoldable pub state_at : StoreValue → ℕ → Option Path → ResourceKind �
 state_at s now key Root = built text_plain (codes "coap+tcp")
 state_at s now key Time = built text_plain (decimal now)
 state_at s now key Async = built text_plain (codes "done")
-state_at s now key Listing = built link_format (listing s.resources)
+state_at s now key Listing = built link_format (listing s.applications s.resources)
 state_at s now key Dynamic = stored_at s key
 
 -- The representation of a path at the time `now` in seconds, or `None` if the path is absent.

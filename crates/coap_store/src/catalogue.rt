@@ -1,65 +1,112 @@
-//! The created resources of a store, with the listing.
+//! The created resources of a store and the entries of the application, with the listing.
 
 ghost use Rattle.std.specs.Prelude.{◌≡◌, ◌+◌, ◌≤◌, ◌<◌, OnOk, OnErr, Some, None, [], IfOk, length, slice_get};
-ghost use Rattle.std.specs.Prelude.{option_map, IfSome};
+ghost use Rattle.std.specs.Prelude.{option_copied, option_map, IfSome};
 ghost use Rattle.std.specs.List.{remove};
 ghost use Rattle.coap_store.specs.Prelude.{found_in, put_at, listing as listing_of, resources_in, LARGEST_MESSAGE};
 ghost use Rattle.coap_store.specs.Prelude.{representation, removed_at, texts_of, entry_bytes, set_value_at, IsFoundAt};
-ghost use Rattle.coap_store.specs.Prelude.{replaced_at};
+ghost use Rattle.coap_store.specs.Prelude.{replaced_at, first_bytes, head_of};
 
-use crate::resource::{BUILT_IN_TEXT, Resource, Resources, entry_end, entry_text};
-use coap_listing::Listing;
+use crate::resource::{Resource, Resources};
+use coap_application::Applications;
+use coap_listing::{BUILT_IN_TEXT, Listing, entry_end, entry_text, first_text};
 use coap_path::PathKey;
 use indexmap::IndexMap;
 use std::alloc::{AllocError, Global};
 use std::marker::Model;
 
-/// Created resources in order of creation, with the current bytes of `/.well-known/core`. The hasher's seed is fixed:
-/// at most 1,000 paths bound the cost of a look-up. Contracts see the list of the resources.
+/// Created resources in order of creation, and the entries of the application, with the current bytes of
+/// `/.well-known/core`. The hasher's seed is fixed: at most 1,000 paths bound the cost of a look-up. Contracts see a
+/// `CatalogueValue`.
 #[derive(Drop)]
 pub(crate) struct Catalogue {
     alloc: Global,
     resources: Resources,
-    /// Text of the built-in resources, and that of each created one in the order of `resources`.
+    /// Paths whose requests the application answers, if there are such.
+    applications: Option<Applications>,
+    /// Text of the built-in resources and the application, and that of each created resource in the order of `resources`.
     listing: Listing,
 }
 
 impl Model for Catalogue {
-    ghost use Rattle.std.specs.Prelude.{List};
-    ghost use Rattle.coap_store.specs.Store.{Resource};
+    ghost use Rattle.coap_store.specs.Catalogues.{CatalogueValue};
 
-    ghost Value = { List Resource };
+    ghost Value = { CatalogueValue };
 
-    ghost use Rattle.coap_store.specs.CatalogueViews.{resources_of, IsCatalogue};
+    ghost use Rattle.coap_store.specs.CatalogueViews.{catalogue_value, IsCatalogue};
 
-    ghost view = { resources_of };
+    ghost view = { catalogue_value };
 
     ghost invariant = { IsCatalogue };
 }
 
 impl Catalogue {
-    /// Creates a catalogue without created resources.
+    /// Creates a catalogue without created resources and without an application.
     pub(crate) fn new(alloc: Global) -> Result<Catalogue, AllocError>
-        ensures { IfOk result (λ c. c ≡ []) }
+        ensures { IfOk result (λ c. c ≡ record { applications = None; resources = [] }) }
     {
         let mut listing = Listing::new(alloc);
         listing.append(BUILT_IN_TEXT)?;
         Ok(Catalogue {
             alloc,
             resources: IndexMap::new(alloc),
+            applications: None,
             listing,
         })
     }
 
+    /// Returns the same catalogue with these entries of the application. Their text follows that of the built-in
+    /// resources in the listing.
+    pub(crate) fn with_applications(
+        self,
+        applications: Applications,
+    ) -> Result<Catalogue, AllocError>
+        requires { length (listing_of None self.resources) ≤ LARGEST_MESSAGE }
+        ensures { IfOk result (λ c. c ≡ record self { applications = Some applications }) }
+    {
+        let Catalogue {
+            alloc,
+            resources,
+            applications: _,
+            mut listing,
+        } = self;
+        let text = first_text(alloc, &applications)?;
+        listing.replace(0, &text)?;
+        Ok(Catalogue {
+            alloc,
+            resources,
+            applications: Some(applications),
+            listing,
+        })
+    }
+
+    /// Returns the entries of the application, if there is one.
+    // Always inlined: each request reads them.
+    #[inline(always)]
+    pub(crate) fn applications(&self) -> Option<&Applications>
+        ensures { option_copied result ≡ self.now.applications }
+    {
+        self.applications.as_ref()
+    }
+
+    /// Reads the catalogue, which gives its invariant to the proof of a caller. Does nothing else.
+    // Always inlined: nothing is left of it.
+    #[inline(always)]
+    pub(crate) fn is_kept(&self)
+        ensures { length (first_bytes self.now.applications) ≤ 16423 }
+    {
+        let _read = self.alloc;
+    }
+
     pub(crate) fn len(&self) -> usize
-        ensures { result ≡ length self.now }
+        ensures { result ≡ length self.now.resources }
     {
         self.resources.len()
     }
 
     /// Returns the resource at a path.
     pub(crate) fn get(&self, path: &PathKey) -> Option<&Resource>
-        ensures { option_map (λ r. representation r.now) result ≡ found_in self.now path.now }
+        ensures { option_map (λ r. representation r.now) result ≡ found_in self.now.resources path.now }
     {
         self.resources.get(path)
     }
@@ -68,8 +115,8 @@ impl Catalogue {
     // Always inlined: a call saves and restores registers, and its result is in memory.
     #[inline(always)]
     pub(crate) fn find(&self, path: &PathKey) -> Option<(usize, &Resource)>
-        ensures value { option_map (λ r. representation r.1.now) result ≡ found_in self.now path.now }
-        ensures index { IfSome result (λ r. IsFoundAt self.now path.now r.0) }
+        ensures value { option_map (λ r. representation r.1.now) result ≡ found_in self.now.resources path.now }
+        ensures index { IfSome result (λ r. IsFoundAt self.now.resources path.now r.0) }
     {
         let Some((index, _, resource)) = self.resources.get_full(path) else {
             return None;
@@ -80,7 +127,7 @@ impl Catalogue {
     /// Returns the resource at a path, and its index. First compares the path of the resource with the index `near`, and
     /// searches only if it is another one.
     pub(crate) fn find_near(&self, path: &PathKey, near: usize) -> Option<(usize, &Resource)>
-        ensures { option_map (λ r. representation r.1.now) result ≡ found_in self.now path.now }
+        ensures { option_map (λ r. representation r.1.now) result ≡ found_in self.now.resources path.now }
     {
         if let Some((key, resource)) = self.resources.get_index(near) {
             if key == path {
@@ -92,7 +139,7 @@ impl Catalogue {
 
     /// Returns the bytes of `/.well-known/core` (RFC 6690).
     pub(crate) fn listing(&self) -> &[u8]
-        ensures { result.now ≡ listing_of self.now }
+        ensures { result.now ≡ listing_of self.now.applications self.now.resources }
     {
         self.listing.text()
     }
@@ -106,10 +153,12 @@ impl Catalogue {
         format: Option<u16>,
         bytes: &[u8],
     ) -> Result<(), AllocError>
-        requires short { length (listing_of self.old) ≤ LARGEST_MESSAGE }
+        requires short { length (listing_of None self.old.resources) ≤ LARGEST_MESSAGE }
         requires entry { length (entry_bytes path format) ≤ LARGEST_MESSAGE }
-        ensures ok { OnOk result (self.new ≡ put_at self.old path
-            (record { version = version; format = format; bytes = bytes.now })) }
+        ensures ok { OnOk result (self.new ≡ record self.old {
+          resources = put_at self.old.resources path
+              (record { version = version; format = format; bytes = bytes.now });
+        }) }
         ensures err { OnErr result (self.new ≡ self.old) }
     {
         let resource = Resource {
@@ -133,10 +182,12 @@ impl Catalogue {
         format: Option<u16>,
         bytes: &[u8],
     ) -> Result<(), AllocError>
-        requires within { index < length self.old }
-        requires short { length (listing_of self.old) ≤ LARGEST_MESSAGE }
-        ensures ok { OnOk result (self.new ≡ replaced_at self.old index
-            (record { version = version; format = format; bytes = bytes.now })) }
+        requires within { index < length self.old.resources }
+        requires short { length (listing_of None self.old.resources) ≤ LARGEST_MESSAGE }
+        ensures ok { OnOk result (self.new ≡ record self.old {
+          resources = replaced_at self.old.resources index
+              (record { version = version; format = format; bytes = bytes.now });
+        }) }
         ensures err { OnErr result (self.new ≡ self.old) }
     {
         let resource = Resource {
@@ -149,8 +200,8 @@ impl Catalogue {
 
     /// Removes the resource with this index; the others keep their order. Moves the later part of the listing once.
     pub(crate) fn remove_at(&mut self, index: usize)
-        requires { index < length self.old }
-        ensures { self.new ≡ remove self.old index }
+        requires { index < length self.old.resources }
+        ensures { self.new ≡ record self.old { resources = remove self.old.resources index } }
     {
         self.listing.remove(text_index(&self.resources, index));
         self.resources.shift_remove_index(index);
@@ -158,7 +209,7 @@ impl Catalogue {
 
     /// Removes a resource; the others keep their order. Moves the later part of the listing once.
     pub(crate) fn remove(&mut self, path: &PathKey)
-        ensures { self.new ≡ removed_at self.old path.now }
+        ensures { self.new ≡ record self.old { resources = removed_at self.old.resources path.now } }
     {
         let Some(index) = self.resources.get_index_of(path) else {
             return;
@@ -178,13 +229,14 @@ fn create(
 ) -> Result<(), AllocError>
     requires new { found_in (resources_in resources.old.entries) path ≡ None }
     requires text { text.now ≡ entry_bytes path resource.format }
-    requires listed { listing.old ≡ texts_of (resources_in resources.old.entries) }
-    requires short { length (listing_of (resources_in resources.old.entries)) ≤ LARGEST_MESSAGE }
+    requires listed { listing.old ≡ texts_of (head_of listing.old) (resources_in resources.old.entries) }
+    requires short { length (listing_of None (resources_in resources.old.entries)) ≤ LARGEST_MESSAGE }
+    requires first { length (head_of listing.old) ≤ LARGEST_MESSAGE }
     requires entry { length text.now ≤ LARGEST_MESSAGE }
     ensures stored { OnOk result (resources_in resources.new.entries ≡ put_at (resources_in resources.old.entries) path
         (representation resource)) }
     ensures unchanged { OnErr result (resources_in resources.new.entries ≡ resources_in resources.old.entries) }
-    ensures listed { listing.new ≡ texts_of (resources_in resources.new.entries) }
+    ensures listed { listing.new ≡ texts_of (head_of listing.old) (resources_in resources.new.entries) }
 {
     resources.reserve(1)?;
     listing.append(text)?;
@@ -202,11 +254,12 @@ fn replace(
     resource: Resource,
 ) -> Result<(), AllocError>
     requires within { index < length resources.old.entries }
-    requires listed { listing.old ≡ texts_of (resources_in resources.old.entries) }
-    requires short { length (listing_of (resources_in resources.old.entries)) ≤ LARGEST_MESSAGE }
+    requires listed { listing.old ≡ texts_of (head_of listing.old) (resources_in resources.old.entries) }
+    requires short { length (listing_of None (resources_in resources.old.entries)) ≤ LARGEST_MESSAGE }
+    requires first { length (head_of listing.old) ≤ LARGEST_MESSAGE }
     ensures stored { OnOk result (resources.new.entries ≡ set_value_at resources.old.entries index resource) }
     ensures unchanged { OnErr result (resources.new.entries ≡ resources.old.entries) }
-    ensures listed { listing.new ≡ texts_of (resources_in resources.new.entries) }
+    ensures listed { listing.new ≡ texts_of (head_of listing.old) (resources_in resources.new.entries) }
 {
     let old = format_at(resources, index);
     if old == resource.format {
@@ -220,7 +273,7 @@ fn replace(
     Ok(())
 }
 
-/// Returns the index in the listing of the text of a resource, which follows that of the built-in resources.
+/// Returns the index in the listing of the text of a resource, which follows that of the application.
 fn text_index(resources: &Resources, index: usize) -> usize
     requires { index < length resources.now.entries }
     ensures { result ≡ index + 1 }

@@ -46,8 +46,6 @@ pub struct Store {
     versions: u64,
     /// Time in seconds whose text is cached.
     moment: Decimal,
-    /// Paths whose requests the application answers, if there are such.
-    applications: Option<Applications>,
 }
 
 impl Model for Store {
@@ -96,18 +94,33 @@ impl Store {
             resources: Catalogue::new(alloc)?,
             versions: versions_from,
             moment: Decimal::of(0),
-            applications: None,
         })
     }
 
-    /// Returns the same store, in which the application answers the requests of these entries.
-    pub fn with_applications(self, applications: Applications) -> Store
-        ensures { result ≡ record self { applications = Some applications } }
+    /// Returns the same store, in which the application answers the requests of these entries. The listing has a link for
+    /// each, after those of the built-in resources and in the order of the entries.
+    ///
+    /// # Errors
+    ///
+    /// - `AllocError`: allocation for the links failed.
+    pub fn with_applications(self, applications: Applications) -> Result<Store, AllocError>
+        ensures value { IfOk result (λ s. s ≡ record self { applications = Some applications }) }
+        ensures store { IfOk result IsStore }
     {
-        Store {
-            applications: Some(applications),
-            ..self
-        }
+        let Store {
+            dynamic_max,
+            rep_max,
+            resources,
+            versions,
+            moment,
+        } = self;
+        Ok(Store {
+            dynamic_max,
+            rep_max,
+            resources: resources.with_applications(applications)?,
+            versions,
+            moment,
+        })
     }
 
     /// Returns the seconds that the application has for a response to a request, or `None` if it does not answer it. It
@@ -116,7 +129,7 @@ impl Store {
     pub fn application_deadline(&self, request: &MessageRef) -> Option<u32>
         ensures { result ≡ application_deadline self.now.applications request.now }
     {
-        match &self.applications {
+        match self.resources.applications() {
             None => None,
             Some(applications) => deadline_in(applications, request),
         }
@@ -251,9 +264,10 @@ impl Store {
 
     /// Returns the representation of `/.well-known/core` (RFC 6690).
     pub(crate) fn listing(&self) -> &[u8]
-        ensures value { result.now ≡ listing_of self.now.resources }
+        ensures value { result.now ≡ listing_of self.now.applications self.now.resources }
         ensures short { length result.now ≤ LARGEST_MESSAGE }
     {
+        self.resources.is_kept();
         self.resources.listing()
     }
 
@@ -289,8 +303,9 @@ impl Store {
     /// Reads the store, which gives its invariant to the proof of a caller. Does nothing else.
     pub(crate) fn is_kept(&self)
         ensures store { IsStore self.now }
+        ensures listed { length (listing_of self.now.applications self.now.resources) ≤ LARGEST_MESSAGE }
     {
-        let _read = self.versions;
+        self.resources.is_kept();
     }
 
     /// Returns the number of created resources.

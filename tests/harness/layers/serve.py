@@ -30,7 +30,7 @@ APPLICATION = {"deadline", "answers"}
 
 def said_of(opening):
     """Returns the settings of an opening."""
-    said = dict(word.split("=") for word in opening.split() if "=" in word)
+    said = dict(word.split("=", 1) for word in opening.split() if "=" in word)
     strange = said.keys() - SETTINGS.keys() - APPLICATION
     if strange:
         raise KeyError(f"= {opening}: no {', '.join(sorted(strange))}")
@@ -38,9 +38,14 @@ def said_of(opening):
 
 
 def entry_of(text):
-    """Returns an entry of an application with the codes of its methods in hex digits."""
-    path, _, methods = text.partition(":")
-    return f"{path}:{''.join(f'{CODES[method]:02x}' for method in methods.split('+'))}"
+    """Returns an entry of an application with the codes of its methods, and the attributes of its link, in hex digits.
+
+    A count and `*` before a character repeat it.
+    """
+    text = re.sub(r"(\d+)\*(.)", lambda it: int(it[1]) * it[2], text)
+    path, _, text = text.partition(":")
+    methods, _, attributes = text.partition(";")
+    return f"{path}:{''.join(f'{CODES[method]:02x}' for method in methods.split('+'))}:{attributes.encode().hex()}"
 
 
 def opened(said):

@@ -1,7 +1,7 @@
 use Rattle.std.proofs.Common.{◌≡◌, ◌∷◌, ◌++◌, [], length, ap, sym, ◌∙◌, arith}
-use Rattle.coap_store.specs.Prelude.{insert_entry, joined, resources_in, texts_of}
+use Rattle.coap_store.specs.Prelude.{insert_entry, joined, resources_in, head_of, texts_of}
 use Rattle.coap_store.proofs.CatalogueLemmas.{key_test, stored_list, texts_of_created}
-use Rattle.coap_store.proofs.ListingLemmas.{texts_joined}
+use Rattle.coap_store.proofs.ListingLemmas.{texts_length}
 use Rattle.coap_store.proofs.catalogue.create.Goals as goal
 
 -- The entries are the earlier ones and the new one.
@@ -11,12 +11,12 @@ inserted c =
 
 pub append-requires : goal.append-requires
 append-requires c =
-    omega (arith, c.requires.short, c.requires.entry, ap (λ es. length (joined es)) c.requires.listed, ap length (texts_joined (resources_in c.args.resources.now.entries)))
+    omega (arith, c.requires.short, c.requires.first, c.requires.entry, ap (λ es. length (joined es)) c.requires.listed, texts_length (head_of c.args.listing.now) (resources_in c.args.resources.now.entries))
 
 pub returns-clause-stored : goal.returns-clause-stored
 returns-clause-stored c = stored_list _ _ _ _ (inserted c)
 
 pub returns-clause-listed : goal.returns-clause-listed
 returns-clause-listed c =
-    c.in_ok-append.ensures.ok ∙ ap (λ es. es ++ c.args.text.now ∷ []) c.requires.listed ∙ ap (λ t. texts_of (resources_in c.args.resources.now.entries) ++ t ∷ []) c.requires.text
-    ∙ sym (texts_of_created _ _ _ _ (inserted c) c.requires.new)
+    c.in_ok-append.ensures.ok ∙ ap (λ es. es ++ c.args.text.now ∷ []) c.requires.listed ∙ ap (λ t. texts_of (head_of c.args.listing.now) (resources_in c.args.resources.now.entries) ++ t ∷ []) c.requires.text
+    ∙ sym (texts_of_created _ _ _ _ (inserted c) (head_of c.args.listing.now) c.requires.new)

@@ -27,4 +27,4 @@ returns-clause-told c = told c
 
 pub returns-clause-short : goal.returns-clause-short
 returns-clause-short c =
-    subst (λ a. length a.response.payload ≤ 1048576) (sym (told c)) (notification_short _ _ _ _ c.is_kept.ensures.store c.ranges.now.fits)
+    subst (λ a. length a.response.payload ≤ 1048576) (sym (told c)) (notification_short _ _ _ _ c.is_kept.ensures.store c.is_kept.ensures.listed c.ranges.now.fits)

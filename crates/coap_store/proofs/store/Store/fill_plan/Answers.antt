@@ -1,7 +1,7 @@
 use Rattle.std.proofs.Common.{◌≡◌, ◌≤◌, true, length, [], sym, ap, ◌∙◌, subst}
 use Rattle.coap_store.specs.Prelude.{Answer, answer_of, TakesChange, changes, Drop, IfSome, IsChangeAt, IsFoundAt, Message, path_of}
 use Rattle.coap_store.proofs.AnswerLaws.{taken_of, bare_of, short_of, placed_of, plain_of, IsPlain}
-use Rattle.coap_store.proofs.StoreLemmas.{listing_short, stored_small}
+use Rattle.coap_store.proofs.StoreLemmas.{stored_small}
 use Rattle.coap_store.proofs.AnswerLemmas.{answer_removes, answer_leaves}
 use Rattle.coap_store.proofs.store.Store.fill_plan.Goals as goal
 
@@ -27,7 +27,7 @@ returns-then-removes_watch-clause-bare c =
 
 pub returns-then-removes_watch-clause-short : goal.returns-then-removes_watch-clause-short
 returns-then-removes_watch-clause-short c =
-    subst (λ a. length a.response.payload ≤ 1048576) (sym (removed c)) (short_of _ _ _ (listing_short _ c.is_kept.ensures.store) (stored_small _ c.is_kept.ensures.store) c.ranges.now.fits)
+    subst (λ a. length a.response.payload ≤ 1048576) (sym (removed c)) (short_of _ _ _ c.is_kept.ensures.listed (stored_small _ c.is_kept.ensures.store) c.ranges.now.fits)
 
 left : (c : goal.Else-removes_watch) → c.check-index.new.plan ≡ answer_of c.args.self.now c.args.now c.args.request.now
 left c = c.check-index.ensures.answer ∙ answer_leaves _ _ _ (sym c.removes_watch.ensures ∙ c.if-removes_watch.false) ∙ ap (answer_of c.args.self.now c.args.now) c.by-asked.ensures
@@ -45,7 +45,7 @@ returns-else-removes_watch-clause-bare c =
 
 pub returns-else-removes_watch-clause-short : goal.returns-else-removes_watch-clause-short
 returns-else-removes_watch-clause-short c =
-    subst (λ a. length a.response.payload ≤ 1048576) (sym (left c)) (short_of _ _ _ (listing_short _ c.is_kept.ensures.store) (stored_small _ c.is_kept.ensures.store) c.ranges.now.fits)
+    subst (λ a. length a.response.payload ≤ 1048576) (sym (left c)) (short_of _ _ _ c.is_kept.ensures.listed (stored_small _ c.is_kept.ensures.store) c.ranges.now.fits)
 
 pub returns-then-removes_watch-clause-index : goal.returns-then-removes_watch-clause-index
 returns-then-removes_watch-clause-index c =

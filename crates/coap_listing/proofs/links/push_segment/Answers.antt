@@ -1,9 +1,9 @@
 -- A slash, followed by the escaped bytes.
 use Rattle.std.proofs.Common.{ℕ, List, [], ◌∷◌, ◌++◌, ap, ◌∙◌, append_assoc, arith}
-use Rattle.coap_store.specs.Prelude.{flat_map, string_bytes, encoded_byte}
+use Rattle.coap_listing.specs.Prelude.{flat_map, string_bytes, encoded_byte}
 use Rattle.std.proofs.lemmas.Result.{IfOk-equal}
-use Rattle.coap_store.proofs.EscapeLemmas.{segment_is}
-use Rattle.coap_store.proofs.resource.push_segment.Goals as goal
+use Rattle.coap_listing.proofs.EscapeLemmas.{segment_is}
+use Rattle.coap_listing.proofs.links.push_segment.Goals as goal
 
 pub returns : goal.returns
 returns c =

@@ -1,7 +1,7 @@
 -- The percent-encoding of a segment.
 use Rattle.std.proofs.Common.{◌≡◌, ℕ, ◌/◌, ◌%◌, ◌<◌, suc, true, false, List, [], ◌∷◌, ◌++◌, get_or, refl, ap, ◌∙◌, arith}
-use Rattle.coap_store.specs.Prelude.{if◌then◌else◌, not, flat_map, should_percent_encode, percent_encode_byte}
-use Rattle.coap_store.specs.Prelude.{encode_byte, percent_encode, ESCAPED, is_unreserved, hex_digit, encoded_byte}
+use Rattle.coap_listing.specs.Prelude.{if◌then◌else◌, not, flat_map, should_percent_encode, percent_encode_byte}
+use Rattle.coap_listing.specs.Prelude.{encode_byte, percent_encode, ESCAPED, is_unreserved, hex_digit, encoded_byte}
 use Rattle.std.proofs.lemmas.Bool.{agree_below_at}
 
 -- Unreserved bytes are not escaped, and all others are.
