@@ -7,6 +7,7 @@ mod WorkedSizes
 mod WorkedViews
 mod WorkedHeld
 mod WorkedCustody
+mod WorkedFates
 pub mod StepLaws
 pub mod TookLaws
 pub mod PlaceLaws
@@ -31,3 +32,13 @@ pub mod AnswerCodes
 pub mod RespondedLaws
 pub mod AnsweredLaws
 pub mod ViewEventLaws
+pub mod FateWalk
+pub mod AskedLaws
+pub mod FateLists
+pub mod FateLaws
+pub mod FateKept
+pub mod FateTokens
+pub mod FateAlone
+pub mod FateOnly
+pub mod FateGiven
+pub mod FateTimes

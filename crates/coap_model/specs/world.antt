@@ -11,3 +11,4 @@ pub mod RefusedTake
 pub mod EndOfInput
 pub mod PongOrder
 pub mod ViewEvents
+pub mod Fates

@@ -18,7 +18,10 @@ ghost use Rattle.coap_model.specs.Prelude.{kept_on, FollowsAnswers, view_of, aft
 ghost use Rattle.coap_model.specs.Prelude.{view_events, IsLastNotification, TokensAreDistinct, asked_late};
 ghost use Rattle.coap_model.specs.Prelude.{ApplicationsValue, Option, application_deadline, prompt_answer};
 ghost use Rattle.coap_model.specs.Prelude.{passes_checks, immediate_answer, is_answered, is_dynamic, kind_of_path};
-ghost use Rattle.coap_model.specs.Prelude.{path_of, says, only};
+ghost use Rattle.coap_model.specs.Prelude.{path_of, says, only, filter, map, slice_get};
+ghost use Rattle.coap_model.specs.Prelude.{ApplicationRequest, is_for_application, is_unanswered, entry_of};
+ghost use Rattle.coap_model.specs.Prelude.{is_of_application, has_stopped, HasFate, HaveOwnAnswers, HasOnlyAnswer};
+ghost use Rattle.coap_model.specs.Prelude.{requests_on, AreAnswers, given_on, responses_to, IsTimely, has_room};
 ghost use Rattle.coap_conn.specs.Calls as call;
 ghost use Rattle.coap_wire.specs.Codes as code;
 ghost use Rattle.coap_model.specs.world.World.{Opened};
@@ -238,4 +241,70 @@ pub fn application_answers_its_requests()
     ensures refused { (s : StoreValue) (now : ℕ) (m : Message) (deadline : ℕ) →
         application_deadline s.applications m ≡ Some deadline →
         prompt_answer s now m ≡ says (only code.service_unavailable) }
+{}
+
+/// States that each request that the application answers has one fate, after any events.
+///
+/// `requests_on` computes these requests of a connection from the events, with the fate of each. A request is
+/// unanswered, or it has an answer: the response of the application, or 5.03 or 5.04.
+///
+/// - `requests`: they are exactly the requests for the application among the messages handled, in order.
+/// - `pending`: unless the connection has stopped, the unanswered ones are exactly the pending requests. They have the same
+///   order, tokens and deadlines.
+/// - `given_up`: a connection that has stopped has no pending entry. So its unanswered requests are given up.
+/// - `answered`: the answer to each other request is queued at a place after the request was handled. It is reduced to fit
+///   the peer's limit, and has the request's token.
+/// - `own`: no two requests share an answer.
+/// - `given`: after accepted events, the responses that the application gave are exactly its answers, each to one request.
+///   They are queued in the order in which they were given. One more may have been given: a response that did not fit, not
+///   even reduced, and so stopped the connection.
+pub fn application_requests_have_one_fate()
+    ensures requests { (c : ConfigValues) (events : List AcceptedCall) (id : ℕ) (s : Connection) →
+        side_of id (world_after c events).sides ≡ Some s →
+        map (λ r. r.request) (requests_on c id events) ≡ filter (is_for_application c.applications) s.history.handled }
+    ensures pending { (c : ConfigValues) (events : List AcceptedCall) (id : ℕ) (s : Connection) →
+        side_of id (world_after c events).sides ≡ Some s → has_stopped s.history.phase ≡ false →
+        map entry_of (filter (λ r. is_unanswered r.fate) (requests_on c id events))
+        ≡ filter is_of_application s.history.held }
+    ensures given_up { (c : ConfigValues) (events : List AcceptedCall) (id : ℕ) (s : Connection) →
+        side_of id (world_after c events).sides ≡ Some s → has_stopped s.history.phase ≡ true → s.history.held ≡ [] }
+    ensures answered { (c : ConfigValues) (events : List AcceptedCall) (id : ℕ) (s : Connection) →
+        side_of id (world_after c events).sides ≡ Some s →
+        AllByRecursion (λ r. HasFate s.history.queued r r.fate) (requests_on c id events) }
+    ensures own { (c : ConfigValues) (events : List AcceptedCall) (id : ℕ) (s : Connection) →
+        side_of id (world_after c events).sides ≡ Some s → HaveOwnAnswers (requests_on c id events) }
+    ensures given { (c : ConfigValues) (events : List AcceptedCall) (id : ℕ) (s : Connection) → AreAccepted c events →
+        side_of id (world_after c events).sides ≡ Some s →
+        AreAnswers (has_stopped s.history.phase) (given_on id events) (responses_to (requests_on c id events)) }
+{}
+
+/// States that the deadlines of the requests for the application are kept, after any events.
+///
+/// - `expired`: a request is answered by 5.04 only if its deadline has come.
+/// - `later`: if the connection has room and has not stopped, the deadline of each unanswered request is still to come.
+pub fn application_deadlines_are_kept()
+    ensures expired { (c : ConfigValues) (events : List AcceptedCall) (id : ℕ) →
+        AllByRecursion (λ r. IsTimely (world_after c events).now r.request.token r.deadline r.fate)
+        (requests_on c id events) }
+    ensures later { (c : ConfigValues) (events : List AcceptedCall) (id : ℕ) (s : Connection) →
+        side_of id (world_after c events).sides ≡ Some s → has_stopped s.history.phase ≡ false → has_room s ≡ true →
+        AllByRecursion (λ r. is_unanswered r.fate ≡ true → (world_after c events).now < r.deadline)
+        (requests_on c id events) }
+{}
+
+/// States that the answer to a request for the application is the only response with its token.
+///
+/// Take any request that the application answers, and the responses with its token that were queued since the server
+/// handled it. Two conditions apply: no delayed response with the token was pending at that time, and no request with the
+/// token was handled since. Notifications with the token are no exception, because the request removes the observer.
+///
+/// - `at`: `handled` is the place of the request among the messages handled.
+/// - `only`: as long as the request is unanswered, there is no such response. After that there is exactly one: its answer.
+pub fn application_answer_is_only_response()
+    ensures at { (c : ConfigValues) (events : List AcceptedCall) (id : ℕ) (s : Connection) →
+        side_of id (world_after c events).sides ≡ Some s →
+        AllByRecursion (λ r. slice_get s.history.handled r.handled ≡ Some r.request) (requests_on c id events) }
+    ensures only { (c : ConfigValues) (events : List AcceptedCall) (id : ℕ) (s : Connection) →
+        side_of id (world_after c events).sides ≡ Some s →
+        AllByRecursion (HasOnlyAnswer s.history.handled s.history.queued) (requests_on c id events) }
 {}

@@ -26,18 +26,23 @@ pub use coap_model::{
     OpenFault, ReleaseFault, ResponseFault, Starts, Status, TakeFault, Taken, WrittenFault,
 };
 pub use coap_script::{Event, ScriptFault, script, scripts_go_on_behind_whole_lines};
-pub use coap_server_engine::{Call, IoFault, Monitor, NoMonitor, ReplayFault, Server};
+pub use coap_server_engine::{
+    Application, Call, IoFault, Monitor, NoApplication, NoMonitor, ReplayFault, Server,
+    TakenRequest,
+};
 pub use coap_server_listener::{
-    Service, SilenceWatch, serve_door, serve_door_timed, serve_door_with,
+    Service, SilenceWatch, serve_door, serve_door_for, serve_door_timed, serve_door_with,
 };
 pub use coap_server_streams::{Report, serve_one, serve_one_with};
-pub use coap_store::{PathKey, StoreFault};
+pub use coap_store::{PathKey, Present, State, StoreFault};
 pub use coap_text::{bytes_in, number_in};
 
 /// Theorems about every server. Each is the contract of a function with an empty body.
 pub mod laws {
     pub use coap_model::laws::{
-        a_pong_with_custody_follows_all_answers, connections_interact_only_through_store,
+        a_pong_with_custody_follows_all_answers, application_answer_is_only_response,
+        application_answers_its_requests, application_deadlines_are_kept,
+        application_requests_have_one_fate, connections_interact_only_through_store,
         custody_comes_last, last_announced_size_applies, last_notification_matches_state,
         limits_are_kept, pending_entries_are_sent, queued_messages_fit_limit,
     };

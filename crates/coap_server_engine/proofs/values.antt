@@ -4,3 +4,5 @@ pub mod TurnLemmas
 pub mod ServerDueLemmas
 pub mod ServerCauseLemmas
 pub mod ServerTakenLemmas
+pub mod ResponseLemmas
+pub mod ServingLemmas

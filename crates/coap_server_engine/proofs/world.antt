@@ -5,3 +5,4 @@ pub mod ShowLaws
 pub mod CallLaws
 pub mod HandledLaws
 pub mod RefusedLaws
+pub mod RequestLaws

@@ -15,6 +15,7 @@ pub use mathlib.Core.Option.{none}
 -- ---- coap_wire
 pub use Rattle.coap_wire.specs.StreamPrefix.{StreamPrefix, Faulty, Unfinished, fault_bytes}
 unfoldable pub use Rattle.coap_wire.specs.StreamPrefix.{prefix_kind}
+unfoldable pub use Rattle.coap_wire.specs.Spelling.{spelling}
 pub use Rattle.coap_wire.specs.Message.{Message}
 unfoldable pub use Rattle.coap_wire.specs.Reading.{message_of}
 pub use Rattle.coap_wire.specs.Refusal.{RefusedBy}
@@ -23,7 +24,7 @@ unfoldable pub use Rattle.coap_wire.specs.Stream.{split}
 pub use Rattle.coap_wire.specs.declared.fault.FormatFault.{FormatFault}
 -- ---- coap_frame
 pub use Rattle.coap_frame.specs.Framing.{AFault, AFrame, FrameEventValue, Framing}
-pub use Rattle.coap_frame.specs.Framing.{framing_at}
+pub use Rattle.coap_frame.specs.Framing.{framing_at, frame_back}
 unfoldable pub use Rattle.coap_frame.specs.Framing.{framing}
 -- ---- coap_conn
 pub use Rattle.coap_conn.specs.Fit.{fits}
@@ -51,6 +52,8 @@ pub use Rattle.coap_store.specs.Changes.{IsPut, changes}
 pub use Rattle.coap_store.specs.Invariant.{IsStore}
 pub use Rattle.coap_store.specs.Refusals.{RefusedOrMemory, refusal_in}
 unfoldable pub use Rattle.coap_store.specs.Refusals.{put_refusal, remove_refusal}
+pub use Rattle.coap_store.specs.State.{state_of}
+pub use Rattle.coap_store.specs.StateViews.{state_value}
 pub use Rattle.coap_store.specs.Store.{StoreValue, put_in, removed_in}
 pub use Rattle.coap_store.specs.declared.fault.StoreFault.{StoreFault}
 pub use Rattle.coap_store.specs.declared.fault.StoreFault.TheVariants.{NoSuch}
@@ -143,16 +146,27 @@ pub use Rattle.coap_server_session.specs.values.Sessions.{session_given}
 pub use Rattle.coap_server_session.specs.values.Sessions.{change_by, new_session}
 pub use Rattle.coap_server_session.specs.values.Sessions.{session_takes, IsSettled, RefusesPiece}
 pub use Rattle.coap_server_session.specs.values.Sessions.{TakeOutcome}
+pub use Rattle.coap_server_session.specs.values.HandedRequests.{is_handed, is_handed_over, handed_read, handed_found}
+unfoldable pub use Rattle.coap_server_session.specs.values.HandedRequests.{handed}
 pub use Rattle.coap_server_session.specs.values.Sessions.{session_raises}
 pub use Rattle.coap_server_session.specs.values.Sessions.{session_rejected}
-pub use Rattle.coap_server_session.specs.values.Sessions.{taking_found, taking_read, MarkedSession, IsMarked}
+pub use Rattle.coap_server_session.specs.values.Sessions.{taking_found, taking_read, MarkedSession, IsMarked, KeepsSplit}
 unfoldable pub use Rattle.coap_server_session.specs.values.Sessions.{changed_mark}
 unfoldable pub use Rattle.coap_server_session.specs.values.Sessions.{session_settled, session_handled}
 unfoldable pub use Rattle.coap_server_session.specs.values.Sessions.{taking}
+pub use Rattle.coap_server_engine.specs.values.HandedRequests.{handed_on, handed_by, frame_message, message_in, IsTakenRequest}
+unfoldable pub use Rattle.coap_server_engine.specs.values.HandedRequests.{handed_frame}
+pub use Rattle.coap_server_engine.specs.values.Exchanges.{Exchange, Asked, Offered, Given, Gone, Answering, offers}
+unfoldable pub use Rattle.coap_server_engine.specs.values.Exchanges.{AnswersMore}
+pub use Rattle.coap_server_engine.specs.values.ApplicationCalls.{server_offered, offered_events, failure_with, response_for, AskResult, asking, ServeResult}
+pub use Rattle.coap_server_engine.specs.values.ApplicationCalls.{asks_for, asked_by, limit_of, IsTakenFor, IsNotTakenFor, unserved, served_more, AreMade, IsServed, IsPartlyServed}
+pub use Rattle.coap_server_engine.specs.values.ApplicationCalls.{IsGivenLater, IsAskedLater, AreGivenLater, NothingGiven, OneMoreGiven, AreAskedLater}
+unfoldable pub use Rattle.coap_server_engine.specs.values.ApplicationCalls.{message_limit, served}
 -- ---- this crate: views
 pub use Rattle.coap_server_engine.specs.views.LineViews.{line_bytes, IsRun, IsDrainable}
 pub use Rattle.coap_server_engine.specs.views.ServerViews.{IsServer, server_value}
 pub use Rattle.coap_server_session.specs.views.SessionShows.{session_shown}
 -- ---- this crate: world
+pub use Rattle.coap_server_engine.specs.world.RequestsShown.{request_in, request_between, request_to, message_between}
 pub use Rattle.coap_server_engine.specs.world.Shows.{Shows, ShowsRefused, place_shown, server_shown}
 unfoldable pub use Rattle.coap_server_engine.specs.world.Shows.{server_of}

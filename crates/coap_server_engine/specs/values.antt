@@ -8,3 +8,6 @@ pub mod ServerDeadlines
 pub mod ServerCauses
 pub mod Calls
 pub mod Faults
+pub mod HandedRequests
+pub mod Exchanges
+pub mod ApplicationCalls

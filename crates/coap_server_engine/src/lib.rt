@@ -4,6 +4,8 @@
 //!   passes, or a resource is stored or removed. The server queues the responses and notifications that the event
 //!   causes.
 //! - `Monitor` is the interface through which a program follows the calls that a server accepts.
+//! - `Application` is the interface through which a program answers the requests that a server hands to it. `TakenRequest`
+//!   lends such a request.
 //! - `Server::replay` runs the events of a script (`coap_script`) and writes a line for each.
 //! - `ConnectionWork` is the work left on a connection. `ChangeStamp` changes with everything that may affect all connections.
 //! - `IoFault` is the error that ends a run of a server.
@@ -16,13 +18,17 @@
 //! and `coap_serve` runs a server over transports. Continue with `server.rt`.
 #![tactic(auto)]
 
+mod application;
 mod io_fault;
 pub mod laws;
 mod monitor;
 mod replay;
 mod server;
+mod taken_request;
 
+pub use application::{Application, NoApplication};
 pub use io_fault::IoFault;
 pub use monitor::{Call, Monitor, NoMonitor};
 pub use replay::ReplayFault;
-pub use server::{ChangeStamp, ConnectionWork, FlushStep, Server};
+pub use server::{ChangeStamp, ConnectionWork, FlushStep, MOST_LATER_RESPONSES, Server};
+pub use taken_request::TakenRequest;

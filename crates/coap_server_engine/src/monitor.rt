@@ -31,6 +31,8 @@ pub enum Call<'a> {
     Ended(ConnId),
     /// Connection on which the server queued a Release.
     Released(ConnId),
+    /// Connection, and the encoded response of the application to one of its requests.
+    Responded(ConnId, &'a [u8]),
     /// Connection and the message size that was announced on it, in bytes.
     Announced(ConnId, u32),
     /// Connection that was removed.

@@ -12,14 +12,17 @@ ghost use Rattle.coap_server_engine.specs.Prelude.{config_with, new_server, Show
 mod bytes;
 mod changes;
 mod connections;
+mod requests;
 mod responses;
 mod sessions;
+mod states;
 
 use coap_application::Applications;
 use coap_conn::Reason;
 use coap_model::Config;
 use coap_server_session::{ServerState, Session};
 use indexmap::IndexMap;
+pub use requests::MOST_LATER_RESPONSES;
 use std::alloc::{AllocError, Global};
 use std::marker::Model;
 
@@ -155,7 +158,7 @@ impl Server {
         } = Server::new(alloc, config)?;
         let ServerState { store, now } = host;
         let host = ServerState {
-            store: store.with_applications(applications),
+            store: store.with_applications(applications)?,
             now,
         };
         Ok(Server {

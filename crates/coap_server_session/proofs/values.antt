@@ -6,6 +6,7 @@ pub mod MarkLemmas
 pub mod TagLemmas
 pub mod AnsweringLemmas
 pub mod SessionLemmas
+pub mod SplitLemmas
 pub mod TakenLemmas
 pub mod DueLemmas
 pub mod CauseLemmas

@@ -24,7 +24,7 @@ pub use Rattle.coap_wire.specs.declared.sizes.TheConstants.{LARGEST_MESSAGE, MAX
 -- ---- coap_frame
 pub use Rattle.coap_frame.specs.FramedViews.{finding_laid_out}
 pub use Rattle.coap_frame.specs.Framing.{AFault, AFrame, FrameEventValue, FramerValue, Framing, IsFramer, framer_after}
-pub use Rattle.coap_frame.specs.Framing.{framing_at, framing_of, without_last}
+pub use Rattle.coap_frame.specs.Framing.{frame_back, framing_at, framing_of, without_last}
 unfoldable pub use Rattle.coap_frame.specs.Framing.{framing}
 pub use Rattle.coap_frame.specs.FramerOutput.{taken_of, unread_after}
 pub use Rattle.coap_frame.specs.Raising.{raise_refusal, with_size}
@@ -121,7 +121,7 @@ pub use Rattle.coap_server_session.specs.values.Sessions.{is_marked}
 pub use Rattle.coap_server_session.specs.values.Sessions.{mark_of, session_max, session_ready}
 pub use Rattle.coap_server_session.specs.values.Sessions.{session_rejected, session_replied, session_settled_so}
 pub use Rattle.coap_server_session.specs.values.Sessions.{state_on}
-pub use Rattle.coap_server_session.specs.values.Sessions.{taking_found, taking_read, MarkedSession, AreMarked, IsMarked}
+pub use Rattle.coap_server_session.specs.values.Sessions.{taking_found, taking_read, MarkedSession, AreMarked, IsMarked, KeepsSplit}
 pub use Rattle.coap_server_session.specs.values.Sessions.{empty_host, host_with, observers_left}
 unfoldable pub use Rattle.coap_server_session.specs.values.Sessions.{changed_mark}
 unfoldable pub use Rattle.coap_server_session.specs.values.Sessions.{without_entry, is_stale, session_settled}
@@ -129,6 +129,8 @@ unfoldable pub use Rattle.coap_server_session.specs.values.Sessions.{session_han
 unfoldable pub use Rattle.coap_server_session.specs.values.Sessions.{next_held_in, next_stale, session_settled_once}
 unfoldable pub use Rattle.coap_server_session.specs.values.Sessions.{taking}
 unfoldable pub use Rattle.coap_server_session.specs.values.Sessions.{session_settled_within}
+pub use Rattle.coap_server_session.specs.values.HandedRequests.{is_handed, is_handed_over, handed_read, handed_found}
+unfoldable pub use Rattle.coap_server_session.specs.values.HandedRequests.{handed}
 -- ---- this crate: views
 pub use Rattle.coap_server_session.specs.views.ChainViews.{Linked, linked, concerns_path, last_in, previous_in}
 pub use Rattle.coap_server_session.specs.views.ChainViews.{next_index}

@@ -6,3 +6,4 @@ pub mod Deadlines
 pub mod Causes
 pub mod Responses
 pub mod SessionAnswers
+pub mod HandedRequests

@@ -1,14 +1,14 @@
 //! Answers requests and notifies observers.
 
-ghost use Rattle.std.specs.Prelude.{◌≡◌, ◌<◌, ◌≤◌, ◌++◌, ◌∷◌, [], ℕ, Option, map, true, Some, None, is_some, length};
-ghost use Rattle.std.specs.Prelude.{slice_get, if◌then◌else◌, IfOk, IfSome, OnOk, OnErr};
+ghost use Rattle.std.specs.Prelude.{◌≡◌, ◌<◌, ◌≤◌, ◌++◌, ◌∷◌, [], ℕ, Option, map, true, Some, None, is_some};
+ghost use Rattle.std.specs.Prelude.{false, length, slice_get, if◌then◌else◌, IfOk, IfSome, OnOk, OnErr};
 ghost use Rattle.coap_server_session.specs.Prelude.{IsAnswering, AreMarked, IsTagged, marks_after, is_open};
 ghost use Rattle.coap_server_session.specs.Prelude.{PendingEntryValue, first_due, IsReady, can_hold, link_after};
 ghost use Rattle.coap_server_session.specs.Prelude.{changed, response_message, planned_value, path_of};
 ghost use Rattle.coap_server_session.specs.Prelude.{IsChangeAt, IsPut, TakesChange, change_hash, MayObserve};
 ghost use Rattle.coap_server_session.specs.Prelude.{asks_entry as asks, is_whole as is_sent_whole, ObserverValue};
 ghost use Rattle.coap_server_session.specs.Prelude.{answer_on, delay_on, held_in, host_changed, link_sent, new_entry};
-ghost use Rattle.coap_server_session.specs.Prelude.{application_deadline, only};
+ghost use Rattle.coap_server_session.specs.Prelude.{application_deadline, only, is_handed};
 ghost use Rattle.coap_server_session.specs.Prelude.{notification_on, without_entry, IsFirstStale, link_replied};
 ghost use Rattle.coap_server_session.specs.Prelude.{entries_replied, entries_notified, observer_value, LARGEST_MESSAGE};
 ghost use Rattle.coap_conn.specs.Calls as call;
@@ -28,12 +28,33 @@ use coap_store::{
 use coap_wire::{Code, MessageRef, TokenRef};
 use std::alloc::AllocError;
 
+/// Effect of a request on the store and on the application.
+#[derive(Clone, Copy)]
+pub(crate) struct RequestEffect {
+    /// Hash of the path at which the request stored or deleted a resource, if it did.
+    pub changed: Option<u8>,
+    /// `true` if the request became a pending entry of the application.
+    pub handed: bool,
+}
+
+impl RequestEffect {
+    /// Returns the effect of a message that changes nothing and is not handed to the application.
+    pub fn none() -> RequestEffect
+        ensures { result ≡ record { changed = None; handed = false } }
+    {
+        RequestEffect {
+            changed: None,
+            handed: false,
+        }
+    }
+}
+
 /// Processes a request: applies its change, removes its observer, and sends or delays its response.
 ///
 /// A request that the application answers is pending until its response or its deadline. Every other request is answered
 /// from the store, as `answer_from_store` explains.
 ///
-/// Returns the hash of the path at which the request stored or deleted a resource, if it did.
+/// Returns the effect of the request.
 ///
 /// # Errors
 ///
@@ -42,16 +63,19 @@ use std::alloc::AllocError;
 /// # Preconditions
 ///
 /// The connection is open, its queue has room for a message of `max_sent` bytes, and the changed marks are current.
+#[inline]
 pub(crate) fn answer(
     link: &mut Link,
     observers: &mut Observers,
     host: &mut ServerState,
     request: &MessageRef,
-) -> Result<Option<u8>, AllocError>
+) -> Result<RequestEffect, AllocError>
     requires ready { IsReady link.old }
     requires open { is_open link.old.phase ≡ true }
     requires marked { AreMarked host.old observers.old.entries observers.old.marks }
-    ensures changed { IfOk result (λ changed. changed ≡ change_hash (answer_on host.old request.now).change) }
+    ensures changed { IfOk result (λ e. e.changed ≡ change_hash (answer_on host.old request.now).change) }
+    ensures handed { IfOk result (λ e. e.handed ≡ is_handed (held_in link.old (delay_on host.old request.now))) }
+    ensures quiet { IfOk result (λ e. e.handed ≡ true → e.changed ≡ None) }
     ensures link { OnOk result (link.new ≡ link_replied host.old link.old observers.old.room
         (without_entry request.now.token observers.old.entries) request.now
         (held_in link.old (delay_on host.old request.now))) }
@@ -68,10 +92,17 @@ pub(crate) fn answer(
 {
     if let Some(seconds) = host.store.application_deadline(request) {
         let moment = host.now.saturating_add(u64::from(seconds));
-        hand_over(link, observers, request, moment);
-        return Ok(None);
+        let handed = hand_over(link, observers, request, moment);
+        return Ok(RequestEffect {
+            changed: None,
+            handed,
+        });
     }
-    answer_from_store(link, observers, host, request)
+    let changed = answer_from_store(link, observers, host, request)?;
+    Ok(RequestEffect {
+        changed,
+        handed: false,
+    })
 }
 
 /// Processes a request that the store answers.
@@ -208,10 +239,10 @@ fn delay_answer(link: &mut Link, observers: &mut Observers, request: &MessageRef
     }
 }
 
-/// Hands a request to the application, which may respond until `moment`, in seconds. Sends 5.03 if the pending list is full.
-/// In both cases the observer with the request's token is removed.
+/// Hands a request to the application, which may respond until `moment`, in seconds. Sends 5.03 and returns `false` if the
+/// pending list is full. In both cases the observer with the request's token is removed.
 #[inline(never)]
-fn hand_over(link: &mut Link, observers: &mut Observers, request: &MessageRef, moment: u64)
+fn hand_over(link: &mut Link, observers: &mut Observers, request: &MessageRef, moment: u64) -> bool
     requires ready { IsReady link.old }
     requires open { is_open link.old.phase ≡ true }
     ensures link { link.new
@@ -221,6 +252,7 @@ fn hand_over(link: &mut Link, observers: &mut Observers, request: &MessageRef, m
     ensures marks { (mark : ObserverValue → Option ℕ) → observers.old.marks ≡ map mark observers.old.entries →
         observers.new.marks ≡ map mark observers.new.entries }
     ensures room { observers.new.room ≡ observers.old.room }
+    ensures handed { result ≡ can_hold link.old }
 {
     observers.remove_token(request.token());
     if link
@@ -228,7 +260,9 @@ fn hand_over(link: &mut Link, observers: &mut Observers, request: &MessageRef, m
         .is_err()
     {
         respond(link, request.token(), &refused_delay(), false);
+        return false;
     }
+    true
 }
 
 /// Sends the pending entry that is first due at `now`, and returns `true` if there was one.

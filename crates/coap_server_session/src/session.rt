@@ -4,7 +4,7 @@
 //! it last. Changed marks are *current* if they agree with the server state (`ServerState`).
 
 ghost use Rattle.std.specs.Prelude.{◌≡◌, ℕ, List, [], IfOk, OnOk, OnErr, false, None, ◌≤◌, ◌+◌, ◌++◌, ⊤, Some, length};
-ghost use Rattle.std.specs.Prelude.{take, IfErr};
+ghost use Rattle.std.specs.Prelude.{take, IfErr, IfSome, is_some, true};
 ghost use Rattle.coap_server_session.specs.Prelude.{IsLive, IsReady, IsPut, ServerState as HostValue, change_hash};
 ghost use Rattle.coap_server_session.specs.Prelude.{change_by, host_changed, session_handled, session_with, sizes_of};
 ghost use Rattle.coap_server_session.specs.Prelude.{framer_on, sem, follows_so, none, RefusedBy, AreInRange};
@@ -12,13 +12,14 @@ ghost use Rattle.coap_server_session.specs.Prelude.{is_finished, release_refusal
 ghost use Rattle.coap_server_session.specs.Prelude.{observers_left, new_session, session_takes, taking};
 ghost use Rattle.coap_server_session.specs.Prelude.{session_written, session_ended, session_released};
 ghost use Rattle.coap_server_session.specs.Prelude.{session_announced, session_given, RefusesPiece, IsAnnounced};
+ghost use Rattle.coap_server_session.specs.Prelude.{handed, is_handed_over, frame_back, takes_messages};
 ghost use Rattle.coap_server_session.specs.Prelude.{frame_refusal, OnMessage, message_of, fit, limit_in, bare_response};
 ghost use Rattle.coap_server_session.specs.contracts.session.Session.{the_row};
 
 mod due;
 mod settling;
 
-use crate::answering::answer;
+use crate::answering::{RequestEffect, answer};
 use crate::observers::Observers;
 use crate::server_state::ServerState;
 use coap_conn::{Limits, Link, Phase, Reject, Reply, RespondFault, Role, SendFault, Verdict};
@@ -38,17 +39,20 @@ pub struct TakeOutcome {
     pub handled: bool,
     /// Hash of the path at which the message stored or deleted a resource, if it did.
     pub changed: Option<u8>,
+    /// `true` if the message is a request that was handed to the application.
+    pub handed: bool,
 }
 
 impl TakeOutcome {
     /// Returns a result with `count` bytes and no message.
     fn without_message(count: usize) -> TakeOutcome
-        ensures { result ≡ record { count = count; handled = false; changed = None } }
+        ensures { result ≡ record { count = count; handled = false; changed = None; handed = false } }
     {
         TakeOutcome {
             count,
             handled: false,
             changed: None,
+            handed: false,
         }
     }
 }
@@ -83,7 +87,7 @@ impl Session {
     ///
     /// Returns `AllocError` if allocation fails.
     pub fn open(alloc: Global, limits: Limits) -> Result<Session, AllocError>
-        ensures value { IfOk result (λ s. s ≡ record { session = new_session limits; marks = [] }) }
+        ensures value { IfOk result (λ s. s ≡ record { session = new_session limits; marks = []; split = [] }) }
         ensures ranges { OnOk result (AreInRange limits) }
     {
         Ok(Session {
@@ -124,6 +128,11 @@ impl Session {
         ensures handled { IfOk result (λ t. t.handled ≡ (taking host.old self.old.session piece.now).handled) }
         ensures changed { IfOk result (λ t. t.changed
             ≡ change_hash (taking host.old self.old.session piece.now).change) }
+        ensures handed { IfOk result (λ t. t.handed ≡ is_some (handed host.old self.old.session piece.now)) }
+        ensures quiet { IfOk result (λ t. t.handed ≡ true → t.changed ≡ None) }
+        ensures frame { IfOk result (λ t. IfSome (handed host.old self.old.session piece.now) (λ frame.
+            takes_messages self.new.session.link.phase ≡ true →
+            frame_back self.new.split (take t.count piece.now) ≡ frame)) }
         ensures after { OnOk result (self.new.session ≡ (taking host.old self.old.session piece.now).session) }
         ensures host { OnOk result (host.new
             ≡ host_changed host.old (taking host.old self.old.session piece.now).change) }
@@ -152,12 +161,13 @@ impl Session {
                     Ok(TakeOutcome::without_message(count))
                 }
                 Ok(message) => match handle(&mut self.link, &mut self.observers, host, &message) {
-                    Ok(changed) => {
+                    Ok(effect) => {
                         discard_if_closed(&mut self.framer, &self.link, &mut self.observers);
                         Ok(TakeOutcome {
                             count,
                             handled: true,
-                            changed,
+                            changed: effect.changed,
+                            handed: effect.handed,
                         })
                     }
                     Err(_) => {
@@ -299,6 +309,13 @@ impl Session {
         self.link.phase()
     }
 
+    /// Returns the frame that the last `take` completed, if earlier calls had accepted bytes of it, or an empty slice.
+    pub fn split_frame(&self) -> &[u8]
+        ensures { result.now ≡ self.now.split }
+    {
+        self.framer.split_frame()
+    }
+
     /// Returns the number of bytes kept of an unfinished frame.
     pub fn kept(&self) -> usize
         ensures { result ≡ length self.now.session.frame }
@@ -350,7 +367,7 @@ impl Session {
     }
 }
 
-/// Processes a message, and returns the hash of the path at which it stored or deleted a resource, if it did.
+/// Processes a message, and returns its effect.
 ///
 /// # Errors
 ///
@@ -361,7 +378,7 @@ fn handle(
     observers: &mut Observers,
     host: &mut ServerState,
     message: &MessageRef,
-) -> Result<Option<u8>, AllocError>
+) -> Result<RequestEffect, AllocError>
     requires ready { IsReady link.old }
     requires live { IsLive link.old.phase }
     requires room { observers.old.room ≡ link.old.limits.observers }
@@ -371,7 +388,9 @@ fn handle(
     ensures room { OnOk result (observers.new.room ≡ observers.old.room) }
     ensures marked { OnOk result (AreMarked host.new observers.new.entries observers.new.marks) }
     ensures sizes { OnOk result (sizes_of link.new ≡ sizes_of link.old) }
-    ensures changed { IfOk result (λ changed. changed ≡ change_hash (change_by host.old link.old message.now)) }
+    ensures changed { IfOk result (λ e. e.changed ≡ change_hash (change_by host.old link.old message.now)) }
+    ensures handed { IfOk result (λ e. e.handed ≡ is_handed_over host.old link.old message.now) }
+    ensures quiet { IfOk result (λ e. e.handed ≡ true → e.changed ≡ None) }
     ensures host { OnOk result (host.new ≡ host_changed host.old (change_by host.old link.old message.now)) }
     ensures put { OnErr result (IsPut (change_by host.old link.old message.now)) }
     ensures unchanged { OnErr result (host.new ≡ host.old) }
@@ -383,7 +402,7 @@ fn handle(
             host.keep_moment();
             answer(link, observers, host, message)
         }
-        _ => Ok(None),
+        _ => Ok(RequestEffect::none()),
     }
 }
 

@@ -1,8 +1,8 @@
 -- For each token, as many responses are queued or pending as requests with it were handled: the counts, and
 -- consequences of this statement.
-use Rattle.std.proofs.Common.{◌≡◌, ℕ, ◌+◌, ◌≤◌, Bool, true, false, ◌&&◌, List, [], ◌∷◌, ◌++◌, refl, ap, ◌∙◌, append_assoc, arith, sym, inl, inr}
+use Rattle.std.proofs.Common.{◌≡◌, ℕ, ◌+◌, ◌≤◌, Bool, true, false, List, [], ◌∷◌, ◌++◌, refl, ap, ◌∙◌, append_assoc, arith, sym, inl, inr}
 use Rattle.coap_model.specs.Prelude.{AllByRecursion, Message, PendingEntryValue, Answer, Pong, is_custody_pong, same_bytes}
-use Rattle.coap_model.specs.Prelude.{responds, asks_pong, is_asking, HasResponse, HaveDistinctAnswers}
+use Rattle.coap_model.specs.Prelude.{responds, asks_pong, asks_with, awaits, is_asking, HasResponse, HaveDistinctAnswers}
 use Rattle.std.proofs.lemmas.Bool.{cases_Bool}
 use Rattle.std.proofs.lemmas.List.{append-nil}
 use lib.Pointwise.{bytes_decides}
@@ -32,18 +32,11 @@ abbrev pub plus : Tally → Tally → Tally
 plus n k token = n token + k token
 
 -- Requests, responses and delayed responses with a token.
-abbrev pub asks_with : List ℕ → Message → Bool
-asks_with token m = is_asking m && same_bytes m.token token
-
 abbrev pub requests : List Message → Tally
 requests ms token = count (asks_with token) ms
 
 abbrev pub responses : List Message → Tally
 responses ms token = count (responds token) ms
-
-abbrev pub awaits : List ℕ → PendingEntryValue → Bool
-awaits token (Answer by own moment) = same_bytes own token
-awaits token (Pong own) = false
 
 abbrev pub held_back : List PendingEntryValue → Tally
 held_back es token = count (awaits token) es

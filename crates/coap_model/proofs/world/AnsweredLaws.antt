@@ -7,11 +7,11 @@ use Rattle.coap_model.specs.Prelude.{Reason, LimitValues, stop_of, takes_message
 use Rattle.coap_model.specs.Prelude.{PendingEntryValue, Answer, Pong, first_due, without_due, is_request, Reaction, stay}
 use Rattle.coap_model.specs.Prelude.{send_as, react, reaction_unless, asks_custody, is_custody_pong}
 use Rattle.coap_model.specs.Prelude.{pong_with, History, standing_now, with_effect, after, limit_now, own_csm}
-use Rattle.coap_model.specs.Prelude.{standing_due, release, same_bytes, StoreValue, Response, delayed_response}
+use Rattle.coap_model.specs.Prelude.{standing_due, release, same_bytes, StoreValue, Response}
 use Rattle.coap_model.specs.Prelude.{prompt_answer, response_with_observe, ConfigValues, Observer, goes_on}
 use Rattle.coap_model.specs.Prelude.{notification, Connection, handles, asks_answer, side_handled, side_after, next_due}
 use Rattle.coap_model.specs.Prelude.{held_message, after_sent, notified, side_of, AcceptedCall, world_after, is_response}
-use Rattle.coap_model.specs.Prelude.{responds, is_asking, FollowsAnswers, reject_reason}
+use Rattle.coap_model.specs.Prelude.{asks_with, awaits, responds, is_asking, FollowsAnswers, reject_reason}
 use Rattle.std.proofs.lemmas.Bool.{both_ways, cond_both, cond-true, or_left}
 use lib.Pointwise.{bytes_decides}
 use Rattle.coap_wire.specs.Codes as code
@@ -23,7 +23,7 @@ use Rattle.coap_model.proofs.world.SideLaws.{held_room, settled_cases, handles_p
 use Rattle.coap_conn.proofs.ReactionLaws.{IsPlain, IsNoPong, abort_plain, live_so, MayFollow}
 use Rattle.coap_model.proofs.world.ToldMessages.{open_answers}
 use Rattle.coap_model.proofs.world.CustodyLaws.{response_no_pong, bare_no_pong, asked_quiet, handled_cases}
-use Rattle.coap_model.proofs.world.AnswerCounts.{one, count_more, Tally, AtMost, plus, asks_with, requests, responses, awaits, held_back, pongs_other, own_answers, IsBehind, queue, pending, Behind, behind_longer, behind_grows, behind_then, behind_at, behind_without, IfPong}
+use Rattle.coap_model.proofs.world.AnswerCounts.{one, count_more, Tally, AtMost, plus, requests, responses, held_back, pongs_other, own_answers, IsBehind, queue, pending, Behind, behind_longer, behind_grows, behind_then, behind_at, behind_without, IfPong}
 use Rattle.coap_model.proofs.world.AnswerCodes.{coded, prompt_coded, bare_coded}
 use Rattle.coap_model.proofs.world.EntryLemmas.{all_to}
 use Rattle.coap_model.proofs.world.RespondedLaws.{allowed, answered_request, plain_codes, response_is_no_pong}

@@ -6,7 +6,7 @@ use Rattle.coap_model.specs.Prelude.{AllByRecursion, list_any, remove, Message, 
 use Rattle.coap_model.specs.Prelude.{answers, is_open, fit, bare_response, PendingEntryValue, Answer, Pong, without_due}
 use Rattle.coap_model.specs.Prelude.{ConnectionState, send, is_custody_pong, pong_with, History, limit_now, standing_now}
 use Rattle.coap_model.specs.Prelude.{after, may_hold, StoreValue, Response, answer_of, prompt_answer, each_at}
-use Rattle.coap_model.specs.Prelude.{ApplicationsValue, application_deadline, Delay, delay_or, delay_of, asks_delayed, hold_call}
+use Rattle.coap_model.specs.Prelude.{ApplicationsValue, application_deadline, Delay, delay_or, delay_of, asks_delayed}
 use Rattle.coap_model.specs.Prelude.{response_with_observe, Observer, without_token, notification}
 use Rattle.coap_model.specs.Prelude.{notification_message, Connection, handles, with_history, held_for, moment_after}
 use Rattle.coap_model.specs.Prelude.{asks_answer, side_handled, side_after, next_held, held_message, settled_once}
@@ -172,7 +172,7 @@ unfolding side_after
 held_when_asked store now s m d does asks is = grind (arith, asked_quiet s m asks, held_is)
 
 -- A delayed response is pending only if the list has a place for it.
-held_where : (h : History) (delay : Option Delay) (d : Delay) → held_for h delay ≡ Some d → (may_hold h ≡ true) × (delay ≡ Some d)
+pub held_where : (h : History) (delay : Option Delay) (d : Delay) → held_for h delay ≡ Some d → (may_hold h ≡ true) × (delay ≡ Some d)
 held_where h None d is = absurd cc
 held_where h (Some e) d is = there_where (may_hold h) (Some e) d is
 

@@ -126,7 +126,7 @@ pub record IsSide (limits : LimitValues) (s : Connection) : Type 0 where
 pub follower_is : (limits : LimitValues) (s t : Connection) → Between GoesOn s t → IsSide limits s → IsSide limits t
 follower_is limits s t goes is = record { is_history = goes.history is.is_history; same_limits = goes.limits ∙ is.same_limits; is_server = goes.role ∙ is.is_server }
 
-new_side_is : (limits : LimitValues) → IsSide limits (new_side limits)
+pub new_side_is : (limits : LimitValues) → IsSide limits (new_side limits)
 new_side_is limits = record { is_history = (new_shown Server limits 0 _ refl).is_history; same_limits = refl; is_server = refl }
 
 -- The connection with an id has these properties.

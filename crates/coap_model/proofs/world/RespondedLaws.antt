@@ -1,9 +1,9 @@
 -- A response of the application: the request that it removes, the room that it needs, and the messages that it queues.
-use Rattle.std.proofs.Common.{◌≡◌, ℕ, ◌+◌, ◌≤◌, Bool, true, false, ◌&&◌, ◌||◌, ◌==◌, cond, List, [], ◌∷◌, ◌++◌, length, Option, Some, None, refl, sym, ap, ◌∙◌, arith, nat_lt, if◌then◌else◌}
+use Rattle.std.proofs.Common.{◌≡◌, ◌+◌, ◌≤◌, Bool, true, false, ◌&&◌, ◌==◌, List, ◌∷◌, length, Some, None, refl, sym, ap, ◌∙◌, arith, nat_lt, if◌then◌else◌}
 use Rattle.coap_model.specs.Prelude.{Message, Reply, Whole, Bare, Stopped, fit, fitted, bare_response}
 use Rattle.coap_model.specs.Prelude.{PendingEntryValue, Answer, Application, has_request, without_request, IsFirstRequest}
 use Rattle.coap_model.specs.Prelude.{is_plain_response, is_response, asks_custody, response_refusal, sent_length, free_in}
-use Rattle.coap_model.specs.Prelude.{limit_in, LinkValue, bytes_of, ConnectionState, send_as, RespondFault}
+use Rattle.coap_model.specs.Prelude.{limit_in, LinkValue, bytes_of, ConnectionState, send_as}
 use Rattle.std.proofs.lemmas.Bool.{and_parts, ltb-false, eqb-true}
 use Rattle.std.proofs.lemmas.List.{length-append}
 use Rattle.coap_conn.specs.declared.phase.RespondFault.TheVariants as fault

@@ -96,7 +96,7 @@ own_last (o ∷ os) e others own =
     (all_append (λ other. o.token ≢ other.token) os (e ∷ []) own.0 ((λ same. others.0 (sym same)), tt), own_last os e others.1 own.1)
 
 -- The remaining observers have other tokens.
-filter_others : (token : List ℕ) (os : List Observer) → HaveOtherTokens token (filter (λ o. not (same_bytes o.token token)) os)
+pub filter_others : (token : List ℕ) (os : List Observer) → HaveOtherTokens token (filter (λ o. not (same_bytes o.token token)) os)
 filter_others token [] = tt
 filter_others token (o ∷ os) =
     cond_both (not (same_bytes o.token token)) _ _ (HaveOtherTokens token)

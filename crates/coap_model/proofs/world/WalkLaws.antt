@@ -12,7 +12,7 @@ use Rattle.coap_model.specs.Prelude.{Answer, Pong, first_due, without_due, stop,
 use Rattle.coap_model.specs.Prelude.{due_effect, reject_of, reject_reason, release_refusal, History, standing_now}
 use Rattle.coap_model.specs.Prelude.{limit_now, with_effect, after, may_hold, link_of, standing_due, end_reason}
 use Rattle.coap_model.specs.Prelude.{release, may_announce, LinkValue, own_csm, free_in, limit_in, StoreValue}
-use Rattle.coap_model.specs.Prelude.{Response, delayed_response, prompt_answer, response_with_observe}
+use Rattle.coap_model.specs.Prelude.{Response, prompt_answer, response_with_observe}
 use Rattle.coap_model.specs.Prelude.{Observer, without_token, has_place, goes_on, notification, Connection, waiting_on}
 use Rattle.coap_model.specs.Prelude.{has_room, handles, kept_open, with_history, moment_after, held_for}
 use Rattle.coap_model.specs.Prelude.{side_replied, asks_answer, side_handled, side_after, side_faulted, side_written}
@@ -122,7 +122,7 @@ pub due_is : (h : History) (now : ℕ) (found : Option PendingEntryValue) → fi
 due_is h now found is = ap (λ (o : Option PendingEntryValue). with_effect h (due_effect (standing_due now (standing_now h)) o)) is
 
 -- The first due entry is removed, and nothing else changes if it is no Pong.
-answer_goes : (h : History) (now : ℕ) (by : Responder) (token : List ℕ) (moment : ℕ) → first_due now h.held ≡ Some (Answer by token moment) → after h (call.Due now) ≡ without_first h now
+pub answer_goes : (h : History) (now : ℕ) (by : Responder) (token : List ℕ) (moment : ℕ) → first_due now h.held ≡ Some (Answer by token moment) → after h (call.Due now) ≡ without_first h now
 answer_goes h now by token moment is = cc (due_is h now (Some (Answer by token moment)) is, append-nil h.queued)
 
 -- An entry is appended to the pending list, whoever responds.

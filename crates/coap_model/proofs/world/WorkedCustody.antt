@@ -1,6 +1,6 @@
 -- Worked examples of the definitions in `specs/world`: the messages that ask for pending entries, and their order.
 use Rattle.std.proofs.Common.{◌≡◌, ℕ, true, false, List, [], ◌∷◌, map, refl, sym, codes, inl, inr, true≢false}
-use Rattle.coap_model.specs.Prelude.{Engine, Application, ApplicationsValue, Option, Some, None, is_answered, application_deadline}
+use Rattle.coap_model.specs.Prelude.{Engine, Application, ApplicationsValue, Option, Some, None, is_answered}
 use Rattle.coap_model.specs.Prelude.{CoapOption, Message, PendingEntryValue, Answer, Pong, is_custody_pong, asked_late}
 use Rattle.coap_model.specs.Prelude.{asks_pending, CorrespondTo}
 use Rattle.coap_wire.specs.Codes as code

@@ -5,7 +5,7 @@ use Rattle.coap_server_engine.specs.Prelude.{values_of, nat_eq_equiv, set_value_
 use Rattle.coap_server_engine.specs.Prelude.{new_session, session_settled, IsSettled, ServerValue, LiesAt, session_of}
 use Rattle.coap_server_engine.specs.Prelude.{is_there, changed_at, session_becomes, on_session, settled_entry}
 use Rattle.coap_server_engine.specs.Prelude.{server_settled, server_ticked, server_opened, server_dropped, AreSettled}
-use Rattle.coap_server_engine.specs.Prelude.{IsServer, open_refusal, MarkedSession, unmarked, unmarked_entry}
+use Rattle.coap_server_engine.specs.Prelude.{IsServer, open_refusal, KeepsSplit, MarkedSession, unmarked, unmarked_entry}
 use Rattle.std.proofs.lemmas.Bool.{eqb-true, ne_eqb, cond_both}
 use Rattle.std.proofs.lemmas.List.{length-map, length_push}
 use Rattle.std.proofs.lemmas.List.Sums.{length-filter, count_by-le-length}
@@ -118,6 +118,19 @@ written_at_index f (e ∷ es) (suc i) s at = ap (λ rest. e ∷ rest) (written_a
 pub written_unmarked : (f : SessionValue → SessionValue) (es : MarkedEntries) (i : ℕ) (s after : MarkedSession) → slice_get (values_of es) i ≡ Some s → after.session ≡ f s.session → unmarked (set_value_at es i after) ≡ changed_at i f (unmarked es)
 written_unmarked f es i s after at is =
     unmarked_written es i after ∙ ap (set_value_at (unmarked es) i) is ∙ written_at_index f (unmarked es) i s.session (unmarked_at es i s at)
+
+-- The connection that was at an index, and the one that is written there.
+pub read_written : {S : Type 0} (es : List (ℕ × S)) (i : ℕ) (s new : S) → slice_get (values_of es) i ≡ Some s → slice_get (values_of (set_value_at es i new)) i ≡ Some new
+read_written [] i s new at = absurd cc
+read_written (e ∷ es) zero s new at = refl
+read_written (e ∷ es) (suc i) s new at = read_written es i s new at
+
+pub at_index : (es : MarkedEntries) (i : ℕ) (s was t new : MarkedSession) → slice_get (values_of es) i ≡ Some was → slice_get (values_of es) i ≡ Some s → slice_get (values_of (set_value_at es i new)) i ≡ Some t → KeepsSplit was new → KeepsSplit s t
+at_index es i s was t new at old now keeps =
+    let first : was ≡ s = cc (at, old) in
+    let written = read_written es i was new at in
+    let second : new ≡ t = cc (written, now) in
+    subst (λ (m : MarkedSession). KeepsSplit s m) second (subst (λ (m : MarkedSession). KeepsSplit m new) first keeps)
 
 -- Writing the present value changes nothing.
 pub same_written : {S : Type 0} (es : List (ℕ × S)) (i : ℕ) (s : S) → slice_get (values_of es) i ≡ Some s → set_value_at es i s ≡ es

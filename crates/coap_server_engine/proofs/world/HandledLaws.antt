@@ -31,24 +31,24 @@ use Rattle.coap_model.proofs.world.BecameLaws.{TakesSo, Became, IsElsewhere, res
 use Rattle.coap_model.proofs.world.BecameLaws.{silent_agrees, became_agrees, AgreesOn, first_agrees}
 
 module _ (c : ConfigValues) (es : List AcceptedCall) (id : ℕ) (piece : List ℕ) (s : Connection) (is : IsReached c es) (there : side_of id (world_after c es).sides ≡ Some s) where
-  abbrev rest_before : List ℕ
+  abbrev pub rest_before : List ℕ
   rest_before = (stream_on c.limits.max_message id es).rest
 
-  abbrev handling_size : ℕ
+  abbrev pub handling_size : ℕ
   handling_size = size_on c.limits.max_message id es
 
   -- The accepted bytes of the slice.
   abbrev pub bytes_taken : List ℕ
   bytes_taken = take (takes c es id piece) piece
 
-  abbrev session_before : SessionValue
+  abbrev pub session_before : SessionValue
   session_before = session_shown rest_before s
 
   module _ (host : ServerState) (does : handles s ≡ true) where
     abbrev TakesFront : Bool → Type 0
     TakesFront message = TakesSo c.limits.max_message id es (take (front_of handling_size rest_before piece) piece) s message
 
-    no_fault_before : (stream_on c.limits.max_message id es).fault ≡ None
+    pub no_fault_before : (stream_on c.limits.max_message id es).fault ≡ None
     no_fault_before = handling_goes_on c es id s is there does
 
     frame_so : (frame : List ℕ) (read : Result Message FormatFault) → (framing handling_size rest_before piece).finding ≡ AFrame frame → message_of frame ≡ read → TakesFront (taking_read host session_before (framing handling_size rest_before piece).taken read).handled
@@ -96,19 +96,19 @@ tells_what_became before after s t message became = grind (arith, le-ltb, lt-ltb
 -- ---- the clause of a take
 
 -- The reason for which a connection no longer accepts messages, if it exists.
-abbrev side_stop : Option Connection → Option Reason
+abbrev pub side_stop : Option Connection → Option Reason
 side_stop None = None
 side_stop (Some t) = stop_of t.history.phase
 
 module _ (v : ServerValue) (es : List AcceptedCall) (id : ℕ) (piece : List ℕ) (shows : Shows v es) where
-  abbrev event_then : AcceptedCall
+  abbrev pub event_then : AcceptedCall
   event_then = Took id (take (count_taken v id piece) piece)
 
-  abbrev stop_then : Option Reason
+  abbrev pub stop_then : Option Reason
   stop_then = stop_on (session_of id (server_taken v id piece).sessions)
 
   -- This reason is the same in the server and in the model.
-  stop_shown : (s : SessionValue) → session_of id v.sessions ≡ Some s → stop_then ≡ side_stop (side_of id (world_after v.config (es ++ event_then ∷ [])).sides)
+  pub stop_shown : (s : SessionValue) → session_of id v.sessions ≡ Some s → stop_then ≡ side_stop (side_of id (world_after v.config (es ++ event_then ∷ [])).sides)
   unfolding server_taken
   stop_shown s e =
       let after : ServerValue = server_taken v id piece in

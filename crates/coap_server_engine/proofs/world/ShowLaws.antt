@@ -77,7 +77,7 @@ server_after_settling c es w known =
     (settled_shown w.store w.now known.moment known.versioned (stream_on c.limits.max_message p.id es).rest p.side is)) w.sides known.places))
 
 -- The history of a connection of a reached world is valid.
-history_there : (c : ConfigValues) (es : List AcceptedCall) (id : ℕ) (t : Connection) → c.starts.moment ≤ 18446744073709551615 → side_of id (world_after c es).sides ≡ Some t → IsHistory t.history
+pub history_there : (c : ConfigValues) (es : List AcceptedCall) (id : ℕ) (t : Connection) → c.starts.moment ≤ 18446744073709551615 → side_of id (world_after c es).sides ≡ Some t → IsHistory t.history
 history_there c es id t small there =
     (of_number (λ n s. IsKnownSide (world_after c es).store s) id t (world_after c es).sides (world_known c es small).places there).is_history
 

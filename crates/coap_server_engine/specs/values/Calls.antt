@@ -1,11 +1,19 @@
 -- Defined by this project: the calls that a monitor receives, as events of a server.
-use Rattle.std.specs.Prelude.{◌+◌, ◌++◌, List, length, ℕ}
+use Rattle.std.specs.Prelude.{◌+◌, ◌++◌, List, [], length, ℕ, Result, Ok, Err}
+use Rattle.coap_wire.specs.Message.{Message}
+use Rattle.coap_wire.specs.Reading.{message_of}
+use Rattle.coap_wire.specs.declared.fault.FormatFault.{FormatFault}
 use Rattle.coap_model.specs.world.Events.{AcceptedCall}
 use Rattle.coap_model.specs.world.Events as event
 use Rattle.coap_server_engine.specs.declared.monitor.Call.{Call}
 use Rattle.coap_server_engine.specs.declared.monitor.Call.TheVariants as call
 use Rattle.coap_server_engine.specs.values.InResults.{IsPartlyTaken, ShowsMore}
 use Rattle.coap_server_engine.specs.values.Servers.{ServerValue}
+
+-- The message that was read. For bytes that encode none, which no server accepts as a response, this is the empty message.
+abbrev pub response_in : Result Message FormatFault → Message
+response_in (Ok m) = m
+response_in (Err e) = record { code = 0; token = []; options = []; payload = [] }
 
 -- The event of a call.
 abbrev pub call_value : Call → AcceptedCall
@@ -16,6 +24,7 @@ call_value (call.Stored path format bytes) = event.Stored path.now format bytes.
 call_value (call.Removed path) = event.Removed path.now
 call_value (call.Ended id) = event.Ended id
 call_value (call.Released id) = event.Released id
+call_value (call.Responded id bytes) = event.Responded id (response_in (message_of bytes.now))
 call_value (call.Announced id size) = event.Announced id size
 call_value (call.Dropped id) = event.Dropped id
 

@@ -9,7 +9,7 @@ ghost use Rattle.coap_server_engine.specs.Prelude.{session_announced, session_se
 ghost use Rattle.coap_server_engine.specs.Prelude.{settled_entry, AreSettled, UnaffectedAreSettled, AreUntouched};
 ghost use Rattle.coap_server_engine.specs.Prelude.{AreOthersSettled, settled_held, released_refusal_on, IsAnnounced};
 ghost use Rattle.coap_server_engine.specs.Prelude.{handled_so, responded_refusal_on, IsReplyOn, message_of};
-ghost use Rattle.coap_server_engine.specs.Prelude.{session_given_by};
+ghost use Rattle.coap_server_engine.specs.Prelude.{session_given_by, MarkedSession, KeepsSplit};
 
 use super::Sessions;
 use coap_conn::{Reason, Reply};
@@ -75,6 +75,8 @@ pub(super) fn settle_after(
     requires others { AreOthersSettled changed at host.now (unmarked sessions.old.entries) }
     requires marked { AreMarkedAfter changed host.now sessions.old.entries }
     requires own { IfSome (slice_get (values sessions.old) at) (IsMarked host.now) }
+    ensures split { changed ≡ None → (s t : MarkedSession) → slice_get (values sessions.old) at ≡ Some s →
+        slice_get (values sessions.new) at ≡ Some t → KeepsSplit s t }
     ensures after { unmarked sessions.new.entries ≡ (if is_some changed then map (settled_entry host.entry.now)
         (unmarked sessions.old.entries) else changed_at at (settled_held host.entry.now)
         (unmarked sessions.old.entries)) }

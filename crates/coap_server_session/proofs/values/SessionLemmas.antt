@@ -146,7 +146,7 @@ given_up_seen s l g o p g_is p_is =
 module _ (host : ServerState) (s : Inside) (index : ℕ) (l : LinkValue) (o : ObserversValue) (ready : session_ready (session_value s) ≡ true) (first : first_index (is_stale host) s.observers.entries ≡ Some index)
     (link : (e : ObserverValue) → slice_get s.observers.entries index ≡ Some e → l ≡ link_after s.link (call.Reply (notification_on host e)))
     (entries : (e : ObserverValue) → slice_get s.observers.entries index ≡ Some e → o.entries ≡ entries_notified host s.link s.observers.entries e) where
-  abbrev session_is_notified : (e : ObserverValue) × (slice_get s.observers.entries index ≡ Some e)
+  abbrev pub session_is_notified : (e : ObserverValue) × (slice_get s.observers.entries index ≡ Some e)
   session_is_notified = there_at s.observers.entries index (is_first (is_stale host) s.observers.entries index first).within
 
   next_is : next_stale host (session_value s) ≡ Some session_is_notified.0
@@ -177,7 +177,7 @@ sent_sizes l now (Pong token) = refl
 -- A session whose first due entry was sent.
 module _ (host : ServerState) (s : Inside) (l : LinkValue) (ready : session_ready (session_value s) ≡ true) (some : is_some (first_due host.now s.link.held) ≡ true)
     (link : (e : PendingEntryValue) → first_due host.now s.link.held ≡ Some e → l ≡ link_sent s.link host.now e) where
-  abbrev due : (e : PendingEntryValue) × (first_due host.now s.link.held ≡ Some e)
+  abbrev pub due : (e : PendingEntryValue) × (first_due host.now s.link.held ≡ Some e)
   due = there_is (first_due host.now s.link.held) some
 
   held_is : next_held_in host.now (session_value s) ≡ Some due.0

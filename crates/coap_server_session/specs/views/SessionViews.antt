@@ -10,7 +10,7 @@ abbrev pub session_value : Inside → SessionValue
 session_value s = record { frame = s.framer.kept; link = s.link; observers = s.observers.entries }
 
 abbrev pub marked_session : Inside → MarkedSession
-marked_session s = record { session = session_value s; marks = s.observers.marks }
+marked_session s = record { session = session_value s; marks = s.observers.marks; split = s.framer.spent }
 
 -- The invariant of `Session`. The framer accepts messages up to the size announced last, the observers have the
 -- capacity of the limits, and only an open connection has observers.

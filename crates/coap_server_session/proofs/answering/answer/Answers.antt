@@ -1,7 +1,8 @@
-use Rattle.std.proofs.Common.{◌≡◌, ◌+◌, min, Some, sym, ap, ◌∙◌}
+use Rattle.std.proofs.Common.{◌≡◌, ◌+◌, min, true, refl, Option, ℕ, None, Some, sym, ap, ◌∙◌}
 use Rattle.coap_server_session.specs.Prelude.{Delay, Application, delay_on, without_entry}
 use Rattle.coap_server_session.specs.Prelude.{change_hash, changed_mark, host_changed}
 use Rattle.coap_server_session.proofs.values.AnsweringLemmas.{delay_handed, late_link, late_entries, late_quiet}
+use Rattle.coap_server_session.proofs.values.SplitLemmas.{handed_late}
 use Rattle.coap_server_session.proofs.answering.answer.Goals as goal
 
 -- A request that the application answers.
@@ -17,9 +18,11 @@ returns-in-Some c =
     let quiet = late_quiet host m d room others delays in
     assumption (
       ap change_hash (sym quiet),
-      late_link host m d room others delays c.args.link.now _ c.saturating_add-moment.result at c.hand_over.ensures.link,
-      c.hand_over.ensures.entries ∙ late_entries host m d room others delays c.args.link.now,
-      c.hand_over.ensures.room,
-      c.hand_over.ensures.marks (changed_mark host) c.requires.marked,
+      c.hand_over-handed.ensures.handed ∙ handed_late host m c.in-Some.seconds delays c.args.link.now,
+      λ (_ : c.hand_over-handed.result ≡ true). refl {A = Option ℕ} {a = None},
+      late_link host m d room others delays c.args.link.now _ c.saturating_add-moment.result at c.hand_over-handed.ensures.link,
+      c.hand_over-handed.ensures.entries ∙ late_entries host m d room others delays c.args.link.now,
+      c.hand_over-handed.ensures.room,
+      c.hand_over-handed.ensures.marks (changed_mark host) c.requires.marked,
       ap (host_changed host) (sym quiet),
     )

@@ -1,9 +1,11 @@
-use Rattle.std.proofs.Common.{[], refl, sym, ap, ◌∙◌, List, ℕ}
+use Rattle.std.proofs.Common.{[], ◌≡◌, true, refl, sym, ap, ◌∙◌, List, ℕ}
 use Rattle.coap_store.specs.Answer as answer
 use Rattle.coap_server_session.specs.Prelude.{is_request, SessionValue, sizes_of, host_changed, asks_this, answer_on}
 use Rattle.coap_server_session.specs.Prelude.{change_hash, takes_messages}
 use Rattle.coap_conn.proofs.LinkLemmas.{stays_so}
 use Rattle.coap_server_session.proofs.values.SessionLemmas.{on_request, no_request_told, message_handled}
+use Rattle.coap_server_session.proofs.values.SplitLemmas.{message_not_handed}
+use Rattle.coap_server_session.specs.declared.answering.RequestEffect.{RequestEffect}
 use Rattle.coap_server_session.proofs.session.handle.Goals as goal
 use Rattle.std.proofs.lemmas.Bool.{cond-false}
 
@@ -24,6 +26,8 @@ returns-in_default c =
       λ (frame : List ℕ). message_handled host (record { frame = frame; link = link; observers = c.args.observers.now.entries }) m c.on.new.self other c.on.ensures.after,
       ap sizes_of c.on.ensures.after ∙ stays_so sizes_of (takes_messages link.phase) link _ refl,
       c.requires.marked,
-      ap change_hash (sym same),
+      ap (λ (e : RequestEffect). e.changed) c.none.ensures ∙ ap change_hash (sym same),
+      ap (λ (e : RequestEffect). e.handed) c.none.ensures ∙ message_not_handed host link m other,
+      λ (_ : c.none.result.handed ≡ true). ap (λ (e : RequestEffect). e.changed) c.none.ensures,
       ap (host_changed host) (sym same),
     )

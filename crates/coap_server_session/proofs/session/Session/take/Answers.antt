@@ -1,11 +1,14 @@
 use Rattle.coap_frame.proofs.GivenLaws.{unread_allowed}
 use Rattle.coap_frame.proofs.FramingLemmas.{framing_is_framer, unread_is_framer}
 use Rattle.std.proofs.Common.{◌≡◌, Ok, arith, refl, sym, ap, subst, ◌∙◌}
-use Rattle.coap_server_session.specs.Prelude.{AFrame, framing_of, FramerValue, IsFramer, framer_after, unread_after, taken_of}
+use Rattle.coap_frame.specs.Framing.{Nothing}
+use Rattle.coap_server_session.specs.declared.session.TakeOutcome.{TakeOutcome}
+use Rattle.coap_server_session.specs.Prelude.{AFault, AFrame, framing_of, FramerValue, IsFramer, framer_after, unread_after, taken_of}
 use Rattle.coap_server_session.specs.Prelude.{finding_laid_out, MarkedSession, IsMarked, session_takes, sizes_of, takes_messages}
 use Rattle.coap_conn.proofs.LinkLemmas.{stays_so}
 use Rattle.coap_server_session.proofs.values.SessionLemmas.{taken_session, reframed, frame_takes_some, put_refused, kept_but_last}
-use Rattle.coap_server_session.proofs.session.Session.take.Goals.{In-Ok-Some, After-unread}
+use Rattle.coap_server_session.proofs.session.Session.take.Goals.{In-Ok-Some, In-Ok-None, In-Err, After-unread}
+use Rattle.coap_server_session.proofs.values.SplitLemmas.{handed_unready, handed_nothing, handed_fault, handed_bad, handed_flag, handed_shown}
 use Rattle.coap_server_session.proofs.session.Session.take.Goals as goal
 
 pub invariant_of-self-in-Err : goal.invariant_of-self-in-Err
@@ -75,3 +78,66 @@ returns-in-Err-handle-clause-kept c =
 
 pub handle-requires-clause-marked : goal.handle-requires-clause-marked
 handle-requires-clause-marked c = subst (IsMarked c.args.host.now) (sym c.self.view_is) c.requires
+
+-- ---- the request for the application
+
+pub returns-then-not-takes-clause-handed : goal.returns-then-not-takes-clause-handed
+returns-then-not-takes-clause-handed c =
+    let takes = ap (λ (m : MarkedSession). session_takes m.session) c.self.view_is ∙ sym c.takes.ensures ∙ c.if-not-takes.true in
+    rw (← c.self.view_is, handed_unready c.self.inside c.self.invariant c.args.host.now c.args.piece.now takes) (ap (λ (t : TakeOutcome). t.handed) c.without_message.ensures)
+
+pub returns-then-not-takes-clause-frame : goal.returns-then-not-takes-clause-frame
+returns-then-not-takes-clause-frame c =
+    let takes = ap (λ (m : MarkedSession). session_takes m.session) c.self.view_is ∙ sym c.takes.ensures ∙ c.if-not-takes.true in
+    rw (← c.self.view_is, handed_unready c.self.inside c.self.invariant c.args.host.now c.args.piece.now takes) tt
+
+-- The framer found no frame.
+none_found : (c : In-Ok-None) → (framing_of c.self.inside.framer c.args.piece.now).finding ≡ Nothing
+none_found c = sym c.next_frame-framed.ensures.framed.what ∙ sym c.laid_out.ensures ∙ ap finding_laid_out c.in-Ok-None.is ∙ ap (λ o. finding_laid_out (Ok o)) c.in-Ok-None.field-0-is
+
+pub returns-in-Ok-None-clause-handed : goal.returns-in-Ok-None-clause-handed
+returns-in-Ok-None-clause-handed c =
+    let takes = ap (λ (m : MarkedSession). session_takes m.session) c.self.view_is ∙ sym c.takes.ensures ∙ c.if-not-takes.false in
+    rw (← c.self.view_is, handed_nothing c.self.inside c.self.invariant c.args.host.now c.args.piece.now takes (none_found (goal.at.returns-in-Ok-None-clause-handed c).In-Ok-None)) (ap (λ (t : TakeOutcome). t.handed) c.without_message-in-Ok-None.ensures)
+
+pub returns-in-Ok-None-clause-frame : goal.returns-in-Ok-None-clause-frame
+returns-in-Ok-None-clause-frame c =
+    let takes = ap (λ (m : MarkedSession). session_takes m.session) c.self.view_is ∙ sym c.takes.ensures ∙ c.if-not-takes.false in
+    rw (← c.self.view_is, handed_nothing c.self.inside c.self.invariant c.args.host.now c.args.piece.now takes (none_found (goal.at.returns-in-Ok-None-clause-frame c).In-Ok-None)) tt
+
+-- The framer found an error.
+fault_found : (c : In-Err) → (framing_of c.self.inside.framer c.args.piece.now).finding ≡ AFault c.in-Err.fault
+fault_found c = sym c.next_frame-framed.ensures.framed.what ∙ sym c.laid_out.ensures ∙ ap finding_laid_out c.in-Err.is
+
+pub returns-in-Err-clause-handed : goal.returns-in-Err-clause-handed
+returns-in-Err-clause-handed c =
+    let takes = ap (λ (m : MarkedSession). session_takes m.session) c.self.view_is ∙ sym c.takes.ensures ∙ c.if-not-takes.false in
+    rw (← c.self.view_is, handed_fault c.self.inside c.self.invariant c.args.host.now c.args.piece.now takes c.in-Err.fault (fault_found (goal.at.returns-in-Err-clause-handed c).In-Err)) (ap (λ (t : TakeOutcome). t.handed) c.without_message-in-Err.ensures)
+
+pub returns-in-Err-clause-frame : goal.returns-in-Err-clause-frame
+returns-in-Err-clause-frame c =
+    let takes = ap (λ (m : MarkedSession). session_takes m.session) c.self.view_is ∙ sym c.takes.ensures ∙ c.if-not-takes.false in
+    rw (← c.self.view_is, handed_fault c.self.inside c.self.invariant c.args.host.now c.args.piece.now takes c.in-Err.fault (fault_found (goal.at.returns-in-Err-clause-frame c).In-Err)) tt
+
+pub returns-in-Err-parse-clause-handed : goal.returns-in-Err-parse-clause-handed
+returns-in-Err-parse-clause-handed c =
+    let takes = ap (λ (m : MarkedSession). session_takes m.session) c.self.view_is ∙ sym c.takes.ensures ∙ c.if-not-takes.false in
+    rw (← c.self.view_is, handed_bad c.self.inside c.self.invariant c.args.host.now c.args.piece.now takes c.in-Ok-Some.frame.bytes.now (frame_found (goal.at.returns-in-Err-parse-clause-handed c).In-Ok-Some) _ (sym c.parse.ensures ∙ c.in-Err-parse.is)) (ap (λ (t : TakeOutcome). t.handed) c.without_message-in-Err-parse.ensures)
+
+pub returns-in-Err-parse-clause-frame : goal.returns-in-Err-parse-clause-frame
+returns-in-Err-parse-clause-frame c =
+    let takes = ap (λ (m : MarkedSession). session_takes m.session) c.self.view_is ∙ sym c.takes.ensures ∙ c.if-not-takes.false in
+    rw (← c.self.view_is, handed_bad c.self.inside c.self.invariant c.args.host.now c.args.piece.now takes c.in-Ok-Some.frame.bytes.now (frame_found (goal.at.returns-in-Err-parse-clause-frame c).In-Ok-Some) _ (sym c.parse.ensures ∙ c.in-Err-parse.is)) tt
+
+pub returns-in-Ok-handle-clause-handed : goal.returns-in-Ok-handle-clause-handed
+returns-in-Ok-handle-clause-handed c =
+    let takes = ap (λ (m : MarkedSession). session_takes m.session) c.self.view_is ∙ sym c.takes.ensures ∙ c.if-not-takes.false in
+    rw (← c.self.view_is)
+    (handed_flag c.self.inside c.self.invariant c.args.host.now c.args.piece.now takes c.in-Ok-Some.frame.bytes.now (frame_found (goal.at.returns-in-Ok-handle-clause-handed c).In-Ok-Some) c.in-Ok.message (sym c.in-Ok.ensures) _ c.in-Ok-handle.ensures.handed)
+
+pub returns-in-Ok-handle-clause-frame : goal.returns-in-Ok-handle-clause-frame
+returns-in-Ok-handle-clause-frame c =
+    let takes = ap (λ (m : MarkedSession). session_takes m.session) c.self.view_is ∙ sym c.takes.ensures ∙ c.if-not-takes.false in
+    rw (← c.self.view_is, c.next_frame-framed.ensures.framed.taken)
+    (handed_shown c.self.inside c.self.invariant c.args.host.now c.args.piece.now takes c.in-Ok-Some.frame.bytes.now (frame_found (goal.at.returns-in-Ok-handle-clause-frame c).In-Ok-Some) c.in-Ok.message (sym c.in-Ok.ensures) c.handle.new.link _
+    (rw c.next_frame-framed.follows.holds-at-none at c.discard_if_closed-in-Ok-handle.ensures.framer))

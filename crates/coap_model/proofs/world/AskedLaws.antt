@@ -1,0 +1,96 @@
+-- A message that the caller answers is a request. A server asks its caller to answer each request, or stops.
+use Rattle.std.proofs.Common.{◌≡◌, ℕ, Bool, true, false, ◌&&◌, ◌==◌, cond, Option, Some, None, refl, ap, inl, inr, ◌⊎◌, not, is_none, length, nat_lt, find}
+use Rattle.std.proofs.lemmas.Bool.{both_ways, and_from, cond_both}
+use Rattle.coap_model.specs.Prelude.{list_any, Message, Reason, Reply, Whole, Bare, Stopped, Server, stop_of, takes_messages, fit}
+use Rattle.coap_model.specs.Prelude.{ConnectionState, Reaction, reaction_unless, react, live_reaction, is_asking, asks_custody, pong_with}
+use Rattle.coap_model.specs.Prelude.{has_stopped, bad_csm_option, is_request}
+use Rattle.coap_conn.specs.Reaction.{open_reaction, ping_reaction, csm_reaction, answered, told_of, is_reserved, is_signal, is_method, checks_critical_options, pong_of}
+use Rattle.coap_conn.specs.Announced.{has_critical_option}
+use Rattle.coap_conn.specs.Fit.{without_options}
+use Rattle.coap_conn.specs.Outstanding.{OutstandingValue, is_last, matches_pong, matches_response}
+use Rattle.coap_conn.specs.Phases.{is_waiting}
+use Rattle.coap_conn.specs.Verdicts as verdict
+use Rattle.coap_conn.proofs.ReactionLaws.{live_so}
+use Rattle.coap_wire.specs.Codes as code
+
+-- ---- a message that the caller answers
+
+-- The caller does not answer the message.
+abbrev IsNoRequest : Reaction → Type 0
+IsNoRequest r = is_request r.verdict ≡ false
+
+told_none : (r : Reply) → is_request (told_of r) ≡ false
+told_none Whole = refl
+told_none Bare = refl
+told_none Stopped = refl
+
+opened_none : (waiting : Bool) → is_request (cond waiting verdict.Opened verdict.Done) ≡ false
+opened_none true = refl
+opened_none false = refl
+
+csm_none : (s : ConnectionState) (bad : Option ℕ) → IsNoRequest (csm_reaction s bad)
+csm_none s None = opened_none (is_waiting s.phase)
+csm_none s (Some number) = refl
+
+ping_none : (s : ConnectionState) (m : Message) → IsNoRequest (ping_reaction s m)
+ping_none s m =
+    let late : Message = pong_with false m.token in
+    cond_both (asks_custody m && nat_lt 0 (length s.held)) _ _ IsNoRequest
+    (λ e. cond_both (nat_lt (length s.held) s.most) _ _ IsNoRequest (λ room. refl) (λ full. told_none (fit s.limit late late)))
+    (λ e. told_none (fit s.limit (pong_of m) (without_options (pong_of m))))
+
+answered_none : (s : ConnectionState) (m : Message) (e : Option OutstandingValue) → IsNoRequest (answered s m e)
+answered_none s m None = refl
+answered_none s m (Some e) = cond_both (is_last m e) _ _ IsNoRequest (λ last. refl) (λ other. refl)
+
+module _ (s : ConnectionState) (m : Message) where
+  -- If the caller answers the message, it is a request.
+  abbrev Asks : Reaction → Type 0
+  Asks r = is_request r.verdict ≡ true → is_asking m ≡ true
+
+  open_asks : (m.code == code.empty) ≡ false → Asks (open_reaction s m)
+  open_asks some =
+      cond_both (checks_critical_options m.code && has_critical_option m) _ _ Asks (λ e asks. absurd cc)
+      (λ e. cond_both (m.code == code.ping) _ _ Asks (λ e asks. absurd (both_ways _ (ping_none s m) asks))
+      (λ e. cond_both (m.code == code.release) _ _ Asks (λ e asks. absurd cc)
+      (λ e. cond_both (m.code == code.pong) _ _ Asks (λ e. cond_both (list_any (matches_pong m.token) s.outstanding) _ _ Asks (λ e asks. absurd cc) (λ e asks. absurd cc))
+      (λ e. cond_both (is_signal m.code) _ _ Asks (λ e asks. absurd cc)
+      (λ e. cond_both (is_method m.code) _ _ Asks (λ method asks. and_from (is_method m.code) (not (m.code == code.empty)) method (ap not some))
+      (λ e asks. absurd (both_ways _ (answered_none s m (find (matches_response m.token) s.outstanding)) asks)))))))
+
+  live_asks : Asks (live_reaction s m)
+  unfolding live_reaction
+  live_asks =
+      cond_both (is_reserved m.code) _ _ Asks (λ e asks. absurd cc)
+      (λ e. cond_both (m.code == code.empty) _ _ Asks (λ e asks. absurd cc)
+      (λ some. cond_both (m.code == code.abort) _ _ Asks (λ e asks. absurd cc)
+      (λ e. cond_both (m.code == code.csm) _ _ Asks (λ e asks. absurd (both_ways _ (csm_none s (bad_csm_option m)) asks))
+      (λ e. cond_both (is_waiting s.phase) _ _ Asks (λ e asks. absurd cc) (λ e. open_asks some)))))
+
+  unless_asks : (over : Option Reason) → Asks (reaction_unless s m over)
+  unless_asks None = live_asks
+  unless_asks (Some why) = λ asks. absurd cc
+
+  pub answered_is_request : is_request (react s m).verdict ≡ true → is_asking m ≡ true
+  unfolding react
+  answered_is_request = unless_asks (stop_of s.phase)
+
+-- ---- a request
+
+-- The caller answers the request, or the connection stops.
+abbrev IsAskedOrOver : Reaction → Type 0
+IsAskedOrOver r = (is_request r.verdict ≡ true) ⊎ (has_stopped r.effect.phase ≡ true)
+
+pub asked_or_over : (s : ConnectionState) (m : Message) → s.role ≡ Server → takes_messages s.phase ≡ true → is_asking m ≡ true → IsAskedOrOver (react s m)
+unfolding react
+asked_or_over s m server live asks = by (stop_of s.phase) live
+  where
+    by : (over : Option Reason) → is_none over ≡ true → IsAskedOrOver (reaction_unless s m over)
+    by None none = live_so s m IsAskedOrOver (record {
+      asked = inl refl;
+      stands = λ now outstanding what other may on. absurd (both_ways (is_asking m) other asks);
+      stops = λ why farewell what plain one may. inr refl;
+      queues = λ n what may. absurd (both_ways (is_asking m) (may.plain server).1 asks);
+      keeps = λ now other ping custody some. absurd (both_ways (is_asking m) other asks);
+    })
+    by (Some why) none = absurd cc

@@ -1,0 +1,262 @@
+-- After any events, the requests that the application answers are those that were handled. The unanswered ones are
+-- pending, and the answer to each other one is queued at its own place.
+use Rattle.std.proofs.Common.{◌≡◌, ℕ, ◌≤◌, Bool, true, false, List, [], ◌∷◌, ◌++◌, length, map, filter, Option, Some, refl, sym, ap, subst, ◌∙◌, inl, inr, arith, append_assoc}
+use Rattle.std.proofs.lemmas.Bool.{both_ways, cases_Bool}
+use Rattle.std.proofs.lemmas.List.{append-nil, length-append}
+use Rattle.std.proofs.lemmas.List.Elements.{filter-append}
+use Rattle.coap_model.specs.Prelude.{AllByRecursion, Responder, Engine, Message, Phase, Reason, Reply, Whole, Bare, Stopped}
+use Rattle.coap_model.specs.Prelude.{answers, fit, fitted, bare_response, PendingEntryValue, Answer, Pong, first_due, without_due}
+use Rattle.coap_model.specs.Prelude.{ConnectionState, send_as, pong_with, History, limit_now, standing_now, with_effect, after, own_csm, release}
+use Rattle.coap_model.specs.Prelude.{reject_reason, end_reason}
+use Rattle.coap_model.specs.Prelude.{ApplicationsValue}
+use Rattle.coap_model.specs.Prelude.{held_message, after_sent}
+use Rattle.coap_model.specs.Prelude.{Fate, ApplicationRequest, is_for_application, is_unanswered, messages_of, entry_of, is_of_application}
+use Rattle.coap_model.specs.Prelude.{has_stopped, fate_of, fate_by, MayAnswer, HasFate, HaveOwnAnswers, with_fate}
+use Rattle.coap_conn.specs.declared.phase.Phase.TheVariants as phase
+use Rattle.coap_conn.specs.declared.reason.Reason.TheVariants as reason
+use Rattle.coap_conn.specs.Calls as call
+use Rattle.coap_conn.proofs.PendingLaws.{due_answer, due_pong}
+use Rattle.coap_model.proofs.world.WalkLaws.{sent, without_first, due_is, answer_goes, if_between, Rejects, Ends, Releases, Announces, Writes}
+use Rattle.coap_model.proofs.world.EntryLemmas.{all_to}
+use Rattle.coap_model.proofs.world.ToldMessages.{sent_either}
+use Rattle.coap_model.proofs.world.FateLists.{waits, without_found, filter_without, map_without, waiting_without, fate_requests, fate_all, IsNew, IsOld, old_fate, own_with, own_more, next_at, still_fate}
+use Rattle.coap_model.proofs.world.FateLists as lists
+
+-- ---- pending entries and the phase
+
+-- From one pending list and phase to the next, the requests for the application stay, or the connection stops.
+pub record StillHeld (es : List PendingEntryValue) (p : Phase) (fs : List PendingEntryValue) (q : Phase) : Type 0 where
+  pub running : has_stopped q ≡ false → (has_stopped p ≡ false) × (filter is_of_application fs ≡ filter is_of_application es)
+  pub quiet : (answers p ≡ false → es ≡ []) → answers q ≡ false → fs ≡ []
+
+pub held_same : (es : List PendingEntryValue) (p : Phase) → StillHeld es p es p
+held_same es p = record { running = λ on. (on, refl); quiet = λ quiet. quiet }
+
+pub held_over : (es : List PendingEntryValue) (p : Phase) (why : Reason) → StillHeld es p [] (phase.Stopped why)
+held_over es p why = record { running = λ on. absurd cc; quiet = λ quiet off. refl }
+
+pub held_then : (es fs gs : List PendingEntryValue) (p q r : Phase) → StillHeld es p fs q → StillHeld fs q gs r → StillHeld es p gs r
+held_then es fs gs p q r one two = record {
+  running = λ on. let last = two.running on in let first = one.running last.0 in (first.0, last.1 ∙ first.1);
+  quiet = λ quiet. two.quiet (one.quiet quiet);
+}
+
+-- An entry that is no request for the application is removed.
+pub held_gone : (before : List PendingEntryValue) (e : PendingEntryValue) (later : List PendingEntryValue) (p : Phase) → is_of_application e ≡ false → StillHeld (before ++ e ∷ later) p (before ++ later) p
+held_gone before e later p other = record {
+  running = λ on. (on, filter-append is_of_application before later ∙ sym (filter-append is_of_application before (e ∷ later) ∙ rw other refl));
+  quiet = λ quiet off. absurd (omega (arith, ap (λ (es : List PendingEntryValue). length es) (quiet off), length-append before (e ∷ later)));
+}
+
+-- ---- histories
+
+-- A history continues another one, in which no request for the application was handled since.
+pub record Passes (a : Option ApplicationsValue) (h k : History) : Type 0 where
+  pub heard : List Message
+  pub handled : k.handled ≡ h.handled ++ heard
+  pub none : filter (is_for_application a) heard ≡ []
+  pub more : List Message
+  pub queued : k.queued ≡ h.queued ++ more
+  pub held : StillHeld h.held h.phase k.held k.phase
+
+-- The requests are accounted for. Those that were handled are these. The unanswered ones are pending, and the answer to
+-- each other one is queued at its own place.
+pub record Accounted (a : Option ApplicationsValue) (h : History) (rs : List ApplicationRequest) : Type 0 where
+  pub requests : map (λ r. r.request) rs ≡ filter (is_for_application a) h.handled
+  pub pending : has_stopped h.phase ≡ false → map entry_of (filter waits rs) ≡ filter is_of_application h.held
+  pub quiet : answers h.phase ≡ false → h.held ≡ []
+  pub answered : AllByRecursion (λ r. HasFate h.queued r r.fate) rs
+  pub own : HaveOwnAnswers rs
+  pub counted : AllByRecursion (λ r. r.queued ≤ length h.queued) rs
+
+-- The messages queued are more.
+pub grown : (h k : History) (more : List Message) (rs : List ApplicationRequest) → k.queued ≡ h.queued ++ more → AllByRecursion (λ r. r.queued ≤ length h.queued) rs → AllByRecursion (λ r. r.queued ≤ length k.queued) rs
+grown h k more rs queued counted =
+    all_to (λ r. r.queued ≤ length h.queued) (λ r. r.queued ≤ length k.queued)
+    (λ r few. omega (arith, few, ap (λ (ms : List Message). length ms) queued, length-append h.queued more)) rs counted
+
+pub still_queued : (h k : History) (more : List Message) (r : ApplicationRequest) (fate : Fate) → k.queued ≡ h.queued ++ more → HasFate h.queued r fate → HasFate k.queued r fate
+still_queued h k more r fate queued has = subst (λ (ms : List Message). HasFate ms r fate) (sym queued) (still_fate h.queued more r fate has)
+
+module _ (a : Option ApplicationsValue) where
+  pub passes_same : (h : History) → Passes a h h
+  passes_same h = record {
+    heard = [];
+    handled = sym (append-nil h.handled);
+    none = refl;
+    more = [];
+    queued = sym (append-nil h.queued);
+    held = held_same h.held h.phase;
+  }
+
+  pub passes_then : (h k g : History) → Passes a h k → Passes a k g → Passes a h g
+  passes_then h k g one two = record {
+    heard = one.heard ++ two.heard;
+    handled = two.handled ∙ ap (λ (ms : List Message). ms ++ two.heard) one.handled ∙ append_assoc h.handled one.heard two.heard;
+    none = filter-append (is_for_application a) one.heard two.heard ∙ rw (one.none, two.none) refl;
+    more = one.more ++ two.more;
+    queued = two.queued ∙ ap (λ (ms : List Message). ms ++ two.more) one.queued ∙ append_assoc h.queued one.more two.more;
+    held = held_then h.held k.held g.held h.phase k.phase g.phase one.held two.held;
+  }
+
+  pub passes_keep : (h k : History) (rs : List ApplicationRequest) → Passes a h k → Accounted a h rs → Accounted a k rs
+  passes_keep h k rs passes is = record {
+    requests = is.requests
+        ∙ sym (ap (filter (is_for_application a)) passes.handled ∙ filter-append (is_for_application a) h.handled passes.heard
+        ∙ ap (λ ms. filter (is_for_application a) h.handled ++ ms) passes.none ∙ append-nil (filter (is_for_application a) h.handled));
+    pending = λ on. let before = passes.held.running on in is.pending before.0 ∙ sym before.1;
+    quiet = passes.held.quiet is.quiet;
+    answered = all_to (λ r. HasFate h.queued r r.fate) (λ r. HasFate k.queued r r.fate) (λ r. still_queued h k passes.more r r.fate passes.queued) rs is.answered;
+    own = is.own;
+    counted = grown h k passes.more rs passes.queued is.counted;
+  }
+
+  -- ---- parts of effects
+
+  -- No message is handled.
+  passes_so : (h k : History) (more : List Message) → k.handled ≡ h.handled → k.queued ≡ h.queued ++ more → StillHeld h.held h.phase k.held k.phase → Passes a h k
+  passes_so h k more handled queued held =
+      record { heard = []; handled = handled ∙ sym (append-nil h.handled); none = refl; more = more; queued = queued; held = held }
+
+  sent_passes : (h : History) (m less : Message) → Passes a h (sent h m less)
+  sent_passes h m less =
+      passes_so h (sent h m less) _ refl refl
+      (sent_either (standing_now h) m less (fit (limit_now h) m less) (λ es now. StillHeld h.held h.phase es now) (held_same h.held h.phase)
+      (held_over h.held h.phase reason.PeerTooSmall))
+
+  pub reply_passes : (h : History) (m : Message) → Passes a h (after h (call.Reply m))
+  reply_passes h m = if_between (Passes a) (answers h.phase) h _ (passes_same h) (λ does. sent_passes h m (bare_response m))
+
+  pub reject_passes : Rejects (Passes a)
+  reject_passes h fault takes room = passes_so h _ _ refl refl (held_over h.held h.phase (reject_reason fault))
+
+  pub end_passes : Ends (Passes a)
+  end_passes h cut takes = passes_so h _ [] refl refl (held_over h.held h.phase (end_reason cut))
+
+  pub release_passes : Releases (Passes a)
+  release_passes h opened none = passes_so h _ (release ∷ []) refl refl (held_over h.held h.phase reason.ReleasedHere)
+
+  pub announce_passes : Announces (Passes a)
+  announce_passes h size opened room fits = passes_so h _ (own_csm size ∷ []) refl refl (held_same h.held h.phase)
+
+  pub write_passes : Writes (Passes a)
+  write_passes h n within = passes_so h _ [] refl (sym (append-nil h.queued)) (held_same h.held h.phase)
+
+  -- A pending entry that is no request for the application is sent.
+  gone_passes : (h : History) (now : ℕ) (before : List PendingEntryValue) (e : PendingEntryValue) (later : List PendingEntryValue) → is_of_application e ≡ false → h.held ≡ before ++ e ∷ later → without_due now h.held ≡ before ++ later → Passes a h (without_first h now)
+  gone_passes h now before e later other there without =
+      passes_so h (without_first h now) [] refl (sym (append-nil h.queued))
+      (subst (λ (es : List PendingEntryValue). StillHeld es h.phase (without_due now h.held) h.phase) (sym there)
+      (subst (λ (fs : List PendingEntryValue). StillHeld (before ++ e ∷ later) h.phase fs h.phase) (sym without) (held_gone before e later h.phase other)))
+
+  pub engine_passes : (h : History) (now : ℕ) (token : List ℕ) (moment : ℕ) → first_due now h.held ≡ Some (Answer Engine token moment) → Passes a h (after_sent h now (Answer Engine token moment))
+  engine_passes h now token moment is =
+      let first = due_answer now h.held Engine token moment is in
+      subst (λ (g : History). Passes a h (after g (call.Reply (held_message Engine token)))) (sym (answer_goes h now Engine token moment is))
+      (passes_then h (without_first h now) _ (gone_passes h now first.before (Answer Engine token moment) first.after refl first.there first.without)
+      (reply_passes (without_first h now) (held_message Engine token)))
+
+  pub pong_passes : (h : History) (now : ℕ) (token : List ℕ) → first_due now h.held ≡ Some (Pong token) → Passes a h (after_sent h now (Pong token))
+  pong_passes h now token is =
+      let gone : Passes a h (without_first h now) = gone_passes h now [] (Pong token) (without_due now h.held) refl (due_pong now h.held token is) refl in
+      rw (due_is h now (Some (Pong token)) is)
+      (passes_then h (without_first h now) (sent (without_first h now) (pong_with true token) (pong_with false token)) gone
+      (sent_passes (without_first h now) (pong_with true token) (pong_with false token)))
+
+  -- ---- the answer to a pending request
+
+  -- The fate by the form in which the response is sent.
+  abbrev pub fate_at : Responder → Message → Reply → ℕ → Fate
+  fate_at by response r n = fate_of by response (fitted response (bare_response response) r) n
+
+  pub sent_messages : (s : ConnectionState) (by : Responder) (response : Message) (r : Reply) (n : ℕ) → (send_as s response (bare_response response) r).queued ≡ messages_of (fate_at by response r n)
+  sent_messages s by response Whole n = refl
+  sent_messages s by response Bare n = refl
+  sent_messages s by response Stopped n = refl
+
+  pub sent_answered : (s : ConnectionState) (by : Responder) (response : Message) (r : Reply) (n : ℕ) → has_stopped (send_as s response (bare_response response) r).phase ≡ false → is_unanswered (fate_at by response r n) ≡ false
+  sent_answered s by response Whole n on = refl
+  sent_answered s by response Bare n on = refl
+  sent_answered s by response Stopped n on = absurd cc
+
+  pub fate_new : (by : Responder) (response : Message) (r : Reply) (n : ℕ) → IsNew n (fate_at by response r n)
+  fate_new by response Whole n = omega arith
+  fate_new by response Bare n = omega arith
+  fate_new by response Stopped n = tt
+
+  pub fate_has : (queued : List Message) (q : ApplicationRequest) (by : Responder) (response : Message) (limit : ℕ) (r : Reply) → fit limit response (bare_response response) ≡ r → MayAnswer q.request q.queued by response (length queued) → q.queued ≤ length queued → HasFate (queued ++ messages_of (fate_at by response r (length queued))) q (fate_at by response r (length queued))
+  fate_has queued q by response limit Whole is may few =
+      record { allowed = may; reduced = (limit, ap (fitted response (bare_response response)) is); there = next_at queued response []; later = few }
+  fate_has queued q by response limit Bare is may few =
+      record { allowed = may; reduced = (limit, ap (fitted response (bare_response response)) is); there = next_at queued (bare_response response) []; later = few }
+  fate_has queued q by response limit Stopped is may few = tt
+
+  -- The answer to the first unanswered request that passes a test. Its entry is the first that passes another one.
+  pub record IsNext (h : History) (test : ApplicationRequest → Bool) (entry : PendingEntryValue → Bool) (by : Responder) (response : Message) (left : List PendingEntryValue) : Type 0 where
+    pub unanswered : (r : ApplicationRequest) → test r ≡ true → waits r ≡ true
+    pub same : (r : ApplicationRequest) → waits r ≡ true → test r ≡ entry (entry_of r)
+    pub may : (r : ApplicationRequest) → test r ≡ true → MayAnswer r.request r.queued by response (length h.queued)
+    pub of_application : (e : PendingEntryValue) → entry e ≡ true → is_of_application e ≡ true
+    pub left_is : lists.without_passing entry h.held ≡ left
+
+  all_waiting : (rs : List ApplicationRequest) → AllByRecursion (λ r. waits r ≡ true) (filter waits rs)
+  all_waiting [] = tt
+  all_waiting (r ∷ rs) = elim (cases_Bool (waits r)) [ inl is ↦ rw is (is, all_waiting rs) | inr is ↦ rw is (all_waiting rs) ]
+
+  module _ (h : History) (rs : List ApplicationRequest) (test : ApplicationRequest → Bool) (entry : PendingEntryValue → Bool) (by : Responder) (response : Message) (left : List PendingEntryValue) (next : IsNext h test entry by response left) (is : Accounted a h rs) (on : answers h.phase ≡ true) where
+    abbrev state : ConnectionState
+    state = record (standing_now h) { held = left }
+
+    abbrev after_answer : Reply → History
+    after_answer r = with_effect h (send_as state response (bare_response response) r)
+
+    abbrev its_fate : Reply → Fate
+    its_fate r = fate_at by response r (length h.queued)
+
+    running : has_stopped h.phase ≡ false
+    running = grind arith
+
+    -- The entries of the other unanswered requests are left.
+    pending_left : (fate : Fate) → is_unanswered fate ≡ false → map entry_of (filter waits (with_fate test fate rs)) ≡ filter is_of_application left
+    pending_left fate over =
+        ap (map entry_of) (waiting_without test fate over next.unanswered rs)
+        ∙ map_without entry_of test entry (filter waits rs) (all_to (λ r. waits r ≡ true) (λ r. test r ≡ entry (entry_of r)) next.same (filter waits rs) (all_waiting rs))
+        ∙ ap (lists.without_passing entry) (is.pending running)
+        ∙ sym (filter_without is_of_application entry next.of_application h.held)
+        ∙ ap (filter is_of_application) next.left_is
+
+    held_so : (r : Reply) → has_stopped (after_answer r).phase ≡ false → (after_answer r).held ≡ left
+    held_so Whole live = refl
+    held_so Bare live = refl
+    held_so Stopped live = absurd cc
+
+    quiet_so : (r : Reply) → answers (after_answer r).phase ≡ false → (after_answer r).held ≡ []
+    quiet_so Whole off = absurd (both_ways (answers h.phase) off on)
+    quiet_so Bare off = absurd (both_ways (answers h.phase) off on)
+    quiet_so Stopped off = refl
+
+    answer_accounted : (r : Reply) → fit (limit_now h) response (bare_response response) ≡ r → Accounted a (after_answer r) (with_fate test (its_fate r) rs)
+    answer_accounted r fits =
+        let k : History = after_answer r in
+        let queued : k.queued ≡ h.queued ++ messages_of (its_fate r) = ap (λ (ms : List Message). h.queued ++ ms) (sent_messages state by response r (length h.queued)) in
+        record {
+          requests = fate_requests test (its_fate r) rs ∙ is.requests;
+          pending = λ live. pending_left (its_fate r) (sent_answered state by response r (length h.queued) live) ∙ ap (filter is_of_application) (sym (held_so r live));
+          quiet = quiet_so r;
+          answered = fate_all (λ q. (HasFate h.queued q q.fate) × (q.queued ≤ length h.queued)) (λ q. HasFate k.queued q q.fate) test (its_fate r)
+              (λ q has. still_queued h k (messages_of (its_fate r)) q q.fate queued has.0)
+              (λ q passes has. subst (λ (ms : List Message). HasFate ms (record q { fate = its_fate r }) (its_fate r)) (sym queued)
+              (fate_has h.queued (record q { fate = its_fate r }) by response (limit_now h) r fits (next.may q passes) has.1)) rs
+              (both rs is.answered is.counted);
+          own = own_with (length h.queued) test (its_fate r) rs (fate_new by response r (length h.queued))
+              (all_to (λ q. HasFate h.queued q q.fate) (λ q. IsOld (length h.queued) q.fate) (λ q. old_fate h.queued q q.fate) rs is.answered) is.own;
+          counted = fate_all (λ q. q.queued ≤ length k.queued) (λ q. q.queued ≤ length k.queued) test (its_fate r) (λ q few. few) (λ q passes few. few) rs
+              (grown h k (messages_of (its_fate r)) rs queued is.counted);
+        }
+      where
+        both : (qs : List ApplicationRequest) → AllByRecursion (λ q. HasFate h.queued q q.fate) qs → AllByRecursion (λ q. q.queued ≤ length h.queued) qs → AllByRecursion (λ q. (HasFate h.queued q q.fate) × (q.queued ≤ length h.queued)) qs
+        both [] has few = tt
+        both (q ∷ qs) has few = ((has.0, few.0), both qs has.1 few.1)
+
+    pub answer_kept : Accounted a (after_answer (fit (limit_now h) response (bare_response response))) (with_fate test (fate_by by h response) rs)
+    answer_kept = rw on (answer_accounted (fit (limit_now h) response (bare_response response)) refl)

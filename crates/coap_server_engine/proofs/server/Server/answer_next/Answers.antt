@@ -1,0 +1,25 @@
+use Rattle.std.proofs.Common.{refl}
+use Rattle.coap_server_engine.proofs.values.ResponseLemmas.{answers_then}
+use Rattle.coap_server_engine.proofs.scripting.FollowLemmas.{followed_none}
+use Rattle.coap_server_engine.proofs.server.Server.answer_next.Goals as goal
+
+-- The application has no response now.
+pub returns-in_err-id : goal.returns-in_err-id
+returns-in_err-id g c =
+    rw c.from_residual.ensures (record { asked = (refl, (followed_none (g.M.Monitor.follows c.args.monitor.now), c.in_err-id.ensures.offered)); none = c.in_err-id.ensures.none })
+
+pub returns-clause-asked : goal.returns-clause-asked
+returns-clause-asked g c =
+    let e = c.offer-outcome.ensures in
+    record {
+      bytes = c.deref.result.now;
+      outcome = c.offer-outcome.result;
+      refused = e.answer;
+      reply = e.reply;
+      server = e.after;
+      shows = e.shows;
+      tells = e.told;
+      exchanged =
+          rw c.deref.ensures.value
+          (answers_then (g.A.Application.follows c.args.application.now) (g.A.Application.follows c.next_response.new.self) (g.A.Application.follows c.responded.new.self) _ _ c.in_ok-id.ensures.offered c.responded.ensures);
+    }

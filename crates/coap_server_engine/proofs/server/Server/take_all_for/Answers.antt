@@ -1,0 +1,41 @@
+use Rattle.std.proofs.Common.{◌≡◌, ◌≤◌, None, length, subst, arith}
+use Rattle.coap_server_engine.specs.Prelude.{LiesAt, session_of}
+use Rattle.coap_io.proofs.streams.WriteLemmas.{rest_of}
+use Rattle.coap_server_engine.proofs.values.ResponseLemmas.{on_err}
+use Rattle.coap_server_engine.proofs.values.ServingLemmas.{serves_nothing, serves_nobody, serves_all, serves_partly, serves_more, serves_stopped}
+use Rattle.coap_server_engine.proofs.server.Server.take_all_for.Goals as goal
+
+-- No connection has this id.
+pub returns-in_default-clause-served : goal.returns-in_default-clause-served
+returns-in_default-clause-served g c =
+    let none : session_of c.args.id c.args.self.now.sessions ≡ None = rw (← c.self.view_is) c.in_default.ensures.none in
+    serves_nobody c.args.self.now c.args.id c.args.bytes.now (g.M.Monitor.follows c.args.monitor.now) (g.A.Application.follows c.args.application.now) none
+
+pub loop-taken-init : goal.loop-taken-init
+loop-taken-init g c =
+    let lies = subst (λ v. LiesAt c.args.id c.in-Some.at v.sessions) c.self.view_is c.in-Some.ensures.some in
+    (serves_nothing c.args.self.now c.args.id c.args.bytes.now (g.M.Monitor.follows c.args.monitor.now) (g.A.Application.follows c.args.application.now), lies)
+
+-- Allocation failed in a take.
+pub returns-in_err-count-clause-partly : goal.returns-in_err-count-clause-partly
+returns-in_err-count-clause-partly g c =
+    let e = rw (rest_of c.loop-taken.taken c.args.bytes.now) at c.in_err-count.ensures in
+    on_err c.from_residual.result _ (rw e.silent
+    (serves_partly _ _ _ _ _ (g.M.Monitor.follows c.args.monitor.now) (g.M.Monitor.follows c.loop-taken.monitor) (g.M.Monitor.follows c.take_for.new.monitor) (g.A.Application.follows c.args.application.now) (g.A.Application.follows c.loop-taken.application) (g.A.Application.follows c.loop-taken.application) c.loop-taken.invariant.0 c.loop-taken-test.true _ e.err))
+
+-- A take accepted no byte.
+pub returns-then-count-eq0-clause-served : goal.returns-then-count-eq0-clause-served
+returns-then-count-eq0-clause-served g c =
+    let e = rw (rest_of c.loop-taken.taken c.args.bytes.now) at c.in_ok-count.ensures in
+    serves_stopped _ _ _ _ _ (g.M.Monitor.follows c.args.monitor.now) (g.M.Monitor.follows c.loop-taken.monitor) (g.M.Monitor.follows c.take_for.new.monitor) (g.A.Application.follows c.args.application.now) (g.A.Application.follows c.loop-taken.application) (g.A.Application.follows c.take_for.new.application) c.loop-taken.invariant.0 c.loop-taken-test.true _ _ _ e.count e.ok c.if-count-eq0.true
+
+pub loop-taken-preserved : goal.loop-taken-preserved
+loop-taken-preserved g c =
+    let e = rw (rest_of c.loop-taken.taken c.args.bytes.now) at c.in_ok-count.ensures in
+    (serves_more _ _ _ _ _ (g.M.Monitor.follows c.args.monitor.now) (g.M.Monitor.follows c.loop-taken.monitor) (g.M.Monitor.follows c.take_for.new.monitor) (g.A.Application.follows c.args.application.now) (g.A.Application.follows c.loop-taken.application) (g.A.Application.follows c.take_for.new.application) c.loop-taken.invariant.0 c.loop-taken-test.true _ _ _ e.count e.ok e.within c.if-count-eq0.false, e.lies)
+
+-- No byte is left.
+pub returns-clause-served : goal.returns-clause-served
+returns-clause-served g c =
+    let none : length c.args.bytes.now ≤ c.loop-taken.taken = omega (arith, c.loop-taken-test.false) in
+    serves_all _ _ _ _ _ (g.M.Monitor.follows c.args.monitor.now) (g.M.Monitor.follows c.loop-taken.monitor) (g.M.Monitor.follows c.loop-taken.monitor) (g.A.Application.follows c.args.application.now) (g.A.Application.follows c.loop-taken.application) (g.A.Application.follows c.loop-taken.application) c.loop-taken.invariant.0 none

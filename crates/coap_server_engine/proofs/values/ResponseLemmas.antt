@@ -1,0 +1,118 @@
+-- A response of the application: the server after it, its event, and the exchanges.
+use Rattle.std.proofs.Common.{◌≡◌, ◌≤◌, ◌-◌, ℕ, Bool, true, false, arith, lt-ltb, nat_lt, length, is_ok, List, [], ◌∷◌, ◌++◌, Option, Some, None, Result, Ok, Err, refl, sym, ap, ◌∙◌, append_assoc, is_none, IfNone, is_some, not, ◌==◌, option_map, OnErr, if◌then◌else◌}
+use Rattle.std.proofs.lemmas.List.{append-nil, length-append}
+use Rattle.coap_wire.specs.Forms.{token_form}
+use Rattle.coap_wire.specs.Reading as reading
+use Rattle.std.proofs.lemmas.Bool.{eqb-true}
+use Rattle.coap_server_engine.specs.Prelude.{Message, message_of, FormatFault, RefusedBy, ResponseFault}
+use Rattle.coap_server_engine.specs.Prelude.{SessionValue, ServerValue, LiesAt, session_of, server_given, session_given_by, responded_refusal, responded_refusal_on, response_event}
+use Rattle.coap_server_engine.specs.Prelude.{Responded, spelling}
+use Rattle.coap_server_engine.specs.Prelude.{server_offered, offered_events, response_for, failure_with, Exchange, Answering, AnswersMore}
+use Rattle.coap_server_engine.specs.values.Calls.{response_in}
+use Rattle.coap_server_engine.proofs.values.ServerLemmas.{lies_where_taken}
+
+-- ---- exchanges
+
+pub answers_none : (a : Answering) → AnswersMore a a []
+unfolding AnswersMore
+answers_none a earlier so_far = rw append-nil so_far
+
+pub answers_then : (a b c : Answering) (xs ys : List Exchange) → AnswersMore a b xs → AnswersMore b c ys → AnswersMore a c (xs ++ ys)
+unfolding AnswersMore
+answers_then a b c xs ys p q earlier so_far = rw (← append_assoc earlier xs ys) (q (earlier ++ xs) (p earlier so_far))
+
+-- ---- results
+
+pub ok_none : {T E : Type 0} (r : Result T E) (refusal : Option E) → RefusedBy r refusal → is_ok r ≡ true → refusal ≡ None
+ok_none (Ok x) refusal is ok = is
+ok_none (Err e) refusal is ok = absurd cc
+
+pub err_some : {T E : Type 0} (r : Result T E) (refusal : Option E) → RefusedBy r refusal → is_ok r ≡ false → (e : E) × (refusal ≡ Some e)
+err_some (Ok x) refusal is err = absurd cc
+err_some (Err e) refusal is err = (e, is)
+
+pub on_err : {T E : Type 0} (r : Result T E) (P : Type 0) → P → OnErr r P
+on_err (Ok x) P holds = tt
+on_err (Err e) P holds = holds
+
+pub token_made : (o : Option Message) (token : List ℕ) → Some token ≡ option_map (λ (m : Message). m.token) o → (m : Message) × (o ≡ Some m) × (token ≡ m.token)
+token_made None token is = absurd cc
+token_made (Some m) token is = (m, refl, cc)
+
+pub none_flag : (o : Option ℕ) (b : Bool) → is_some o ≡ not b → is_none o ≡ b
+none_flag None true is = refl
+none_flag None false is = absurd cc
+none_flag (Some id) true is = absurd cc
+none_flag (Some id) false is = refl
+
+pub if_none : (o : Option ℕ) (P : Type 0) → is_none o ≡ true → IfNone o P → P
+if_none None P none holds = holds
+if_none (Some id) P none holds = absurd cc
+
+pub empty_of : (bytes : List ℕ) (b : Bool) → b ≡ (length bytes == 0) → b ≡ true → bytes ≡ []
+empty_of [] b is empty = refl
+empty_of (x ∷ bytes) b is empty = absurd (let none : length (x ∷ bytes) ≡ 0 = eqb-true (length (x ∷ bytes)) 0 (sym is ∙ empty) in omega (arith, none))
+
+-- ---- 5.00
+
+short_extension : (n : ℕ) → n ≤ 64 → length (token_form n).1 ≤ 1
+short_extension n small =
+    rw (lt-ltb n 269 (omega (arith, small)))
+    (let low : ℕ × List ℕ = (n, []) in
+    let middle : ℕ × List ℕ = (13, (n - 13) ∷ []) in
+    elim (nat_lt n 13) as (λ b. let form : ℕ × List ℕ = if b then low else middle in length form.1 ≤ 1) [ true ↦ omega arith | false ↦ omega arith ])
+
+-- The message 5.00 with a token has at most 67 bytes.
+pub failure_short : (token : List ℕ) → length token ≤ 64 → length (spelling (failure_with token)) ≤ 67
+unfolding spelling
+failure_short token small =
+    let extension : List ℕ = (token_form (length token)).1 in
+    omega (arith, short_extension (length token) small, small, length-append extension token, length-append (extension ++ token) [])
+
+-- ---- a response
+
+module _ (v : ServerValue) (id : ℕ) (bytes : List ℕ) where
+  module _ (fault : ResponseFault) (some : responded_refusal v id bytes ≡ Some fault) where
+    pub server_if_refused : server_offered v id bytes ≡ v
+    server_if_refused = ap (λ o. if is_none o then server_given v id bytes else v) some
+
+    pub refused_events : offered_events v id bytes ≡ []
+    refused_events = ap (λ o. if is_none o then response_event id (message_of bytes) else []) some
+
+  pub offered_lies : (i : ℕ) → LiesAt id i v.sessions → LiesAt id i (server_offered v id bytes).sessions
+  offered_lies i lies =
+      elim (is_none (responded_refusal v id bytes)) as (λ b. LiesAt id i (if b then server_given v id bytes else v).sessions) [
+        | true ↦ lies_where_taken id i (session_given_by (message_of bytes)) v.host v.sessions lies
+        | false ↦ lies
+      ]
+
+-- ---- a response at once
+
+-- No byte is no message.
+no_bytes : (v : ServerValue) (id : ℕ) → is_none (responded_refusal v id []) ≡ false
+unfolding message_of reading.head_at
+no_bytes v id = elim (session_of id v.sessions) as (λ o. is_none (responded_refusal_on [] o) ≡ false) [ None ↦ refl | Some s ↦ refl ]
+
+pub nothing_offered : (v : ServerValue) (id : ℕ) → server_offered v id [] ≡ v
+nothing_offered v id = ap (λ b. if b then server_given v id [] else v) (no_bytes v id)
+
+pub nothing_told : (v : ServerValue) (id : ℕ) → offered_events v id [] ≡ []
+nothing_told v id = ap (λ b. if b then response_event id (message_of []) else []) (no_bytes v id)
+
+module _ (v : ServerValue) (id : ℕ) (token bytes : List ℕ) where
+  pub empty_response : bytes ≡ [] → response_for v id token bytes ≡ []
+  empty_response none = ap (response_for v id token) none
+
+  pub response_if_accepted : responded_refusal v id bytes ≡ None → response_for v id token bytes ≡ bytes
+  response_if_accepted none = by bytes none
+    where
+      by : (written : List ℕ) → responded_refusal v id written ≡ None → response_for v id token written ≡ written
+      by [] free = refl
+      by (b ∷ rest) free = ap (λ o. if is_none o then b ∷ rest else spelling (failure_with token)) free
+
+  pub refused_response : (fault : ResponseFault) → responded_refusal v id bytes ≡ Some fault → (bytes ≡ [] → ⊥) → response_for v id token bytes ≡ spelling (failure_with token)
+  refused_response fault some written = by bytes some written
+    where
+      by : (all : List ℕ) → responded_refusal v id all ≡ Some fault → (all ≡ [] → ⊥) → response_for v id token all ≡ spelling (failure_with token)
+      by [] taken apart = absurd (apart refl)
+      by (b ∷ rest) taken apart = ap (λ o. if is_none o then b ∷ rest else spelling (failure_with token)) taken

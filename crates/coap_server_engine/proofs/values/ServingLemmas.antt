@@ -1,0 +1,219 @@
+-- The takes that accept the bytes of a connection, with the responses of the application.
+use Rattle.std.proofs.Common.{◌≡◌, ◌≢◌, ℕ, ◌+◌, ◌<◌, ◌≤◌, true, false, ◌&&◌, ◌==◌, List, [], ◌∷◌, ◌++◌, length, take, drop, Option, Some, None, refl, sym, ap, ◌∙◌, arith, nat_lt, lt-ltb, suc, is_none}
+use Rattle.std.proofs.lemmas.Bool.{ne_eqb, eq-eqb, le-ltb}
+use Rattle.std.proofs.lemmas.List.{append-nil, length-drop}
+use Rattle.std.proofs.Math.Bool.{and-false}
+use Rattle.coap_server_engine.specs.Prelude.{ServerValue, session_of, count_taken, AcceptedCall, Took, ShowsMore, Following, FollowsMore}
+use Rattle.coap_server_engine.specs.Prelude.{InResult, Exchange, Answering, AnswersMore, AskResult, asked_by, served, AreMade}
+use Rattle.coap_server_engine.specs.Prelude.{IsServed, IsPartlyServed, IsTakenFor, IsNotTakenFor, asking, asks_for, handed_by, message_limit, server_offered, offered_events, response_for}
+use Rattle.coap_server_engine.specs.Prelude.{Message, LiesAt, server_taken, server_taken_on, taking, host_changed, Offered, Given}
+use Rattle.coap_server_engine.specs.Prelude.{AreGivenLater, NothingGiven, OneMoreGiven, IsAskedLater, AreAskedLater}
+use Rattle.coap_server_engine.proofs.values.ServerLemmas.{lies_where_taken}
+use Rattle.coap_server_engine.specs.values.InResults.{goes_on}
+use Rattle.coap_server_engine.proofs.scripting.ShownLemmas.{shows_same, shows_then}
+use Rattle.coap_server_engine.proofs.scripting.FollowLemmas.{followed_none, followed_then}
+use Rattle.coap_server_engine.proofs.values.ResponseLemmas.{answers_none, answers_then}
+
+-- Some takes accepted bytes, and the server is `now`.
+pub record Serves (v : ServerValue) (id : ℕ) (bytes : List ℕ) (now : ServerValue) (taken : ℕ) (told : List AcceptedCall → Type 0) (asks : List Exchange → Type 0) : Type 0 where
+  pub responses : List (List ℕ)
+  pub made : AreMade v id bytes responses
+  pub within : taken ≤ length bytes
+  pub so_far : (served v id bytes responses).fed ≡ record { server = now; count = taken; done = false }
+  pub shows : ShowsMore v now (served v id bytes responses).events
+  pub tells : told (served v id bytes responses).events
+  pub exchanged : asks (served v id bytes responses).exchanges
+
+pub serves_nothing : (v : ServerValue) (id : ℕ) (bytes : List ℕ) (a : Following) (x : Answering) → Serves v id bytes v 0 (FollowsMore a a) (AnswersMore x x)
+unfolding served
+serves_nothing v id bytes a x = record {
+  responses = [];
+  made = tt;
+  within = omega arith;
+  so_far = refl;
+  shows = shows_same v v refl;
+  tells = followed_none a;
+  exchanged = answers_none x;
+}
+
+-- No connection has this id.
+pub serves_nobody : (v : ServerValue) (id : ℕ) (bytes : List ℕ) (a : Following) (x : Answering) → session_of id v.sessions ≡ None → IsServed v id bytes 0 v (FollowsMore a a) (AnswersMore x x)
+unfolding served
+serves_nobody v id bytes a x nobody = record {
+  responses = [];
+  made = tt;
+  over = λ going. nobody;
+  counted = refl;
+  server = refl;
+  shows = shows_same v v refl;
+  tells = followed_none a;
+  exchanged = answers_none x;
+}
+
+module _ (v : ServerValue) (id : ℕ) (bytes : List ℕ) (now : ServerValue) (taken : ℕ) (a b c : Following) (x y z : Answering) (so : Serves v id bytes now taken (FollowsMore a b) (AnswersMore x y)) where
+  -- No byte is left.
+  pub serves_all : length bytes ≤ taken → IsServed v id bytes taken now (FollowsMore a b) (AnswersMore x y)
+  serves_all none = record {
+    responses = so.responses;
+    made = so.made;
+    over = λ going. absurd (let more : (nat_lt taken (length bytes) && true) ≡ true = rw so.so_far at going in cc (le-ltb taken (length bytes) none, more));
+    counted = ap (λ (f : InResult). f.count) (sym so.so_far);
+    server = ap (λ (f : InResult). f.server) (sym so.so_far);
+    shows = so.shows;
+    tells = so.tells;
+    exchanged = so.exchanged;
+  }
+
+  module _ (left : taken < length bytes) where
+    going : goes_on bytes (served v id bytes so.responses).fed ≡ true
+    going = rw (so.so_far, lt-ltb taken (length bytes) left) refl
+
+    -- Allocation failed in the next take.
+    pub serves_partly : (after : ServerValue) → IsNotTakenFor now id (drop taken bytes) after (FollowsMore b c) → IsPartlyServed v id bytes after (FollowsMore a c) (AnswersMore x y)
+    serves_partly after one = record {
+      responses = so.responses;
+      made = so.made;
+      going = going;
+      count = one.count;
+      refused = rw so.so_far one.refused;
+      shows = rw so.so_far (shows_then v now after (served v id bytes so.responses).events _ so.shows one.shows);
+      tells = rw so.so_far (followed_then a b c (served v id bytes so.responses).events _ so.tells one.tells);
+      exchanged = so.exchanged;
+    }
+
+    module _ (response : List ℕ) (k : ℕ) (after : ServerValue) (counted : k ≡ count_taken now id (drop taken bytes)) (one : IsTakenFor now id (drop taken bytes) response k after (FollowsMore b c) (AnswersMore y z)) where
+      abbrev more : List (List ℕ)
+      more = response ∷ so.responses
+
+      more_fed : (served v id bytes more).fed ≡ record { server = after; count = taken + k; done = count_taken now id (drop taken bytes) == 0 }
+      unfolding served
+      more_fed = rw (so.so_far, one.server, counted) refl
+
+      more_events : (served v id bytes more).events ≡ (served v id bytes so.responses).events ++ Took id (take k (drop taken bytes)) ∷ (asked_by now id (drop taken bytes) response).events
+      unfolding served
+      more_events = rw (so.so_far, counted) refl
+
+      more_exchanges : (served v id bytes more).exchanges ≡ (served v id bytes so.responses).exchanges ++ (asked_by now id (drop taken bytes) response).exchanges
+      unfolding served
+      more_exchanges = rw so.so_far refl
+
+      more_shows : ShowsMore v after (served v id bytes more).events
+      more_shows = rw more_events (shows_then v now after (served v id bytes so.responses).events _ so.shows one.shows)
+
+      more_tells : FollowsMore a c (served v id bytes more).events
+      more_tells = rw more_events (followed_then a b c (served v id bytes so.responses).events _ so.tells one.tells)
+
+      more_exchanged : AnswersMore x z (served v id bytes more).exchanges
+      more_exchanged = rw more_exchanges (answers_then x y z (served v id bytes so.responses).exchanges _ so.exchanged one.exchanged)
+
+      -- A take accepted some bytes.
+      pub serves_more : k ≤ length (drop taken bytes) → k ≢ 0 → Serves v id bytes after (taken + k) (FollowsMore a c) (AnswersMore x z)
+      serves_more within some = record {
+        responses = more;
+        made = (going, so.made);
+        within = omega (arith, within, left, length-drop taken bytes);
+        so_far = more_fed ∙ cc (ne_eqb k 0 some, counted);
+        shows = more_shows;
+        tells = more_tells;
+        exchanged = more_exchanged;
+      }
+
+      -- A take accepted none.
+      pub serves_stopped : k ≡ 0 → IsServed v id bytes taken after (FollowsMore a c) (AnswersMore x z)
+      serves_stopped none =
+          let same : taken + k ≡ taken = omega (arith, none) in
+          let fed : (served v id bytes more).fed ≡ record { server = after; count = taken; done = true } = more_fed ∙ cc (same, none, counted) in
+          record {
+            responses = more;
+            made = (going, so.made);
+            over = λ goes. absurd (let more_left : (nat_lt taken (length bytes) && false) ≡ true = rw fed at goes in cc (and-false (nat_lt taken (length bytes)), more_left));
+            counted = ap (λ (f : InResult). f.count) (sym fed);
+            server = ap (λ (f : InResult). f.server) (sym fed);
+            shows = more_shows;
+            tells = more_tells;
+            exchanged = more_exchanged;
+          }
+
+-- ---- the connection stays at its index
+
+pub taken_stays : (v : ServerValue) (id i : ℕ) (piece : List ℕ) → LiesAt id i v.sessions → LiesAt id i (server_taken v id piece).sessions
+unfolding server_taken
+taken_stays v id i piece lies =
+    elim (session_of id v.sessions) as (λ o. LiesAt id i (server_taken_on v id piece o).sessions) [
+      | None ↦ lies
+      | Some s ↦ lies_where_taken id i (λ _. (taking v.host s piece).session) (host_changed v.host (taking v.host s piece).change) v.sessions lies
+    ]
+
+-- ---- one take
+
+module _ (v u after : ServerValue) (id : ℕ) (left response : List ℕ) (k : ℕ) (a b c : Following) (x y : Answering) (took : u ≡ server_taken v id left) (shows : ShowsMore v u (Took id (take k left) ∷ [])) (told : FollowsMore a b (Took id (take k left) ∷ []))
+    (asked : AnswersMore x y (asks_for id (message_limit v id) response (handed_by v id left))) where
+  -- A request was handed over, and the application was asked.
+  pub taken_asked : (m : Message) (token : List ℕ) → handed_by v id left ≡ Some m → token ≡ m.token → after ≡ server_offered u id (response_for u id token response)
+      → ShowsMore u after (offered_events u id (response_for u id token response)) → FollowsMore b c (offered_events u id (response_for u id token response)) → IsTakenFor v id left response k after (FollowsMore a c) (AnswersMore x y)
+  taken_asked m token handed same is gives tells =
+      let effect : asked_by v id left response ≡ asking u id (message_limit v id) response (Some m) = ap (asking (server_taken v id left) id (message_limit v id) response) handed ∙ ap (λ (s : ServerValue). asking s id (message_limit v id) response (Some m)) (sym took) in
+      let given : after ≡ server_offered u id (response_for u id m.token response) = rw same at is in
+      let gave : ShowsMore u after (offered_events u id (response_for u id m.token response)) = rw same at gives in
+      let told_it : FollowsMore b c (offered_events u id (response_for u id m.token response)) = rw same at tells in
+      record {
+        server = given ∙ ap (λ (r : AskResult). r.server) (sym effect);
+        shows = rw effect (shows_then v u after (Took id (take k left) ∷ []) _ shows gave);
+        tells = rw effect (followed_then a b c (Took id (take k left) ∷ []) _ told told_it);
+        exchanged = rw effect (rw handed at asked);
+      }
+
+-- ---- later responses
+
+-- The application gave this number of responses, and the server is `now`.
+pub record GivesLater (v : ServerValue) (n : ℕ) (now : ServerValue) (told : List AcceptedCall → Type 0) (asks : List Exchange → Type 0) : Type 0 where
+  pub events : List AcceptedCall
+  pub exchanges : List Exchange
+  pub given : AreGivenLater v n now events exchanges
+  pub shows : ShowsMore v now events
+  pub tells : told events
+  pub exchanged : asks exchanges
+
+pub gives_none : (v : ServerValue) (a : Following) (x : Answering) → GivesLater v 0 v (FollowsMore a a) (AnswersMore x x)
+gives_none v a x = record { events = []; exchanges = []; given = NothingGiven; shows = shows_same v v refl; tells = followed_none a; exchanged = answers_none x }
+
+module _ (v : ServerValue) (n : ℕ) (now after : ServerValue) (a b c : Following) (x y z : Answering) (so : GivesLater v n now (FollowsMore a b) (AnswersMore x y)) where
+  pub gives_more : (o : Option ℕ) → is_none o ≡ false → IsAskedLater now o after (FollowsMore b c) (AnswersMore y z) → GivesLater v (n + 1) after (FollowsMore a c) (AnswersMore x z)
+  gives_more None some one = absurd cc
+  gives_more (Some id) some one =
+      let next : suc n ≡ n + 1 = omega arith in
+      record {
+        events = so.events ++ offered_events now id one.bytes;
+        exchanges = so.exchanges ++ Offered id one.bytes ∷ Given id one.outcome ∷ [];
+        given = rw (← next, one.server) (OneMoreGiven n now so.events so.exchanges id one.bytes one.outcome so.given one.refused one.reply);
+        shows = shows_then v now after so.events _ so.shows one.shows;
+        tells = followed_then a b c so.events _ so.tells one.tells;
+        exchanged = answers_then x y z so.exchanges _ so.exchanged one.exchanged;
+      }
+
+  pub gives_no_more : (most : ℕ) (o : Option ℕ) → n < most → is_none o ≡ true → IsAskedLater now o after (FollowsMore b c) (AnswersMore y z) → AreAskedLater v most false after (FollowsMore a c) (AnswersMore x z)
+  gives_no_more most (Some id) few ends one = absurd cc
+  gives_no_more most None few ends one = record {
+    number = n;
+    events = so.events;
+    exchanges = so.exchanges;
+    given = rw one.0 so.given;
+    within = omega (arith, few);
+    over = sym (ne_eqb n most (λ is. omega (arith, few, is)));
+    shows = rw one.0 so.shows;
+    tells = rw append-nil at (followed_then a b c so.events [] so.tells one.1.0);
+    exchanged = rw append-nil at (answers_then x y z so.exchanges [] so.exchanged one.1.1);
+  }
+
+  pub gives_all : (most : ℕ) → n ≡ most → AreAskedLater v most true now (FollowsMore a b) (AnswersMore x y)
+  gives_all most all = record {
+    number = n;
+    events = so.events;
+    exchanges = so.exchanges;
+    given = so.given;
+    within = omega (arith, all);
+    over = sym (eq-eqb n most all);
+    shows = so.shows;
+    tells = so.tells;
+    exchanged = so.exchanged;
+  }

@@ -1,0 +1,83 @@
+//! The interface through which a program answers the requests that its server hands to it.
+
+ghost use Rattle.std.specs.Prelude.{◌≡◌, ℕ, List, [], ◌∷◌, Option, Some, None, IfNone};
+ghost use Rattle.coap_server_engine.specs.Prelude.{Exchange, Asked, Offered, Given, Gone, AnswersMore, offers};
+
+use coap_conn::Reply;
+use coap_io::Wait;
+use coap_model::{ConnId, ResponseFault};
+use coap_wire::MessageRef;
+
+/// Program that answers requests: those of the entries in `Applications` with which the server was created.
+///
+/// The server calls it during a run. Contracts see the exchanges: the requests that it was shown, its responses and their
+/// results, in order. `NoApplication` answers nothing, for servers that hand over no request.
+pub trait Application {
+    /// States what the application made of the exchanges so far, in order. By default nothing is stated.
+    ghost follows: { Self → List Exchange → Type 0 } = { λ _ _. Unit {0} };
+
+    /// States that the application has no later response now. By default nothing is stated.
+    ghost idle: { Self → Type 0 } = { λ _. Unit {0} };
+
+    /// Receives a request of a connection. It may write a response at once, as one encoded message with the token of the
+    /// request, to `response`, which is empty. If it writes nothing, it responds later, through `next_response`. A
+    /// response of more than `limit` bytes is reduced to its code and token: no larger message may be sent on the connection.
+    ///
+    /// If the server does not accept the response (`Server::respond`), it sends 5.00 (Internal Server Error).
+    fn request(
+        &mut self,
+        from: ConnId,
+        request: &MessageRef<'_>,
+        limit: usize,
+        response: &mut Vec<u8>,
+    )
+        requires { response.old.items ≡ [] }
+        ensures { AnswersMore (follows self.old) (follows self.new) (Asked from request.now limit response.new.items ∷ []) };
+
+    /// Writes the next later response to `response`, which is empty, as one encoded message, and returns the connection of
+    /// its request. Returns `None` if there is no response now.
+    fn next_response(&mut self, response: &mut Vec<u8>) -> Option<ConnId>
+        requires { response.old.items ≡ [] }
+        ensures offered { AnswersMore (follows self.old) (follows self.new) (offers result response.new.items) }
+        ensures none { IfNone result (idle self.new) };
+
+    /// Receives the result of the response that `next_response` returned last, for that connection. After `NoRoom`, it may
+    /// return the response again in a later turn.
+    fn responded(&mut self, to: ConnId, outcome: Result<Reply, ResponseFault>)
+        ensures { AnswersMore (follows self.old) (follows self.new) (Given to outcome ∷ []) };
+
+    /// Returns the longest wait that delays no response, at the time `now`, in seconds. By default there is no limit.
+    fn wait(&self, _now: u64) -> Wait {
+        Wait::Forever
+    }
+
+    /// Receives the end of a connection. No response is accepted for it from now on.
+    fn gone(&mut self, from: ConnId)
+        ensures { AnswersMore (follows self.old) (follows self.new) (Gone from ∷ []) };
+}
+
+/// Application that answers nothing. A request that is handed to it gets 5.04 (Gateway Timeout) at its deadline.
+#[derive(Clone, Copy)]
+pub struct NoApplication;
+
+impl Application for NoApplication {
+    #[tactic(auto, unfolding(crate::specs::values::Exchanges::AnswersMore))]
+    fn request(
+        &mut self,
+        _from: ConnId,
+        _request: &MessageRef<'_>,
+        _limit: usize,
+        _response: &mut Vec<u8>,
+    ) {}
+
+    #[tactic(auto, unfolding(crate::specs::values::Exchanges::AnswersMore))]
+    fn next_response(&mut self, _response: &mut Vec<u8>) -> Option<ConnId> {
+        None
+    }
+
+    #[tactic(auto, unfolding(crate::specs::values::Exchanges::AnswersMore))]
+    fn responded(&mut self, _to: ConnId, _outcome: Result<Reply, ResponseFault>) {}
+
+    #[tactic(auto, unfolding(crate::specs::values::Exchanges::AnswersMore))]
+    fn gone(&mut self, _from: ConnId) {}
+}

@@ -1,0 +1,422 @@
+//! The requests that a server hands to its application, and the responses of the application.
+
+ghost use Rattle.std.specs.Prelude.{◌≡◌, [], option_map, option_and_then, option_copied};
+ghost use Rattle.coap_server_engine.specs.Prelude.{frame_message, AnswersMore, asks_for, failure_with};
+ghost use Rattle.coap_server_engine.specs.Prelude.{spelling};
+
+use super::Server;
+use super::sessions::{find, settle_after, what_was_handled};
+use crate::application::Application;
+use crate::monitor::{Call, Monitor};
+use crate::taken_request::{TakenRequest, frame_of};
+use arrayvec::ArrayVec;
+use coap_conn::Reply;
+use coap_model::{ConnId, Handled, ResponseFault, TakeFault, Taken};
+use coap_wire::{Code, MessageBuilder, Token};
+use std::alloc::AllocError;
+
+/// Number of later responses for which `answer_later` asks the application at most.
+pub const MOST_LATER_RESPONSES: usize = 256;
+
+/// Number of bytes of the longest token.
+const LONGEST_TOKEN: usize = 64;
+
+/// Number of bytes of the longest message that has a token and no options or payload.
+const LONGEST_FAILURE: usize = 67;
+
+impl Server {
+    ghost use Rattle.std.specs.Prelude.{◌≡◌, ◌+◌, ◌≤◌, ◌++◌, ◌∷◌, ⊤, List, [], Result, Option, Some, None};
+    ghost use Rattle.std.specs.Prelude.{length, take, true, false, IfOk, IfErr, IfNone, OnOk, OnErr};
+    ghost use Rattle.std.specs.Prelude.{option_copied, option_and_then, option_map, ℕ};
+    ghost use Rattle.coap_server_engine.specs.Prelude.{sem, follows_so, none, ShowsMore, session_of, is_there};
+    ghost use Rattle.coap_server_engine.specs.Prelude.{count_taken, server_taken, handled_by, IsNotTaken};
+    ghost use Rattle.coap_server_engine.specs.Prelude.{LiesAt, frame_message, AcceptedCall, Took, takes};
+    ghost use Rattle.coap_server_engine.specs.Prelude.{handled_in, Shows, request_in, ShowsRefused};
+    ghost use Rattle.coap_server_engine.specs.Prelude.{IsRefusedFor, FollowsMore, handed_frame, handed_by};
+    ghost use Rattle.coap_server_engine.specs.Prelude.{AnswersMore, IsServed, IsPartlyServed, IsAskedLater};
+    ghost use Rattle.coap_server_engine.specs.Prelude.{AreAskedLater, IsTakenRequest, server_offered};
+    ghost use Rattle.coap_server_engine.specs.Prelude.{offered_events, response_for, RefusedBy};
+    ghost use Rattle.coap_server_engine.specs.Prelude.{responded_refusal, IsReplyOn, IsTakenFor, IsNotTakenFor};
+    ghost use Rattle.coap_server_engine.specs.Prelude.{asks_for, message_limit};
+    ghost use Rattle.coap_server_engine.specs.contracts.server.Server.{the_row};
+
+    /// Accepts bytes as `take` does, and lends the request that it handed to the application, if the accepted bytes end with
+    /// one.
+    ///
+    /// The application answers requests of the entries in `Applications`. The server itself answers with 4.02 for an
+    /// unrecognised critical option, 5.05 for proxying, or 5.03 if the list of pending entries is full. No request is lent
+    /// then, nor if the connection stops in the same call.
+    ///
+    /// # Errors
+    ///
+    /// Those of `take`.
+    ///
+    /// # Examples
+    ///
+    /// ```
+    /// // The application answers POST below /rd, within 10 seconds.
+    /// let mut applications = Applications::new(rt.alloc(), 10)?;
+    /// let directory = PathKey::from_segments(&[b"rd"]).ok_or("no path")?;
+    /// applications.add(&directory, &[Code::POST], b"")?;
+    /// let config = Config::builder().build()?;
+    /// let mut server = Server::with_applications(rt.alloc(), config, applications)?;
+    /// let id = server.open()?;
+    /// // The client's CSM, and POST /rd with the token 2a. The request waits for the application.
+    /// let input = b"\x00\xe1\x31\x02\x2a\xb2rd".as_slice();
+    /// let csm = server.take(id, input)?;
+    /// let post = server.take_request(id, &input[csm.bytes..])?;
+    /// assert!(&rt; csm.bytes == 2 && post.taken.bytes == 6);
+    /// assert!(&rt; post.frame == Some(b"\x31\x02\x2a\xb2rd".as_slice()));
+    /// // The application responds with 2.01 and the same token.
+    /// server.respond(id, b"\x01\x41\x2a")?;
+    /// ```
+    pub fn take_request<'a>(
+        &'a mut self,
+        id: ConnId,
+        piece: &'a [u8],
+    ) -> Result<TakenRequest<'a>, TakeFault>
+        ensures* after { sem 𝓛 (follows_so the_row the_row self.entry.ghost_name none (λ _ _. ⊤)
+            (IsTakenRequest self.old id piece.now result)) }
+        ensures within { IfOk result (λ t. t.taken.bytes ≤ length piece.now) }
+        ensures count { IfOk result (λ t. t.taken.bytes ≡ count_taken self.old id piece.now) }
+        ensures takes { IfOk result (λ t. (events : List AcceptedCall) → Shows self.old events →
+            t.taken.bytes ≡ takes self.old.config events id piece.now) }
+        ensures handled { IfOk result (λ t. t.taken.handled ≡ handled_by self.old id piece.now) }
+        ensures says { IfOk result (λ t. (events : List AcceptedCall) → Shows self.old events →
+            t.taken.handled ≡ handled_in self.old.config events (Took id (take t.taken.bytes piece.now)) id) }
+        ensures there { OnOk result (is_there (session_of id self.old.sessions) ≡ true) }
+        ensures frame { IfOk result (λ t. option_copied t.frame ≡ handed_frame self.old id piece.now) }
+        ensures request { IfOk result (λ t. (events : List AcceptedCall) → Shows self.old events →
+            option_and_then frame_message (option_copied t.frame)
+            ≡ request_in self.old.config events (Took id (take t.taken.bytes piece.now)) id) }
+        ensures refused_for { IfErr result (λ fault.
+            (events : List AcceptedCall) → Shows self.old events → IsRefusedFor self.old.config events id piece.now fault) }
+    {
+        let Some(at) = find(&self.sessions, id) else {
+            return Err(TakeFault::NoSuch);
+        };
+        self.take_request_at(at, id, piece)
+    }
+
+    /// Accepts bytes as `take_request` does, on the connection at an index. `_id` is its id.
+    ///
+    /// # Errors
+    ///
+    /// - `Memory`: as for `take`.
+    ///
+    /// # Preconditions
+    ///
+    /// The connection with the id is at the index, as `index_of` returned it.
+    pub fn take_request_at<'a>(
+        &'a mut self,
+        at: usize,
+        _id: ConnId,
+        piece: &'a [u8],
+    ) -> Result<TakenRequest<'a>, TakeFault>
+        requires { LiesAt _id at self.old.sessions }
+        ensures* after { sem 𝓛 (follows_so the_row the_row self.entry.ghost_name none (λ _ _. ⊤)
+            (IsTakenRequest self.old _id piece.now result)) }
+        ensures within { IfOk result (λ t. t.taken.bytes ≤ length piece.now) }
+        ensures count { IfOk result (λ t. t.taken.bytes ≡ count_taken self.old _id piece.now) }
+        ensures takes { IfOk result (λ t. (events : List AcceptedCall) → Shows self.old events →
+            t.taken.bytes ≡ takes self.old.config events _id piece.now) }
+        ensures handled { IfOk result (λ t. t.taken.handled ≡ handled_by self.old _id piece.now) }
+        ensures says { IfOk result (λ t. (events : List AcceptedCall) → Shows self.old events →
+            t.taken.handled ≡ handled_in self.old.config events (Took _id (take t.taken.bytes piece.now)) _id) }
+        ensures there { OnOk result (is_there (session_of _id self.old.sessions) ≡ true) }
+        ensures frame { IfOk result (λ t. option_copied t.frame ≡ handed_frame self.old _id piece.now) }
+        ensures request { IfOk result (λ t. (events : List AcceptedCall) → Shows self.old events →
+            option_and_then frame_message (option_copied t.frame)
+            ≡ request_in self.old.config events (Took _id (take t.taken.bytes piece.now)) _id) }
+        ensures refused_for { IfErr result (λ fault.
+            (events : List AcceptedCall) → Shows self.old events → IsRefusedFor self.old.config events _id piece.now fault) }
+    {
+        let takes = self.sessions[at].takes();
+        match self.sessions[at].take(&mut self.host, piece) {
+            Err(bytes) => Err(TakeFault::Memory { bytes }),
+            Ok(taking) => {
+                settle_after(taking.changed, &mut self.sessions, at, &self.host);
+                let session = &self.sessions[at];
+                let stop = session.phase().stop();
+                let taken = Taken {
+                    bytes: taking.count,
+                    handled: what_was_handled(takes, taking.handled, stop),
+                };
+                if taking.handed && stop.is_none() {
+                    let frame = frame_of(session.split_frame(), &piece[..taking.count]);
+                    return Ok(TakenRequest {
+                        taken,
+                        frame: Some(frame),
+                    });
+                }
+                Ok(TakenRequest { taken, frame: None })
+            }
+        }
+    }
+
+    /// Returns the size in bytes of the largest message that may be sent on the connection at an index. `_id` is its id.
+    #[tactic(auto, using(crate::proofs::values::ServerLemmas::unmarked_at, crate::proofs::values::ServerLemmas::within_unmarked), unfolding(crate::specs::values::ApplicationCalls::message_limit))]
+    fn message_limit(&self, at: usize, _id: ConnId) -> usize
+        requires { LiesAt _id at self.now.sessions }
+        ensures { result ≡ message_limit self.now _id }
+    {
+        let most = self.config.limits().max_sent();
+        most.min(self.sessions[at].peer_max() as usize)
+    }
+
+    /// Accepts bytes as `take_request_at` does, and shows the request that is handed over to the application. Returns the
+    /// token of that request. `response` is empty before, and has the response of the application afterwards.
+    fn take_and_ask<A: Application>(
+        &mut self,
+        at: usize,
+        id: ConnId,
+        rest: &[u8],
+        application: &mut A,
+        limit: usize,
+        response: &mut Vec<u8>,
+    ) -> Result<(Taken, Option<Token>), TakeFault>
+        requires lies { LiesAt id at self.old.sessions }
+        requires empty { response.old.items ≡ [] }
+        ensures within { IfOk result (λ t. t.0.bytes ≤ length rest.now) }
+        ensures count { IfOk result (λ t. t.0.bytes ≡ count_taken self.old id rest.now) }
+        ensures there { OnOk result (is_there (session_of id self.old.sessions) ≡ true) }
+        ensures ok { OnOk result (self.new ≡ server_taken self.old id rest.now) }
+        ensures shows { IfOk result (λ t. (events : List AcceptedCall) → Shows self.old events →
+            Shows self.new (events ++ Took id (take t.0.bytes rest.now) ∷ [])) }
+        ensures token { IfOk result (λ t. option_map (λ token. token.items) t.1
+            ≡ option_map (λ m. m.token) (handed_by self.old id rest.now)) }
+        ensures asked { OnOk result (AnswersMore (A.follows application.old) (A.follows application.new)
+            (asks_for id limit response.new.items (handed_by self.old id rest.now))) }
+        ensures refused { IfErr result (λ fault. IsNotTaken self.old id rest.now fault self.new) }
+        ensures shows_refused { IfErr result (λ fault. (events : List AcceptedCall) → Shows self.old events →
+            ShowsRefused events id rest.now fault self.new) }
+        ensures silent { OnErr result (application.new ≡ application.old) }
+    {
+        let taken = self.take_request_at(at, id, rest)?;
+        let token = ask(&taken, id, application, limit, response);
+        Ok((taken.taken, token))
+    }
+
+    /// Gives a response as `respond` does. If the server accepts it, the monitor receives `Call::Responded`.
+    ///
+    /// # Errors
+    ///
+    /// Those of `respond`. Nothing has changed then.
+    fn offer<W, M: Monitor<W>>(
+        &mut self,
+        id: ConnId,
+        response: &[u8],
+        monitor: &mut M,
+    ) -> Result<Reply, ResponseFault>
+        ensures answer { RefusedBy result (responded_refusal self.old id response.now) }
+        ensures reply { IfOk result (λ r. IsReplyOn response.now r (session_of id self.old.sessions)) }
+        ensures after { self.new ≡ server_offered self.old id response.now }
+        ensures shows { ShowsMore self.old self.new (offered_events self.old id response.now) }
+        ensures told { FollowsMore (M.follows monitor.old) (M.follows monitor.new)
+            (offered_events self.old id response.now) }
+    {
+        let reply = self.respond(id, response)?;
+        monitor.accepted(Call::Responded(id, response), self);
+        Ok(reply)
+    }
+
+    /// Gives the response that the application wrote at once, or 5.00 if the server does not accept it. If the application
+    /// wrote no byte, nothing is given.
+    fn give_at_once<W, M: Monitor<W>>(
+        &mut self,
+        id: ConnId,
+        token: &Token,
+        response: &[u8],
+        monitor: &mut M,
+    )
+        ensures after { self.new
+            ≡ server_offered self.old id (response_for self.old id token.now.items response.now) }
+        ensures shows { ShowsMore self.old self.new
+            (offered_events self.old id (response_for self.old id token.now.items response.now)) }
+        ensures told { FollowsMore (M.follows monitor.old) (M.follows monitor.new)
+            (offered_events self.old id (response_for self.old id token.now.items response.now)) }
+        ensures lies { (at : ℕ) → LiesAt id at self.old.sessions → LiesAt id at self.new.sessions }
+    {
+        if response.is_empty() {
+            return;
+        }
+        if self.offer::<W, M>(id, response, monitor).is_ok() {
+            return;
+        }
+        let failure = failure_frame(token);
+        let _ = self.offer::<W, M>(id, failure.as_slice(), monitor);
+    }
+
+    /// Accepts bytes once, of the remaining bytes `rest`, and shows the request that is handed over to the application.
+    /// Gives its response, and returns the number of bytes accepted.
+    ///
+    /// # Errors
+    ///
+    /// Returns `AllocError` if allocation fails in the take.
+    fn take_for<W, M: Monitor<W>, A: Application>(
+        &mut self,
+        at: usize,
+        id: ConnId,
+        rest: &[u8],
+        application: &mut A,
+        response: &mut Vec<u8>,
+        monitor: &mut M,
+    ) -> Result<usize, AllocError>
+        requires { LiesAt id at self.old.sessions }
+        ensures within { IfOk result (λ n. n ≤ length rest.now) }
+        ensures count { IfOk result (λ n. n ≡ count_taken self.old id rest.now) }
+        ensures there { OnOk result (is_there (session_of id self.old.sessions) ≡ true) }
+        ensures ok { IfOk result (λ n. IsTakenFor self.old id rest.now response.new.items n self.new
+            (FollowsMore (M.follows monitor.old) (M.follows monitor.new))
+            (AnswersMore (A.follows application.old) (A.follows application.new))) }
+        ensures lies { OnOk result (LiesAt id at self.new.sessions) }
+        ensures err { OnErr result (IsNotTakenFor self.old id rest.now self.new
+            (FollowsMore (M.follows monitor.old) (M.follows monitor.new))) }
+        ensures silent { OnErr result (application.new ≡ application.old) }
+    {
+        response.clear();
+        let limit = self.message_limit(at, id);
+        match self.take_and_ask(at, id, rest, application, limit, response) {
+            Ok((taken, token)) => {
+                let took = Call::Took {
+                    id,
+                    bytes: &rest[..taken.bytes],
+                    handled: taken.handled,
+                };
+                monitor.accepted(took, self);
+                if let Some(token) = token {
+                    self.give_at_once::<W, M>(id, &token, response, monitor);
+                }
+                Ok(taken.bytes)
+            }
+            Err(TakeFault::NoSuch) => unreachable!(),
+            Err(TakeFault::Memory { bytes }) => {
+                let took = Call::Took {
+                    id,
+                    bytes: &rest[..bytes],
+                    handled: Handled::Nothing,
+                };
+                monitor.accepted(took, self);
+                Err(AllocError)
+            }
+        }
+    }
+
+    /// Accepts bytes as `take_all_with` does, and shows each request that is handed over to the application. A response
+    /// that the application writes at once is given as `respond` gives it, directly after the take.
+    ///
+    /// If the server does not accept the response, it sends 5.00 (Internal Server Error) with the token of the request. The
+    /// monitor receives `Call::Responded` after `Call::Took`. `response` is the buffer for the responses: it is cleared, and
+    /// no memory is allocated beyond what the application allocates.
+    ///
+    /// # Errors
+    ///
+    /// Returns `AllocError` if allocation fails. The messages before the failure were processed then.
+    pub fn take_all_for<W, M: Monitor<W>, A: Application>(
+        &mut self,
+        id: ConnId,
+        bytes: &[u8],
+        application: &mut A,
+        response: &mut Vec<u8>,
+        monitor: &mut M,
+    ) -> Result<usize, AllocError>
+        ensures within { IfOk result (λ n. n ≤ length bytes.now) }
+        ensures served { IfOk result (λ n. IsServed self.old id bytes.now n self.new
+            (FollowsMore (M.follows monitor.old) (M.follows monitor.new))
+            (AnswersMore (A.follows application.old) (A.follows application.new))) }
+        ensures partly { OnErr result (IsPartlyServed self.old id bytes.now self.new
+            (FollowsMore (M.follows monitor.old) (M.follows monitor.new))
+            (AnswersMore (A.follows application.old) (A.follows application.new))) }
+    {
+        let Some(at) = find(&self.sessions, id) else {
+            return Ok(0);
+        };
+        let mut taken = 0;
+        while taken < bytes.len() {
+            let rest = &bytes[taken..];
+            let count = self.take_for::<W, M, A>(at, id, rest, application, response, monitor)?;
+            if count == 0 {
+                return Ok(taken);
+            }
+            taken += count;
+        }
+        Ok(taken)
+    }
+
+    /// Asks the application for one later response, and gives it as `respond` does. Returns the connection of the response,
+    /// or `None` if the application has none now.
+    ///
+    /// The application receives the result. If the server accepted the response, the monitor receives `Call::Responded`.
+    /// `response` is the buffer for the response, and is cleared.
+    pub fn answer_next<W, M: Monitor<W>, A: Application>(
+        &mut self,
+        application: &mut A,
+        response: &mut Vec<u8>,
+        monitor: &mut M,
+    ) -> Option<ConnId>
+        ensures asked { IsAskedLater self.old result self.new
+            (FollowsMore (M.follows monitor.old) (M.follows monitor.new))
+            (AnswersMore (A.follows application.old) (A.follows application.new)) }
+        ensures none { IfNone result (A.idle application.new) }
+    {
+        response.clear();
+        let id = application.next_response(response)?;
+        let outcome = self.offer::<W, M>(id, response, monitor);
+        application.responded(id, outcome);
+        Some(id)
+    }
+
+    /// Asks the application for later responses as `answer_next` does, until it has none or has given 256 of them. Returns
+    /// `true` in the second case: the application may have more.
+    pub fn answer_later<W, M: Monitor<W>, A: Application>(
+        &mut self,
+        application: &mut A,
+        response: &mut Vec<u8>,
+        monitor: &mut M,
+    ) -> bool
+        ensures asked { AreAskedLater self.old 256 result self.new
+            (FollowsMore (M.follows monitor.old) (M.follows monitor.new))
+            (AnswersMore (A.follows application.old) (A.follows application.new)) }
+        ensures none { result ≡ false → A.idle application.new }
+    {
+        for _ in 0..MOST_LATER_RESPONSES {
+            if self
+                .answer_next::<W, M, A>(application, response, monitor)
+                .is_none()
+            {
+                return false;
+            }
+        }
+        true
+    }
+}
+
+/// Shows the request that a take handed over to the application, if there is one, and returns its token.
+fn ask<A: Application>(
+    taken: &TakenRequest<'_>,
+    from: ConnId,
+    application: &mut A,
+    limit: usize,
+    response: &mut Vec<u8>,
+) -> Option<Token>
+    requires { response.old.items ≡ [] }
+    ensures token { option_map (λ token. token.items) result
+        ≡ option_map (λ m. m.token) (option_and_then frame_message (option_copied taken.now.frame)) }
+    ensures asked { AnswersMore (A.follows application.old) (A.follows application.new)
+        (asks_for from limit response.new.items (option_and_then frame_message (option_copied taken.now.frame))) }
+{
+    let request = taken.request()?;
+    application.request(from, &request, limit, response);
+    Some(request.token().to_token())
+}
+
+/// Returns the encoded message 5.00 (Internal Server Error) with this token.
+fn failure_frame(token: &Token) -> ArrayVec<u8, LONGEST_FAILURE>
+    ensures { result.items ≡ spelling (failure_with token.now.items) }
+{
+    prove!(token.as_slice().len() <= LONGEST_TOKEN);
+    let mut frame = ArrayVec::new();
+    let failure: MessageBuilder<'_, 0> = MessageBuilder::new(Code::INTERNAL_SERVER_ERROR, token);
+    failure.write(&mut frame);
+    frame
+}
