@@ -6,7 +6,8 @@ use Rattle.coap_io.proofs.streams.DeviceLemmas.{bytes_none, bytes_then}
 use Rattle.coap_io.proofs.streams.WriteLemmas.{part_before, part_after}
 use Rattle.coap_record.specs.Prelude.{encode_with, encode_lower, lower_digits, append_known, concat, AddsBytes, WritesPart}
 use Rattle.coap_record.specs.Prelude.{WritesText, WritesUpTo, QueueValue, room_in, Path, path_word, path_bytes, flat_map, encoded_byte, slash, took_line}
-use Rattle.coap_record.specs.Prelude.{stored_line, format_word, bytes_text}
+use Rattle.coap_record.specs.Prelude.{stored_line, format_word, bytes_text, respond_line, spelling}
+use Rattle.coap_wire.specs.Message.{Message}
 
 pub nothing_yet : (text : List ℕ) (x : Option (List ℕ)) → WritesUpTo text text x x
 nothing_yet text x = record { front = []; all = refl; written = bytes_none x }
@@ -156,3 +157,18 @@ part_fits whole part waiting count same front within = omega (arith, ap length f
 -- The memory of a queue stays when its first bytes are removed.
 pub room_stays : (before after : QueueValue) (count : ℕ) → after ≡ record before { waiting = drop count before.waiting } → count ≤ length before.waiting → length before.waiting ≤ before.bytes → room_in after ≡ room_in before
 room_stays before after count is within fits = rw is (omega (arith, length-drop count before.waiting, within, fits))
+
+pub responded_parts : (id : ℕ) (bytes : List ℕ) → respond_line id bytes ≡ ((codes "respond " ++ (decimal id ++ codes " ")) ++ encode_lower bytes) ++ codes "\n"
+responded_parts id bytes = simp append_assoc refl
+
+-- ---- an encoded response
+
+-- The encoding of a message has a byte.
+pub some_encoded : (m : Message) (bytes : List ℕ) → bytes ≡ spelling m → 1 ≤ length bytes
+unfolding spelling
+some_encoded m bytes is = rw is (omega arith)
+
+-- The encoding of the empty message.
+pub none_encoded : 0 ∷ 0 ∷ [] ≡ spelling (record { code = 0; token = []; options = []; payload = [] })
+unfolding spelling
+none_encoded = refl

@@ -1,9 +1,12 @@
 //! Writes the line of a call to an outlet.
 
-ghost use Rattle.std.specs.Prelude.{◌≡◌, ◌<◌, ◌^◌, ◌+◌, length, false, is_err};
+ghost use Rattle.std.specs.Prelude.{◌≡◌, ◌<◌, ◌^◌, ◌+◌, ◌≤◌, length, false, is_err};
 ghost use Rattle.coap_model.specs.world.Events.{Opened};
 ghost use Rattle.coap_record.specs.Prelude.{line_of, took_line, drain_line, stored_line, removed_line, announced_line};
-ghost use Rattle.coap_record.specs.Prelude.{tick_line, word_line, format_word, call_value, WritesText};
+ghost use Rattle.coap_record.specs.Prelude.{tick_line, word_line, format_word, call_value, WritesText, respond_line};
+ghost use Rattle.coap_record.specs.Prelude.{spelling};
+ghost use Rattle.coap_wire.specs.Reading.{message_of};
+ghost use Rattle.coap_server_engine.specs.values.Calls.{response_in};
 
 use crate::pieces::{write_hex, write_path, write_payload, write_pieces};
 use arrayvec::ArrayVec;
@@ -13,6 +16,7 @@ use coap_script::{tick_line, word_line};
 use coap_server_engine::Call;
 use coap_store::PathKey;
 use coap_text::decimal_digits;
+use coap_wire::parse;
 
 /// Writes the line `in ID HEX`, or nothing if there are no bytes.
 ///
@@ -104,6 +108,38 @@ fn write_removed<O: Outlet>(outlet: &mut O, path: &PathKey) -> Result<(), WriteF
     write_all(outlet, b"\n")
 }
 
+/// Writes the line `respond ID HEX`.
+///
+/// # Errors
+///
+/// - `WriteFailed`: a write failed. Only a prefix of the line was written.
+fn write_responded<O: Outlet>(
+    outlet: &mut O,
+    id: ConnId,
+    response: &[u8],
+) -> Result<(), WriteFailed>
+    requires { O.is_failed outlet.old ≡ false }
+    ensures text { WritesText (O.written outlet.old) (O.written outlet.new) (respond_line id response.now) result }
+    ensures failure { O.is_failed outlet.new ≡ is_err result }
+{
+    let id = decimal_digits(id);
+    write_pieces(outlet, &[b"respond ", id.as_slice(), b" "])?;
+    write_hex(outlet, response)?;
+    write_all(outlet, b"\n")
+}
+
+/// Returns the encoded response of a call: these bytes, or the empty message if they encode no message. (No server accepts
+/// such bytes.)
+pub(crate) fn response_of(response: &[u8]) -> &[u8]
+    ensures encoded { result.now ≡ spelling (response_in (message_of response.now)) }
+    ensures some { 1 ≤ length result.now }
+{
+    match parse(response) {
+        Ok(_) => response,
+        Err(_) => b"\0\0",
+    }
+}
+
 /// Writes the comment `# announced ID SIZE`, since no event of a script announces a message size.
 ///
 /// # Errors
@@ -169,6 +205,7 @@ pub fn write_call<O: Outlet>(outlet: &mut O, call: &Call<'_>) -> Result<(), Writ
         Call::Removed(path) => write_removed(outlet, path),
         Call::Ended(id) => write_all(outlet, word_line("end", *id).as_slice()),
         Call::Released(id) => write_all(outlet, word_line("release", *id).as_slice()),
+        Call::Responded(id, response) => write_responded(outlet, *id, response_of(response)),
         Call::Announced(id, size) => write_announced(outlet, *id, *size),
         Call::Dropped(id) => write_all(outlet, word_line("drop", *id).as_slice()),
     }

@@ -2,6 +2,7 @@
 
 ghost use Rattle.coap_record.specs.Prelude.{IsNumber, AreBytes, IsPathOfBytes, IsFormat, IsInRange, call_value};
 
+use crate::lines::response_of;
 use coap_server_engine::Call;
 use coap_store::PathKey;
 
@@ -58,6 +59,10 @@ pub fn read_range(call: &Call<'_>)
         Call::Removed(path) => read_path(path),
         Call::Ended(id) => read_number(*id),
         Call::Released(id) => read_number(*id),
+        Call::Responded(id, response) => {
+            read_number(*id);
+            read_bytes(response_of(response));
+        }
         Call::Announced(id, size) => {
             read_number(*id);
             read_number(u64::from(*size));

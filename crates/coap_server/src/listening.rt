@@ -17,8 +17,8 @@ use coap_serve::{
     Clock, Config, IoFault, Monitor, NoMonitor, Outlet, SilenceWatch, Starts, serve_door_timed,
     serve_door_with,
 };
-use coap_server_common::config_of;
-use coap_sockets::{ListenError, ListenFault, RunClock, SocketDoor, SocketWire, SystemClock};
+use coap_server_common::{config_of, print_listen_fault};
+use coap_sockets::{RunClock, SocketDoor, SocketWire, SystemClock};
 use std::alloc::AllocError;
 use std::net::{Net, SocketAddr};
 use std::rt::Files;
@@ -34,39 +34,6 @@ fn config_now<C: Clock>(clock: &mut C, plan: &ServerPlan) -> Option<Config>
         ((moment : ℕ) → is_some (config_refusal (planned plan.now (starts_of moment))) ≡ true) }
 {
     config_of(plan, Starts::at(clock.now()))
-}
-
-/// Reports that the program cannot listen at an address, with the reason and a remedy, and returns the exit status.
-fn print_listen_fault(rt: &impl Eprint, fault: ListenFault, address: SocketAddr) -> u8
-    ensures { result ≡ 3 }
-{
-    let status = PROGRAM.print_fault(rt, fault, FAULT);
-    let ListenFault::Socket(error) = fault else {
-        return status;
-    };
-    let (ip, port) = (address.ip(), address.port());
-    match error {
-        ListenError::InUse => PROGRAM.print_fault(
-            rt,
-            format_args!("address {ip} port {port} is already in use; choose another port with -p"),
-            status,
-        ),
-        ListenError::Denied if port < 1_024 => PROGRAM.print_fault(
-            rt,
-            format_args!("permission denied for port {port}; choose a port from 1024 on with -p"),
-            status,
-        ),
-        ListenError::NotAvailable => PROGRAM.print_fault(
-            rt,
-            format_args!("address {ip} is not an address of this machine; choose another with -A"),
-            status,
-        ),
-        _ => PROGRAM.print_fault(
-            rt,
-            format_args!("address {ip} port {port}: {error}"),
-            status,
-        ),
-    }
 }
 
 /// Listens at an address, writes one line that says so to standard error, and serves the connections that clients open.
@@ -90,7 +57,7 @@ pub(crate) fn run(
     };
     let mut door = match SocketDoor::listen(rt, rt.alloc(), address, config.connections()) {
         Ok(door) => door,
-        Err(fault) => return print_listen_fault(rt, fault, address),
+        Err(fault) => return print_listen_fault(rt, &PROGRAM, fault, address),
     };
     let _ = eprintln!(rt;
         "coap-server: listening on {}",

@@ -1,6 +1,7 @@
-//! The parts that the programs `coap-server` and `coap-explain` share.
+//! The parts that the programs `coap-server`, `coap-explain` and `coap-directory` share.
 //!
 //! - `config_of` and `config_in` return the configuration of the server for a plan of the command line.
+//! - `print_listen_fault` reports that a program cannot listen.
 //! - `text_of` returns the reason for which a connection stopped, in words.
 //!
 //! The contracts name the definitions of `specs/Planned.antt` and `specs/Reasons.antt`. `specs/RecordHeaders.antt` defines
@@ -9,8 +10,10 @@
 //! `coap_program` has the parts that `coap-client` uses too. Continue with `planned.rt`.
 #![tactic(auto)]
 
+mod listening;
 mod planned;
 mod reasons;
 
+pub use listening::print_listen_fault;
 pub use planned::{config_in, config_of};
 pub use reasons::text_of;

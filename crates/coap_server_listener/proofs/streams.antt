@@ -12,3 +12,5 @@ pub mod DoorLemmas
 pub mod TimedLemmas
 pub mod IndexSetLemmas
 pub mod SleepLemmas
+pub mod LaterLemmas
+pub mod ApplicationRunLemmas

@@ -73,17 +73,18 @@ pub use Rattle.coap_server_listener.specs.streams.Silence.{silence_action, quiet
 pub use Rattle.coap_server_listener.specs.streams.Silence.{changed_by, changed_from, moved_by, Sweep, swept_one, swept_both, acted}
 pub use Rattle.coap_server_listener.specs.streams.Silence.{HasSwept, HasSweptAt, drop_one, release_one}
 unfoldable pub use Rattle.coap_server_listener.specs.streams.Silence.{swept}
+pub use Rattle.coap_server_listener.specs.streams.ApplicationRun.{AreRunSteps, HasRun, HasMadeTurns, IsCutRunFor, IsCutTurn, IsRunFor, IsTurnFor, limit_for, wait_within}
 pub use Rattle.coap_server_listener.specs.streams.TimedRun.{short_wait, AreEnded, HasEnded, is_sweep_due, IsTimedRun, TimedEndsWith}
 pub use Rattle.coap_server_listener.specs.streams.TimedRun.{HasTimedTurns, IsCutTimedRun, IsWholeTimedRun, NoneSoFar, OneSoFar}
 pub use Rattle.coap_server_listener.specs.streams.RecordedInterests.{true_end, recorded, recorded_on, AreNoted, IsNoEarlier, KeepsNotes}
-pub use Rattle.coap_server_listener.specs.streams.RecordedInterests.{WhilePassedOver, AtFirst}
+pub use Rattle.coap_server_listener.specs.streams.RecordedInterests.{WhilePassedOver, AtFirst, Follows, GoesOnSparing, But, AreRecorded, unrecorded}
 pub use Rattle.coap_server_listener.specs.streams.RecordedInterests.{IsNoted, Served}
-pub use Rattle.coap_server_listener.specs.streams.Serving.{HasServed, HasTurned, IsAskedOnce, IsTurnOf, HasGoneOn, AreServed}
+pub use Rattle.coap_server_listener.specs.streams.Serving.{HasTurned, IsAskedOnce, IsTurnOf, IsTurnBy, HasGoneOn, AreServed}
 pub use Rattle.coap_server_listener.specs.streams.Serving.{asked_by, HadItsPart, HasOneMore, IsOpening, IsRound, IsServing}
-pub use Rattle.coap_server_listener.specs.streams.Serving.{NoMore, PassedOver, opening, Unrecorded}
+pub use Rattle.coap_server_listener.specs.streams.Serving.{HasServedBy, HasTurnedBy, HasOpened, TakingSteps, AreTakenAlone, AreTakenWith, NoneTaken, AreStepsBy, opened_if, NoMore, PassedOver, opening, Unrecorded}
 pub use Rattle.coap_server_listener.specs.streams.Sleepers.{AreAsleep, IsOutside, MaySleep, bit_of, is_known_ready, known}
 pub use Rattle.coap_server_listener.specs.streams.Turns.{end_of, agenda_past, IsIdle, IsInTurn, agenda_with, wait_of}
-pub use Rattle.coap_server_listener.specs.streams.Turns.{IsServedOnce, IsLaidOut, is_heard, server_heard, server_wrote}
+pub use Rattle.coap_server_listener.specs.streams.Turns.{Taking, IsTakenAlone, IsTakenWith, IsTakenInPart, rest_behind, IsServedOnce, IsServedOnceBy, IsLaidOut, is_heard, server_heard, server_wrote}
 pub use Rattle.coap_server_listener.specs.streams.Turns.{waiting_once, rest_left, is_over_in, has_failed, course_of, wants_of}
 pub use Rattle.coap_server_listener.specs.streams.Turns.{IsAsked, CanGoOn, IsRestAnswer, IsServed, IsAgendaOf, IsWaitAfter}
 pub use Rattle.coap_server_listener.specs.streams.Turns.{wants_in, IsNoOp, can_go_on, PeerStatus, IsCarriedOn}
@@ -92,6 +93,9 @@ pub use Rattle.coap_server_listener.specs.streams.Turns.{concerns_earlier, wait_
 -- ---- coap_server_engine and coap_server_session
 pub use Rattle.coap_server_session.specs.values.Deadlines.{sooner}
 pub use Rattle.coap_server_engine.specs.values.InResults.{InResult, IsPartialIn, ShowsMore, ShowsPartlyFed, in_result, fed_more}
+pub use Rattle.coap_server_engine.specs.values.Exchanges.{Answering, Exchange, Gone}
+unfoldable pub use Rattle.coap_server_engine.specs.values.Exchanges.{AnswersMore}
+pub use Rattle.coap_server_engine.specs.values.ApplicationCalls.{AreAskedLater, IsAskedLater}
 pub use Rattle.coap_server_engine.specs.values.Calls.{TellsPartlyFed, call_value, Following}
 unfoldable pub use Rattle.coap_server_engine.specs.values.Calls.{FollowsMore}
 pub use Rattle.coap_server_engine.specs.values.InResults.{took, where_there}

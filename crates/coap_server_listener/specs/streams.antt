@@ -7,3 +7,4 @@ pub mod Serving
 pub mod DoorRun
 pub mod Silence
 pub mod TimedRun
+pub mod ApplicationRun

@@ -5,6 +5,8 @@ ghost use Rattle.coap_server_listener.specs.Prelude.{IsMemoryOrTurns};
 ghost use Rattle.coap_server_listener.specs.Prelude.{AreEnded, HasEnded, IsTimedRun, Unrecorded, is_sweep_due};
 ghost use Rattle.std.specs.Prelude.{◌≡◌, false};
 
+mod application_run;
+mod applications;
 mod awake;
 mod index_set;
 mod next_wakeup;
@@ -14,8 +16,10 @@ mod removal;
 mod service;
 mod silence;
 mod sweep;
+mod taker;
 mod turn;
 
+pub use application_run::serve_door_for;
 use coap_io::{Clock, Door, Ready, Wait, Wire};
 use coap_model::Config;
 use coap_server_engine::{IoFault, Monitor, NoMonitor};

@@ -12,4 +12,6 @@
 mod door;
 pub mod laws;
 
-pub use door::{Service, SilenceWatch, serve_door, serve_door_timed, serve_door_with};
+pub use door::{
+    Service, SilenceWatch, serve_door, serve_door_for, serve_door_timed, serve_door_with,
+};

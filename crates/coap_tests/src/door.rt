@@ -15,6 +15,7 @@
 //! If the first of the times is `passes`, the clock begins at the second word and advances in waits alone. A wait until
 //! a given time ends at that time.
 
+mod answers;
 mod devices;
 mod greatest;
 mod memory;

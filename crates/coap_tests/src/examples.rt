@@ -2,6 +2,7 @@
 //! comment. `quickstart.rt` and `embedding.rt` have the listings of docs/QUICKSTART.md and docs/EMBEDDING.md.
 //! `tests/tools/examples.py` compares them.
 
+mod application;
 mod embedding;
 mod quickstart;
 
@@ -154,6 +155,21 @@ fn answers_a_request(rt: HostRuntime) -> Result<(), Fail> {
 }
 
 #[test]
+fn reads_a_state(rt: HostRuntime) -> Result<(), Fail> {
+    let config = Config::builder().dynamic_max(1).build()?;
+    let mut server = Server::new(rt.alloc(), config)?;
+    let path = PathKey::from_segments(&[b"temperature"]).ok_or("no path")?;
+    let version = server.put(&path, Some(0), b"21.5")?;
+    match server.state(&path) {
+        State::Present(stored) => {
+            assert!(&rt; stored.version() == version && stored.bytes() == b"21.5".as_slice());
+        }
+        State::Absent => assert!(&rt; false),
+    }
+    Ok(())
+}
+
+#[test]
 fn responds_by_application(rt: HostRuntime) -> Result<(), Fail> {
     // The application answers POST below /rd, within 10 seconds.
     let mut applications = Applications::new(rt.alloc(), 10)?;
@@ -171,6 +187,26 @@ fn responds_by_application(rt: HostRuntime) -> Result<(), Fail> {
     server.respond(id, b"\x01\x41\x2a")?;
     let output = server.front(id).unwrap_or(&[]);
     assert!(&rt; output.ends_with(b"\x01\x41\x2a"));
+    Ok(())
+}
+
+#[test]
+fn lends_a_request(rt: HostRuntime) -> Result<(), Fail> {
+    // The application answers POST below /rd, within 10 seconds.
+    let mut applications = Applications::new(rt.alloc(), 10)?;
+    let directory = PathKey::from_segments(&[b"rd"]).ok_or("no path")?;
+    applications.add(&directory, &[Code::POST], b"")?;
+    let config = Config::builder().build()?;
+    let mut server = Server::with_applications(rt.alloc(), config, applications)?;
+    let id = server.open()?;
+    // The client's CSM, and POST /rd with the token 2a. The request waits for the application.
+    let input = b"\x00\xe1\x31\x02\x2a\xb2rd".as_slice();
+    let csm = server.take(id, input)?;
+    let post = server.take_request(id, &input[csm.bytes..])?;
+    assert!(&rt; csm.bytes == 2 && post.taken.bytes == 6);
+    assert!(&rt; post.frame == Some(b"\x31\x02\x2a\xb2rd".as_slice()));
+    // The application responds with 2.01 and the same token.
+    server.respond(id, b"\x01\x41\x2a")?;
     Ok(())
 }
 
@@ -234,5 +270,13 @@ fn sends_a_request(rt: HostRuntime) -> Result<(), Fail> {
     assert!(&rt; token.as_slice() == b"\x01".as_slice());
     // The client's CSM, and the request.
     assert!(&rt; client.front().ends_with(b"\x51\x01\x01\xb4time"));
+    Ok(())
+}
+
+#[test]
+fn parses_links(rt: HostRuntime) -> Result<(), Fail> {
+    for link in coap_links::parse(b"</sensors/temp>;rt=\"temperature-c\";if=sensor")? {
+        assert!(&rt; link.target() == b"/sensors/temp".as_slice());
+    }
     Ok(())
 }

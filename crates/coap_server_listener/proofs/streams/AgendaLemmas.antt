@@ -3,7 +3,7 @@ use Rattle.std.proofs.Common.{◌≡◌, ◌⊎◌, ℕ, suc, ◌+◌, ◌≤◌
 use Rattle.std.proofs.lemmas.Bool.Decides.{nat_tests}
 use Rattle.coap_server_listener.specs.Prelude.{AllByRecursion, keys_of, values_of, NextWakeup, PeerOutcome, Over, PeerInterest, ServerState, ConnectionWork}
 use Rattle.coap_server_listener.specs.Prelude.{ChangeStamp, sooner, stamp_of, outlook_of, ServerValue, server_opened}
-use Rattle.coap_server_listener.specs.Prelude.{server_dropped, PeerStatus, agenda_with, agenda_past, IsAsked, IsServed, CanGoOn}
+use Rattle.coap_server_listener.specs.Prelude.{server_dropped, PeerStatus, agenda_with, agenda_past, IsAsked, IsServed, Taking, CanGoOn}
 use Rattle.coap_server_listener.specs.Prelude.{IsIdle, IsInTurn, IsAgendaOf, least_with, wants_in, wants_of, end_of}
 use Rattle.coap_server_listener.specs.Prelude.{insert_entry, Peer, open_refusal, HasGoneOn, HasOneMore, AreServed, NoMore}
 use Rattle.coap_server_listener.specs.Prelude.{PassedOver, HadItsPart, CanAnyGoOn, WireTrace, concerns_earlier}
@@ -185,12 +185,12 @@ stamp_noted es i {p} v at noted open_now =
 pub one_more_opened : {W : Type 0} (v after : ServerValue) (id : ℕ) (p : Peer W) (es now : List (ℕ × Peer W)) → open_refusal v ≡ None → id ≡ v.ids + 1 → after ≡ server_opened v → now ≡ insert_entry nat_eq es id p → p.rest ≡ [] → HasOneMore p.wire v es after now
 one_more_opened v after id p es now may number opened entries rest = record { peer = p; may = may; server = opened; entries = rw (← number) entries; rest = rest; handed = refl }
 
-module _ {W : Type 0} (readable writable : W → Option Bool) (trace : W → WireTrace) where
+module _ {W : Type 0} (Takes : Taking) (readable writable : W → Option Bool) (trace : W → WireTrace) where
   -- ---- one after the other
 
   -- Two lists that were served, one after the other.
-  both_served : {n : ℕ} {u v w : ServerValue} {es fs ls ms : List (ℕ × Peer W)} {one other : Bool} (m : ℕ) → m ≡ n + length ls → AreServed readable writable trace n u es one v ls → AreServed readable writable trace m v fs other w ms
-      → AreServed readable writable trace n u (es ++ fs) (one || other) w (ls ++ ms)
+  both_served : {n : ℕ} {u v w : ServerValue} {es fs ls ms : List (ℕ × Peer W)} {one other : Bool} (m : ℕ) → m ≡ n + length ls → AreServed Takes readable writable trace n u es one v ls → AreServed Takes readable writable trace m v fs other w ms
+      → AreServed Takes readable writable trace n u (es ++ fs) (one || other) w (ls ++ ms)
   both_served m many (NoMore n start) two = let same : m ≡ n = omega (arith, many) in rw same at two
   both_served m many (PassedOver n start e others changed after left rests rest) two =
       PassedOver n start e _ _ _ _ rests (both_served m (omega (arith, many)) rest two)
@@ -199,7 +199,7 @@ module _ {W : Type 0} (readable writable : W → Option Bool) (trace : W → Wir
       (HadItsPart n start e _ between its _ _ _ in_turn part (both_served m (omega (arith, many, length-append its left)) rest two))
 
   -- Idle connections only.
-  all_passed : (n : ℕ) (v : ServerValue) (es : List (ℕ × Peer W)) → AllByRecursion (IsIdle (stamp_of v.host)) (map (λ e. end_of readable writable e.1) es) → AreServed readable writable trace n v es false v es
+  all_passed : (n : ℕ) (v : ServerValue) (es : List (ℕ × Peer W)) → AllByRecursion (IsIdle (stamp_of v.host)) (map (λ e. end_of readable writable e.1) es) → AreServed Takes readable writable trace n v es false v es
   all_passed n v [] rests = NoMore n v
   all_passed n v (e ∷ es) rests = PassedOver n v e es false v es rests.0 (all_passed (n + 1) v es rests.1)
 
@@ -207,7 +207,7 @@ module _ {W : Type 0} (readable writable : W → Option Bool) (trace : W → Wir
   pub record AreServedTo (u : ServerValue) (all : List (ℕ × Peer W)) (v : ServerValue) (now : List (ℕ × Peer W)) (at : ℕ) (changed : Bool) : Type 0 where
     pub done : List (ℕ × Peer W)
     pub all_of_them : all ≡ done ++ drop at now
-    pub served : AreServed readable writable trace 0 u done changed v (take at now)
+    pub served : AreServed Takes readable writable trace 0 u done changed v (take at now)
 
   -- The connections up to another index were skipped.
   pub passed_on : {u v : ServerValue} {all now : List (ℕ × Peer W)} (from to : ℕ) {changed : Bool} {stamp : ChangeStamp} → stamp ≡ stamp_of v.host → from ≤ to → to ≤ length now → AllByRecursion (IsIdle stamp) (map (λ e. end_of readable writable e.1) (drop from (take to now)))
@@ -216,11 +216,11 @@ module _ {W : Type 0} (readable writable : W → Option Bool) (trace : W → Wir
     done = before.done ++ drop from (take to now);
     all_of_them =
         rw (append_assoc, ← drop-append-le from (take to now) (drop to now) (omega (arith, length-take to now)), take-append-drop) before.all_of_them;
-    served = subst (AreServed readable writable trace 0 u (before.done ++ drop from (take to now)) changed v) (front_between now from to order)
+    served = subst (AreServed Takes readable writable trace 0 u (before.done ++ drop from (take to now)) changed v) (front_between now from to order)
         (rw (or-false changed) at (both_served from (omega (arith, length-take-le from now (omega (arith, order, within)))) before.served (all_passed from v (drop from (take to now)) (rw is at rests))));
   }
 
-  pub one_further : {u v w : ServerValue} {all es now : List (ℕ × Peer W)} {i at : ℕ} {changed : Bool} → IfSome (slice_get es i) (λ e. IsInTurn (stamp_of v.host) (end_of readable writable e.1)) → HasGoneOn readable writable trace v es i w now at → AreServedTo u all v es i changed
+  pub one_further : {u v w : ServerValue} {all es now : List (ℕ × Peer W)} {i at : ℕ} {changed : Bool} → IfSome (slice_get es i) (λ e. IsInTurn (stamp_of v.host) (end_of readable writable e.1)) → HasGoneOn Takes readable writable trace v es i w now at → AreServedTo u all v es i changed
       → AreServedTo u all w now at (changed || concerns_earlier i (stamp_of v.host) (stamp_of w.host))
   one_further {v = v} {w = w} {es = es} {i = i} in_turn gone before =
       let within = slice_get_within es i gone.e gone.there in
@@ -231,7 +231,7 @@ module _ {W : Type 0} (readable writable : W → Option Bool) (trace : W → Wir
         served = rw gone.front (both_served i (omega (arith, length-take-le i es (omega (arith, within)))) before.served (rw (append-nil, or-false) at one));
       }
 
-  pub all_are_served : {u v : ServerValue} {all now : List (ℕ × Peer W)} {at : ℕ} {changed : Bool} → length now ≤ at → AreServedTo u all v now at changed → AreServed readable writable trace 0 u all changed v now
+  pub all_are_served : {u v : ServerValue} {all now : List (ℕ × Peer W)} {at : ℕ} {changed : Bool} → length now ≤ at → AreServedTo u all v now at changed → AreServed Takes readable writable trace 0 u all changed v now
   all_are_served {now = now} {at = at} most before = rw (before.all_of_them, drop_all at now most, append-nil) (rw (take_all at now most) at before.served)
 
   -- The progress of a turn through the connections, with the work that remains on those before an index.
@@ -259,11 +259,11 @@ module _ {W : Type 0} (readable writable : W → Option Bool) (trace : W → Wir
     back_same = append_cancel_left (take i es) (drop (suc i) mid) (drop (suc i) es) (rw before at beside)
 
     module _ (course : PeerOutcome)
-        (part : IfSome (slice_get es i) (λ was. IfSome (slice_get mid i) (λ is. IsServed (readable was.1.wire) (writable was.1.wire) v was.0 was.1.rest (trace was.1.wire) between is.1.rest (trace is.1.wire) course))) where
-      its_part : IsServed (readable entry_was_there.0.1.wire) (writable entry_was_there.0.1.wire) v entry_was_there.0.0 entry_was_there.0.1.rest (trace entry_was_there.0.1.wire) between is_there.0.rest (trace is_there.0.wire) course
+        (part : IfSome (slice_get es i) (λ was. IfSome (slice_get mid i) (λ is. IsServed Takes (readable was.1.wire) (writable was.1.wire) v was.0 was.1.rest (trace was.1.wire) between is.1.rest (trace is.1.wire) course))) where
+      its_part : IsServed Takes (readable entry_was_there.0.1.wire) (writable entry_was_there.0.1.wire) v entry_was_there.0.0 entry_was_there.0.1.rest (trace entry_was_there.0.1.wire) between is_there.0.rest (trace is_there.0.wire) course
       its_part = rw is_there.1 at (rw entry_was_there.1 at part)
 
-      pub one_open : course ≡ Open → HasGoneOn readable writable trace v es i between mid (i + 1)
+      pub one_open : course ≡ Open → HasGoneOn Takes readable writable trace v es i between mid (i + 1)
       one_open open_now = record {
         e = entry_was_there.0;
         its = (entry_was_there.0.0, is_there.0) ∷ [];
@@ -273,7 +273,7 @@ module _ {W : Type 0} (readable writable : W → Option Bool) (trace : W → Wir
         back = rw (add-one i) back_same;
       }
 
-      pub one_over : (after : ServerValue) (now : List (ℕ × Peer W)) → course ≡ Over → now ≡ remove mid i → IfSome (slice_get (keys_of mid) i) (λ id. after ≡ server_dropped between id) → HasGoneOn readable writable trace v es i after now i
+      pub one_over : (after : ServerValue) (now : List (ℕ × Peer W)) → course ≡ Over → now ≡ remove mid i → IfSome (slice_get (keys_of mid) i) (λ id. after ≡ server_dropped between id) → HasGoneOn Takes readable writable trace v es i after now i
       one_over after now over removed dropped = record {
         e = entry_was_there.0;
         its = [];

@@ -1,6 +1,6 @@
 -- Recorded interests of connections stay correct while the stamp is the same, and a stamp that has changed never
 -- repeats.
-use Rattle.std.proofs.Common.{◌≡◌, ◌≢◌, ℕ, zero, suc, ◌+◌, ◌≤◌, Bool, true, false, List, [], ◌∷◌, ◌++◌, length, map, filter, drop, Option, Some, None, refl, sym, ap, ◌∙◌, arith, ◌==◌, ◌||◌, option_map, if◌then◌else◌, Result, Ok, Err, nat_eq, is_ok, slice_get, remove, IfOk, OnOk, OnErr}
+use Rattle.std.proofs.Common.{◌≡◌, ◌≢◌, ℕ, zero, suc, ◌+◌, ◌≤◌, Bool, true, false, List, [], ◌∷◌, ◌++◌, length, map, filter, drop, Option, Some, None, refl, sym, ap, ◌∙◌, arith, ◌==◌, ◌||◌, option_map, if◌then◌else◌, Result, Ok, Err, nat_eq, is_ok, slice_get, remove, IfOk, OnOk, OnErr, is_none}
 use Rattle.std.proofs.lemmas.Bool.{eq-eqb, eqb-true, eqb-false}
 use Rattle.std.proofs.lemmas.Bool.Decides.{nat_tests}
 use Rattle.std.proofs.lemmas.Cmp.{nat_eq_equiv}
@@ -12,16 +12,21 @@ use Rattle.coap_server_listener.specs.Prelude.{session_written, session_ended, s
 use Rattle.coap_server_listener.specs.Prelude.{LiesAt, server_released}
 use Rattle.coap_server_listener.specs.Prelude.{AreSettled, session_of, session_becomes, settled_entry, server_settled}
 use Rattle.coap_server_listener.specs.Prelude.{server_opened, server_ticked, server_taken, server_taken_on, server_dropped}
-use Rattle.coap_server_listener.specs.Prelude.{is_there, stamp_of, outlook_of, InResult, fed_turns, in_result, fed_more, IsServedOnce}
+use Rattle.coap_server_listener.specs.Prelude.{is_there, stamp_of, outlook_of, InResult, fed_turns, in_result, fed_more, IsServedOnce, IsTakenAlone, Exchange, AcceptedCall}
 use Rattle.coap_server_listener.specs.Prelude.{IsCarriedOn, IsNoOp, server_heard, server_wrote, has_failed, is_over_in}
 use Rattle.coap_server_listener.specs.Prelude.{wants_in, wants_of, can_go_on, end_of, IsNoEarlier, PeerStatus, CanAnyGoOn}
 use Rattle.coap_server_listener.specs.Prelude.{NextWakeup, IsAgendaOf, IsWaitAfter, agenda_with, wait_of, wait_for, least_with}
 use Rattle.coap_server_listener.specs.Prelude.{WireTrace}
 use Rattle.coap_server_listener.specs.streams.Turns.{wait_until}
-use Rattle.coap_server_listener.specs.Prelude.{KeepsNotes, WhilePassedOver, AtFirst, Served, IsNoted, AreNoted, true_end}
+use Rattle.coap_server_listener.specs.Prelude.{KeepsNotes, WhilePassedOver, AtFirst, Served, Follows, GoesOnSparing, But, IsNoted, AreNoted, true_end}
 use Rattle.coap_server_listener.specs.Prelude.{AllByRecursion, IsDistinct, keys_of, set_value_at, insert_entry, Peer, IoFault}
 use Rattle.coap_server_listener.specs.Prelude.{No}
+use Rattle.coap_wire.specs.Reading.{message_of}
 use Rattle.coap_server_engine.specs.values.InResults.{goes_on}
+use Rattle.coap_server_engine.specs.values.Servers.{server_given, session_given_by}
+use Rattle.coap_server_engine.specs.values.ServerAnswers.{responded_refusal}
+use Rattle.coap_server_engine.specs.values.HandedRequests.{handed_by}
+use Rattle.coap_server_engine.specs.values.ApplicationCalls.{server_offered, asked_by, asking, message_limit, response_for, served, IsServed as IsServedWith}
 use Rattle.coap_server_listener.specs.streams.RecordedInterests.{Dropped, Opened, Ticked}
 use Rattle.coap_server_listener.proofs.streams.PassedLemmas.{passed_over}
 use Rattle.coap_server_engine.proofs.values.ServerLemmas.{Entries, is_other, all_are_settled, all_settled_stay}
@@ -45,11 +50,6 @@ pub never_back : (one other third : ChangeStamp) → IsNoEarlier one other → I
 never_back one other third first later back = no_earlier_either_way other one (rw back at later) first
 
 -- ---- the host
-
--- The host `later` can follow `host`: its stamp is not earlier, and if the stamp is the same, the host is the same.
-pub record Follows (host later : ServerState) : Type 0 where
-  pub no_earlier : IsNoEarlier (stamp_of host) (stamp_of later)
-  pub same : stamp_of later ≡ stamp_of host → later ≡ host
 
 follows_itself : (host : ServerState) → Follows host host
 follows_itself host = record { no_earlier = omega arith; same = λ e. refl }
@@ -96,13 +96,6 @@ each_settles other host (e ∷ es) = grind (arith, each_settles other host es)
 
 -- ---- a server after some events
 
--- The host of `after` follows that of `v`. All connections stay settled. If the stamp is the same, the spared
--- connections are unchanged.
-pub record GoesOnSparing (Spared : ℕ → Type 0) (v after : ServerValue) : Type 0 where
-  pub follows : Follows v.host after.host
-  pub settled : AreSettled v.host v.sessions → AreSettled after.host after.sessions
-  pub spared : (other : ℕ) → Spared other → AreSettled v.host v.sessions → stamp_of after.host ≡ stamp_of v.host → session_of other after.sessions ≡ session_of other v.sessions
-
 nothing_happens : {Spared : ℕ → Type 0} {v : ServerValue} → GoesOnSparing Spared v v
 nothing_happens {v = v} = record { follows = follows_itself v.host; settled = λ all. all; spared = λ other is all e. refl }
 
@@ -132,10 +125,6 @@ entries_settle Spared v host ids es follows same = record {
 
 pub another_host : (Spared : ℕ → Type 0) (v : ServerValue) (host : ServerState) → Follows v.host host → GoesOnSparing Spared v (server_settled (record v { host = host }))
 another_host Spared v host follows = entries_settle Spared v host v.ids v.sessions follows (λ other is. refl)
-
--- All numbers but one.
-abbrev pub But : ℕ → ℕ → Type 0
-But id other = other ≢ id
 
 -- One connection changes, and another host follows.
 one_happens : (v : ServerValue) (id : ℕ) (f : SessionValue → SessionValue) (host : ServerState) → Follows v.host host → GoesOnSparing (But id) v (record v { host = host; sessions = map (settled_entry host) (map (session_becomes id f) v.sessions) })
@@ -169,17 +158,57 @@ writes : (v : ServerValue) (id : ℕ) (wrote : Got) → GoesOnSparing (But id) v
 writes v id (Bytes n) = one_happens v id (λ s. session_written s n) v.host (follows_itself v.host)
 writes v id wrote = nothing_happens
 
-is_carried_on : (failed may_write : Bool) (v : ServerValue) (id : ℕ) (bytes : List ℕ) (wire : WireTrace) (after : ServerValue) (left : List ℕ) (told : WireTrace) (course : PeerOutcome) → IsCarriedOn failed may_write v id bytes wire after left told course → GoesOnSparing (But id) v after
+pub alone_spares : (v after : ServerValue) (id : ℕ) (bytes : List ℕ) → after ≡ (in_result v id bytes).server → GoesOnSparing (But id) v after
+alone_spares v after id bytes took = rw took (takes_sparing (length bytes) v id bytes)
+
+gives_once : (v : ServerValue) (id : ℕ) (bytes : List ℕ) → GoesOnSparing (But id) v (server_offered v id bytes)
+gives_once v id bytes =
+    elim (is_none (responded_refusal v id bytes)) as (λ b. GoesOnSparing (But id) v (if b then server_given v id bytes else v)) [
+      | true ↦ one_happens v id (session_given_by (message_of bytes)) v.host (follows_itself v.host)
+      | false ↦ nothing_happens
+    ]
+
+asks_once : (v : ServerValue) (id : ℕ) (left response : List ℕ) → GoesOnSparing (But id) v (asked_by v id left response).server
+asks_once v id left response =
+    elim (handed_by v id left) as (λ o. GoesOnSparing (But id) v (asking (server_taken v id left) id (message_limit v id) response o).server) [
+      | None ↦ takes_once v id left
+      | Some m ↦ one_then_another (takes_once v id left) (gives_once (server_taken v id left) id (response_for (server_taken v id left) id m.token response))
+    ]
+
+-- Takes and responses on one connection spare the others.
+pub serves_sparing : (v : ServerValue) (id : ℕ) (bytes : List ℕ) (responses : List (List ℕ)) → GoesOnSparing (But id) v (served v id bytes responses).fed.server
+unfolding served
+serves_sparing v id bytes [] = nothing_happens
+serves_sparing v id bytes (response ∷ responses) =
+    one_then_another (serves_sparing v id bytes responses) (asks_once (served v id bytes responses).fed.server id (drop (served v id bytes responses).fed.count bytes) response)
+
+pub with_spares : (told : List AcceptedCall → Type 0) (asks : List Exchange → Type 0) (v after : ServerValue) (id count : ℕ) (bytes : List ℕ) → IsServedWith v id bytes count after told asks → GoesOnSparing (But id) v after
+with_spares told asks v after id count bytes took = rw took.server (serves_sparing v id bytes took.responses)
+
+-- A later response spares the other connections.
+pub offers_sparing : (v after : ServerValue) (id : ℕ) (bytes : List ℕ) → after ≡ server_offered v id bytes → GoesOnSparing (But id) v after
+offers_sparing v after id bytes is = rw is (gives_once v id bytes)
+
+is_carried_on : (failed may_write : Bool) (v : ServerValue) (id : ℕ) (bytes : List ℕ) (wire : WireTrace) (after : ServerValue) (left : List ℕ) (told : WireTrace) (course : PeerOutcome) → IsCarriedOn IsTakenAlone failed may_write v id bytes wire after left told course → GoesOnSparing (But id) v after
 is_carried_on true may_write v id bytes wire after left told course carried = rw carried.0 nothing_happens
 is_carried_on false may_write v id bytes wire after left told course carried =
-    rw carried.server (one_then_another (takes_sparing (length bytes) v id bytes) (writes (in_result v id bytes).server id carried.wrote))
+    rw carried.server (one_then_another (alone_spares v carried.taken id bytes carried.part.took.0) (writes carried.taken id carried.wrote))
 
-module _ (may_read may_write : Bool) (v : ServerValue) (id : ℕ) (rest : List ℕ) {wire : WireTrace} (after : ServerValue) (left : List ℕ) {told : WireTrace} (course : PeerOutcome) (part : IsServedOnce may_read may_write v id rest wire after left told course) where
-  served_on : GoesOnSparing (But id) v after
-  served_on = one_then_another (takes_input v id part.heard) (is_carried_on (has_failed part.heard) may_write _ id part.bytes part.between after left told course part.carried)
+served_on : (may_read may_write : Bool) (v : ServerValue) (id : ℕ) (rest : List ℕ) {wire : WireTrace} (after : ServerValue) (left : List ℕ) {told : WireTrace} (course : PeerOutcome) → IsServedOnce may_read may_write v id rest wire after left told course → GoesOnSparing (But id) v after
+served_on may_read may_write v id rest after left {told} course part =
+    one_then_another (takes_input v id part.heard) (is_carried_on (has_failed part.heard) may_write _ id part.bytes part.between after left told course part.carried)
 
-  pub served_no_earlier : IsNoEarlier (stamp_of v.host) (stamp_of after.host)
-  served_no_earlier = served_on.follows.no_earlier
+-- A read that did not fail, then bytes that are passed, then a write.
+pub part_spares : (v heard_by taken after : ServerValue) (id : ℕ) (heard wrote : Got) → heard_by ≡ server_heard v id heard → GoesOnSparing (But id) heard_by taken → after ≡ server_wrote taken id wrote → GoesOnSparing (But id) v after
+part_spares v heard_by taken after id heard wrote heard_so spared wrote_so =
+    rw wrote_so (one_then_another (takes_input v id heard) (one_then_another (rw heard_so at spared) (writes taken id wrote)))
+
+-- A read that failed.
+pub heard_spares : (v after : ServerValue) (id : ℕ) (heard : Got) → after ≡ server_heard v id heard → GoesOnSparing (But id) v after
+heard_spares v after id heard is = rw is (takes_input v id heard)
+
+pub served_no_earlier : (may_read may_write : Bool) (v : ServerValue) (id : ℕ) (rest : List ℕ) {wire : WireTrace} (after : ServerValue) (left : List ℕ) {told : WireTrace} (course : PeerOutcome) → IsServedOnce may_read may_write v id rest wire after left told course → IsNoEarlier (stamp_of v.host) (stamp_of after.host)
+served_no_earlier may_read may_write v id rest after left course part = (served_on may_read may_write v id rest after left course part).follows.no_earlier
 
 -- ---- opening, dropping, and the time
 
@@ -307,18 +336,17 @@ noted_with v (e ∷ es) (suc i) id p q at beside noted = (beside.0, noted_with v
 
 -- ---- serving one connection
 
-module _ {W : Type 0} (may_read may_write : Bool) (v : ServerValue) (id : ℕ) (rest : List ℕ) (wire : WireTrace) (after : ServerValue) (left : List ℕ) (told : WireTrace) (es : List (ℕ × Peer W)) (i : ℕ) (p q : Peer W)
+module _ {W : Type 0} (v : ServerValue) (id : ℕ) (after : ServerValue) (es : List (ℕ × Peer W)) (i : ℕ) (p q : Peer W)
     (settled : AreSettled v.host v.sessions) (distinct : IsDistinct nat_eq (keys_of es)) (at : slice_get es i ≡ Some (id, p)) (noted : AreNoted v es) where
   -- The recorded interests of the connections beside it are correct.
-  pub beside_served : (course : PeerOutcome) → IsServedOnce may_read may_write v id rest wire after left told course → AreNoted after (remove es i)
-  beside_served course part =
-      beside_become (IsNoted v) (IsNoted after) id (stays_noted (served_on may_read may_write v id rest after left course part) settled) es i p distinct at noted
+  pub beside_served : GoesOnSparing (But id) v after → AreNoted after (remove es i)
+  beside_served on = beside_become (IsNoted v) (IsNoted after) id (stays_noted on settled) es i p distinct at noted
 
   -- All are correct, if the connection stays open.
-  pub all_noted : (r : Result PeerOutcome IoFault) → IfOk r (λ course. IsServedOnce may_read may_write v id rest wire after left told course) → IfOk r (λ course. course ≡ Open → q.wants ≡ wants_of after id q.rest)
+  pub all_noted : (r : Result PeerOutcome IoFault) → OnOk r (GoesOnSparing (But id) v after) → IfOk r (λ course. course ≡ Open → q.wants ≡ wants_of after id q.rest)
       → IfOk r (λ course. course ≡ Open → AreNoted after (set_value_at es i q))
-  all_noted (Ok course) part wants = λ open_now. noted_with after es i id p q at (beside_served course part) (noted_now after id q (wants open_now))
-  all_noted (Err fault) part wants = tt
+  all_noted (Ok course) on wants = λ open_now. noted_with after es i id p q at (beside_served on) (noted_now after id q (wants open_now))
+  all_noted (Err fault) on wants = tt
 
 -- ---- opening and dropping
 

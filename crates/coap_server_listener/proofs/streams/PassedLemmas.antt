@@ -6,10 +6,11 @@ use Rattle.std.proofs.lemmas.Bool.Decides.{nat_tests}
 use Rattle.std.proofs.lemmas.List.{nil_from_length}
 use Rattle.coap_server_listener.specs.Prelude.{stop_of, is_over, Later, SessionValue, session_takes, ServerValue, LiesAt}
 use Rattle.coap_server_listener.specs.Prelude.{AreSettled, session_of, server_taken, count_taken, count_on, stop_on, InResult}
-use Rattle.coap_server_listener.specs.Prelude.{fed_turns, in_result, fed_more, IsTakenAndWritten, IsNoOp, is_heard}
-use Rattle.coap_server_listener.specs.Prelude.{waiting_once, server_wrote, is_over_in, left_behind, rest_left, wants_of}
-use Rattle.coap_server_listener.specs.Prelude.{can_go_on, session_outlook, outlook_of, PeerInterest}
+use Rattle.coap_server_listener.specs.Prelude.{fed_turns, in_result, fed_more, IsTakenAndWritten, IsTakenAlone, IsNoOp, is_heard}
+use Rattle.coap_server_listener.specs.Prelude.{waiting_once, server_wrote, is_over_in, left_behind, rest_behind, rest_left, wants_of}
+use Rattle.coap_server_listener.specs.Prelude.{can_go_on, session_outlook, outlook_of, PeerInterest, PeerOutcome, WireTrace, course_of}
 use Rattle.coap_server_engine.specs.values.InResults.{goes_on}
+use Rattle.coap_server_listener.specs.declared.door.peer.PeerOutcome.TheVariants.{Open}
 use Rattle.coap_server_engine.proofs.values.ServerLemmas.{changed_one, written_at_index, written_back, all_settled_stay}
 use Rattle.coap_model.proofs.OptionLemmas.{there_is_none}
 use Rattle.coap_server_engine.proofs.world.ShowLaws.{taking_stopped}
@@ -68,6 +69,23 @@ not_heard may_read is_empty takes e = grind arith
 not_written : (may_write : Bool) (waiting : List ℕ) → (nat_lt 0 (length waiting) && may_write) ≡ false → (if may_write then waiting else []) ≡ []
 not_written may_write waiting e = grind (arith, nat_tests, nil_from_length)
 
+-- If nothing is accepted and nothing is queued, nothing changes.
+nothing_carried : (may_write : Bool) (v : ServerValue) (id : ℕ) (rest : List ℕ) (wire : WireTrace) (after : ServerValue) (left : List ℕ) (told : WireTrace) (course : PeerOutcome)
+    → (in_result v id rest).server ≡ v → rest_left v id rest ≡ rest → waiting_once may_write id v ≡ [] → is_over_in (outlook_of v id) ≡ false
+    → IsTakenAndWritten IsTakenAlone may_write v id rest wire after left told course → (after ≡ v) × (left ≡ rest) × (told ≡ wire) × (course ≡ Open)
+nothing_carried may_write v id rest wire after left told course same left_so unwritten on carried =
+    let took = carried.part.took in
+    let taken_so : carried.taken ≡ v = took.0 ∙ same in
+    let wrote = carried.offered.idle (ap (λ w. waiting_once may_write id w) taken_so ∙ unwritten) in
+    let server : after ≡ v = carried.server ∙ ap (server_wrote carried.taken id) wrote.0 ∙ taken_so in
+    let kept : rest_behind carried.taken id carried.part.count rest ≡ rest_left v id rest =
+    ap (λ w. rest_behind w id carried.part.count rest) took.0 ∙ ap (λ n. rest_behind (in_result v id rest).server id n rest) took.1 in (
+      server,
+      carried.part.rest ∙ kept ∙ left_so,
+      wrote.1,
+      carried.outcome ∙ ap (λ w. course_of w (is_over_in (outlook_of after id))) wrote.0 ∙ ap (λ u. course_of Later (is_over_in (outlook_of u id))) server ∙ ap (course_of Later) on,
+    )
+
 nothing_done : (v : ServerValue) (id i : ℕ) (s : SessionValue) (rest : List ℕ) (may_read may_write : Bool) → LiesAt id i v.sessions → session_of id v.sessions ≡ Some s → AreSettled v.host v.sessions
     → can_go_on (wants_of v id rest) may_read may_write ≡ false → is_over_in (outlook_of v id) ≡ false → IsNoOp may_read may_write v id rest
 nothing_done v id i s rest may_read may_write lies here settled idle on =
@@ -87,19 +105,18 @@ nothing_done v id i s rest may_read may_write lies here settled idle on =
         between = wire;
         laid = rw unread (refl, refl, refl);
         carried = record {
+          taken = (in_result v id rest).server;
+          part = record { count = (in_result v id rest).count; took = (refl, refl); rest = sym left_so };
           wrote = Later;
           offered = rw same.server (record { idle = λ e. (refl, refl); busy = λ some. absurd (some unwritten) });
           server = sym same.server;
-          rest = sym left_so;
           outcome = rw on refl;
         };
       };
       always = λ wire after left told course part.
           let laid : (part.heard ≡ Later) × (part.bytes ≡ rest) × (part.between ≡ wire) = rw unread at part.laid in
-          let carried : IsTakenAndWritten may_write v id rest wire after left told course = rw (laid.0, laid.1, laid.2) at part.carried in
-          let wrote = carried.offered.idle (rw same.server unwritten) in
-          let server : after ≡ v = carried.server ∙ ap (server_wrote (in_result v id rest).server id) wrote.0 ∙ same.server in
-          (server, carried.rest ∙ left_so, wrote.1, carried.outcome ∙ rw (wrote.0, server, on) refl);
+          let carried : IsTakenAndWritten IsTakenAlone may_write v id rest wire after left told course = rw (laid.0, laid.1, laid.2) at part.carried in
+          nothing_carried may_write v id rest wire after left told course same.server left_so unwritten on carried;
     }
 
 -- A connection on which nothing can be done may be skipped.

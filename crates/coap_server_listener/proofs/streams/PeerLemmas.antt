@@ -1,25 +1,26 @@
 -- The steps of serving a connection, and a value written at an index of a map whose keys are numbers.
 use Rattle.std.proofs.Common.{◌≡◌, ℕ, zero, suc, Bool, false, List, [], ◌∷◌, take, Some, refl, ap, slice_get, remove}
-use Rattle.coap_server_listener.specs.Prelude.{set_value_at, ServerValue, WireTrace, Got, PeerOutcome, in_result, rest_left, is_heard}
+use Rattle.coap_server_listener.specs.Prelude.{set_value_at, ServerValue, WireTrace, Got, PeerOutcome, Taking, IsTakenInPart, is_heard}
 use Rattle.coap_server_listener.specs.Prelude.{server_heard, server_wrote, has_failed, course_of, is_over_in, outlook_of}
-use Rattle.coap_server_listener.specs.Prelude.{waiting_once, IsLaidOut, IsOffered, IsServedOnce}
+use Rattle.coap_server_listener.specs.Prelude.{waiting_once, IsLaidOut, IsOffered, IsServedOnceBy}
 
 -- A read that did not fail, then the processing of its bytes, then a write.
-pub steps_are_a_part : (may_read may_write : Bool) (v heard_by taken after : ServerValue) (id : ℕ) (rest bytes left : List ℕ) (wire between told : WireTrace) (heard wrote : Got) (course : PeerOutcome)
+pub steps_are_a_part : (Takes : Taking) (may_read may_write : Bool) (v heard_by taken after : ServerValue) (id : ℕ) (rest bytes left : List ℕ) (wire between told : WireTrace) (heard wrote : Got) (course : PeerOutcome)
     → heard_by ≡ server_heard v id heard → IsLaidOut (is_heard may_read v id rest) rest wire heard bytes between → has_failed heard ≡ false
-    → taken ≡ (in_result heard_by id bytes).server → left ≡ rest_left heard_by id bytes → IsOffered (waiting_once may_write id taken) between wrote told
+    → IsTakenInPart Takes heard_by id bytes taken left → IsOffered (waiting_once may_write id taken) between wrote told
     → after ≡ server_wrote taken id wrote → course ≡ course_of wrote (is_over_in (outlook_of after id))
-    → IsServedOnce may_read may_write v id rest wire after left told course
-steps_are_a_part may_read may_write v heard_by taken after id rest bytes left wire between told heard wrote course heard_so laid works taken_so left_so offered wrote_so outcome = record {
+    → IsServedOnceBy Takes may_read may_write v id rest wire after left told course
+steps_are_a_part Takes may_read may_write v heard_by taken after id rest bytes left wire between told heard wrote course heard_so laid works part offered wrote_so outcome = record {
   heard = heard;
   bytes = bytes;
   between = between;
   laid = laid;
   carried = rw works (record {
+    taken = taken;
+    part = rw (← heard_so) part;
     wrote = wrote;
-    offered = rw (← heard_so, ← taken_so) offered;
-    server = rw (← heard_so, ← taken_so) wrote_so;
-    rest = rw (← heard_so) left_so;
+    offered = offered;
+    server = wrote_so;
     outcome = outcome;
   });
 }

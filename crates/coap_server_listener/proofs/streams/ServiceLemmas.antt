@@ -1,9 +1,9 @@
 -- The recorded interests of a service stay correct over the calls between two turns.
 use Rattle.std.proofs.Common.{◌≡◌, ℕ, true, List, Result, Ok, Err}
 use Rattle.coap_server_listener.specs.Prelude.{is_ok, OnOk, OnErr, All, Peer, ServerState, ServerValue, AreSettled, server_settled}
-use Rattle.coap_server_listener.specs.Prelude.{IsNoted}
+use Rattle.coap_server_listener.specs.Prelude.{Follows, IsNoted}
 use Rattle.std.proofs.lemmas.List.Elements.{All-weaker}
-use Rattle.coap_server_listener.proofs.streams.NoteLemmas.{Follows, another_host, stays_noted}
+use Rattle.coap_server_listener.proofs.streams.NoteLemmas.{another_host, stays_noted}
 
 -- Recorded interests stay correct whether a call gives the server another host or returns an error.
 pub kept_where_another_host : {W T E : Type 0} (r : Result T E) (v after : ServerValue) (host : ServerState) (es : List (ℕ × Peer W)) → AreSettled v.host v.sessions → (is_ok r ≡ true → Follows v.host host)

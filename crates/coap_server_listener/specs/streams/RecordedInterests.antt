@@ -1,9 +1,10 @@
 -- Defined by this project: the recorded I/O interest of a connection, and how long it is correct.
 use Rattle.std.specs.Prelude.{◌≡◌, ◌≢◌, ◌≤◌, ◌+◌, ℕ, Bool, List, Option, map, nat_eq, if◌then◌else◌}
 use Rattle.std.specs.List.{AllByRecursion}
-use Rattle.coap_server_engine.specs.values.Servers.{ServerValue, AreSettled, server_opened, server_ticked, server_dropped}
+use Rattle.coap_server_engine.specs.values.Servers.{ServerValue, AreSettled, session_of, server_opened, server_ticked, server_dropped}
 use Rattle.coap_server_engine.specs.values.ServerDeadlines.{stamp_of}
 use Rattle.coap_server_listener.specs.streams.Turns.{IsServedOnce, wants_of, PeerStatus}
+use Rattle.coap_server_session.specs.declared.server_state.ServerState.{ServerState}
 use Rattle.coap_io.specs.streams.Wires.{WireTrace}
 use Rattle.coap_server_listener.specs.declared.door.peer.PeerOutcome.{PeerOutcome}
 use Rattle.coap_server_listener.specs.declared.door.peer.Peer.{Peer}
@@ -34,6 +35,14 @@ recorded v e = record e.1 { wants = wants_of v e.0 e.1.rest }
 abbrev pub recorded_on : {W : Type 0} → ServerValue → ℕ → List (ℕ × Peer W) → List (ℕ × Peer W)
 recorded_on v id es = map (λ e. if nat_eq id e.0 then (e.0, recorded v e) else e) es
 
+-- A connection without its recorded interest: its number, its wire, and the bytes left from its reads.
+abbrev pub unrecorded : {W : Type 0} → ℕ × Peer W → ℕ × W × List ℕ
+unrecorded e = (e.0, e.1.wire, e.1.rest)
+
+-- At most the recorded interests differ.
+abbrev pub AreRecorded : {W : Type 0} → (es now : List (ℕ × Peer W)) → Type 0
+AreRecorded es now = map unrecorded now ≡ map unrecorded es
+
 -- The state of a connection that decides whether it can be served, with its present interest in place of the recorded
 -- one.
 abbrev pub true_end : {W : Type 0} (readable writable : W → Option Bool) → ServerValue → ℕ × Peer W → PeerStatus
@@ -55,3 +64,21 @@ pub data WhilePassedOver (id : ℕ) (v : ServerValue) : ServerValue → Type 0 w
   Dropped : (before : ServerValue) (other : ℕ) → WhilePassedOver id v before → id ≢ other → WhilePassedOver id v (server_dropped before other)
   Opened : (before : ServerValue) → WhilePassedOver id v before → id ≢ before.ids + 1 → WhilePassedOver id v (server_opened before)
   Ticked : (before : ServerValue) (later : ℕ) → WhilePassedOver id v before → before.host.now ≤ later → WhilePassedOver id v (server_ticked before later)
+
+-- ---- the effect of a call on the other connections
+
+-- The host `later` can follow `host`: its stamp is not earlier, and if the stamp is the same, the host is the same.
+pub record Follows (host later : ServerState) : Type 0 where
+  pub no_earlier : IsNoEarlier (stamp_of host) (stamp_of later)
+  pub same : stamp_of later ≡ stamp_of host → later ≡ host
+
+-- The host of `after` follows that of `v`. All connections stay settled. If the stamp is the same, the spared
+-- connections are unchanged.
+pub record GoesOnSparing (Spared : ℕ → Type 0) (v after : ServerValue) : Type 0 where
+  pub follows : Follows v.host after.host
+  pub settled : AreSettled v.host v.sessions → AreSettled after.host after.sessions
+  pub spared : (other : ℕ) → Spared other → AreSettled v.host v.sessions → stamp_of after.host ≡ stamp_of v.host → session_of other after.sessions ≡ session_of other v.sessions
+
+-- All numbers but one.
+abbrev pub But : ℕ → ℕ → Type 0
+But id other = other ≢ id

@@ -1,15 +1,17 @@
 -- Defined by this project: one turn of the event loop, its events, and how each connection is served in it.
-use Rattle.std.specs.Prelude.{◌≡◌, ℕ, ◌+◌, Bool, true, false, List, [], ◌∷◌, ◌++◌, length, map, take, drop, slice_get, Option, Some, None, is_none, is_some, nat_eq, ◌||◌, if◌then◌else◌}
+use Rattle.std.specs.Prelude.{◌≡◌, ◌⊎◌, ℕ, ◌+◌, Bool, true, false, List, [], ◌∷◌, ◌++◌, length, map, take, drop, slice_get, Option, Some, None, is_none, is_some, nat_eq, ◌||◌, if◌then◌else◌}
 use Rattle.std.specs.List.{AllByRecursion}
 use Rattle.indexmap.specs.IndexMap.{insert_entry}
 use Rattle.coap_io.specs.streams.DeviceTraces.{DoorCall, Asked}
 use Rattle.coap_server_listener.specs.streams.RecordedInterests.{true_end}
-use Rattle.coap_server_listener.specs.streams.Turns.{IsServed, IsIdle, IsInTurn, IsAgendaOf, IsWaitAfter, concerns_earlier, end_of}
+use Rattle.coap_server_listener.specs.streams.Turns.{Taking, IsTakenAlone, IsServed, IsIdle, IsInTurn, IsAgendaOf, IsWaitAfter, concerns_earlier, end_of}
 use Rattle.coap_io.specs.streams.Wires.{WireTrace}
 use Rattle.coap_server_engine.specs.values.InResults.{ShowsMore}
+use Rattle.coap_server_engine.specs.values.Exchanges.{Exchange, Gone}
+use Rattle.coap_server_engine.specs.values.ApplicationCalls.{IsPartlyServed, IsServed as IsServedWith}
 use Rattle.coap_server_engine.specs.values.ServerDeadlines.{stamp_of}
 use Rattle.coap_server_engine.specs.values.ServerAnswers.{open_refusal}
-use Rattle.coap_server_engine.specs.values.Servers.{ServerValue, server_opened, server_dropped}
+use Rattle.coap_server_engine.specs.values.Servers.{ServerValue, server_opened, server_dropped, server_ended, server_written}
 use Rattle.coap_model.specs.world.Events.{AcceptedCall, Opened, Took, Wrote, Ticked, Stored, Removed, Ended, Released, Announced, Responded, Dropped}
 use Rattle.coap_server_listener.specs.declared.door.peer.PeerOutcome.{PeerOutcome}
 use Rattle.coap_server_listener.specs.declared.door.peer.PeerOutcome.TheVariants.{Open, Over}
@@ -37,13 +39,43 @@ IsServing (Announced id size) = ⊥
 IsServing (Responded id m) = ⊥
 IsServing (Dropped id) = Unit {0}
 
--- Connections were served, and nothing else happened. If the server showed some events before, it now shows them
--- followed by events of serving. `told` holds of these events.
-pub record HasServed (told : List AcceptedCall → Type 0) (v after : ServerValue) : Type 0 where
+-- Facts on a call that passes bytes to a connection: the server before and after, its events, and the exchanges
+-- with the application.
+abbrev pub TakingSteps : Type 1
+TakingSteps = ServerValue → ServerValue → List AcceptedCall → List Exchange → Type 0
+
+-- No bytes are passed.
+abbrev pub NoneTaken : TakingSteps
+NoneTaken v after events exchanges = ⊥
+
+-- No application responds.
+abbrev pub AreTakenAlone : TakingSteps
+AreTakenAlone v after events exchanges = AllByRecursion IsServing events
+
+-- Bytes were passed to a connection for an application, until none was left or accepted, or an allocation failed.
+pub record AreTakenWith (v after : ServerValue) (events : List AcceptedCall) (exchanges : List Exchange) : Type 0 where
+  pub id : ℕ
+  pub bytes : List ℕ
+  pub how : ((count : ℕ) × IsServedWith v id bytes count after (λ all. events ≡ all) (λ all. exchanges ≡ all)) ⊎ IsPartlyServed v id bytes after (λ all. events ≡ all) (λ all. exchanges ≡ all)
+
+-- The events and exchanges of serving connections, from the server `v` on. `Steps` holds of each call that passes bytes
+-- to a connection. The others are ends of input, writes, and connections that end.
+pub data AreStepsBy (Steps : TakingSteps) (v : ServerValue) : ServerValue → List AcceptedCall → List Exchange → Type 0 where
+  NoStep : AreStepsBy Steps v v [] []
+  OneTaken : (w after : ServerValue) (events more : List AcceptedCall) (exchanges others : List Exchange) → AreStepsBy Steps v w events exchanges → Steps w after more others → AreStepsBy Steps v after (events ++ more) (exchanges ++ others)
+  OneEnded : (w : ServerValue) (events : List AcceptedCall) (exchanges : List Exchange) (id : ℕ) → AreStepsBy Steps v w events exchanges → AreStepsBy Steps v (server_ended w id) (events ++ Ended id ∷ []) exchanges
+  OneWrote : (w : ServerValue) (events : List AcceptedCall) (exchanges : List Exchange) (id n : ℕ) → AreStepsBy Steps v w events exchanges → AreStepsBy Steps v (server_written w id n) (events ++ Wrote id n ∷ []) exchanges
+  OneDropped : (w : ServerValue) (events : List AcceptedCall) (exchanges : List Exchange) (id : ℕ) → AreStepsBy Steps v w events exchanges → AreStepsBy Steps v (server_dropped w id) (events ++ Dropped id ∷ []) (exchanges ++ Gone id ∷ [])
+
+-- Connections were served in these steps, and nothing else happened. If the server showed some events before, it now
+-- shows them followed by those of the steps. `told` holds of these events, and `asks` of the exchanges.
+pub record HasServedBy (Steps : TakingSteps) (told : List AcceptedCall → Type 0) (asks : List Exchange → Type 0) (v after : ServerValue) : Type 0 where
   pub events : List AcceptedCall
-  pub serving : AllByRecursion IsServing events
+  pub exchanges : List Exchange
+  pub steps : AreStepsBy Steps v after events exchanges
   pub shows : ShowsMore v after events
   pub tells : told events
+  pub exchanged : asks exchanges
 
 -- The event that opens a connection with the next number, or no event.
 abbrev pub opening : ServerValue → Bool → List AcceptedCall
@@ -59,6 +91,28 @@ pub record HasTurned (told : List AcceptedCall → Type 0) (v after : ServerValu
   pub shows : ShowsMore v after (opening v opens ++ events)
   pub tells : told (opening v opens ++ events)
 
+-- The server after a connection was opened, if one was.
+abbrev pub opened_if : ServerValue → Bool → ServerValue
+opened_if v true = server_opened v
+opened_if v false = v
+
+-- At most one connection was opened, and nothing else happened.
+pub record HasOpened (told : List AcceptedCall → Type 0) (v after : ServerValue) : Type 0 where
+  pub opens : Bool
+  pub server : after ≡ opened_if v opens
+  pub shows : ShowsMore v after (opening v opens)
+  pub tells : told (opening v opens)
+
+-- A turn was made in full or in part, with these steps after at most one connection was opened.
+pub record HasTurnedBy (Steps : TakingSteps) (told : List AcceptedCall → Type 0) (asks : List Exchange → Type 0) (v after : ServerValue) : Type 0 where
+  pub opens : Bool
+  pub events : List AcceptedCall
+  pub exchanges : List Exchange
+  pub steps : AreStepsBy Steps (opened_if v opens) after events exchanges
+  pub shows : ShowsMore v after (opening v opens ++ events)
+  pub tells : told (opening v opens ++ events)
+  pub exchanged : asks exchanges
+
 -- ---- each connection in order
 
 -- The server and the entry of a connection after it was served. If the outcome is `Over`, the connection is dropped.
@@ -72,39 +126,39 @@ end_left Over id p = []
 
 -- A connection was served in a turn, and was dropped if its outcome is `Over`. Its wire was read and written at no
 -- other time.
-pub record IsServedInTurn {W : Type 0} (readable writable : W → Option Bool) (trace : W → WireTrace) (v : ServerValue) (e : ℕ × Peer W) (after : ServerValue) (left : List (ℕ × Peer W)) : Type 0 where
+pub record IsServedInTurn {W : Type 0} (Takes : Taking) (readable writable : W → Option Bool) (trace : W → WireTrace) (v : ServerValue) (e : ℕ × Peer W) (after : ServerValue) (left : List (ℕ × Peer W)) : Type 0 where
   pub served : ServerValue
   pub peer : Peer W
   pub course : PeerOutcome
-  pub part : IsServed (readable e.1.wire) (writable e.1.wire) v e.0 e.1.rest (trace e.1.wire) served peer.rest (trace peer.wire) course
+  pub part : IsServed Takes (readable e.1.wire) (writable e.1.wire) v e.0 e.1.rest (trace e.1.wire) served peer.rest (trace peer.wire) course
   pub server : after ≡ server_left course served e.0
   pub far_end : left ≡ end_left course e.0 peer
 
 -- The connection at an index was served, and the turn continues at the index `at`. The connections before and after it
 -- are unchanged.
-pub record HasGoneOn {W : Type 0} (readable writable : W → Option Bool) (trace : W → WireTrace) (v : ServerValue) (es : List (ℕ × Peer W)) (i : ℕ) (after : ServerValue) (left : List (ℕ × Peer W)) (at : ℕ) : Type 0 where
+pub record HasGoneOn {W : Type 0} (Takes : Taking) (readable writable : W → Option Bool) (trace : W → WireTrace) (v : ServerValue) (es : List (ℕ × Peer W)) (i : ℕ) (after : ServerValue) (left : List (ℕ × Peer W)) (at : ℕ) : Type 0 where
   pub e : ℕ × Peer W
   pub its : List (ℕ × Peer W)
   pub there : slice_get es i ≡ Some e
-  pub part : IsServedInTurn readable writable trace v e after its
+  pub part : IsServedInTurn Takes readable writable trace v e after its
   pub front : take at left ≡ take i es ++ its
   pub back : drop at left ≡ drop (i + 1) es
 
 -- Each connection in order was served, or skipped if it is idle. `earlier` is the number of connections before these
 -- that still exist. `changed` is `true` if serving one of these may affect a connection before it, including those
 -- `earlier` ones.
-pub data AreServed {W : Type 0} (readable writable : W → Option Bool) (trace : W → WireTrace) : (earlier : ℕ) → ServerValue → List (ℕ × Peer W) → (changed : Bool) → ServerValue → List (ℕ × Peer W) → Type 0 where
-  NoMore : (earlier : ℕ) (v : ServerValue) → AreServed readable writable trace earlier v [] false v []
+pub data AreServed {W : Type 0} (Takes : Taking) (readable writable : W → Option Bool) (trace : W → WireTrace) : (earlier : ℕ) → ServerValue → List (ℕ × Peer W) → (changed : Bool) → ServerValue → List (ℕ × Peer W) → Type 0 where
+  NoMore : (earlier : ℕ) (v : ServerValue) → AreServed Takes readable writable trace earlier v [] false v []
   PassedOver : (earlier : ℕ) (v : ServerValue) (e : ℕ × Peer W) (es : List (ℕ × Peer W)) (changed : Bool) (after : ServerValue) (left : List (ℕ × Peer W)) → IsIdle (stamp_of v.host) (end_of readable writable e.1)
-      → AreServed readable writable trace (earlier + 1) v es changed after left → AreServed readable writable trace earlier v (e ∷ es) changed after (e ∷ left)
+      → AreServed Takes readable writable trace (earlier + 1) v es changed after left → AreServed Takes readable writable trace earlier v (e ∷ es) changed after (e ∷ left)
   HadItsPart : (earlier : ℕ) (v : ServerValue) (e : ℕ × Peer W) (es : List (ℕ × Peer W)) (between : ServerValue) (its : List (ℕ × Peer W)) (changed : Bool) (after : ServerValue) (left : List (ℕ × Peer W)) → IsInTurn (stamp_of v.host) (end_of readable writable e.1)
-      → IsServedInTurn readable writable trace v e between its → AreServed readable writable trace (earlier + length its) between es changed after left
-      → AreServed readable writable trace earlier v (e ∷ es) (concerns_earlier earlier (stamp_of v.host) (stamp_of between.host) || changed) after (its ++ left)
+      → IsServedInTurn Takes readable writable trace v e between its → AreServed Takes readable writable trace (earlier + length its) between es changed after left
+      → AreServed Takes readable writable trace earlier v (e ∷ es) (concerns_earlier earlier (stamp_of v.host) (stamp_of between.host) || changed) after (its ++ left)
 
 -- Each connection in order was served, except those that are idle, and the agenda describes the work that remains.
-pub record IsRound {W : Type 0} (readable writable : W → Option Bool) (trace : W → WireTrace) (v : ServerValue) (es : List (ℕ × Peer W)) (a : NextWakeup) (after : ServerValue) (left : List (ℕ × Peer W)) : Type 0 where
+pub record IsRound {W : Type 0} (Takes : Taking) (readable writable : W → Option Bool) (trace : W → WireTrace) (v : ServerValue) (es : List (ℕ × Peer W)) (a : NextWakeup) (after : ServerValue) (left : List (ℕ × Peer W)) : Type 0 where
   pub changed : Bool
-  pub served : AreServed readable writable trace 0 v es changed after left
+  pub served : AreServed Takes readable writable trace 0 v es changed after left
   pub agenda : IsAgendaOf a changed (stamp_of after.host) (map (λ e. end_of readable writable e.1) left)
 
 -- ---- a turn
@@ -144,11 +198,15 @@ pub record IsOpening {W : Type 0} (told : List (DoorCall W) → Type 0) (v : Ser
 -- opened, the listener is asked once, and a connection is opened for the wire that it returns. Then each connection is
 -- served. The wait is zero if and only if a connection was opened, a change may affect one served earlier, or one is
 -- ready.
-pub record IsTurnOf {W : Type 0} (readable writable : W → Option Bool) (trace : W → WireTrace) (told : List (DoorCall W) → Type 0) (v : ServerValue) (es : List (ℕ × Peer W)) (after : ServerValue) (left : List (ℕ × Peer W)) (wait : Wait) : Type 0 where
+pub record IsTurnBy {W : Type 0} (Takes : Taking) (readable writable : W → Option Bool) (trace : W → WireTrace) (told : List (DoorCall W) → Type 0) (v : ServerValue) (es : List (ℕ × Peer W)) (after : ServerValue) (left : List (ℕ × Peer W)) (wait : Wait) : Type 0 where
   pub opens : Bool
   pub server : ServerValue
   pub entries : List (ℕ × Peer W)
   pub opened : IsOpening told v es server entries opens
   pub changed : Bool
-  pub served : AreServed readable writable trace 0 server entries changed after left
+  pub served : AreServed Takes readable writable trace 0 server entries changed after left
   pub waits : IsWaitAfter (opens || changed) (map (λ e. true_end readable writable after e) left) wait
+
+-- One turn in which no application responds.
+abbrev pub IsTurnOf : {W : Type 0} (readable writable : W → Option Bool) (trace : W → WireTrace) (told : List (DoorCall W) → Type 0) (v : ServerValue) (es : List (ℕ × Peer W)) (after : ServerValue) (left : List (ℕ × Peer W)) (wait : Wait) → Type 0
+IsTurnOf readable writable trace told v es after left wait = IsTurnBy IsTakenAlone readable writable trace told v es after left wait

@@ -6,6 +6,8 @@ use Rattle.coap_server_engine.specs.values.Servers.{ServerValue, session_of, ser
 use Rattle.coap_server_engine.specs.values.ServerAnswers.{can_take_on, stop_on}
 use Rattle.coap_server_session.specs.values.Deadlines.{sooner}
 use Rattle.coap_server_engine.specs.values.InResults.{in_result}
+use Rattle.coap_server_engine.specs.values.Exchanges.{Answering, AnswersMore}
+use Rattle.coap_server_engine.specs.values.ApplicationCalls.{IsServed as IsServedWith}
 use Rattle.coap_server_engine.specs.values.ServerDeadlines.{outlook_of, stamp_of, same_stamp}
 use Rattle.coap_server_engine.specs.values.Flushes.{waiting_at}
 use Rattle.coap_io.specs.streams.Wires.{MatchesTrace, WireTrace, IsReadOnce, IsWrittenOnce}
@@ -49,9 +51,13 @@ abbrev pub left_behind : Option Reason → List ℕ → List ℕ
 left_behind None rest = rest
 left_behind (Some why) rest = []
 
+-- The bytes that are kept after the connection accepted the first `count` of these, and the server is `taken`.
+abbrev pub rest_behind : (taken : ServerValue) → ℕ → (count : ℕ) → List ℕ → List ℕ
+rest_behind taken id count rest = left_behind (stop_on (session_of id taken.sessions)) (drop count rest)
+
 -- The bytes that are kept after the connection accepted all that it accepts of these.
 abbrev pub rest_left : ServerValue → ℕ → List ℕ → List ℕ
-rest_left v id rest = left_behind (stop_on (session_of id (in_result v id rest).server.sessions)) (drop (in_result v id rest).count rest)
+rest_left v id rest = rest_behind (in_result v id rest).server id (in_result v id rest).count rest
 
 -- Nothing more will be written on a connection with this work left, or there is no connection.
 abbrev pub is_over_in : Option ConnectionWork → Bool
@@ -59,6 +65,20 @@ is_over_in None = true
 is_over_in (Some o) = o.finished
 
 -- ---- serving one connection
+
+-- The effect of received bytes on a connection. The arguments are the server before, the number of the connection, the
+-- bytes, the server after, and the number of bytes that it accepted.
+abbrev pub Taking : Type 1
+Taking = ServerValue → ℕ → List ℕ → ServerValue → ℕ → Type 0
+
+-- The connection accepts all that it accepts of the bytes, and no application responds.
+abbrev pub IsTakenAlone : Taking
+IsTakenAlone v id bytes after count = (after ≡ (in_result v id bytes).server) × (count ≡ (in_result v id bytes).count)
+
+-- The connection accepts all that it accepts of the bytes. An application with these statements is shown the requests
+-- that it answers, and responds to some of them at once.
+abbrev pub IsTakenWith : {A : Type 0} → (follows : A → Answering) → Taking
+IsTakenWith {A} follows v id bytes after count = IsServedWith v id bytes count after (λ events. Unit {0}) (λ exchanges. (one other : A) × AnswersMore (follows one) (follows other) exchanges)
 
 abbrev pub has_failed : Got → Bool
 has_failed (Bytes n) = false
@@ -76,34 +96,45 @@ abbrev pub IsLaidOut : (is_due : Bool) → List ℕ → WireTrace → Got → Li
 IsLaidOut true rest wire heard bytes after = IsReadOnce READ_SIZE wire after heard bytes
 IsLaidOut false rest wire heard bytes after = (heard ≡ Later) × (bytes ≡ rest) × (after ≡ wire)
 
+-- The connection did with these bytes what `Takes` states, and these are kept of them.
+pub record IsTakenInPart (Takes : Taking) (v : ServerValue) (id : ℕ) (bytes : List ℕ) (taken : ServerValue) (left : List ℕ) : Type 0 where
+  pub count : ℕ
+  pub took : Takes v id bytes taken count
+  pub rest : left ≡ rest_behind taken id count bytes
+
 -- If the bytes offered to a wire are not empty, the wire was written once. Otherwise it was not touched.
 pub record IsOffered (bytes : List ℕ) (wire : WireTrace) (wrote : Got) (after : WireTrace) : Type 0 where
   pub idle : bytes ≡ [] → (wrote ≡ Later) × (after ≡ wire)
   pub busy : bytes ≢ [] → IsWrittenOnce bytes wire after wrote
 
--- The connection accepted all that it accepts of these bytes. Then its queued bytes were offered to one write, if the
--- wire may be written.
-pub record IsTakenAndWritten (may_write : Bool) (v : ServerValue) (id : ℕ) (bytes : List ℕ) (wire : WireTrace) (after : ServerValue) (left : List ℕ) (told : WireTrace) (course : PeerOutcome) : Type 0 where
+-- The connection did with these bytes what `Takes` states. Then its queued bytes were offered to one write, if the wire
+-- may be written.
+pub record IsTakenAndWritten (Takes : Taking) (may_write : Bool) (v : ServerValue) (id : ℕ) (bytes : List ℕ) (wire : WireTrace) (after : ServerValue) (left : List ℕ) (told : WireTrace) (course : PeerOutcome) : Type 0 where
+  pub taken : ServerValue
+  pub part : IsTakenInPart Takes v id bytes taken left
   pub wrote : Got
-  pub offered : IsOffered (waiting_once may_write id (in_result v id bytes).server) wire wrote told
-  pub server : after ≡ server_wrote (in_result v id bytes).server id wrote
-  pub rest : left ≡ rest_left v id bytes
+  pub offered : IsOffered (waiting_once may_write id taken) wire wrote told
+  pub server : after ≡ server_wrote taken id wrote
   pub outcome : course ≡ course_of wrote (is_over_in (outlook_of after id))
 
 -- The steps that follow a read. If the read failed, there is none, and the outcome is `Over`.
-abbrev pub IsCarriedOn : (failed may_write : Bool) → ServerValue → ℕ → List ℕ → WireTrace → ServerValue → List ℕ → WireTrace → PeerOutcome → Type 0
-IsCarriedOn true may_write v id bytes wire after left told course = (after ≡ v) × (told ≡ wire) × (course ≡ Over)
-IsCarriedOn false may_write v id bytes wire after left told course = IsTakenAndWritten may_write v id bytes wire after left told course
+abbrev pub IsCarriedOn : Taking → (failed may_write : Bool) → ServerValue → ℕ → List ℕ → WireTrace → ServerValue → List ℕ → WireTrace → PeerOutcome → Type 0
+IsCarriedOn Takes true may_write v id bytes wire after left told course = (after ≡ v) × (told ≡ wire) × (course ≡ Over)
+IsCarriedOn Takes false may_write v id bytes wire after left told course = IsTakenAndWritten Takes may_write v id bytes wire after left told course
 
 -- One connection was served: a read if one is due, then processing, then a write if bytes are queued. `may_read` and
 -- `may_write` are the readiness of its wire. A failed read ends this. The wire was read and written at no other time,
 -- and `told` is its trace afterwards.
-pub record IsServedOnce (may_read may_write : Bool) (v : ServerValue) (id : ℕ) (rest : List ℕ) (wire : WireTrace) (after : ServerValue) (left : List ℕ) (told : WireTrace) (course : PeerOutcome) : Type 0 where
+pub record IsServedOnceBy (Takes : Taking) (may_read may_write : Bool) (v : ServerValue) (id : ℕ) (rest : List ℕ) (wire : WireTrace) (after : ServerValue) (left : List ℕ) (told : WireTrace) (course : PeerOutcome) : Type 0 where
   pub heard : Got
   pub bytes : List ℕ
   pub between : WireTrace
   pub laid : IsLaidOut (is_heard may_read v id rest) rest wire heard bytes between
-  pub carried : IsCarriedOn (has_failed heard) may_write (server_heard v id heard) id bytes between after left told course
+  pub carried : IsCarriedOn Takes (has_failed heard) may_write (server_heard v id heard) id bytes between after left told course
+
+-- One connection was served, and no application responds.
+abbrev pub IsServedOnce : (may_read may_write : Bool) (v : ServerValue) (id : ℕ) (rest : List ℕ) (wire : WireTrace) (after : ServerValue) (left : List ℕ) (told : WireTrace) (course : PeerOutcome) → Type 0
+IsServedOnce may_read may_write v id rest wire after left told course = IsServedOnceBy IsTakenAlone may_read may_write v id rest wire after left told course
 
 -- To serve the connection has no effect, whatever its wire does: the wire is neither read nor written. There is an
 -- outcome. Every outcome leaves the server, the bytes left from its reads and the trace of its wire unchanged, and the
@@ -116,12 +147,12 @@ pub record IsNoOp (may_read may_write : Bool) (v : ServerValue) (id : ℕ) (rest
 
 -- The connection was served once, with the results of `may_read` and `may_write` of its wire. If the wire records them,
 -- they are `readable` and `writable`.
-pub record IsServed (readable writable : Option Bool) (v : ServerValue) (id : ℕ) (rest : List ℕ) (wire : WireTrace) (after : ServerValue) (left : List ℕ) (told : WireTrace) (course : PeerOutcome) : Type 0 where
+pub record IsServed (Takes : Taking) (readable writable : Option Bool) (v : ServerValue) (id : ℕ) (rest : List ℕ) (wire : WireTrace) (after : ServerValue) (left : List ℕ) (told : WireTrace) (course : PeerOutcome) : Type 0 where
   pub may_read : Bool
   pub may_write : Bool
   pub read : MatchesTrace readable may_read
   pub write : MatchesTrace writable may_write
-  pub part : IsServedOnce may_read may_write v id rest wire after left told course
+  pub part : IsServedOnceBy Takes may_read may_write v id rest wire after left told course
 
 -- ---- remaining work
 

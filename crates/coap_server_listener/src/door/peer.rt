@@ -1,16 +1,17 @@
 //! The transport side of a connection, and how a turn serves it.
 
 ghost use Rattle.std.specs.Prelude.{◌≡◌, ◌≢◌, false, [], length, is_some, OnOk, OnErr, IfOk, IfErr};
-ghost use Rattle.coap_server_listener.specs.Prelude.{IsPartialIn, in_result, AddsBytes, HasServed, TellsMore};
-ghost use Rattle.coap_server_listener.specs.Prelude.{FollowsMore};
-ghost use Rattle.coap_server_listener.specs.Prelude.{IsServedOnce, trace_by, IsLaidOut, is_heard, server_heard};
-ghost use Rattle.coap_server_listener.specs.Prelude.{server_wrote, waiting_once, rest_left, is_over_in, has_failed};
+ghost use Rattle.coap_server_listener.specs.Prelude.{AddsBytes, AnswersMore, But, FollowsMore, GoesOnSparing};
+ghost use Rattle.coap_server_listener.specs.Prelude.{HasServedBy, IsTakenInPart, NoneTaken, TellsMore};
+ghost use Rattle.coap_server_listener.specs.Prelude.{IsServedOnceBy, trace_by, IsLaidOut, is_heard, server_heard};
+ghost use Rattle.coap_server_listener.specs.Prelude.{server_wrote, waiting_once, is_over_in, has_failed};
 ghost use Rattle.coap_server_listener.specs.Prelude.{course_of, wants_of, IsWithin, IsMemory, IsOneWrite, bytes_passed};
 ghost use Rattle.coap_server_listener.specs.Prelude.{stop_on, session_of, IsAsked, CanGoOn, IsRestAnswer, end_of};
 ghost use Rattle.coap_server_listener.specs.declared.door.peer.PeerOutcome.TheVariants.{Open};
 ghost use Rattle.coap_io.specs.declared.wire.Got.TheVariants.{Later, End};
 
 use super::peer_interest::{PeerInterest, wants_by};
+use super::taker::Taker;
 use coap_conn::first_part;
 use coap_io::{Got, ReadBuffer, Ready, Wire};
 use coap_model::ConnId;
@@ -81,21 +82,25 @@ pub(super) enum PeerOutcome {
 /// # Errors
 ///
 /// - `Memory`: an allocation failed.
-pub(super) fn serve_peer<W: Wire, M: Monitor<W>>(
+pub(super) fn serve_peer<W: Wire, A, T: Taker<A>, M: Monitor<W>>(
     server: &mut Server,
     id: ConnId,
     peer: &mut Peer<W>,
     may_read: bool,
     may_write: bool,
+    application: &mut A,
+    response: &mut Vec<u8>,
     monitor: &mut M,
 ) -> Result<PeerOutcome, IoFault>
     // The wire is read once if a read is due, and written once if bytes are queued and `may_write` is `true`. Otherwise
     // it is not touched.
-    ensures part { IfOk result (λ course. IsServedOnce may_read may_write server.old id peer.old.rest
+    ensures part { IfOk result (λ course. IsServedOnceBy T.takes may_read may_write server.old id peer.old.rest
         (trace_by W.given W.written W.answers W.rooms peer.old.wire) server.new peer.new.rest
         (trace_by W.given W.written W.answers W.rooms peer.new.wire) course) }
-    ensures shows { HasServed (FollowsMore (M.follows monitor.old) (M.follows monitor.new))
-        server.old server.new }
+    ensures shows { HasServedBy T.steps (FollowsMore (M.follows monitor.old) (M.follows monitor.new))
+        (AnswersMore (T.follows application.old) (T.follows application.new)) server.old server.new }
+    // The other connections are spared.
+    ensures spared { OnOk result (GoesOnSparing (But id) server.old server.new) }
     ensures wants { IfOk result (λ course. course ≡ Open → peer.new.wants ≡ wants_of server.new id peer.new.rest) }
     ensures fault { IfErr result IsMemory }
 {
@@ -103,7 +108,7 @@ pub(super) fn serve_peer<W: Wire, M: Monitor<W>>(
     if failed(heard) {
         return Ok(PeerOutcome::Over);
     }
-    take_buffered(server, id, &mut peer.rest, monitor)?;
+    take_buffered::<W, A, T, M>(server, id, &mut peer.rest, application, response, monitor)?;
     let wrote = write_once(server, id, &mut peer.wire, may_write, monitor);
     let outlook = server.outlook(id);
     peer.wants = wants_by(outlook, peer.rest.is_empty(), server.stamp());
@@ -135,7 +140,7 @@ fn outcome(wrote: Got, is_over: bool) -> PeerOutcome
 
 /// Reads once if `may_read` is `true`, all bytes of earlier reads were accepted, and the connection accepts bytes.
 /// Returns the result of the read, or `Later` if there was none. The end of input is reported to the connection.
-#[tactic(auto, using(crate::proofs::streams::ServingLemmas::none_served))]
+#[tactic(auto, using(crate::proofs::streams::ServingLemmas::none_taken))]
 fn read_wire<W: Wire, M: Monitor<W>>(
     server: &mut Server,
     id: ConnId,
@@ -144,8 +149,8 @@ fn read_wire<W: Wire, M: Monitor<W>>(
     monitor: &mut M,
 ) -> Got
     ensures server { server.new ≡ server_heard server.old id result }
-    ensures shows { HasServed (FollowsMore (M.follows monitor.old) (M.follows monitor.new))
-        server.old server.new }
+    ensures shows { HasServedBy NoneTaken (FollowsMore (M.follows monitor.old) (M.follows monitor.new))
+        (λ exchanges. exchanges ≡ []) server.old server.new }
     // If a read is due, the wire is read once, into a buffer of 16,384 bytes, and `peer.rest` has the bytes of that
     // read.
     ensures laid { IsLaidOut (is_heard may_read server.old id peer.old.rest) peer.old.rest
@@ -173,21 +178,22 @@ fn read_wire<W: Wire, M: Monitor<W>>(
 /// # Errors
 ///
 /// - `Memory`: an allocation failed for a representation that a message stores.
-#[tactic(auto, using(crate::proofs::streams::ServingLemmas::part_served))]
-fn take_buffered<W, M: Monitor<W>>(
+fn take_buffered<W, A, T: Taker<A>, M: Monitor<W>>(
     server: &mut Server,
     id: ConnId,
     rest: &mut ReadBuffer,
+    application: &mut A,
+    response: &mut Vec<u8>,
     monitor: &mut M,
 ) -> Result<(), IoFault>
-    ensures server { OnOk result (server.new ≡ (in_result server.old id rest.old).server) }
-    ensures shows { HasServed (FollowsMore (M.follows monitor.old) (M.follows monitor.new))
-        server.old server.new }
-    ensures rest { OnOk result (rest.new ≡ rest_left server.old id rest.old) }
+    ensures taken { OnOk result (IsTakenInPart T.takes server.old id rest.old server.new rest.new) }
+    ensures spared { OnOk result (GoesOnSparing (But id) server.old server.new) }
+    ensures shows { HasServedBy T.steps (FollowsMore (M.follows monitor.old) (M.follows monitor.new))
+        (AnswersMore (T.follows application.old) (T.follows application.new)) server.old server.new }
     ensures fault { IfErr result IsMemory }
-    ensures err { OnErr result (IsPartialIn server.old id rest.old server.new) }
 {
-    let Ok(count) = server.take_all_with(id, rest.bytes(), monitor) else {
+    let taken = T::take_all::<W, M>(server, id, rest.bytes(), application, response, monitor);
+    let Ok(count) = taken else {
         return Err(IoFault::Memory);
     };
     rest.advance(count);
@@ -199,7 +205,7 @@ fn take_buffered<W, M: Monitor<W>>(
 
 /// Writes queued bytes of a connection once, from the first, if some are queued and `may_write` is `true`. Returns the
 /// result of the write, or `Later` if there was none. The result `End` of a write is returned as `Failed`.
-#[tactic(auto, using(crate::proofs::streams::ServingLemmas::none_served, coap_conn::proofs::NextPartLemmas::few_written))]
+#[tactic(auto, using(crate::proofs::streams::ServingLemmas::none_taken, coap_conn::proofs::NextPartLemmas::few_written))]
 fn write_once<W: Wire, M: Monitor<W>>(
     server: &mut Server,
     id: ConnId,
@@ -208,8 +214,8 @@ fn write_once<W: Wire, M: Monitor<W>>(
     monitor: &mut M,
 ) -> Got
     ensures server { server.new ≡ server_wrote server.old id result }
-    ensures shows { HasServed (FollowsMore (M.follows monitor.old) (M.follows monitor.new))
-        server.old server.new }
+    ensures shows { HasServedBy NoneTaken (FollowsMore (M.follows monitor.old) (M.follows monitor.new))
+        (λ exchanges. exchanges ≡ []) server.old server.new }
     ensures within { IsWithin (length (waiting_once may_write id server.old)) result }
     ensures idle { waiting_once may_write id server.old ≡ [] → (wire.new ≡ wire.old) × (result ≡ Later) }
     ensures wrote { waiting_once may_write id server.old ≢ [] →

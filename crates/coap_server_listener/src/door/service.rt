@@ -9,10 +9,10 @@ use super::peer::Peers;
 use super::removal::record_on;
 use super::silence::SilenceWatch;
 use super::sweep::sweep;
-use super::turn::take_turn;
+use super::taker::Alone;
 use coap_io::{Door, Ready, Wait, Wire};
 use coap_model::{Backwards, Config, ConnId, NoSuch, ReleaseFault, Status};
-use coap_server_engine::{Call, IoFault, Monitor, NoMonitor, Server};
+use coap_server_engine::{Call, IoFault, Monitor, NoApplication, NoMonitor, Server};
 use coap_store::{PathKey, StoreFault};
 use indexmap::IndexMap;
 use std::alloc::{AllocError, Global};
@@ -22,11 +22,13 @@ use std::alloc::{AllocError, Global};
 /// a turn.
 #[derive(Drop)]
 pub struct Service<W: Ready> {
-    alloc: Global,
-    server: Server,
-    peers: Peers<W>,
-    awake: Awake,
-    is_spent: bool,
+    pub(super) alloc: Global,
+    pub(super) server: Server,
+    pub(super) peers: Peers<W>,
+    pub(super) awake: Awake,
+    /// Buffer for the responses of an application.
+    pub(super) response: Vec<u8>,
+    pub(super) is_spent: bool,
     ghost noted: { is_spent ≡ false → All (IsNoted server) peers.entries },
     ghost asleep: { is_spent ≡ false → AreAsleep W.readable W.writable awake peers.entries },
 }
@@ -64,6 +66,7 @@ impl<W: Wire + Ready + Drop> Service<W> {
             server,
             peers: IndexMap::with_capacity(alloc, config.connections())?,
             awake: Awake::new(stamp),
+            response: Vec::new(alloc),
             is_spent: false,
         })
     }
@@ -386,7 +389,6 @@ impl<W: Wire + Ready + Drop> Service<W> {
     /// # Errors
     ///
     /// - `Memory`: an allocation failed, in this turn or in an earlier one. No later turn does anything.
-    #[tactic(auto, using(crate::proofs::streams::ServingLemmas::turned_as_before))]
     pub fn turn_with<D: Door<Wire = W>, M: Monitor<W>>(
         &mut self,
         door: &mut D,
@@ -408,19 +410,6 @@ impl<W: Wire + Ready + Drop> Service<W> {
         ensures spent { OnErr result (self.new.is_spent ≡ true) }
         ensures over { self.old.is_spent ≡ true → (self.new ≡ self.old) × (result ≡ Err fault.Memory) }
     {
-        if self.is_spent {
-            return Err(IoFault::Memory);
-        }
-        self.is_spent = true;
-        let wait = take_turn(
-            self.alloc,
-            &mut self.server,
-            &mut self.peers,
-            &mut self.awake,
-            door,
-            monitor,
-        )?;
-        self.is_spent = false;
-        Ok(wait)
+        self.turn_by::<D, NoApplication, Alone, M>(door, &mut NoApplication, monitor)
     }
 }

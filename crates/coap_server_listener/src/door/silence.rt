@@ -137,6 +137,7 @@ pub(super) fn record_call(activities: &mut Activities, now: u64, call: &Call<'_>
         | Call::Stored(_, _, _)
         | Call::Removed(_)
         | Call::Ended(_)
+        | Call::Responded(_, _)
         | Call::Announced(_, _) => {}
     }
 }

@@ -2,18 +2,20 @@
 
 ghost use Rattle.std.specs.Prelude.{◌≡◌, ◌≢◌, ℕ, ◌<◌, ◌≤◌, ◌+◌, ◌-◌, ◌^◌, ◌||◌, Bool, false, Ok, Some, length, is_none};
 ghost use Rattle.std.specs.Prelude.{map, remove, slice_get, take, IfSome, IfOk, IfErr, OnOk, OnErr};
-ghost use Rattle.coap_server_listener.specs.Prelude.{keys_of, AreNoted, HasServed, HasTurned, HasGoneOn, IsRound};
-ghost use Rattle.coap_server_listener.specs.Prelude.{IsOpening, IsAskedOnce, IsTurnOf, asked_by, TellsMore};
+ghost use Rattle.coap_server_listener.specs.Prelude.{keys_of, AreNoted, HasGoneOn, IsRound};
+ghost use Rattle.coap_server_listener.specs.Prelude.{IsOpening, IsAskedOnce, asked_by, TellsMore};
 ghost use Rattle.coap_server_listener.specs.Prelude.{FollowsMore, trace_by};
 ghost use Rattle.coap_server_listener.specs.Prelude.{IsServed, IsAgendaOf, concerns_earlier, end_of, wants_of};
 ghost use Rattle.coap_server_listener.specs.Prelude.{IsMemory, stamp_of, open_refusal, AreSettled, server_dropped};
-ghost use Rattle.coap_server_listener.specs.Prelude.{AreAsleep};
+ghost use Rattle.coap_server_listener.specs.Prelude.{AnswersMore, AreAsleep, HasOpened, HasServedBy, HasTurnedBy};
+ghost use Rattle.coap_server_listener.specs.Prelude.{IsTurnBy};
 ghost use Rattle.coap_server_listener.specs.declared.door.peer.PeerOutcome.TheVariants.{Open};
 
 use super::awake::Awake;
 use super::next_wakeup::{NextWakeup, TurnProgress, affects_served_peers, skip_idle};
 use super::peer::{Peer, PeerOutcome, Peers, serve_peer};
 use super::peer_interest::wants_on;
+use super::taker::Taker;
 use coap_io::{Door, ReadBuffer, Ready, Wait, Wire};
 use coap_server_engine::{Call, IoFault, Monitor, Server};
 use std::alloc::Global;
@@ -24,22 +26,24 @@ use std::alloc::Global;
 /// # Errors
 ///
 /// - `Memory`: an allocation failed.
-pub(super) fn take_turn<D: Door, M: Monitor<D::Wire>>(
+pub(super) fn take_turn<D: Door, A, T: Taker<A>, M: Monitor<D::Wire>>(
     alloc: Global,
     server: &mut Server,
     peers: &mut Peers<D::Wire>,
     awake: &mut Awake,
     door: &mut D,
+    application: &mut A,
+    response: &mut Vec<u8>,
     monitor: &mut M,
 ) -> Result<Wait, IoFault>
     requires noted { AreNoted server.old peers.old.entries }
     requires asleep { AreAsleep D.Wire.readable D.Wire.writable awake.old peers.old.entries }
-    ensures shows { HasTurned (FollowsMore (M.follows monitor.old) (M.follows monitor.new))
-        server.old server.new }
+    ensures shows { HasTurnedBy T.steps (FollowsMore (M.follows monitor.old) (M.follows monitor.new))
+        (AnswersMore (T.follows application.old) (T.follows application.new)) server.old server.new }
     // The listener is asked once if another connection may be opened, and not otherwise.
     ensures asks { IsAskedOnce (TellsMore (D.calls door.old) (D.calls door.new)) server.old }
     // Each connection is served, and the result is the time that the listener may wait.
-    ensures turn { IfOk result (λ wait. IsTurnOf D.Wire.readable D.Wire.writable
+    ensures turn { IfOk result (λ wait. IsTurnBy T.takes D.Wire.readable D.Wire.writable
         (trace_by D.Wire.given D.Wire.written D.Wire.answers D.Wire.rooms)
         (TellsMore (D.calls door.old) (D.calls door.new)) server.old peers.old.entries server.new peers.new.entries
         wait) }
@@ -50,7 +54,14 @@ pub(super) fn take_turn<D: Door, M: Monitor<D::Wire>>(
 {
     awake.wake_places(door.woken());
     let opens = accept(alloc, server, peers, awake, door, monitor)?;
-    let agenda = serve_each(server, peers, awake, monitor)?;
+    let agenda = serve_each::<D::Wire, A, T, M>(
+        server,
+        peers,
+        awake,
+        application,
+        response,
+        monitor,
+    )?;
     Ok(agenda.with(opens, None).wait())
 }
 
@@ -59,7 +70,7 @@ pub(super) fn take_turn<D: Door, M: Monitor<D::Wire>>(
 /// # Errors
 ///
 /// - `Memory`: an allocation failed.
-#[tactic(auto, using(crate::proofs::streams::ServingLemmas::turned_as_before, crate::proofs::streams::ServingLemmas::turned_open))]
+#[tactic(auto, using(crate::proofs::streams::ServingLemmas::none_opened, crate::proofs::streams::ServingLemmas::one_opened))]
 fn accept<D: Door, M: Monitor<D::Wire>>(
     alloc: Global,
     server: &mut Server,
@@ -70,7 +81,7 @@ fn accept<D: Door, M: Monitor<D::Wire>>(
 ) -> Result<bool, IoFault>
     requires noted { AreNoted server.old peers.old.entries }
     requires asleep { AreAsleep D.Wire.readable D.Wire.writable awake.old peers.old.entries }
-    ensures shows { HasTurned (FollowsMore (M.follows monitor.old) (M.follows monitor.new))
+    ensures shows { HasOpened (FollowsMore (M.follows monitor.old) (M.follows monitor.new))
         server.old server.new }
     ensures noted { OnOk result (AreNoted server.new peers.new.entries) }
     ensures asleep { OnOk result (AreAsleep D.Wire.readable D.Wire.writable awake.new peers.new.entries) }
@@ -111,18 +122,20 @@ fn accept<D: Door, M: Monitor<D::Wire>>(
 /// # Errors
 ///
 /// - `Memory`: an allocation failed.
-fn serve_each<W: Wire + Ready + Drop, M: Monitor<W>>(
+fn serve_each<W: Wire + Ready + Drop, A, T: Taker<A>, M: Monitor<W>>(
     server: &mut Server,
     peers: &mut Peers<W>,
     awake: &mut Awake,
+    application: &mut A,
+    response: &mut Vec<u8>,
     monitor: &mut M,
 ) -> Result<NextWakeup, IoFault>
     requires noted { AreNoted server.old peers.old.entries }
     requires asleep { AreAsleep W.readable W.writable awake.old peers.old.entries }
-    ensures shows { HasServed (FollowsMore (M.follows monitor.old) (M.follows monitor.new))
-        server.old server.new }
+    ensures shows { HasServedBy T.steps (FollowsMore (M.follows monitor.old) (M.follows monitor.new))
+        (AnswersMore (T.follows application.old) (T.follows application.new)) server.old server.new }
     // Each connection in order is served, except those that are idle, and the result is the work that remains.
-    ensures round { IfOk result (λ agenda. IsRound W.readable W.writable
+    ensures round { IfOk result (λ agenda. IsRound T.takes W.readable W.writable
         (trace_by W.given W.written W.answers W.rooms) server.old peers.old.entries agenda server.new
         peers.new.entries) }
     ensures noted { OnOk result (AreNoted server.new peers.new.entries) }
@@ -132,7 +145,15 @@ fn serve_each<W: Wire + Ready + Drop, M: Monitor<W>>(
 {
     let mut seen = skip_idle(peers, awake, TurnProgress::none(), server.stamp());
     while seen.at < peers.len() {
-        let served = serve_next(server, peers, awake, seen, monitor)?;
+        let served = serve_next::<W, A, T, M>(
+            server,
+            peers,
+            awake,
+            seen,
+            application,
+            response,
+            monitor,
+        )?;
         seen = skip_idle(peers, awake, served, server.stamp());
     }
     Ok(seen.agenda)
@@ -143,21 +164,23 @@ fn serve_each<W: Wire + Ready + Drop, M: Monitor<W>>(
 /// # Errors
 ///
 /// - `Memory`: an allocation failed.
-fn serve_next<W: Wire + Ready + Drop, M: Monitor<W>>(
+fn serve_next<W: Wire + Ready + Drop, A, T: Taker<A>, M: Monitor<W>>(
     server: &mut Server,
     peers: &mut Peers<W>,
     awake: &mut Awake,
     seen: TurnProgress,
+    application: &mut A,
+    response: &mut Vec<u8>,
     monitor: &mut M,
 ) -> Result<TurnProgress, IoFault>
     requires there { seen.at < length peers.old.entries }
     requires fits { length peers.old.entries < 2 ^ 64 }
     requires noted { AreNoted server.old peers.old.entries }
     requires asleep { AreAsleep W.readable W.writable awake.old peers.old.entries }
-    ensures shows { HasServed (FollowsMore (M.follows monitor.old) (M.follows monitor.new))
-        server.old server.new }
+    ensures shows { HasServedBy T.steps (FollowsMore (M.follows monitor.old) (M.follows monitor.new))
+        (AnswersMore (T.follows application.old) (T.follows application.new)) server.old server.new }
     // The connection was served, and the others are unchanged.
-    ensures part { IfOk result (λ later. HasGoneOn W.readable W.writable
+    ensures part { IfOk result (λ later. HasGoneOn T.takes W.readable W.writable
         (trace_by W.given W.written W.answers W.rooms) server.old peers.old.entries seen.at server.new
         peers.new.entries later.at) }
     ensures noted { OnOk result (AreNoted server.new peers.new.entries) }
@@ -176,12 +199,12 @@ fn serve_next<W: Wire + Ready + Drop, M: Monitor<W>>(
     ensures fault { IfErr result IsMemory }
 {
     let before = server.stamp();
-    let course = serve_at(server, peers, seen.at, monitor)?;
+    let course = serve_at::<W, A, T, M>(server, peers, seen.at, application, response, monitor)?;
     let concerned = affects_served_peers(seen.at, before, server.stamp());
     let agenda = seen.agenda.with(concerned, None);
     match course {
         PeerOutcome::Over => {
-            drop_at(server, peers, seen.at, monitor);
+            drop_at::<W, A, T, M>(server, peers, seen.at, application, monitor);
             awake.wake_all();
             Ok(TurnProgress { agenda, ..seen })
         }
@@ -203,20 +226,22 @@ fn serve_next<W: Wire + Ready + Drop, M: Monitor<W>>(
 /// # Errors
 ///
 /// - `Memory`: an allocation failed.
-fn serve_at<W: Wire + Ready, M: Monitor<W>>(
+fn serve_at<W: Wire + Ready, A, T: Taker<A>, M: Monitor<W>>(
     server: &mut Server,
     peers: &mut Peers<W>,
     at: usize,
+    application: &mut A,
+    response: &mut Vec<u8>,
     monitor: &mut M,
 ) -> Result<PeerOutcome, IoFault>
     requires there { at < length peers.old.entries }
     requires settled { AreSettled server.old.host server.old.sessions }
     requires noted { AreNoted server.old peers.old.entries }
-    ensures shows { HasServed (FollowsMore (M.follows monitor.old) (M.follows monitor.new))
-        server.old server.new }
+    ensures shows { HasServedBy T.steps (FollowsMore (M.follows monitor.old) (M.follows monitor.new))
+        (AnswersMore (T.follows application.old) (T.follows application.new)) server.old server.new }
     ensures part { IfSome (slice_get peers.old.entries at)
         (λ was. IfSome (slice_get peers.new.entries at)
-        (λ is. IfOk result (λ course. IsServed (W.readable was.1.wire) (W.writable was.1.wire) server.old was.0
+        (λ is. IfOk result (λ course. IsServed T.takes (W.readable was.1.wire) (W.writable was.1.wire) server.old was.0
         was.1.rest (trace_by W.given W.written W.answers W.rooms was.1.wire) server.new is.1.rest
         (trace_by W.given W.written W.answers W.rooms is.1.wire) course))) }
     ensures wants { IfSome (slice_get peers.new.entries at)
@@ -234,22 +259,32 @@ fn serve_at<W: Wire + Ready, M: Monitor<W>>(
     let (id, peer) = peers.pair_mut(at);
     let may_read = peer.wire.may_read();
     let may_write = peer.wire.may_write();
-    serve_peer(server, *id, peer, may_read, may_write, monitor)
+    serve_peer::<W, A, T, M>(
+        server,
+        *id,
+        peer,
+        may_read,
+        may_write,
+        application,
+        response,
+        monitor,
+    )
 }
 
 /// Drops the connection at an index.
 #[tactic(auto, using(crate::proofs::streams::ServingLemmas::none_served, crate::proofs::streams::ServingLemmas::dropped_served))]
-fn drop_at<W: Wire + Drop, M: Monitor<W>>(
+fn drop_at<W: Wire + Drop, A, T: Taker<A>, M: Monitor<W>>(
     server: &mut Server,
     peers: &mut Peers<W>,
     at: usize,
+    application: &mut A,
     monitor: &mut M,
 )
     requires there { at < length peers.old.entries }
     requires settled { AreSettled server.old.host server.old.sessions }
     requires noted { AreNoted server.old (remove peers.old.entries at) }
-    ensures shows { HasServed (FollowsMore (M.follows monitor.old) (M.follows monitor.new))
-        server.old server.new }
+    ensures shows { HasServedBy T.steps (FollowsMore (M.follows monitor.old) (M.follows monitor.new))
+        (AnswersMore (T.follows application.old) (T.follows application.new)) server.old server.new }
     ensures noted { AreNoted server.new peers.new.entries }
     ensures peers { peers.new.entries ≡ remove peers.old.entries at }
     ensures host { server.new.host ≡ server.old.host }
@@ -258,7 +293,10 @@ fn drop_at<W: Wire + Drop, M: Monitor<W>>(
 {
     if let Some((id, _)) = peers.shift_remove_index(at) {
         match server.drop_conn(id) {
-            Ok(()) => monitor.accepted(Call::Dropped(id), server),
+            Ok(()) => {
+                monitor.accepted(Call::Dropped(id), server);
+                T::gone(application, id);
+            }
             Err(_) => {}
         }
     }

@@ -1,30 +1,50 @@
 use Rattle.std.proofs.Common.{sym, ap, ◌∙◌}
 use Rattle.coap_server_listener.specs.Prelude.{trace_by, course_of, is_over_in}
 use Rattle.coap_server_listener.proofs.streams.PeerLemmas.{steps_are_a_part}
-use Rattle.coap_server_listener.proofs.streams.ServingLemmas.{served_further}
+use Rattle.coap_server_listener.proofs.streams.NoteLemmas.{part_spares, heard_spares}
+use Rattle.coap_server_listener.proofs.streams.ServingLemmas.{served_aside, served_further}
 use Rattle.coap_server_listener.proofs.door.peer.serve_peer.Goals as goal
 
+pub returns-then-failed-clause-shows : goal.returns-then-failed-clause-shows
+returns-then-failed-clause-shows g c = served_aside g.T.Taker.steps (g.M.Monitor.follows c.args.monitor.now) (g.M.Monitor.follows c.read_wire-heard.new.monitor) (g.T.Taker.follows c.args.application.now) c.read_wire-heard.ensures.shows
+
 pub returns-in_err-take_buffered-clause-shows : goal.returns-in_err-take_buffered-clause-shows
-returns-in_err-take_buffered-clause-shows g c = served_further (g.M.Monitor.follows c.args.monitor.now) (g.M.Monitor.follows c.read_wire-heard.new.monitor) (g.M.Monitor.follows c.take_buffered.new.monitor) c.read_wire-heard.ensures.shows c.take_buffered.ensures.shows
+returns-in_err-take_buffered-clause-shows g c =
+    let idle = g.T.Taker.follows c.args.application.now in
+    let first = g.M.Monitor.follows c.args.monitor.now in
+    let heard = g.M.Monitor.follows c.read_wire-heard.new.monitor in
+    served_further g.T.Taker.steps first heard (g.M.Monitor.follows c.take_buffered.new.monitor) idle idle (g.T.Taker.follows c.take_buffered.new.application)
+    (served_aside g.T.Taker.steps first heard idle c.read_wire-heard.ensures.shows) c.take_buffered.ensures.shows
 
 pub returns-clause-shows : goal.returns-clause-shows
 returns-clause-shows g c =
+    let idle = g.T.Taker.follows c.args.application.now in
+    let answered = g.T.Taker.follows c.take_buffered.new.application in
     let first = g.M.Monitor.follows c.args.monitor.now in
+    let heard = g.M.Monitor.follows c.read_wire-heard.new.monitor in
     let taken = g.M.Monitor.follows c.take_buffered.new.monitor in
-    served_further first taken (g.M.Monitor.follows c.write_once-wrote.new.monitor)
-    (served_further first (g.M.Monitor.follows c.read_wire-heard.new.monitor) taken c.read_wire-heard.ensures.shows c.take_buffered.ensures.shows) c.write_once-wrote.ensures.shows
+    let wrote = g.M.Monitor.follows c.write_once-wrote.new.monitor in
+    served_further g.T.Taker.steps first taken wrote idle answered answered
+    (served_further g.T.Taker.steps first heard taken idle idle answered (served_aside g.T.Taker.steps first heard idle c.read_wire-heard.ensures.shows) c.take_buffered.ensures.shows)
+    (served_aside g.T.Taker.steps taken wrote answered c.write_once-wrote.ensures.shows)
 
 pub returns-clause-part : goal.returns-clause-part
 returns-clause-part g c =
     let trace = trace_by g.W.Wire.given g.W.Wire.written g.W.Wire.answers g.W.Wire.rooms in
     let wrote = c.write_once-wrote.ensures in
-    steps_are_a_part c.args.may_read c.args.may_write c.args.server.now c.read_wire-heard.new.server c.take_buffered.new.server c.write_once-wrote.new.server c.args.id
+    steps_are_a_part g.T.Taker.takes c.args.may_read c.args.may_write c.args.server.now c.read_wire-heard.new.server c.take_buffered.new.server c.write_once-wrote.new.server c.args.id
     c.args.peer.now.rest c.read_wire-heard.new.peer.rest c.take_buffered.new.rest
     (trace c.args.peer.now.wire) (trace c.read_wire-heard.new.peer.wire) (trace c.write_once-wrote.new.wire) c.read_wire-heard.result c.write_once-wrote.result c.outcome.result
     c.read_wire-heard.ensures.server c.read_wire-heard.ensures.laid (sym c.failed.ensures ∙ c.if-failed.false)
-    c.in_ok-take_buffered.ensures.server c.in_ok-take_buffered.ensures.rest
+    c.in_ok-take_buffered.ensures.taken
     (record {
       idle = λ none. let same = wrote.idle none in (same.1, ap trace same.0);
       busy = λ some. record { within = wrote.within; took = wrote.wrote some; gave = wrote.gave some; answered = wrote.answered some; no_read = wrote.no_read some };
     })
     wrote.server (c.outcome.ensures ∙ ap (course_of c.write_once-wrote.result) (c.is_over.ensures ∙ ap is_over_in c.outlook-outlook.ensures))
+
+pub returns-clause-spared : goal.returns-clause-spared
+returns-clause-spared g c = part_spares c.args.server.now c.read_wire-heard.new.server c.take_buffered.new.server c.write_once-wrote.new.server c.args.id c.read_wire-heard.result c.write_once-wrote.result c.read_wire-heard.ensures.server c.in_ok-take_buffered.ensures.spared c.write_once-wrote.ensures.server
+
+pub returns-then-failed-clause-spared : goal.returns-then-failed-clause-spared
+returns-then-failed-clause-spared g c = heard_spares c.args.server.now c.read_wire-heard.new.server c.args.id c.read_wire-heard.result c.read_wire-heard.ensures.server

@@ -19,7 +19,7 @@ returns-in-Ok-clause-wrote g c = λ _.
 
 pub returns-in-Ok-clause-shows : goal.returns-in-Ok-clause-shows
 returns-in-Ok-clause-shows g c =
-    written_served (g.M.Monitor.follows c.args.monitor.now) (g.M.Monitor.follows c.accepted.new.self) c.args.server.now _ c.written.new.self c.args.id c.in-Bytes.count (search rules) c.in-Ok.ensures.shows
+    written_served (g.M.Monitor.follows c.args.monitor.now) (g.M.Monitor.follows c.accepted.new.self) c.args.server.now _ c.written.new.self c.args.id c.in-Bytes.count (search rules) c.in-Ok.ensures.ok c.in-Ok.ensures.shows
     (rw (length-take-le c.in-Bytes.count c.first_part-part.result.now c.in-Bytes.ensures.within.1, add-zero) at c.accepted.ensures)
 
 -- The wire was written once, and the result of that write is the result of the function.

@@ -30,7 +30,7 @@ returns-in-Ok-clause-server g c =
     (dropped_so c.drop_conn.result c.args.server.now _ c.in-Some.id c.requires.settled c.drop_conn.ensures.answer c.drop_conn.ensures.ok c.drop_conn.ensures.err)
 
 pub returns-in-Ok-clause-shows : goal.returns-in-Ok-clause-shows
-returns-in-Ok-clause-shows g c = dropped_served (g.M.Monitor.follows c.args.monitor.now) (g.M.Monitor.follows c.accepted.new.self) c.args.server.now c.drop_conn.new.self c.in-Some.id c.in-Ok.ensures.shows c.accepted.ensures
+returns-in-Ok-clause-shows g c = dropped_served g.T.Taker.steps (g.M.Monitor.follows c.args.monitor.now) (g.M.Monitor.follows c.accepted.new.self) (g.T.Taker.follows c.args.application.now) (g.T.Taker.follows c.gone.new.application) c.args.server.now c.drop_conn.new.self c.in-Some.id c.in-Ok.ensures.ok c.in-Ok.ensures.shows c.accepted.ensures c.gone.ensures
 
 pub returns-in-Some-clause-shows : goal.returns-in-Some-clause-shows
-returns-in-Some-clause-shows g c = none_served (g.M.Monitor.follows c.args.monitor.now) c.args.server.now c.drop_conn.new.self c.in-Err.ensures.err
+returns-in-Some-clause-shows g c = none_served g.T.Taker.steps (g.M.Monitor.follows c.args.monitor.now) (g.T.Taker.follows c.args.application.now) c.args.server.now c.drop_conn.new.self c.in-Err.ensures.err

@@ -1,5 +1,5 @@
 use Rattle.std.proofs.Common.{rules}
-use Rattle.std.proofs.lemmas.Result.{IfOk-weaker}
+use Rattle.std.proofs.lemmas.Result.{IfOk-weaker, on_ok_weaker}
 use Rattle.indexmap.proofs.CallerLemmas.{keys-with_value_at}
 use Rattle.coap_server_listener.proofs.streams.NoteLemmas.{beside_served, all_noted}
 use Rattle.coap_server_listener.proofs.streams.PeerLemmas.{set_there, before_written, beside_written}
@@ -19,11 +19,11 @@ returns g c =
       wants = rw written c.serve_peer.ensures.wants;
       others =
           rw (beside_written c.args.peers.now.entries c.args.at c.serve_peer.new.peer)
-          (IfOk-weaker c.serve_peer.result _ _ (beside_served _ _ c.args.server.now _ _ _ c.serve_peer.new.server _ _ c.args.peers.now.entries c.args.at _ c.serve_peer.new.peer
-          c.requires.settled c.pair_mut-peer.ensures.unique c.pair_mut-peer.ensures.value c.requires.noted) c.serve_peer.ensures.part);
+          (on_ok_weaker c.serve_peer.result (beside_served c.args.server.now _ c.serve_peer.new.server c.args.peers.now.entries c.args.at _ c.serve_peer.new.peer
+          c.requires.settled c.pair_mut-peer.ensures.unique c.pair_mut-peer.ensures.value c.requires.noted) c.serve_peer.ensures.spared);
       noted =
-          all_noted _ _ c.args.server.now _ _ _ c.serve_peer.new.server _ _ c.args.peers.now.entries c.args.at c.pair_mut-peer.result.1.now c.serve_peer.new.peer
-          c.requires.settled c.pair_mut-peer.ensures.unique c.pair_mut-peer.ensures.value c.requires.noted c.serve_peer.result c.serve_peer.ensures.part c.serve_peer.ensures.wants;
+          all_noted c.args.server.now _ c.serve_peer.new.server c.args.peers.now.entries c.args.at c.pair_mut-peer.result.1.now c.serve_peer.new.peer
+          c.requires.settled c.pair_mut-peer.ensures.unique c.pair_mut-peer.ensures.value c.requires.noted c.serve_peer.result c.serve_peer.ensures.spared c.serve_peer.ensures.wants;
       beside = beside_written c.args.peers.now.entries c.args.at c.serve_peer.new.peer;
       before = before_written c.args.peers.now.entries c.args.at c.serve_peer.new.peer;
       each = each_written c.args.peers.now.entries c.args.at c.serve_peer.new.peer;

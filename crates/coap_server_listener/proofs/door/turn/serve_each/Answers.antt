@@ -11,7 +11,7 @@ loop-seen-init g c =
       c.skip_idle-seen.ensures.within,
       record {
         changed = false;
-        served = passed_on g.W.Ready.readable g.W.Ready.writable trace c.none.result.at c.skip_idle-seen.result.at c.stamp.ensures.stamp c.skip_idle-seen.ensures.from
+        served = passed_on g.T.Taker.takes g.W.Ready.readable g.W.Ready.writable trace c.none.result.at c.skip_idle-seen.result.at c.stamp.ensures.stamp c.skip_idle-seen.ensures.from
             c.skip_idle-seen.ensures.within c.skip_idle-seen.ensures.rest (rw c.none.ensures (record { done = []; all_of_them = refl; served = NoMore 0 c.args.server.now }));
         agenda = past_on (end_of g.W.Ready.readable g.W.Ready.writable) c.args.peers.now.entries c.none.result.at c.skip_idle-seen.result.at c.args.server.now.host
             c.stamp.ensures.stamp c.skip_idle-seen.ensures.from (rw c.none.ensures (record { due = refl; ready = false; can = refl; at_once = refl; fresh = λ none. tt }))
@@ -19,7 +19,7 @@ loop-seen-init g c =
       },
       c.requires.noted,
       c.stamp.ensures.settled,
-      none_served (g.M.Monitor.follows c.args.monitor.now) c.args.server.now c.args.server.now refl,
+      none_served g.T.Taker.steps (g.M.Monitor.follows c.args.monitor.now) (g.T.Taker.follows c.args.application.now) c.args.server.now c.args.server.now refl,
       rw c.stamp.ensures.stamp at c.skip_idle-seen.ensures.next,
       c.skip_idle-seen.ensures.asleep,
     )
@@ -31,22 +31,22 @@ loop-seen-preserved g c =
       c.skip_idle-seen-in-loop-seen.ensures.within,
       record {
         changed = before.changed || concerns_earlier c.loop-seen.seen.at (stamp_of c.loop-seen.server.host) (stamp_of c.serve_next.new.server.host);
-        served = passed_on g.W.Ready.readable g.W.Ready.writable trace c.in_ok-served.served.at c.skip_idle-seen-in-loop-seen.result.at c.stamp-in-loop-seen.ensures.stamp
+        served = passed_on g.T.Taker.takes g.W.Ready.readable g.W.Ready.writable trace c.in_ok-served.served.at c.skip_idle-seen-in-loop-seen.result.at c.stamp-in-loop-seen.ensures.stamp
             c.skip_idle-seen-in-loop-seen.ensures.from c.skip_idle-seen-in-loop-seen.ensures.within c.skip_idle-seen-in-loop-seen.ensures.rest
-            (one_further g.W.Ready.readable g.W.Ready.writable trace c.loop-seen.invariant.5 c.in_ok-served.ensures.part before.served);
+            (one_further g.T.Taker.takes g.W.Ready.readable g.W.Ready.writable trace c.loop-seen.invariant.5 c.in_ok-served.ensures.part before.served);
         agenda = past_on (end_of g.W.Ready.readable g.W.Ready.writable) c.serve_next.new.peers.entries c.in_ok-served.served.at c.skip_idle-seen-in-loop-seen.result.at
             c.serve_next.new.server.host c.stamp-in-loop-seen.ensures.stamp c.skip_idle-seen-in-loop-seen.ensures.from (c.in_ok-served.ensures.agenda before.changed before.agenda)
             c.skip_idle-seen-in-loop-seen.ensures.rest c.skip_idle-seen-in-loop-seen.ensures.agenda;
       },
       c.in_ok-served.ensures.noted,
       c.stamp-in-loop-seen.ensures.settled,
-      served_further (g.M.Monitor.follows c.args.monitor.now) (g.M.Monitor.follows c.loop-seen.monitor) (g.M.Monitor.follows c.serve_next.new.monitor) c.loop-seen.invariant.4 c.serve_next.ensures.shows,
+      served_further g.T.Taker.steps (g.M.Monitor.follows c.args.monitor.now) (g.M.Monitor.follows c.loop-seen.monitor) (g.M.Monitor.follows c.serve_next.new.monitor) (g.T.Taker.follows c.args.application.now) (g.T.Taker.follows c.loop-seen.application) (g.T.Taker.follows c.serve_next.new.application) c.loop-seen.invariant.4 c.serve_next.ensures.shows,
       rw c.stamp-in-loop-seen.ensures.stamp at c.skip_idle-seen-in-loop-seen.ensures.next,
       c.skip_idle-seen-in-loop-seen.ensures.asleep,
     )
 
 pub returns-in_err-served-clause-shows : goal.returns-in_err-served-clause-shows
-returns-in_err-served-clause-shows g c = served_further (g.M.Monitor.follows c.args.monitor.now) (g.M.Monitor.follows c.loop-seen.monitor) (g.M.Monitor.follows c.serve_next.new.monitor) c.loop-seen.invariant.4 c.serve_next.ensures.shows
+returns-in_err-served-clause-shows g c = served_further g.T.Taker.steps (g.M.Monitor.follows c.args.monitor.now) (g.M.Monitor.follows c.loop-seen.monitor) (g.M.Monitor.follows c.serve_next.new.monitor) (g.T.Taker.follows c.args.application.now) (g.T.Taker.follows c.loop-seen.application) (g.T.Taker.follows c.serve_next.new.application) c.loop-seen.invariant.4 c.serve_next.ensures.shows
 
 pub returns-clause-round : goal.returns-clause-round
 returns-clause-round g c =
@@ -54,6 +54,6 @@ returns-clause-round g c =
     let most : length c.loop-seen.peers.entries ≤ c.loop-seen.seen.at = omega (arith, c.loop-seen-test.false, c.len.ensures.len) in
     record {
       changed = done.changed;
-      served = all_are_served g.W.Ready.readable g.W.Ready.writable (trace_by g.W.Wire.given g.W.Wire.written g.W.Wire.answers g.W.Wire.rooms) most done.served;
+      served = all_are_served g.T.Taker.takes g.W.Ready.readable g.W.Ready.writable (trace_by g.W.Wire.given g.W.Wire.written g.W.Wire.answers g.W.Wire.rooms) most done.served;
       agenda = rw (take_all c.loop-seen.seen.at c.loop-seen.peers.entries most) at done.agenda;
     }

@@ -1,0 +1,13 @@
+use Rattle.std.proofs.Common.{arith}
+use Rattle.coap_wire.proofs.SpellingLaws.{spelled_as}
+use Rattle.coap_record.proofs.WriteLemmas.{none_encoded, some_encoded}
+use Rattle.coap_record.proofs.lines.response_of.Goals as goal
+
+pub returns-in-Ok-clause-encoded : goal.returns-in-Ok-clause-encoded
+returns-in-Ok-clause-encoded c = rw (← c.in-Ok.ensures.exact) (spelled_as _ _ c.in-Ok.ensures.found)
+
+pub returns-in-Ok-clause-some : goal.returns-in-Ok-clause-some
+returns-in-Ok-clause-some c = some_encoded _ _ (spelled_as _ _ c.in-Ok.ensures.found)
+
+pub returns-in-Err-clause-encoded : goal.returns-in-Err-clause-encoded
+returns-in-Err-clause-encoded c = rw (← c.in-Err.ensures.exact) none_encoded

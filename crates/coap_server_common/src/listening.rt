@@ -1,0 +1,45 @@
+//! The reason why a program cannot listen, and a remedy.
+
+ghost use Rattle.std.specs.Prelude.{◌≡◌};
+
+use coap_program::{FAULT, Program};
+use coap_sockets::{ListenError, ListenFault};
+use std::net::SocketAddr;
+
+/// Reports that a program cannot listen at an address, with the reason and a remedy, and returns the exit status.
+pub fn print_listen_fault(
+    rt: &impl Eprint,
+    program: &Program,
+    fault: ListenFault,
+    address: SocketAddr,
+) -> u8
+    ensures { result ≡ 3 }
+{
+    let status = program.print_fault(rt, fault, FAULT);
+    let ListenFault::Socket(error) = fault else {
+        return status;
+    };
+    let (ip, port) = (address.ip(), address.port());
+    match error {
+        ListenError::InUse => program.print_fault(
+            rt,
+            format_args!("address {ip} port {port} is already in use; choose another port with -p"),
+            status,
+        ),
+        ListenError::Denied if port < 1_024 => program.print_fault(
+            rt,
+            format_args!("permission denied for port {port}; choose a port from 1024 on with -p"),
+            status,
+        ),
+        ListenError::NotAvailable => program.print_fault(
+            rt,
+            format_args!("address {ip} is not an address of this machine; choose another with -A"),
+            status,
+        ),
+        _ => program.print_fault(
+            rt,
+            format_args!("address {ip} port {port}: {error}"),
+            status,
+        ),
+    }
+}

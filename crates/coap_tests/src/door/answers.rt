@@ -1,0 +1,98 @@
+//! A run for an application in memory, which answers one request at once and another one later.
+
+use super::devices::{CallLog, Moments, ScriptedDoor};
+use crate::settings::{configured, set_all};
+use coap_serve::{
+    Application, Applications, ConnId, IoFault, NoMonitor, PathKey, Reply, ResponseFault,
+    serve_door_for,
+};
+use coap_wire::{Code, MessageRef};
+use std::test::Fail;
+
+/// Application that answers PUT at once, and another request when it is asked next.
+#[derive(Drop)]
+struct Board {
+    later: Option<ConnId>,
+    requests: u32,
+    accepted: u32,
+    ends: u32,
+}
+
+impl Application for Board {
+    #[tactic(auto, unfolding(coap_server_engine::specs::values::Exchanges::AnswersMore))]
+    fn request(
+        &mut self,
+        from: ConnId,
+        request: &MessageRef<'_>,
+        _limit: usize,
+        response: &mut Vec<u8>,
+    ) {
+        self.requests = self.requests.saturating_add(1);
+        if request.code() == Code::PUT {
+            let _ = response.extend_from_slice(b"\x01\x44\x2a");
+        } else {
+            self.later = Some(from);
+        }
+    }
+
+    #[tactic(auto, unfolding(coap_server_engine::specs::values::Exchanges::AnswersMore))]
+    fn next_response(&mut self, response: &mut Vec<u8>) -> Option<ConnId> {
+        let from = self.later?;
+        self.later = None;
+        let _ = response.extend_from_slice(b"\x01\x45\x2b");
+        Some(from)
+    }
+
+    #[tactic(auto, unfolding(coap_server_engine::specs::values::Exchanges::AnswersMore))]
+    fn responded(&mut self, _to: ConnId, outcome: Result<Reply, ResponseFault>) {
+        if outcome.is_ok() {
+            self.accepted = self.accepted.saturating_add(1);
+        }
+    }
+
+    #[tactic(auto, unfolding(coap_server_engine::specs::values::Exchanges::AnswersMore))]
+    fn gone(&mut self, _from: ConnId) {
+        self.ends = self.ends.saturating_add(1);
+    }
+}
+
+/// The client's CSM, PUT /rd and GET /rd, and the end of the input.
+const WIRES: &str = "all 00e131032ab2726431012bb27264 later end";
+
+/// The response at once is written in the first turn, the later one in the second.
+const TOLD: &str = "+1 1<14 1>11 +- 1<later 1>3 +- 1<end +-
+1 60e123010000414001442a01452b";
+
+#[test]
+fn an_application_answers(rt: HostRuntime) -> Result<(), Fail> {
+    let setting = set_all(&rt, "turns 4")?;
+    let book = CallLog::new(rt.alloc(), false);
+    let mut door = ScriptedDoor {
+        wires: WIRES,
+        count: 0,
+        book: &book,
+    };
+    let mut applications = Applications::new(rt.alloc(), 60)?;
+    let prefix = PathKey::from_segments(&[b"rd"]).ok_or("no path")?;
+    applications.add(&prefix, &[Code::GET, Code::PUT], b"")?;
+    let mut board = Board {
+        later: None,
+        requests: 0,
+        accepted: 0,
+        ends: 0,
+    };
+    let result = serve_door_for(
+        rt.alloc(),
+        &mut door,
+        &mut Moments { text: "0" },
+        configured(&rt, &setting),
+        applications,
+        &mut board,
+        &mut NoMonitor,
+    );
+    assert!(&rt; result == Err(IoFault::Turns));
+    assert!(&rt; board.requests == 2 && board.accepted == 1 && board.ends == 1);
+    let told = book.told()?;
+    assert!(&rt; told.as_str() == TOLD);
+    Ok(())
+}
