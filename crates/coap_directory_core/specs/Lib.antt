@@ -1,0 +1,9 @@
+pub mod Refusals
+pub mod Requests
+pub mod Parameters
+pub mod Changes
+pub mod Replies
+pub mod ChangeViews
+pub mod RequestViews
+pub mod Responses
+pub mod Prelude

@@ -1,0 +1,273 @@
+//! The changes that requests make.
+
+ghost use Rattle.std.specs.Prelude.{◌≡◌, ◌<◌, ◌^◌, option_map, IfOk, OnOk, OnErr, codes};
+ghost use Rattle.coap_directory_core.specs.Prelude.{Gives, key_with, base_with, identified, attributes_in, links_in};
+ghost use Rattle.coap_directory_core.specs.Prelude.{prepared, Changes, registering, named, registration_of, updating};
+ghost use Rattle.coap_directory_core.specs.Prelude.{renewed_lifetime, renewed_base, looking_up};
+
+use crate::parameters::{
+    accepts_format, are_limited, are_well_formed, endpoint_key, is_base, push_parameters,
+};
+use crate::query::{criteria_of_request, lifetime_of, page_of_request, value_named};
+use crate::refusal::Refusal;
+use coap_links::{AttributeText, LinkText};
+use coap_registry::{EndpointKey, Listing, Registration, Registry};
+use coap_wire::MessageRef;
+use std::alloc::{AllocError, Global};
+
+/// Returns the key of the endpoint that a request names.
+fn requested_key(request: &MessageRef) -> Option<EndpointKey>
+    ensures { option_map (λ k. k.items) result ≡ key_with (named (codes "d") request.now.options) (named (codes "ep") request.now.options) }
+{
+    let sector = value_named(request, b"d");
+    let Some(name) = value_named(request, b"ep") else {
+        return None;
+    };
+    let Some(sector) = sector else {
+        return endpoint_key(b"", name);
+    };
+    endpoint_key(sector, name)
+}
+
+/// Returns the base URI of a request, if it has one and it is of a scheme and an authority.
+fn requested_base<'a>(request: &MessageRef<'a>) -> Option<&'a [u8]>
+    ensures { option_map (λ b. b.now) result ≡ base_with (named (codes "base") request.now.options) }
+{
+    let Some(base) = value_named(request, b"base") else {
+        return None;
+    };
+    if !is_base(base) {
+        return None;
+    }
+    Some(base)
+}
+
+/// Returns the key, the lifetime and the base URI of a registration.
+#[tactic(auto, unfolding(crate::specs::Changes::identified))]
+fn identify<'a>(request: &MessageRef<'a>) -> Result<(EndpointKey, u32, &'a [u8]), Refusal>
+    ensures { Gives (λ x. (x.0.items, x.1, x.2.now)) result (identified request.now.options) }
+{
+    if !accepts_format(request) {
+        return Err(Refusal::Format);
+    }
+    let Some(key) = requested_key(request) else {
+        return Err(Refusal::Endpoint);
+    };
+    let Some(lifetime) = lifetime_of(value_named(request, b"lt")) else {
+        return Err(Refusal::Lifetime);
+    };
+    let Some(base) = requested_base(request) else {
+        return Err(Refusal::Base);
+    };
+    if !are_well_formed(request) {
+        return Err(Refusal::Query);
+    }
+    Ok((key, lifetime, base))
+}
+
+/// Returns the attributes of the endpoint that a request gives.
+///
+/// # Errors
+///
+/// - `AllocError` if allocation fails.
+#[tactic(auto, unfolding(crate::specs::Changes::attributes_in))]
+fn requested_attributes(
+    alloc: Global,
+    request: &MessageRef,
+) -> Result<Result<AttributeText, Refusal>, AllocError>
+    ensures { IfOk result (λ r. Gives (λ x. x) r (attributes_in request.now.options)) }
+{
+    let mut text = Vec::new(alloc);
+    push_parameters(&mut text, request)?;
+    text.extend_from_slice(b";rt=\"core.rd-ep\"")?;
+    match AttributeText::check(text) {
+        Ok(attributes) => Ok(Ok(attributes)),
+        Err(_) => Ok(Err(Refusal::Query)),
+    }
+}
+
+/// Returns the links of a payload.
+///
+/// # Errors
+///
+/// - `AllocError` if allocation fails.
+#[tactic(auto, unfolding(crate::specs::Changes::links_in))]
+fn requested_links(alloc: Global, payload: &[u8]) -> Result<Result<LinkText, Refusal>, AllocError>
+    ensures { IfOk result (λ r. Gives (λ x. x) r (links_in payload.now)) }
+{
+    let bytes = Vec::from_slice(alloc, payload)?;
+    let Ok(links) = LinkText::check(bytes) else {
+        return Ok(Err(Refusal::Links));
+    };
+    if !are_limited(links.links()) {
+        return Ok(Err(Refusal::Target));
+    }
+    Ok(Ok(links))
+}
+
+/// Returns the key and the registration that a request describes, at the location with number 0.
+///
+/// # Errors
+///
+/// - `AllocError` if allocation fails.
+#[tactic(auto, unfolding(crate::specs::Changes::prepared))]
+fn prepare(
+    alloc: Global,
+    now: u64,
+    request: &MessageRef,
+) -> Result<Result<(EndpointKey, Registration), Refusal>, AllocError>
+    requires { now < 2 ^ 63 }
+    ensures { IfOk result (λ r. Gives (λ x. (x.0.items, registration_of x.1)) r (prepared now request.now)) }
+{
+    let (key, lifetime, base) = match identify(request) {
+        Ok(parts) => parts,
+        Err(refusal) => return Ok(Err(refusal)),
+    };
+    let links = match requested_links(alloc, request.payload())? {
+        Ok(links) => links,
+        Err(refusal) => return Ok(Err(refusal)),
+    };
+    let attributes = match requested_attributes(alloc, request)? {
+        Ok(attributes) => attributes,
+        Err(refusal) => return Ok(Err(refusal)),
+    };
+    Ok(Ok((
+        key,
+        Registration {
+            number: 0,
+            lifetime,
+            deadline: now + u64::from(lifetime),
+            base: Vec::from_slice(alloc, base)?,
+            attributes,
+            links,
+        },
+    )))
+}
+
+/// Registers the endpoint of a request, and returns the number of its location.
+///
+/// # Errors
+///
+/// - `AllocError` if allocation fails. The registrations are unchanged.
+#[tactic(auto, unfolding(crate::specs::Changes::registering))]
+pub(crate) fn register(
+    registry: &mut Registry,
+    alloc: Global,
+    now: u64,
+    request: &MessageRef,
+) -> Result<Result<u64, Refusal>, AllocError>
+    requires { now < 2 ^ 63 }
+    ensures ok { IfOk result (λ r. Changes (λ n. n) r registry.old registry.new (registering registry.old now request.now)) }
+    ensures err { OnErr result (registry.new ≡ registry.old) }
+{
+    let (key, mut registration) = match prepare(alloc, now, request)? {
+        Ok(parts) => parts,
+        Err(refusal) => return Ok(Err(refusal)),
+    };
+    let Some(number) = registry.place(&key) else {
+        return Ok(Err(Refusal::Full));
+    };
+    registration.number = number;
+    registry.register(key, registration)?;
+    Ok(Ok(number))
+}
+
+/// Returns the new lifetime of a registration, if the request gives one.
+fn new_lifetime(request: &MessageRef) -> Result<Option<u32>, Refusal>
+    ensures { Gives (λ x. x) result (renewed_lifetime (named (codes "lt") request.now.options)) }
+{
+    let Some(text) = value_named(request, b"lt") else {
+        return Ok(None);
+    };
+    let Some(lifetime) = lifetime_of(Some(text)) else {
+        return Err(Refusal::Lifetime);
+    };
+    Ok(Some(lifetime))
+}
+
+/// Returns the new base URI of a registration, if the request gives one.
+fn new_base<'a>(request: &MessageRef<'a>) -> Result<Option<&'a [u8]>, Refusal>
+    ensures { Gives (λ x. option_map (λ b. b.now) x) result (renewed_base (named (codes "base") request.now.options)) }
+{
+    let Some(base) = value_named(request, b"base") else {
+        return Ok(None);
+    };
+    if !is_base(base) {
+        return Err(Refusal::Base);
+    }
+    Ok(Some(base))
+}
+
+/// Returns a copy of the bytes, if there are any.
+fn copy_of(alloc: Global, bytes: Option<&[u8]>) -> Result<Option<Vec<u8>>, AllocError>
+    ensures { IfOk result (λ r. option_map (λ v. v.items) r ≡ option_map (λ b. b.now) bytes.entry) }
+{
+    let Some(bytes) = bytes else {
+        return Ok(None);
+    };
+    Ok(Some(Vec::from_slice(alloc, bytes)?))
+}
+
+/// Renews the registration at a location by the parameters of a request (RFC 9176 section 5.3.1).
+///
+/// # Errors
+///
+/// - `AllocError` if allocation fails. The registrations are unchanged.
+#[tactic(auto, unfolding(crate::specs::Changes::updating))]
+pub(crate) fn update(
+    registry: &mut Registry,
+    alloc: Global,
+    now: u64,
+    number: u64,
+    request: &MessageRef,
+) -> Result<Result<(), Refusal>, AllocError>
+    requires { now < 2 ^ 63 }
+    ensures answer { IfOk result (λ r. r ≡ (updating registry.old now number request.now.options).0) }
+    ensures after { OnOk result (registry.new ≡ (updating registry.old now number request.now.options).1) }
+    ensures err { OnErr result (registry.new ≡ registry.old) }
+{
+    let lifetime = match new_lifetime(request) {
+        Ok(lifetime) => lifetime,
+        Err(refusal) => return Ok(Err(refusal)),
+    };
+    let base = match new_base(request) {
+        Ok(base) => base,
+        Err(refusal) => return Ok(Err(refusal)),
+    };
+    let base = copy_of(alloc, base)?;
+    if registry.update(number, now, lifetime, base) {
+        Ok(Ok(()))
+    } else {
+        Ok(Err(Refusal::Path))
+    }
+}
+
+/// Writes the results of a lookup into the listing: endpoints, or resources.
+#[tactic(auto, unfolding(crate::specs::Changes::looking_up))]
+pub(crate) fn look_up(
+    registry: &Registry,
+    listing: &mut Listing,
+    endpoints: bool,
+    limit: usize,
+    request: &MessageRef,
+) -> Result<(), Refusal>
+    ensures answer { result ≡ (looking_up registry.now listing.old endpoints limit request.now.options).0 }
+    ensures after { listing.new ≡ (looking_up registry.now listing.old endpoints limit request.now.options).1 }
+{
+    let Some(criteria) = criteria_of_request(request) else {
+        return Err(Refusal::Query);
+    };
+    let Some(page) = page_of_request(request) else {
+        return Err(Refusal::Query);
+    };
+    listing.start(page, limit);
+    if endpoints {
+        registry.list_endpoints(&criteria, listing);
+    } else {
+        registry.list_resources(&criteria, listing);
+    }
+    if listing.text().is_none() {
+        return Err(Refusal::TooLarge);
+    }
+    Ok(())
+}

@@ -1,0 +1,7 @@
+pub mod QuotedLemmas
+pub mod ReadingSteps
+pub mod AttributeSteps
+pub mod LinkSteps
+pub mod SoundLaws
+pub mod CompleteLaws
+pub mod ParseLaws

@@ -1,0 +1,3 @@
+pub mod JoinedLemmas
+pub mod ListingLemmas
+pub mod RegistryLemmas

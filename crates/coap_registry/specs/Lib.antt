@@ -1,0 +1,9 @@
+pub mod Registrations
+pub mod Matching
+pub mod Lookups
+pub mod RegistrationViews
+pub mod PageViews
+pub mod ListingViews
+pub mod EntryViews
+pub mod RegistryViews
+pub mod Prelude
