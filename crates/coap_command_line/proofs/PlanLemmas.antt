@@ -6,6 +6,8 @@ use Rattle.coap_command_line.specs.Prelude.{server_app, server_plan_in, server_p
 use Rattle.coap_command_line.specs.CommandLines.{unless_refused}
 use Rattle.coap_command_line.specs.ExplainWords.{explain_app, explain_plan_in, explain_plan_of, TellsExplainPlan}
 use Rattle.coap_command_line.specs.declared.arguments.explain.ExplainPlan.{ExplainPlan}
+use Rattle.coap_command_line.specs.DirectoryWords.{directory_app, directory_plan_in, directory_plan_of, TellsDirectoryPlan}
+use Rattle.coap_command_line.specs.declared.arguments.directory.DirectoryPlan.{DirectoryPlan}
 use Rattle.coap_command_line.specs.PlanViews.{IsRefused}
 use Rattle.coap_command_line.specs.declared.arguments.WordsFault.TheVariants as faults
 
@@ -63,3 +65,15 @@ pub explain_refused : (app : App) (words : List Text) (fault : WordsFault) → a
 unfolding explain_plan_of
 explain_refused app words fault is h =
     turned_down (fault_of explain_app words) (explain_plan_in (matches_of explain_app words)) fault (subst (λ (a : App). IsTurnedDown (fault_of a words) fault) is h)
+
+pub directory_told : (app : App) (words : List Text) (rows : List Row) (answer : Result DirectoryPlan WordsFault) → app ≡ directory_app → fault_of app words ≡ []
+    → rows ≡ matches_of app words → TellsDirectoryPlan (directory_plan_in rows) answer → TellsDirectoryPlan (directory_plan_of words) answer
+unfolding directory_plan_of
+directory_told app words rows answer is taken found told =
+    subst (λ a. TellsDirectoryPlan a answer) (read_of_shape app directory_app words rows directory_plan_in is taken found) told
+
+pub directory_refused : (app : App) (words : List Text) (fault : WordsFault) → app ≡ directory_app → IsTurnedDown (fault_of app words) fault
+    → IsRefused (directory_plan_of words) fault
+unfolding directory_plan_of
+directory_refused app words fault is h =
+    turned_down (fault_of directory_app words) (directory_plan_in (matches_of directory_app words)) fault (subst (λ (a : App). IsTurnedDown (fault_of a words) fault) is h)

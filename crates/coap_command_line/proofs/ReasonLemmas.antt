@@ -5,6 +5,7 @@ use Rattle.coap_command_line.specs.Reasons.{line_of, unless_rejected, server_rea
 use Rattle.coap_command_line.specs.Reasons.{client_reason, client_reason_in}
 use Rattle.coap_command_line.specs.Prelude.{IsTurnedDown}
 use Rattle.coap_command_line.specs.ExplainWords.{explain_app, explain_reason, explain_reason_in}
+use Rattle.coap_command_line.specs.DirectoryWords.{directory_app, directory_reason, directory_reason_in}
 use Rattle.coap_command_line.specs.declared.arguments.WordsFault.TheVariants as faults
 use Rattle.clap.specs.declared.error.Error.{Error}
 use Rattle.coap_print.proofs.LineLaws.{appended_then, appended_nothing}
@@ -41,6 +42,12 @@ unfolding explain_reason
 explain_found app words rows fault is taken found =
     ap (option_map line_of) (reason_of_shape app explain_app words rows (λ (r : List Row). explain_reason_in r fault) is taken found)
 
+pub directory_found : (app : App) (words : List Text) (rows : List Row) (fault : WordsFault) → app ≡ directory_app → fault_of app words ≡ []
+    → rows ≡ matches_of app words → option_map line_of (directory_reason_in rows fault) ≡ option_map line_of (directory_reason words fault)
+unfolding directory_reason
+directory_found app words rows fault is taken found =
+    ap (option_map line_of) (reason_of_shape app directory_app words rows (λ (r : List Row). directory_reason_in r fault) is taken found)
+
 -- ---- arguments that `clap` rejects
 
 rejected : (kinds : Kinds) (error : Error) (reason : Option Text) → IsTurnedDown kinds (faults.Usage error) → None ≡ unless_rejected kinds reason
@@ -70,3 +77,9 @@ pub explain_rejected : (app : App) (words : List Text) (why : WordsFault) (error
 unfolding explain_reason
 explain_rejected app words why error fault is usage h =
     ap (option_map line_of) (rejected_of_shape app explain_app words why error (explain_reason_in (matches_of explain_app words) fault) is usage h)
+
+pub directory_rejected : (app : App) (words : List Text) (why : WordsFault) (error : Error) (fault : WordsFault) → app ≡ directory_app
+    → why ≡ faults.Usage error → IsTurnedDown (fault_of app words) why → None ≡ option_map line_of (directory_reason words fault)
+unfolding directory_reason
+directory_rejected app words why error fault is usage h =
+    ap (option_map line_of) (rejected_of_shape app directory_app words why error (directory_reason_in (matches_of directory_app words) fault) is usage h)

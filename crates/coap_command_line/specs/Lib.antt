@@ -4,4 +4,5 @@ pub mod ClientWords
 pub mod PlanViews
 pub mod Reasons
 pub mod ExplainWords
+pub mod DirectoryWords
 pub mod Prelude

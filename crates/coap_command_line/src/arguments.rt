@@ -7,6 +7,7 @@ ghost use Rattle.coap_command_line.specs.Reasons as spec;
 
 mod client;
 mod commands;
+pub(crate) mod directory;
 pub(crate) mod explain;
 mod help;
 mod option_values;

@@ -14,7 +14,7 @@ use std::alloc::{AllocError, Global};
 use std::convert::AsStr;
 
 /// Adds a short option with a value.
-fn with_letter<'a>(
+pub(super) fn with_letter<'a>(
     alloc: Global,
     command: Command<'a>,
     name: &'a str,
@@ -52,7 +52,7 @@ pub(super) fn with_word<'a>(
 }
 
 /// Adds a long option with a number as its value.
-fn with_number<'a>(
+pub(super) fn with_number<'a>(
     alloc: Global,
     command: Command<'a>,
     name: &'a str,

@@ -60,6 +60,13 @@ pub(super) const CONNECTION: &str =
 
 pub(super) const FILE: &str = "Record of coap-server, or script (- for standard input)";
 
+// ---- coap-directory
+
+pub(super) const DIRECTORY: &str = "A CoRE resource directory over TCP (RFC 9176)";
+
+pub(super) const REGISTRATIONS: &str =
+    "Registrations at the same time, 1 to 100000 [default: 1000]";
+
 // ---- coap-client
 
 pub(super) const CLIENT: &str = "A CoAP client over TCP (RFC 8323)";

@@ -5,6 +5,7 @@ ghost use Rattle.std.specs.Prelude.{◌≡◌, ◌++◌, [], true, decimal, map,
 ghost use Rattle.coap_command_line.specs.Prelude.{found_of, rows_of, is_text, appended, escaped_text, LINE_LENGTH};
 ghost use Rattle.coap_command_line.specs.Reasons as spec;
 ghost use Rattle.coap_command_line.specs.ExplainWords.{explain_reason_in, explain_values};
+ghost use Rattle.coap_command_line.specs.DirectoryWords.{directory_reason_in, directory_values};
 
 mod tables;
 mod targets;
@@ -15,7 +16,7 @@ use crate::arguments::server::records_to_output;
 use clap::ArgMatches;
 use coap_print::Line;
 use coap_wire::{BASE_MESSAGE_SIZE, LARGEST_SENT_MESSAGE};
-use tables::{CLIENT_VALUES, EXPLAIN_VALUES, SERVER_VALUES, ValueRow};
+use tables::{CLIENT_VALUES, DIRECTORY_VALUES, EXPLAIN_VALUES, SERVER_VALUES, ValueRow};
 use targets::target_line;
 
 /// Returns the reason for an error of the server, from the options that `clap` found.
@@ -48,6 +49,16 @@ pub(super) fn explain_line(matches: &ArgMatches<'_>, fault: &WordsFault) -> Opti
 {
     match fault {
         WordsFault::Value(name) => row_line(&EXPLAIN_VALUES, name, given_for(matches, name)),
+        _ => None,
+    }
+}
+
+/// Returns the reason for an error of `coap-directory`, from the options that `clap` found.
+pub(super) fn directory_line(matches: &ArgMatches<'_>, fault: &WordsFault) -> Option<Line>
+    ensures { result ≡ option_map spec.line_of (directory_reason_in (rows_of (found_of matches.now)) fault.now) }
+{
+    match fault {
+        WordsFault::Value(name) => row_line(&DIRECTORY_VALUES, name, given_for(matches, name)),
         _ => None,
     }
 }

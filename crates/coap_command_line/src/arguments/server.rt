@@ -43,7 +43,7 @@ fn address_in(text: &str) -> Option<IpAddr>
 /// Returns the address to listen at, by default 0.0.0.0.
 ///
 /// The error is the name of the option, if its text is no numeric address.
-fn address(matches: &ArgMatches<'_>) -> Result<IpAddr, &'static str>
+pub(super) fn address(matches: &ArgMatches<'_>) -> Result<IpAddr, &'static str>
     ensures { named result
         ≡ option_value (codes "-A") spec.address_of spec.every_address (rows_of (found_of matches.now)) }
 {

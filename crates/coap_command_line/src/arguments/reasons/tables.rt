@@ -37,6 +37,14 @@ pub const EXPLAIN_VALUES: [ValueRow; 1] = [(
     "the number of a connection from 1 to 18446744073709551615",
 )];
 
+/// Options of `coap-directory`.
+pub const DIRECTORY_VALUES: [ValueRow; 4] = [
+    ("-A", "a numeric IPv4 or IPv6 address"),
+    ("-p", "a port from 1 to 65535"),
+    ("--connections", "1 to 256 connections"),
+    ("--registrations", "1 to 100000 registrations"),
+];
+
 /// Options of `coap-client`.
 pub const CLIENT_VALUES: [ValueRow; 7] = [
     ("-m", "get, put, post or delete"),

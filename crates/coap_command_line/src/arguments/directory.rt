@@ -1,0 +1,137 @@
+//! The command line of `coap-directory`.
+
+ghost use Rattle.std.specs.Prelude.{◌≡◌, ◌≤◌, IfOk, codes, map, option_map};
+ghost use Rattle.coap_command_line.specs.Prelude.{app_of, found_of, rows_of, named};
+ghost use Rattle.coap_command_line.specs.DirectoryWords.{directory_app, TellsDirectoryPlan};
+ghost use Rattle.coap_command_line.specs.DirectoryWords.{IsDirectoryPlan};
+ghost use Rattle.coap_command_line.specs.DirectoryWords as spec;
+ghost use Rattle.coap_command_line.specs.Reasons.{line_of};
+
+use crate::arguments::commands::{bare, matches_in, with_letter, with_number};
+use crate::arguments::option_values::number;
+use crate::arguments::reasons::directory_line;
+use crate::arguments::server::address;
+use crate::arguments::{WordsFault, help};
+use clap::{ArgMatches, Command};
+use coap_print::Line;
+use std::alloc::{AllocError, Global};
+use std::convert::AsStr;
+use std::net::IpAddr;
+
+/// Settings of a run of `coap-directory`.
+#[derive(Clone, Copy)]
+pub struct DirectoryPlan {
+    /// Address to listen at.
+    pub address: IpAddr,
+    /// Port to listen at.
+    pub port: u16,
+    /// Maximum number of connections, 1 to 256.
+    pub connections: usize,
+    /// Maximum number of registrations, 1 to 100,000.
+    pub registrations: usize,
+}
+
+/// Creates the command of `coap-directory`.
+fn directory_command<'a>(alloc: Global) -> Result<Command<'a>, AllocError>
+    ensures { IfOk result (λ c. app_of c ≡ directory_app) }
+{
+    let command = bare(alloc, "coap-directory", help::DIRECTORY);
+    let command = with_letter(alloc, command, "-A", 'A', "ADDRESS", help::ADDRESS)?;
+    let command = with_letter(alloc, command, "-p", 'p', "PORT", help::PORT)?;
+    let command = with_number(
+        alloc,
+        command,
+        "--connections",
+        "connections",
+        help::CONNECTIONS,
+    )?;
+    with_number(
+        alloc,
+        command,
+        "--registrations",
+        "registrations",
+        help::REGISTRATIONS,
+    )
+}
+
+/// Returns the plan for the options that `clap` found.
+///
+/// The error is the name of the first option whose text is malformed or out of range, in the order of the usage line.
+#[tactic(auto, unfolding(crate::specs::DirectoryWords::directory_said))]
+fn directory_values(matches: &ArgMatches<'_>) -> Result<DirectoryPlan, &'static str>
+    ensures value { named result ≡ spec.directory_said (rows_of (found_of matches.now)) }
+    ensures connections { IfOk result (λ plan. (1 ≤ plan.connections) × (plan.connections ≤ 256)) }
+    ensures registrations { IfOk result (λ plan. (1 ≤ plan.registrations) × (plan.registrations ≤ 100000)) }
+{
+    let address = address(matches)?;
+    let port = number(matches, "-p", 1, 65_535, 5_683)?;
+    let connections = number(matches, "--connections", 1, 256, 16)?;
+    let registrations = number(matches, "--registrations", 1, 100_000, 1_000)?;
+    Ok(DirectoryPlan {
+        address,
+        port: port as u16,
+        connections: connections as usize,
+        registrations: registrations as usize,
+    })
+}
+
+/// Returns the plan for the options that `clap` found, or the error `Value`.
+#[tactic(auto, unfolding(crate::specs::DirectoryWords::directory_plan_in))]
+fn directory_plan(matches: &ArgMatches<'_>) -> Result<DirectoryPlan, WordsFault>
+    ensures plan { TellsDirectoryPlan (spec.directory_plan_in (rows_of (found_of matches.now))) result }
+    ensures connections { IfOk result (λ plan. (1 ≤ plan.connections) × (plan.connections ≤ 256)) }
+    ensures registrations { IfOk result (λ plan. (1 ≤ plan.registrations) × (plan.registrations ≤ 100000)) }
+{
+    match directory_values(matches) {
+        Ok(plan) => Ok(plan),
+        Err(name) => Err(WordsFault::Value(name)),
+    }
+}
+
+/// Parses the arguments of `coap-directory`, without the program's name, and returns the plan.
+///
+/// # Errors
+///
+/// The first that applies, except that `Memory` can come before any other:
+///
+/// - `Usage`: `clap` rejects the arguments, or they ask for help or for the version.
+/// - `Value`: the value of an option is malformed or out of range.
+/// - `Memory`: allocation failed.
+pub fn directory_words<'a, S: AsStr>(
+    alloc: Global,
+    words: &'a [S],
+) -> Result<DirectoryPlan, WordsFault>
+    ensures plan { IsDirectoryPlan (map S.text words.entry.now) result }
+    ensures connections { IfOk result (λ plan. (1 ≤ plan.connections) × (plan.connections ≤ 256)) }
+    ensures registrations { IfOk result (λ plan. (1 ≤ plan.registrations) × (plan.registrations ≤ 100000)) }
+{
+    let Ok(command) = directory_command(alloc) else {
+        return Err(WordsFault::Memory);
+    };
+    let matches = match matches_in(command, words) {
+        Ok(matches) => matches,
+        Err(fault) => return Err(fault),
+    };
+    directory_plan(&matches)
+}
+
+/// Returns the reason for an error that `directory_words` reported for these arguments: a line with what was given and what
+/// is allowed. There is no reason for arguments that `clap` rejects, and none for a failed allocation.
+///
+/// # Errors
+///
+/// Returns `AllocError` if allocation fails.
+pub fn directory_reason<'a, S: AsStr>(
+    alloc: Global,
+    words: &'a [S],
+    fault: &WordsFault,
+) -> Result<Option<Line>, AllocError>
+    ensures { IfOk result (λ line. line ≡ option_map line_of (spec.directory_reason (map S.text words.entry.now) fault.now)) }
+{
+    let command = directory_command(alloc)?;
+    match matches_in(command, words) {
+        Ok(matches) => Ok(directory_line(&matches, fault)),
+        Err(WordsFault::Usage(_)) => Ok(None),
+        Err(_) => Err(AllocError),
+    }
+}
