@@ -1,22 +1,19 @@
-/*
- * A server with two measured values, over epoll: /inside and /outside count up each second. Clients may observe them.
- *
- *     server [PORT [SECONDS]]
- *
- * Build: cc -std=c11 server.c $(pkg-config --cflags --libs coap_proved)
- */
+/* A server over poll: /inside and /outside count up each second, and the program itself answers PUT /valve. Clients may
+   observe all three. Build: cc -std=c11 server.c $(pkg-config --cflags --libs coap_proved)
+   Run: a.out [PORT [SECONDS]] */
 #define _POSIX_C_SOURCE 200809L
 #include <arpa/inet.h>
 #include <coap_proved.h>
+#include <poll.h>
 #include <stdio.h>
 #include <stdlib.h>
 #include <string.h>
-#include <sys/epoll.h>
 #include <sys/socket.h>
 #include <sys/uio.h>
 #include <time.h>
 #include <unistd.h>
 
+#define TEXT(text) (const uint8_t *)(text), strlen(text)
 enum { CONNECTIONS = 16, ROOM = 4096 };
 
 /* A connection: its socket (0: none), its id in the server, and the bytes that the server has not accepted yet. */
@@ -39,7 +36,7 @@ static uint64_t now(void) {
 static void end(struct connection *one) {
     dachreup_server_drop(&server, one->id);
     close(one->socket);
-    one->socket = 0;
+    memset(one, 0, sizeof *one);
 }
 
 /* Writes the queued bytes as far as the socket takes them. Returns how many. */
@@ -53,15 +50,33 @@ static size_t flush(struct connection *one) {
     return count > 0 && !dachreup_server_written(&server, one->id, (size_t)count) ? (size_t)count : 0;
 }
 
+/* Answers PUT /valve: 2.04 (Changed) if the state was stored, otherwise 4.13 (Request Entity Too Large). */
+static void answer(uint64_t id, struct dachreup_span request) {
+    struct dachreup_message asked;
+    uint8_t copy[256], response[80];
+    size_t length = 0;
+    uint64_t version;
+    uint32_t reply, code = DACHREUP_CODE(4, 13);
+    /* The request is lent until the next call on the server. Without a response, the engine sends 5.04 later. */
+    if (request.count > sizeof copy || dachreup_message_read(memcpy(copy, request.at, request.count), request.count, &asked))
+        return;
+    if (asked.payload.count <= 4 && !dachreup_server_put(&server, TEXT("valve"), 0, asked.payload.at, asked.payload.count, &version))
+        code = DACHREUP_CODE(2, 4);
+    if (!dachreup_message_write(code, asked.token.at, asked.token.count, TEXT(""), TEXT(""), response, sizeof response, &length))
+        dachreup_server_respond(&server, id, response, length, &reply);
+}
+
 /* Offers the kept bytes, and writes what they cause, until nothing moves. */
 static void serve(struct connection *one) {
-    struct dachreup_took took = {0};
+    struct dachreup_took took;
     struct dachreup_status status = {0};
     for (size_t moved = 1; moved;) {
         if (dachreup_server_take(&server, one->id, one->bytes, one->kept, &took)) {
             end(one);
             return;
         }
+        if (took.request.count)
+            answer(one->id, took.request);
         one->kept -= took.bytes;
         memmove(one->bytes, one->bytes + took.bytes, one->kept);
         moved = took.bytes + flush(one);
@@ -80,66 +95,56 @@ static void receive(struct connection *one) {
 }
 
 /* Accepts a client, if the server has room for it. */
-static void accept_from(int listener, int poll) {
+static void accept_from(int listener) {
+    struct connection *one = connections;
     int client = accept(listener, NULL, NULL);
-    for (int at = 0; client >= 0 && at < CONNECTIONS; at++) {
-        struct connection *one = &connections[at];
-        if (one->socket || dachreup_server_open(&server, &one->id))
-            continue;
-        one->socket = client;
-        one->kept = 0;
-        struct epoll_event wanted = {.events = EPOLLIN, .data.ptr = one};
-        epoll_ctl(poll, EPOLL_CTL_ADD, client, &wanted);
-        serve(one);
-        return;
-    }
-    if (client >= 0)
+    while (one < connections + CONNECTIONS - 1 && one->socket)
+        one++;
+    if (client < 0 || one->socket || dachreup_server_open(&server, &one->id))
         close(client);
+    else
+        one->socket = client;
 }
 
-/* Stores a measured value, and notifies its observers. */
+/* Serves all connections, and waits for input. */
+static void turn(int listener) {
+    struct pollfd ready[CONNECTIONS + 1] = {{.fd = listener, .events = POLLIN}};
+    for (int at = 0; at < CONNECTIONS; at++) {
+        if (connections[at].socket)
+            receive(&connections[at]);
+        ready[at + 1] = (struct pollfd){.fd = connections[at].socket ? connections[at].socket : -1, .events = POLLIN};
+    }
+    poll(ready, CONNECTIONS + 1, 200);
+    if (ready[0].revents)
+        accept_from(listener);
+}
+
+/* Stores a measured value, and notifies its observers. Without memory, the last one stays. */
 static void measure(const char *path, uint64_t value) {
     char text[32];
-    uint64_t version = 0;
-    int length = snprintf(text, sizeof text, "%llu", (unsigned long long)value);
-    uint32_t number = dachreup_server_put(&server, (const uint8_t *)path, strlen(path), 0, (const uint8_t *)text, (size_t)length, &version);
-    if (number)
-        fprintf(stderr, "cannot store %s: %u\n", path, (unsigned)number);
+    uint64_t version;
+    snprintf(text, sizeof text, "%llu", (unsigned long long)value);
+    dachreup_server_put(&server, TEXT(path), 0, TEXT(text), &version);
 }
 
 int main(int count, char **words) {
-    struct dachreup_settings settings = DACHREUP_SETTINGS(2);
-    settings.moment = now();
+    struct dachreup_settings settings = DACHREUP_SETTINGS(3);
+    struct dachreup_applications entries = {0};
     struct sockaddr_in address = {.sin_family = AF_INET, .sin_port = htons((uint16_t)(count > 1 ? atoi(words[1]) : 5683)), .sin_addr = {htonl(INADDR_LOOPBACK)}};
-    int listener = socket(AF_INET, SOCK_STREAM, 0), poll = epoll_create1(0), yes = 1;
+    int listener = socket(AF_INET, SOCK_STREAM, 0), yes = 1;
     long seconds = count > 2 ? atol(words[2]) : -1;
+    settings.moment = now();
     setsockopt(listener, SOL_SOCKET, SO_REUSEADDR, &yes, sizeof yes);
-    if (dachreup_server_new(&server, &settings) || bind(listener, (struct sockaddr *)&address, sizeof address) || listen(listener, 16))
+    if (dachreup_applications_new(&entries, 10) || dachreup_applications_add(&entries, TEXT("valve"), 1 << 3, TEXT("")) ||
+        dachreup_server_new_for(&server, &settings, &entries) || bind(listener, (struct sockaddr *)&address, sizeof address) || listen(listener, 16))
         return 1;
-    struct epoll_event wanted = {.events = EPOLLIN, .data.ptr = NULL};
-    epoll_ctl(poll, EPOLL_CTL_ADD, listener, &wanted);
-    uint64_t measured = 0;
-    for (uint64_t start = now(); seconds < 0 || now() - start < (uint64_t)seconds;) {
+    for (uint64_t start = now(), measured = 0; seconds < 0 || now() - start < (uint64_t)seconds; turn(listener))
         if (now() > measured) {
             measured = now();
             dachreup_server_tick(&server, measured);
             measure("inside", measured - start);
             measure("outside", 2 * (measured - start));
-            for (int at = 0; at < CONNECTIONS; at++)
-                if (connections[at].socket)
-                    serve(&connections[at]);
         }
-        struct epoll_event ready[CONNECTIONS];
-        int found = epoll_wait(poll, ready, CONNECTIONS, 200);
-        for (int at = 0; at < found; at++)
-            if (ready[at].data.ptr)
-                receive(ready[at].data.ptr);
-            else
-                accept_from(listener, poll);
-    }
-    for (int at = 0; at < CONNECTIONS; at++)
-        if (connections[at].socket)
-            end(&connections[at]);
     dachreup_server_free(&server);
-    return close(listener) || close(poll);
+    return close(listener);
 }

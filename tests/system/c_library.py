@@ -5,20 +5,24 @@
 
 Without an archive, bin/libcoap_proved.a is built from crates/coap_c over the libraries that the proofs left in out/rlib. The programs are compiled with -Wall -Wextra
 -Werror, and run with AddressSanitizer and UndefinedBehaviorSanitizer, and under valgrind. Recorded streams through the library give the bytes of
-`coap-server --stdio`. Each allocation fails in turn. Wrong uses are reported by their numbers. A program with libcoap's library too gets the same
-bytes. The last line is 'N passed, M failed', and the status is 0 if M is 0.
+`coap-server --stdio`. A client and a server of the library exchange messages. Frames are written as they were read. Each allocation fails in turn.
+Wrong uses are reported by their numbers. The examples talk to each other, to the programs and to libcoap's. A program with libcoap's library too gets
+the same bytes. The last line is 'N passed, M failed', and the status is 0 if M is 0.
 
-The script needs Debian's packages g++, gcc, libcoap3-dev, pkg-config and valgrind, and installs the missing ones.
+The script needs Debian's packages g++, gcc, libcoap3-bin, libcoap3-dev, pkg-config and valgrind, and installs the missing ones.
 """
 
+import contextlib
 import os
 import pathlib
+import random
 import subprocess
 import sys
 import tempfile
 import time
 
 sys.path.insert(0, os.path.join(os.path.dirname(os.path.abspath(__file__)), "..", "harness"))
+import messages  # noqa: E402
 import packages  # noqa: E402
 import rows  # noqa: E402
 from checks import CSM, GREETING, Checks  # noqa: E402
@@ -28,7 +32,7 @@ from workspace import KIT, ROOT, rattle_words  # noqa: E402
 
 LIMIT = 60
 
-PACKAGES = {"g++": "g++", "gcc": "gcc", "/usr/include/coap3/coap.h": "libcoap3-dev", "pkg-config": "pkg-config", "valgrind": "valgrind"}
+PACKAGES = {"coap-server-notls": "libcoap3-bin", "g++": "g++", "gcc": "gcc", "/usr/include/coap3/coap.h": "libcoap3-dev", "pkg-config": "pkg-config", "valgrind": "valgrind"}
 
 PREFIX = "dachreup_"
 
@@ -93,19 +97,90 @@ def check_streams(checks, program, server):
 CHANGES = bytes.fromhex("00e1" "010101" "410302b161ff787878") + bytes.fromhex("e100260302b161ff") + b"y" * 300 + bytes.fromhex("210103b161" "410304b162ff78" "210105b161")
 
 
-def check_allocations(checks, program, room):
+def check_allocations(checks, words, given, room):
     """Makes each allocation of a run fail in turn. The failed call is made once more, so the output stays the same."""
-    shim = f"{room}/fail_malloc.so"
+    shim, name = f"{room}/fail_malloc.so", os.path.basename(words[0])
     subprocess.run(["gcc", "-O2", "-shared", "-fPIC", "-o", shim, f"{rows.HARNESS}/fail_malloc.c"], check=True)
-    words = [program, "stdio", "65536", "65536", "131072", "16", "65536"]
-    wanted, number = run(words, CHANGES).stdout, 0
+    wanted, number = run(words, given), 0
+    checks.same(f"{name} without a failure", wanted.returncode, 0)
     while True:
         number += 1
-        ran = run(words, CHANGES, LD_PRELOAD=shim, REFUSE_ALLOCATION=str(number))
+        ran = run(words, given, LD_PRELOAD=shim, REFUSE_ALLOCATION=str(number))
         if b"refused" not in ran.stderr:
             break
-        checks.same(f"allocation {number} fails", (ran.returncode, ran.stdout), (0, wanted))
-    checks.same("allocations were made", number > 5, True)
+        checks.same(f"{name}: allocation {number} fails", (ran.returncode, ran.stdout), (0, wanted.stdout))
+    checks.same(f"{name} allocates", number > 5, True)
+
+
+# Events of the client in the mode `pair` of c_client.c.
+EVENTS = """::1 3 1 70
+kind 1 token 0 reason 0 option 0 custody 0
+kind 2 token 300 reason 0 option 0 custody 0 code 65 token 2 ''
+kind 3 token 301 reason 0 option 0 custody 0 code 69 token 2 4:1 6:0 12:0 'first'
+kind 3 token 301 reason 0 option 0 custody 0 code 69 token 2 4:1 6:0 12:0 'second'
+kind 5 token 302 reason 0 option 0 custody 1
+kind 2 token 301 reason 0 option 0 custody 0 code 69 token 2 4:1 12:0 'second'
+kind 2 token 303 reason 0 option 0 custody 0 code 132 token 2 ''
+kind 7 token 0 reason 9 option 0 custody 0
+phase 2 reason 9 waiting 0 outstanding 0
+"""
+
+RANDOM_FRAMES = 3000
+
+
+def frames():
+    """Returns frames of recorded streams, each also with a changed, a missing and an additional byte, and random bytes."""
+    chance, found = random.Random(1), {b"", b"\x00\x45", b"\x0d\x45\x00" + bytes(13), b"\x0e\x45\x00\x00"}
+    for sent, _ in streams():
+        with contextlib.suppress(messages.Malformed):
+            for frame in messages.split(sent)[0]:
+                if frame:
+                    at = chance.randrange(len(frame))
+                    found |= {frame, frame[:at] + bytes([chance.randrange(256)]) + frame[at + 1:], frame[:-1], frame + b"\0"}
+    return [*sorted(found), *(chance.randbytes(chance.randrange(12)) for _ in range(RANDOM_FRAMES))]
+
+
+def is_message(frame):
+    """Returns true if the bytes encode a message, for an implementation of its own."""
+    try:
+        whole, _ = messages.split(frame)
+        _, _, options, _ = messages.parse(frame)
+        return whole == [frame] and all(number <= 65535 for number, _ in options)
+    except (messages.Malformed, IndexError, ValueError):
+        return False
+
+
+def check_messages(checks, programs):
+    """Reads and writes frames. Those that are messages are written as they were read, and others are refused."""
+    given = frames()
+    records = b"".join(len(it).to_bytes(2, "big") + it for it in given)
+    for words in programs:
+        ran = run([*words, "messages"], records)
+        said = ran.stdout.decode().splitlines()
+        checks.same(f"messages {words[0]}", (ran.returncode, ran.stderr, len(said)), (0, b"", len(given)))
+        wrong = [frame.hex() for frame, line in zip(given, said) if (line == "0") != is_message(frame)]
+        checks.same("messages that are accepted", wrong[:5], [])
+
+
+def check_client(checks, clients, server, example):
+    """Runs the client of examples/c against the example, the program and libcoap's server."""
+    def observe(name, words, path, **how):
+        port = free_port("127.0.0.1")
+        running = subprocess.Popen([*words, *how.get("options", ("-A", "127.0.0.1", "-p", str(port))), *([str(port), "8"] if words == [example] else [])],
+                                   stdout=subprocess.DEVNULL, stderr=subprocess.DEVNULL)
+        time.sleep(1)
+        for client in clients:
+            ran = run([*client, f"coap+tcp://127.0.0.1:{port}/{path}", "2"])
+            lines = ran.stdout.decode().splitlines()
+            checks.same(f"{client[0]} observes {name}: {ran.stderr!r}", (ran.returncode, [it[:5] for it in lines], len(set(lines))), (0, ["2.05 "] * 2, 2))
+        running.terminate()
+        running.wait()
+    observe("the example", [example], "inside", options=())
+    observe("the program", [server], "time")
+    observe("libcoap", ["coap-server-notls"], "time")
+    for client in clients:
+        for uri in ("x", "coap://127.0.0.1/a", f"coap+tcp://127.0.0.1:{free_port('127.0.0.1')}/a"):
+            checks.same(f"{client[0]} fails at {uri}", run([*client, uri]).returncode, 2)
 
 
 def check_example(checks, server, client):
@@ -118,6 +193,10 @@ def check_example(checks, server, client):
     told = [one.communicate(timeout=LIMIT)[0].decode() for one in both]
     for name, text, one in zip(("inside", "outside"), told, both):
         checks.same(f"observes /{name}: {text!r}", len(set(text.split() or [text])) + len(text) > 3 and text[:1].isdigit() and one.returncode in (0, 3), True)
+    for state, code in (("open", b""), ("shut", b""), ("shut now", b"4.13")):
+        changed = run([client, "-m", "put", "-e", state, f"{address}/valve"])
+        checks.same(f"valve {state}: {changed}", (changed.returncode == 0, changed.stdout, changed.stderr[:4]), (not code, b"", code))
+    checks.same("valve", run([client, f"{address}/valve"]).stdout.strip(), b"shut")
     missing = run([client, f"{address}/none"])
     checks.same("no such resource", b"4.04" in missing.stdout + missing.stderr, True)
     said = running.communicate(timeout=LIMIT)[0]
@@ -152,14 +231,26 @@ def main(server, client, archive=None):
         driver, example = f"{ROOT}/tests/harness/c_library.c", f"{ROOT}/examples/c/server.c"
         plain = compiled(checks, driver, [archive], f"{room}/driver")
         sanitized = compiled(checks, driver, [archive], f"{room}/driver-sanitized", SANITIZED)
-        for words in ([sanitized, "wrong"], [*VALGRIND, plain, "wrong"]):
+        both = f"{ROOT}/tests/harness/c_client.c"
+        pair, pair_sanitized = compiled(checks, both, [archive], f"{room}/pair"), compiled(checks, both, [archive], f"{room}/pair-sanitized", SANITIZED)
+        for words in ([sanitized, "application"], [*VALGRIND, plain, "application"], [sanitized, "wrong"], [*VALGRIND, plain, "wrong"], [pair_sanitized, "wrong"], [*VALGRIND, pair, "wrong"]):
             ran = run(words)
-            checks.same(f"wrong uses {words[0]}", (ran.returncode, ran.stdout, ran.stderr), (0, b"", b""))
+            checks.same(f"{words[-1]} {words[0]}", (ran.returncode, ran.stdout, ran.stderr), (0, b"", b""))
         ran = run([*VALGRIND, plain, "stdio", "65536", "65536", "131072", "16", "5"], CHANGES)
         checks.same("changes under valgrind", (ran.returncode, ran.stderr), (0, b""))
+        for words in ([pair_sanitized, "pair", "1"], [*VALGRIND, pair, "pair", "7"], [pair_sanitized, "pair", "60000"]):
+            ran = run(words)
+            checks.same(f"a client and a server {words[0]}", (ran.returncode, ran.stdout.decode(), ran.stderr), (0, EVENTS, b""))
+        check_messages(checks, ([pair_sanitized], [*VALGRIND, pair]))
         check_streams(checks, sanitized, server)
-        check_allocations(checks, plain, room)
-        check_example(checks, compiled(checks, example, [archive], f"{room}/server", SANITIZED), client)
+        check_allocations(checks, [plain, "stdio", "65536", "65536", "131072", "16", "65536"], CHANGES, room)
+        check_allocations(checks, [plain, "application"], b"", room)
+        check_allocations(checks, [pair, "pair", "9"], b"", room)
+        served = compiled(checks, example, [archive], f"{room}/server", SANITIZED)
+        check_example(checks, served, client)
+        observer = f"{ROOT}/examples/c/client.c"
+        observers = [[compiled(checks, observer, [archive], f"{room}/client-sanitized", SANITIZED)], [*VALGRIND, compiled(checks, observer, [archive], f"{room}/client")]]
+        check_client(checks, observers, server, served)
         check_libcoap(checks, archive, plain, room)
     print(f"{checks.passed} passed, {checks.failed} failed")
     return 1 if checks.failed else 0

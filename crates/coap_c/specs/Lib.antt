@@ -1,6 +1,13 @@
 pub mod Slots
+pub mod ClientSlots
+pub mod ApplicationsSlots
 pub mod Numbers
 pub mod Settings
 pub mod PathTexts
 pub mod Results
 pub mod ServerCalls
+pub mod ApplicationCalls
+pub mod Messages
+pub mod RequestTexts
+pub mod ClientEvents
+pub mod ClientCalls

@@ -1,8 +1,9 @@
 -- Defined by this project: the numbers that calls from C return, and the numbers in their results.
 -- - 0: success. 1: the handle has no engine. 2: an allocation failed.
--- - 3: `new` on a handle that has an engine. 4: the text is not a path.
+-- - 3: `new` on a handle that has an engine. 4: the text is not a path. 5: a value that is one of a few is none of
+--   them.
 -- - From 16 on: the errors of the call itself. Each is 15 plus the number of the engine's error. The errors of a
---   configuration, after those of the limits, are 31 plus their number.
+--   configuration, after those of the limits, are 31 plus their number. So are those of a request, after those of a URI.
 use Rattle.std.specs.Prelude.{ℕ}
 use Rattle.coap_conn.specs.Reasons.{reason_number}
 use Rattle.coap_conn.specs.declared.phase.Phase.{Phase}
@@ -21,6 +22,18 @@ use Rattle.coap_model.specs.declared.answers.WrittenFault.{WrittenFault}
 use Rattle.coap_model.specs.declared.answers.WrittenFault.TheVariants as writing
 use Rattle.coap_model.specs.declared.config.ConfigFault.{ConfigFault}
 use Rattle.coap_model.specs.declared.config.ConfigFault.TheVariants as config
+use Rattle.coap_wire.specs.declared.fault.FormatFault.{FormatFault}
+use Rattle.coap_wire.specs.declared.fault.FormatFault.TheVariants as format
+use Rattle.coap_application.specs.declared.fault.ApplicationFault.{ApplicationFault}
+use Rattle.coap_application.specs.declared.fault.ApplicationFault.TheVariants as application
+use Rattle.coap_conn.specs.declared.phase.Reply.{Reply}
+use Rattle.coap_conn.specs.declared.phase.Reply.TheVariants as reply
+use Rattle.coap_model.specs.declared.answers.ResponseFault.{ResponseFault}
+use Rattle.coap_model.specs.declared.answers.ResponseFault.TheVariants as responding
+use Rattle.coap_conn.specs.declared.phase.RequestFault.{RequestFault}
+use Rattle.coap_conn.specs.declared.phase.RequestFault.TheVariants as requesting
+use Rattle.coap_request.specs.declared.target.TargetFault.{TargetFault}
+use Rattle.coap_request.specs.declared.target.TargetFault.TheVariants as naming
 use Rattle.coap_store.specs.declared.fault.StoreFault.{StoreFault}
 use Rattle.coap_store.specs.declared.fault.StoreFault.TheVariants as storing
 
@@ -95,3 +108,51 @@ phase_reason phase.Waiting = 0
 phase_reason phase.Open = 0
 phase_reason (phase.Releasing why) = reason_number why
 phase_reason (phase.Stopped why) = reason_number why
+
+abbrev pub request_code : RequestFault → ℕ
+request_code requesting.NotOpen = 32
+request_code requesting.TooMany = 33
+request_code requesting.TooBig = 34
+request_code requesting.NoRoom = 35
+request_code requesting.TokensSpent = 36
+request_code requesting.NoSuchToken = 37
+
+-- The number of an error of a frame.
+abbrev pub format_code : FormatFault → ℕ
+format_code format.TokenLength = 16
+format_code format.OptionDelta = 17
+format_code format.OptionLength = 18
+format_code format.OptionCut = 19
+format_code format.OptionNumber = 20
+format_code format.EmptyPayload = 21
+format_code format.NotOneFrame = 22
+
+abbrev pub target_code : TargetFault → ℕ
+target_code naming.Url = 16
+target_code naming.Scheme = 17
+target_code naming.NoHost = 18
+target_code naming.UserInfo = 19
+target_code naming.Fragment = 20
+target_code naming.PartTooLong = 21
+target_code naming.TooManyParts = 22
+target_code naming.Memory = 2
+
+abbrev pub response_code : ResponseFault → ℕ
+response_code responding.NoSuch = 16
+response_code responding.NoSuchRequest = 17
+response_code responding.NotAResponse = 18
+response_code responding.NoRoom = 19
+
+-- The number of what was queued for a response: 0 for all of it, 1 for its code and token, 2 for a stop.
+abbrev pub reply_code : Reply → ℕ
+reply_code reply.Whole = 0
+reply_code reply.Bare = 1
+reply_code reply.Stopped = 2
+
+abbrev pub entry_code : ApplicationFault → ℕ
+entry_code application.Full = 16
+entry_code application.Root = 17
+entry_code application.Twice = 18
+entry_code application.Method = 19
+entry_code application.Attributes = 20
+entry_code application.Memory = 2

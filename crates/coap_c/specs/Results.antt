@@ -1,6 +1,7 @@
 -- Defined by this project: the results of a call on a handle. `v` is the value of the handle before the call, `v'` the
 -- value after it, and `r` the number that the call returns.
 use Rattle.std.specs.Prelude.{◌≡◌, ℕ, Option, Some, None, ◌⊎◌}
+use Rattle.coap_path.specs.Paths.{Path}
 
 -- A call on a handle without an engine returns 1, and changes neither the handle nor its results (`same`). Otherwise
 -- `call` states the engine after it and the number.
@@ -19,3 +20,8 @@ Answers same (Some number) done v v' r = (r ≡ number) × ((v' ≡ v) × same)
 abbrev pub AnswersOrMemory : {V : Type 0} → Type 0 → Option ℕ → Type 0 → V → V → ℕ → Type 0
 AnswersOrMemory same None done v v' r = ((r ≡ 0) × done) ⊎ ((r ≡ 2) × ((v' ≡ v) × same))
 AnswersOrMemory same (Some number) done v v' r = (r ≡ number) × ((v' ≡ v) × same)
+
+-- A call at the path that a text names. It fails with 4 if the text names none.
+abbrev pub AtPath : {V : Type 0} → Type 0 → Option Path → (Path → V → V → ℕ → Type 0) → V → V → ℕ → Type 0
+AtPath same None call v v' r = (r ≡ 4) × ((v' ≡ v) × same)
+AtPath same (Some path) call v v' r = call path v v' r

@@ -1,6 +1,7 @@
 -- Defined by this project: the results of the calls on the handle of a server.
 use Rattle.std.specs.Prelude.{◌≡◌, ℕ, ◌+◌, List, [], ◌∷◌, ◌++◌, true, length, take, Option, Some, None, option_map, nat_le, if◌then◌else◌, ◌⊎◌}
 use Rattle.coap_path.specs.Paths.{Path}
+use Rattle.coap_path.specs.ResourceKinds.{kind_of_path, is_dynamic}
 use Rattle.coap_store.specs.Refusals.{put_refusal, remove_refusal}
 use Rattle.coap_model.specs.declared.answers.Status.{Status}
 use Rattle.coap_model.specs.world.Events.{AcceptedCall, Opened, Took, Wrote, Ticked, Stored, Removed, Ended, Released, Announced, Dropped}
@@ -8,16 +9,26 @@ use Rattle.coap_server_session.specs.values.SessionAnswers.{announced_refusal_on
 use Rattle.coap_server_session.specs.values.Sessions.{SessionValue}
 use Rattle.coap_server_engine.specs.values.Flushes.{waiting_at}
 use Rattle.coap_server_engine.specs.values.ServerAnswers.{open_refusal, written_refusal, released_refusal, handled_by, RefusesPieceOn, status_of}
-use Rattle.coap_server_engine.specs.values.Servers.{ServerValue, session_of, is_there, new_server, count_taken, server_opened, server_taken, server_written, server_ticked, server_put, server_removed, server_ended, server_released, server_announced, server_dropped}
+use Rattle.coap_server_engine.specs.values.Servers.{ServerValue, session_of, is_there, new_server, count_taken, server_opened, server_taken, server_written, server_ticked, server_put, server_removed, server_ended, server_released, server_announced, server_dropped, server_given}
 use Rattle.coap_server_engine.specs.world.Shows.{Shows}
-use Rattle.coap_c.specs.Numbers.{open_code, written_code, store_code, release_code, announce_code, handled_code, handled_reason, phase_code, phase_reason}
-use Rattle.coap_c.specs.PathTexts.{text_path}
-use Rattle.coap_c.specs.Results.{OnHandle, Answers, AnswersOrMemory}
+use Rattle.coap_c.specs.Numbers.{open_code, written_code, store_code, release_code, announce_code, handled_code, handled_reason, phase_code, phase_reason, response_code, reply_code}
+use Rattle.coap_c.specs.PathTexts.{text_path, format_number}
+use Rattle.coap_c.specs.Results.{OnHandle, AtPath, Answers, AnswersOrMemory}
 use Rattle.coap_c.specs.Settings.{settings_config, settings_refusal}
 use Rattle.coap_c.specs.declared.settings.Settings.{Settings}
 use Rattle.coap_c.specs.declared.server.Took.{Took as TookResult}
 use Rattle.coap_c.specs.declared.server.ConnectionStatus.{ConnectionStatus}
+use Rattle.coap_handle.specs.Spans.{span_whole}
 use Rattle.coap_handle.specs.declared.span.Parts.{Parts}
+use Rattle.coap_handle.specs.declared.span.Span.{Span}
+use Rattle.coap_c.specs.declared.resources.ResourceState.{ResourceState}
+use denote.Ref.{Bor}
+use Rattle.coap_conn.specs.declared.phase.Reply.{Reply}
+use Rattle.coap_store.specs.State.{state_of}
+use Rattle.coap_store.specs.Store.{Representation}
+use Rattle.coap_wire.specs.Reading.{message_of}
+use Rattle.coap_server_engine.specs.values.HandedRequests.{handed_frame}
+use Rattle.coap_server_engine.specs.values.ServerAnswers.{responded_refusal, IsReplyOn, response_event}
 
 -- No result besides the number.
 abbrev pub Nothing : Type 0
@@ -50,21 +61,29 @@ abbrev pub IsOpened : (id id' : ℕ) → Option ServerValue → Option ServerVal
 IsOpened id id' = OnHandle (id' ≡ id) (λ v v' r. AnswersOrMemory (id' ≡ id) (option_map open_code (open_refusal v))
     ((id' ≡ v.ids + 1) × Does (Opened id') (server_opened v) v v') v v' r)
 
--- A result that reports nothing.
+-- A result that reports nothing but accepted bytes.
+abbrev pub IsTookBytes : ℕ → TookResult → Type 0
+IsTookBytes bytes t = (t.bytes ≡ bytes) × ((t.handled ≡ 0) × ((t.reason ≡ 0) × (t.request.count ≡ 0)))
+
 abbrev pub IsBlank : TookResult → Type 0
-IsBlank t = (t.bytes ≡ 0) × ((t.handled ≡ 0) × (t.reason ≡ 0))
+IsBlank t = IsTookBytes 0 t
+
+-- The span has the bytes of a request, or none.
+abbrev pub HasRequest : Span → Option (List ℕ) → Type 0
+HasRequest s None = s.count ≡ 0
+HasRequest s (Some frame) = (bytes : Bor (List ℕ)) × ((bytes.now ≡ frame) × (s ≡ span_whole bytes))
 
 -- A `take` that accepted bytes of `piece`, or none.
 abbrev pub HasTaken : ℕ → List ℕ → TookResult → ServerValue → ServerValue → Type 0
 HasTaken id piece t v v' = (t.bytes ≡ count_taken v id piece)
     × ((t.handled ≡ handled_code (handled_by v id piece)) × ((t.reason ≡ handled_reason (handled_by v id piece))
-    × Does (Took id (take t.bytes piece)) (server_taken v id piece) v v'))
+    × (HasRequest t.request (handed_frame v id piece) × Does (Took id (take t.bytes piece)) (server_taken v id piece) v v')))
 
 -- A `take` in which an allocation failed: the bytes before the last one of the message are accepted.
 abbrev pub HasTakenPart : ℕ → List ℕ → TookResult → ServerValue → ServerValue → Type 0
 HasTakenPart id piece t v v' = RefusesPieceOn v piece t.bytes (session_of id v.sessions)
-    × ((t.handled ≡ 0) × ((t.reason ≡ 0)
-    × Does (Took id (take t.bytes piece)) (server_taken v id (take t.bytes piece)) v v'))
+    × ((t.handled ≡ 0) × ((t.reason ≡ 0) × ((t.request.count ≡ 0)
+    × Does (Took id (take t.bytes piece)) (server_taken v id (take t.bytes piece)) v v')))
 
 -- `take` returns 0 and what it accepted and handled, 16 if there is no connection, or 2 if an allocation failed.
 abbrev pub IsTaken : ℕ → List ℕ → TookResult → Option ServerValue → Option ServerValue → ℕ → Type 0
@@ -83,11 +102,6 @@ abbrev pub IsTicked : ℕ → Option ServerValue → Option ServerValue → ℕ 
 IsTicked now = OnHandle Nothing (λ v v' r. Answers Nothing (if nat_le v.host.now now then None else Some 16)
     (Does (Ticked now) (server_ticked v now) v v') v v' r)
 
--- A call at the path that a text names. It fails with 4 if the text names none.
-abbrev pub AtPath : Type 0 → Option Path → (Path → ServerValue → ServerValue → ℕ → Type 0) → ServerValue → ServerValue → ℕ → Type 0
-AtPath same None call v v' r = (r ≡ 4) × ((v' ≡ v) × same)
-AtPath same (Some path) call v v' r = call path v v' r
-
 abbrev pub IsPut : List ℕ → Option ℕ → List ℕ → (version version' : ℕ) → Option ServerValue → Option ServerValue → ℕ → Type 0
 IsPut text format bytes version version' = OnHandle (version' ≡ version) (AtPath (version' ≡ version) (text_path text) (λ path v v' r.
     AnswersOrMemory (version' ≡ version) (option_map store_code (put_refusal v.host.store path bytes))
@@ -96,6 +110,13 @@ IsPut text format bytes version version' = OnHandle (version' ≡ version) (AtPa
 abbrev pub IsRemoved : List ℕ → Option ServerValue → Option ServerValue → ℕ → Type 0
 IsRemoved text = OnHandle Nothing (AtPath Nothing (text_path text) (λ path v v' r.
     Answers Nothing (option_map store_code (remove_refusal v.host.store path)) (Does (Removed path) (server_removed v path) v v') v v' r))
+
+-- ---- the application
+
+abbrev pub IsResponded : ℕ → List ℕ → (reply reply' : ℕ) → Option ServerValue → Option ServerValue → ℕ → Type 0
+IsResponded id response reply reply' = OnHandle (reply' ≡ reply) (λ v v' r. Answers (reply' ≡ reply) (option_map response_code (responded_refusal v id response))
+    (((queued : Reply) × (IsReplyOn response queued (session_of id v.sessions) × (reply' ≡ reply_code queued)))
+    × ((v' ≡ server_given v id response) × ((events : List AcceptedCall) → Shows v events → Shows v' (events ++ response_event id (message_of response))))) v v' r)
 
 -- ---- connections
 
@@ -142,3 +163,15 @@ ShowsStatus c s = (c.phase ≡ phase_code s.phase) × ((c.reason ≡ phase_reaso
 
 abbrev pub HasStatus : ℕ → (status status' : ConnectionStatus) → Option ServerValue → Option ServerValue → ℕ → Type 0
 HasStatus id status status' = OnHandle (status' ≡ status) (λ v v' r. AsksOn (status' ≡ status) (ShowsStatus status') (status_of v id) v v' r)
+
+-- The fields of the state of a resource. Its bytes are those of the representation.
+abbrev pub ShowsState : ResourceState → Representation → Type 0
+ShowsState s p = (s.version ≡ p.version) × ((s.format ≡ format_number p.format) × ((bytes : Bor (List ℕ)) × ((bytes.now ≡ p.bytes) × (s.bytes ≡ span_whole bytes))))
+
+-- The representation stored at a path, if there is one. A built-in resource has none.
+abbrev pub lent_state : ServerValue → Path → Option Representation
+lent_state v path = if is_dynamic (kind_of_path path) then state_of v.host.store v.host.now path else None
+
+abbrev pub HasState : List ℕ → (state state' : ResourceState) → Option ServerValue → Option ServerValue → ℕ → Type 0
+HasState text state state' = OnHandle (state' ≡ state) (AtPath (state' ≡ state) (text_path text) (λ path v v' r.
+    AsksOn (state' ≡ state) (ShowsState state') (lent_state v path) v v' r))

@@ -3,9 +3,14 @@
 ghost use Rattle.std.specs.Prelude.{◌≡◌};
 ghost use Rattle.coap_c.specs.Numbers as spec;
 
-use coap_conn::{LimitFault, Phase};
-use coap_model::{AnnounceFault, ConfigFault, Handled, OpenFault, ReleaseFault, WrittenFault};
+use coap_application::ApplicationFault;
+use coap_conn::{LimitFault, Phase, Reply, RequestFault};
+use coap_model::{
+    AnnounceFault, ConfigFault, Handled, OpenFault, ReleaseFault, ResponseFault, WrittenFault,
+};
+use coap_request::TargetFault;
 use coap_store::StoreFault;
+use coap_wire::FormatFault;
 
 /// Success.
 pub(crate) const SUCCESS: u32 = 0;
@@ -17,6 +22,14 @@ pub(crate) const MEMORY: u32 = 2;
 pub(crate) const OCCUPIED: u32 = 3;
 /// The text is not a path.
 pub(crate) const NOT_A_PATH: u32 = 4;
+/// A value that is one of a few is none of them.
+pub(crate) const NOT_A_CHOICE: u32 = 5;
+/// The deadline of the entries is 0.
+pub(crate) const BAD_DEADLINE: u32 = 22;
+/// No room for the host of a URI.
+pub(crate) const NO_ROOM_FOR_HOST: u32 = 23;
+/// More bytes were written than are queued.
+pub(crate) const TOO_MANY: u32 = 17;
 /// The first error of a call.
 pub(crate) const FIRST: u32 = 16;
 
@@ -130,5 +143,87 @@ pub(crate) fn phase_numbers(phase: Phase) -> (u32, u32)
         Phase::Open => (1, 0),
         Phase::Releasing(reason) => (2, u32::from(reason.number())),
         Phase::Stopped(reason) => (3, u32::from(reason.number())),
+    }
+}
+
+/// Returns the number of an error of a request.
+pub(crate) fn request_number(fault: RequestFault) -> u32
+    ensures { result ≡ spec.request_code fault }
+{
+    match fault {
+        RequestFault::NotOpen => 32,
+        RequestFault::TooMany => 33,
+        RequestFault::TooBig => 34,
+        RequestFault::NoRoom => 35,
+        RequestFault::TokensSpent => 36,
+        RequestFault::NoSuchToken => 37,
+    }
+}
+
+/// Returns the number of an error of a frame.
+pub(crate) fn format_number(fault: FormatFault) -> u32
+    ensures { result ≡ spec.format_code fault }
+{
+    match fault {
+        FormatFault::TokenLength => 16,
+        FormatFault::OptionDelta => 17,
+        FormatFault::OptionLength => 18,
+        FormatFault::OptionCut => 19,
+        FormatFault::OptionNumber => 20,
+        FormatFault::EmptyPayload => 21,
+        FormatFault::NotOneFrame => 22,
+    }
+}
+
+/// Returns the number of an error of a URI.
+pub(crate) fn target_number(fault: TargetFault) -> u32
+    ensures { result ≡ spec.target_code fault }
+{
+    match fault {
+        TargetFault::Url => 16,
+        TargetFault::Scheme => 17,
+        TargetFault::NoHost => 18,
+        TargetFault::UserInfo => 19,
+        TargetFault::Fragment => 20,
+        TargetFault::PartTooLong => 21,
+        TargetFault::TooManyParts => 22,
+        TargetFault::Memory => 2,
+    }
+}
+
+/// Returns the number of an error of `respond`.
+pub(crate) fn response_number(fault: ResponseFault) -> u32
+    ensures { result ≡ spec.response_code fault }
+{
+    match fault {
+        ResponseFault::NoSuch => 16,
+        ResponseFault::NoSuchRequest => 17,
+        ResponseFault::NotAResponse => 18,
+        ResponseFault::NoRoom => 19,
+    }
+}
+
+/// Returns the number of what was queued for a response.
+pub(crate) fn reply_number(reply: Reply) -> u32
+    ensures { result ≡ spec.reply_code reply }
+{
+    match reply {
+        Reply::Whole => 0,
+        Reply::Bare => 1,
+        Reply::Stopped => 2,
+    }
+}
+
+/// Returns the number of an error of an entry.
+pub(crate) fn entry_number(fault: ApplicationFault) -> u32
+    ensures { result ≡ spec.entry_code fault }
+{
+    match fault {
+        ApplicationFault::Full => 16,
+        ApplicationFault::Root => 17,
+        ApplicationFault::Twice => 18,
+        ApplicationFault::Method => 19,
+        ApplicationFault::Attributes => 20,
+        ApplicationFault::Memory => MEMORY,
     }
 }

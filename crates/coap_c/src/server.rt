@@ -1,25 +1,24 @@
 //! The calls of a server, for C. Each takes the server out of the handle, makes one call and puts the server back.
 
 ghost use Rattle.std.specs.Prelude.{◌≡◌, None};
-ghost use Rattle.coap_c.specs.PathTexts.{format_named};
-ghost use Rattle.coap_c.specs.ServerCalls.{IsMade, IsOpened, IsTaken, IsWritten, IsTicked, IsPut, IsRemoved, IsEnded};
-ghost use Rattle.coap_c.specs.ServerCalls.{IsReleased, IsDropped, IsAnnouncedTo, HasParts, HasStatus, ShowsStatus};
+ghost use Rattle.coap_c.specs.ServerCalls.{IsMade, IsOpened, IsTaken, IsTookBytes, IsResponded, IsWritten, IsTicked};
+ghost use Rattle.coap_c.specs.ServerCalls.{IsEnded, IsReleased, IsDropped, IsAnnouncedTo, HasParts, HasStatus};
+ghost use Rattle.coap_c.specs.ServerCalls.{ShowsStatus};
 
 use crate::numbers::{
-    EMPTY, FIRST, MEMORY, NOT_A_PATH, OCCUPIED, SUCCESS, announce_number, handled_numbers,
-    open_number, phase_numbers, release_number, store_number, written_number,
+    EMPTY, FIRST, MEMORY, OCCUPIED, SUCCESS, announce_number, handled_numbers, open_number,
+    phase_numbers, release_number, reply_number, response_number, written_number,
 };
-use crate::paths::{format_of, path_in};
 use crate::server_handle::ServerHandle;
 use crate::settings::{Settings, configured};
-use coap_handle::{Parts, span_of};
+use coap_handle::{Parts, Span, span_of};
 use coap_model::{Status, TakeFault};
 use coap_server_engine::Server;
 use std::alloc::Global;
 
 /// Result of a `take`.
 #[repr(C)]
-#[derive(Clone, Copy)]
+#[derive(Drop)]
 pub struct Took {
     /// Number of bytes accepted.
     pub bytes: usize,
@@ -27,6 +26,8 @@ pub struct Took {
     pub handled: u32,
     /// Number of the reason of a stop, 1 to 13, or 0.
     pub reason: u32,
+    /// Request that the application answers, or no bytes.
+    pub request: Span,
 }
 
 /// Status of a connection.
@@ -112,31 +113,68 @@ pub extern "C" fn dachreup_server_take(
 ) -> u32
     ensures { IsTaken id piece.now took.new handle.old.value handle.new.value result }
 {
-    *took = Took {
-        bytes: 0,
-        handled: 0,
-        reason: 0,
-    };
     let Some(mut server) = handle.take_server(alloc) else {
+        *took = took_bytes(0);
         return EMPTY;
     };
-    let answer = server.take(id, piece);
-    handle.put_back(server);
-    match answer {
+    let answer = match server.take_request(id, piece) {
         Ok(taken) => {
-            let (handled, reason) = handled_numbers(taken.handled);
+            let (handled, reason) = handled_numbers(taken.taken.handled);
             *took = Took {
-                bytes: taken.bytes,
+                bytes: taken.taken.bytes,
                 handled,
                 reason,
+                request: span_of(taken.frame.unwrap_or(&[])),
             };
             SUCCESS
         }
-        Err(TakeFault::NoSuch) => FIRST,
+        Err(TakeFault::NoSuch) => {
+            *took = took_bytes(0);
+            FIRST
+        }
         Err(TakeFault::Memory { bytes }) => {
-            took.bytes = bytes;
+            *took = took_bytes(bytes);
             MEMORY
         }
+    };
+    handle.put_back(server);
+    answer
+}
+
+/// Returns the result of a `take` that accepted bytes and handled nothing.
+fn took_bytes(bytes: usize) -> Took
+    ensures { IsTookBytes bytes result }
+{
+    Took {
+        bytes,
+        handled: 0,
+        reason: 0,
+        request: span_of(&[]),
+    }
+}
+
+/// Queues a response of the application, and gives what was queued.
+#[unsafe(no_mangle)]
+pub extern "C" fn dachreup_server_respond(
+    alloc: Global,
+    handle: &mut ServerHandle,
+    id: u64,
+    response: &[u8],
+    reply: &mut u32,
+) -> u32
+    ensures { IsResponded id response.now reply.old reply.new handle.old.value handle.new.value result }
+{
+    let Some(mut server) = handle.take_server(alloc) else {
+        return EMPTY;
+    };
+    let answer = server.respond(id, response);
+    handle.put_back(server);
+    match answer {
+        Ok(queued) => {
+            *reply = reply_number(queued);
+            SUCCESS
+        }
+        Err(fault) => response_number(fault),
     }
 }
 
@@ -199,61 +237,6 @@ pub extern "C" fn dachreup_server_tick(alloc: Global, handle: &mut ServerHandle,
     let answer = server.tick(now);
     handle.put_back(server);
     if answer.is_ok() { SUCCESS } else { FIRST }
-}
-
-/// Stores a representation at a path, and gives its version.
-#[unsafe(no_mangle)]
-pub extern "C" fn dachreup_server_put(
-    alloc: Global,
-    handle: &mut ServerHandle,
-    path: &[u8],
-    format: u32,
-    bytes: &[u8],
-    version: &mut u64,
-) -> u32
-    ensures { IsPut path.now (format_named format) bytes.now version.old version.new handle.old.value
-        handle.new.value result }
-{
-    let Some(mut server) = handle.take_server(alloc) else {
-        return EMPTY;
-    };
-    let Some(key) = path_in(path) else {
-        handle.put_back(server);
-        return NOT_A_PATH;
-    };
-    let stored = server.put(&key, format_of(format), bytes);
-    handle.put_back(server);
-    match stored {
-        Ok(new) => {
-            *version = new;
-            SUCCESS
-        }
-        Err(fault) => store_number(fault),
-    }
-}
-
-/// Removes the resource at a path.
-#[unsafe(no_mangle)]
-pub extern "C" fn dachreup_server_remove(
-    alloc: Global,
-    handle: &mut ServerHandle,
-    path: &[u8],
-) -> u32
-    ensures { IsRemoved path.now handle.old.value handle.new.value result }
-{
-    let Some(mut server) = handle.take_server(alloc) else {
-        return EMPTY;
-    };
-    let Some(key) = path_in(path) else {
-        handle.put_back(server);
-        return NOT_A_PATH;
-    };
-    let answer = server.remove(&key);
-    handle.put_back(server);
-    match answer {
-        Ok(()) => SUCCESS,
-        Err(fault) => store_number(fault),
-    }
 }
 
 /// Records the end of the input of a connection.

@@ -60,9 +60,13 @@ heard_value (heard.Pong custody) read = pong_read read custody
 heard_value heard.Stranger read = Some value.Stranger
 heard_value (heard.Stopped why) read = Some (value.Stopped why)
 
+-- The frame in the result of a `take`.
+abbrev pub taken_frame : Taken → List ℕ
+taken_frame t = t.frame.now
+
 -- The event in the result of a `take`.
 abbrev pub taken_event : Taken → Option ClientEventValue
-taken_event t = heard_value t.heard (message_of t.frame.now)
+taken_event t = heard_value t.heard (message_of (taken_frame t))
 
 -- ---- the result of a framer and a link, if the client accepts bytes
 

@@ -97,6 +97,7 @@ unfoldable pub use Rattle.coap_client_engine.specs.ClientWorld.{takes, event_of,
 unfoldable pub use Rattle.coap_client_engine.specs.ClientWorld.{steps_of, step, AreAcceptedBehind, IsAccepted}
 unfoldable pub use Rattle.coap_client_engine.specs.ClientWorld.{after_steps, steps_behind}
 pub use Rattle.coap_client_engine.specs.EventViews.{event_value, answer_read, pong_read, heard_value, taken_event}
+pub use Rattle.coap_client_engine.specs.EventViews.{taken_frame}
 pub use Rattle.coap_client_engine.specs.EventViews.{taking_framed, IsClient}
 pub use Rattle.coap_client_engine.specs.RunTrace.{IsFresh, Begins, Calls, RunTrace, GivesUp, HasWaited}
 pub use Rattle.coap_client_engine.specs.RunTrace.{IsAskedWhereDue, IsBetween, IsCancelledWhereDue, IsRunTrace, IsDone}

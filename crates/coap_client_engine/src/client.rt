@@ -5,6 +5,7 @@ ghost use Rattle.std.specs.Prelude.{OnErr};
 ghost use Rattle.coap_client_engine.specs.Prelude.{message_of, first_critical, IsFramer, framing_of, framer_after};
 ghost use Rattle.coap_client_engine.specs.Prelude.{frame_back, IsLive, react, reject_reason, standing_in, link_after};
 ghost use Rattle.coap_client_engine.specs.Prelude.{answer_told, event_told, event_value, answer_read, pong_read};
+ghost use Rattle.coap_client_engine.specs.Prelude.{taken_frame};
 ghost use Rattle.coap_client_engine.specs.Prelude.{heard_value, taken_event, taking_framed, sem, follows_so, none};
 ghost use Rattle.coap_client_engine.specs.Prelude.{RefusedBy, next_token, extras_value, ClientValue, taking};
 ghost use Rattle.coap_client_engine.specs.Prelude.{client_takes, new_client, client_written, client_ended, client_sent};
@@ -77,6 +78,14 @@ pub struct Taken<'a> {
 }
 
 impl<'a> Taken<'a> {
+    /// Returns the frame of the message that the accepted bytes end with, if they end with one. The event of a response
+    /// or a Pong is that of this frame.
+    pub fn frame(&self) -> &'a [u8]
+        ensures { result.now ≡ taken_frame self.now }
+    {
+        self.frame
+    }
+
     /// Returns the event of the accepted bytes, or `None` if there is nothing to report.
     pub fn event(&self) -> Option<Event<'a>>
         ensures { option_map event_value result ≡ taken_event self.now }

@@ -9,7 +9,7 @@ ghost use Rattle.std_alloc.specs.Box.Ownership.{box_owns};
 
 mod span;
 
-pub use span::{Parts, Span, span_of};
+pub use span::{Parts, Span, span_of, span_within};
 use std::alloc::Allocator;
 use std::marker::Model;
 

@@ -1,6 +1,7 @@
 //! `Span`, the place of bytes that a program in C reads.
 
-ghost use Rattle.std.specs.Prelude.{◌≡◌, length};
+ghost use Rattle.std.specs.Prelude.{◌≡◌, ◌+◌, ◌≤◌, length};
+ghost use Rattle.coap_handle.specs.Spans.{span_whole, span_at};
 
 /// Place of bytes in memory, and their number. A span owns nothing.
 #[repr(C)]
@@ -24,10 +25,21 @@ pub struct Parts {
 
 /// Returns the place of these bytes.
 pub fn span_of(bytes: &[u8]) -> Span
-    ensures { result.count ≡ length bytes.now }
+    ensures { result ≡ span_whole bytes.entry }
 {
     Span {
         at: bytes.as_ptr(),
         count: bytes.len(),
+    }
+}
+
+/// Returns the place of the `count` bytes from `at` on.
+pub fn span_within(bytes: &[u8], at: usize, count: usize) -> Span
+    requires { at + count ≤ length bytes.now }
+    ensures { result ≡ span_at bytes.entry at count }
+{
+    Span {
+        at: unsafe { span_of(bytes).at.byte_add(at) },
+        count,
     }
 }

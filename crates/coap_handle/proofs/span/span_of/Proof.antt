@@ -47,12 +47,12 @@ span_of_spec 𝓤 𝓛 𝓜 𝓡 wired =
     let H = 𝓛.H in let 𝓣 = tables 𝓤 H 𝓜 𝓡 𝓡.env in let En = f.ended in let c = f.clauses 𝓛 𝓜.mem 𝓡.returns in
     proved 𝓛 En stayed c 𝓜 𝓡 (Goes-dropped 𝓛 1 (shr_slice_of (0 ∷ []) tt (plain (λ _. u8))) yes (λ κs x w. refl), tt) f.Key.name code.function (code.unfolded 𝓤 H 𝓜 𝓡 wired)
     (λ κs. (shr_slice_vals, tt)) (λ κs. (shr_slice_Tells (named 0) κs.0 u8, tt)) (λ κs qs bounds a g are.
-    let b = a.0.ref_ptr.0 in let o = a.0.ref_ptr.1 in let n = length a.0.now in let fits : n < 2 ^ 64 = are.0.0.1.0 in
+    let b = a.0.ref_ptr.0 in let o = a.0.ref_ptr.1 in let n = length a.0.now in let fits : n < 2 ^ 64 = are.0.0.1.0 in let place : span.the_row.Denot = record { at = block_ptr b o; count = n } in
     let z : (walk_of 𝓛 En stayed c).Ghost = ((κs, qs, bounds, a, (shr_slice_vals a.0, tt)), g) in let Post : Val → _ = (walk_of 𝓛 En stayed c).post z in
     qed 𝓛 (((‵ (flft κs.0 qs.0) ⊛ ‵ ftrue) ⊛ ‵ (owns (types_at En.signature.params κs) a (shr_slice_vals a.0, tt))) ∷ raw ((c κs a).requires g) ∷ []) ∵ split ! $
     enter ! 𝓣.C 𝓣.Λ code.function (slice_val (b, o) n ∷ []) Post $ alloc_all ! (λ l. pass_all ! refl ((tt, (tt, (record { fits = fits }, tt))), tt) $
     sets ! (addr ! (from ! (fld ! refl (hop ! (look_in_at ! 1 (sub ! 0 refl (whole !))) (stop !))))) refl (tt, tt) $
     sets ! (of_opd ! (get_in ! (fld ! refl (stop !)) (sub ! 1 refl (whole !)))) refl (tt, record { fits = fits }) $
     sets ! (agg ! (and_then ! (get ! refl) (and_then ! (get ! refl) (no_more !)))) refl (tt, (tt, (record { fits = fits }, tt))) $
-    span_in ! b o n fits $ use0 𝓛 (raw (fact 𝓤 (n ≡ n))) (fact_i 𝓤 (n ≡ n) (emp 𝓤) refl) $ nothing ! $ nothing ! $ fjoin ! $
+    span_in ! b o n fits $ use0 𝓛 (raw (fact 𝓤 (place ≡ place))) (fact_i 𝓤 (place ≡ place) (emp 𝓤) refl) $ nothing ! $ nothing ! $ fjoin ! $
     returns ! (look_at ! 0 refl) $ free_all ! refl $ keep ! (3 ∷ 0 ∷ 2 ∷ 1 ∷ []) $ by ! (leaves 𝓛 En stayed c z (span_val b o n) (record { at = block_ptr b o; count = n }) (tt, tt) (tt, tt))))

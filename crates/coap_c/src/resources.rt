@@ -1,0 +1,114 @@
+//! The calls of a server on its resources, for C.
+
+ghost use Rattle.coap_c.specs.PathTexts.{format_named};
+ghost use Rattle.coap_c.specs.ServerCalls.{IsPut, IsRemoved, HasState};
+
+use crate::numbers::{EMPTY, FIRST, NOT_A_PATH, SUCCESS, store_number};
+use crate::paths::{format_of, number_of_format, path_in};
+use crate::server_handle::ServerHandle;
+use coap_handle::{Span, span_of};
+use coap_store::State;
+use std::alloc::Global;
+
+/// State of a resource.
+#[repr(C)]
+#[derive(Drop)]
+pub struct ResourceState {
+    /// Bytes of the representation.
+    pub bytes: Span,
+    /// Version of the representation.
+    pub version: u64,
+    /// Content-Format, or 65,536 for none.
+    pub format: u32,
+}
+
+/// Stores a representation at a path, and gives its version.
+#[unsafe(no_mangle)]
+pub extern "C" fn dachreup_server_put(
+    alloc: Global,
+    handle: &mut ServerHandle,
+    path: &[u8],
+    format: u32,
+    bytes: &[u8],
+    version: &mut u64,
+) -> u32
+    ensures { IsPut path.now (format_named format) bytes.now version.old version.new handle.old.value
+        handle.new.value result }
+{
+    let Some(mut server) = handle.take_server(alloc) else {
+        return EMPTY;
+    };
+    let Some(key) = path_in(path) else {
+        handle.put_back(server);
+        return NOT_A_PATH;
+    };
+    let stored = server.put(&key, format_of(format), bytes);
+    handle.put_back(server);
+    match stored {
+        Ok(new) => {
+            *version = new;
+            SUCCESS
+        }
+        Err(fault) => store_number(fault),
+    }
+}
+
+/// Lends the representation stored at a path, until the next call on the handle.
+#[unsafe(no_mangle)]
+pub extern "C" fn dachreup_server_state(
+    alloc: Global,
+    handle: &mut ServerHandle,
+    path: &[u8],
+    state: &mut ResourceState,
+) -> u32
+    ensures { HasState path.now state.old state.new handle.old.value handle.new.value result }
+{
+    let Some(server) = handle.take_server(alloc) else {
+        return EMPTY;
+    };
+    let Some(key) = path_in(path) else {
+        handle.put_back(server);
+        return NOT_A_PATH;
+    };
+    if !key.kind().is_dynamic() {
+        handle.put_back(server);
+        return FIRST;
+    }
+    let answer = match server.state(&key) {
+        State::Absent => FIRST,
+        State::Present(present) => {
+            *state = ResourceState {
+                bytes: span_of(present.bytes()),
+                version: present.version(),
+                format: number_of_format(present.format()),
+            };
+            SUCCESS
+        }
+    };
+    handle.put_back(server);
+    answer
+}
+
+/// Removes the resource at a path.
+#[unsafe(no_mangle)]
+pub extern "C" fn dachreup_server_remove(
+    alloc: Global,
+    handle: &mut ServerHandle,
+    path: &[u8],
+) -> u32
+    ensures { IsRemoved path.now handle.old.value handle.new.value result }
+{
+    let Some(mut server) = handle.take_server(alloc) else {
+        return EMPTY;
+    };
+    let Some(key) = path_in(path) else {
+        handle.put_back(server);
+        return NOT_A_PATH;
+    };
+    let answer = server.remove(&key);
+    handle.put_back(server);
+    match answer {
+        Ok(()) => SUCCESS,
+        Err(fault) => store_number(fault),
+    }
+}

@@ -1,0 +1,290 @@
+/* The client of the C library with its server in one program, its messages, and wrong uses of their calls. Run by tests/system/c_library.py.
+
+       c_client pair            prints the events of requests, an observation and a Ping; a call that reports 2 is made once more
+       c_client messages        reads records of two bytes of length and a frame; prints the numbers of the errors, and each frame that is
+                                written otherwise than it was read
+       c_client wrong           prints each check that fails */
+#include <coap_proved.h>
+#include <stdio.h>
+#include <stdlib.h>
+#include <string.h>
+
+static struct dachreup_server server;
+static struct dachreup_client client;
+static uint64_t id;
+
+/* Calls that allocate are made again once if an allocation failed. */
+#define AGAIN(call) ((number = (call)) == DACHREUP_MEMORY ? (number = (call)) : number)
+
+#define TEXT(text) (const uint8_t *)(text), sizeof(text) - 1
+
+static void print(const struct dachreup_event *event) {
+    printf("kind %u token %llu reason %u option %u custody %u", (unsigned)event->kind, (unsigned long long)event->token, (unsigned)event->reason,
+           (unsigned)event->option, (unsigned)event->custody);
+    if (event->message.code) {
+        struct dachreup_span value;
+        size_t at = 0;
+        uint32_t option = 0;
+        printf(" code %u token %zu", (unsigned)event->message.code, event->message.token.count);
+        while (!dachreup_option_next(event->message.options.at, event->message.options.count, &at, &option, &value))
+            printf(" %u:%zu", (unsigned)option, value.count);
+        printf(" '%.*s'", (int)event->message.payload.count, (const char *)event->message.payload.at);
+    }
+    putchar('\n');
+}
+
+/* Moves the client's queued bytes to the server, one byte at a time. */
+static int to_server(void) {
+    struct dachreup_parts parts;
+    struct dachreup_took took;
+    uint32_t number;
+    while (!dachreup_client_parts(&client, &parts) && parts.first.count + parts.second.count) {
+        uint8_t byte = parts.first.count ? *parts.first.at : *parts.second.at;
+        do
+            number = dachreup_server_take(&server, id, &byte, 1, &took);
+        while (number == DACHREUP_MEMORY && took.bytes == 0);
+        if (number || took.bytes != 1 || dachreup_client_written(&client, 1))
+            return 1;
+    }
+    return 0;
+}
+
+/* Moves the server's queued bytes to the client, in pieces of this size. */
+static int to_client(size_t size) {
+    struct dachreup_parts parts;
+    static uint8_t bytes[1 << 16];
+    while (!dachreup_server_parts(&server, id, &parts) && parts.first.count + parts.second.count) {
+        const struct dachreup_span *part = parts.first.count ? &parts.first : &parts.second;
+        size_t count = part->count < size ? part->count : size;
+        struct dachreup_event event;
+        memcpy(bytes, part->at, count);
+        if (dachreup_client_take(&client, bytes, count, &event) || event.bytes == 0)
+            return 1;
+        if (event.kind)
+            print(&event);
+        if (dachreup_server_written(&server, id, event.bytes))
+            return 1;
+    }
+    return 0;
+}
+
+static int exchange(size_t size) {
+    return to_server() || to_client(size) || to_server() || to_client(size);
+}
+
+static int pair(size_t size) {
+    struct dachreup_settings settings = DACHREUP_SETTINGS(4);
+    struct dachreup_limits limits = DACHREUP_LIMITS;
+    struct dachreup_request get = DACHREUP_REQUEST_GET, observe = DACHREUP_REQUEST_OBSERVE, put = {DACHREUP_PUT, 0, 0, 40, DACHREUP_NO_FORMAT};
+    struct dachreup_place place = {0, 0, 0};
+    uint64_t token = 0, version = 0;
+    uint32_t number;
+    uint8_t host[16] = {0};
+    if (AGAIN(dachreup_target(TEXT("coap+tcp://[::1]:70/a"), host, sizeof host, &place)))
+        return 1;
+    printf("%s %zu %u %u\n", (char *)host, place.host, (unsigned)place.is_address, (unsigned)place.port);
+    if (AGAIN(dachreup_server_new(&server, &settings)) || AGAIN(dachreup_server_open(&server, &id)) || AGAIN(dachreup_client_new(&client, &limits, 299)))
+        return 2;
+    if (exchange(size) || AGAIN(dachreup_client_send(&client, &put, TEXT("coap+tcp://a/b/c?d"), TEXT("one"), &token)) || exchange(size))
+        return 3;
+    if (AGAIN(dachreup_server_put(&server, TEXT("a"), 0, TEXT("first"), &version)))
+        return 4;
+    if (AGAIN(dachreup_client_send(&client, &observe, TEXT("coap+tcp://h/a"), TEXT(""), &token)) || exchange(size))
+        return 5;
+    if (AGAIN(dachreup_server_put(&server, TEXT("a"), 0, TEXT("second"), &version)) || exchange(size) || dachreup_client_ping(&client, 1, &version))
+        return 6;
+    if (exchange(size) || AGAIN(dachreup_client_cancel(&client, &observe, TEXT("coap+tcp://h/a"), token)) || exchange(size))
+        return 7;
+    if (AGAIN(dachreup_client_send(&client, &get, TEXT("coap+tcp://h/none"), TEXT(""), &token)) || exchange(size))
+        return 8;
+    struct dachreup_client_status status = {0};
+    if (dachreup_server_release(&server, id) || exchange(size) || dachreup_client_ended(&client) || dachreup_client_status(&client, &status))
+        return 9;
+    printf("phase %u reason %u waiting %zu outstanding %zu\n", (unsigned)status.phase, (unsigned)status.reason, status.waiting, status.outstanding);
+    dachreup_client_free(&client);
+    dachreup_server_free(&server);
+    return fflush(stdout) != 0;
+}
+
+/* Writes the message of a frame again, and returns 1 if that gives other bytes. */
+static int differs(const uint8_t *frame, size_t length, const struct dachreup_message *message) {
+    static uint8_t options[1 << 16], written[1 << 16];
+    struct dachreup_span value;
+    size_t at = 0, used = 0, count = 0;
+    uint32_t number = 0, last = 0, result;
+    while (!(result = dachreup_option_next(message->options.at, message->options.count, &at, &number, &value)))
+        if (dachreup_option_write(options, sizeof options, &used, &last, number, value.at, value.count))
+            return 1;
+    if (result != DACHREUP_NO_MORE || used != message->options.count)
+        return 1;
+    if (dachreup_message_write(message->code, message->token.at, message->token.count, options, used, message->payload.at, message->payload.count, written,
+                               sizeof written, &count))
+        return 1;
+    if (count && dachreup_message_write(message->code, message->token.at, message->token.count, options, used, message->payload.at, message->payload.count,
+                                        written, count - 1, &count) != DACHREUP_NO_ROOM)
+        return 1;
+    return count != length || memcmp(frame, written, count);
+}
+
+static int messages(void) {
+    static uint8_t frame[1 << 16];
+    uint8_t size[2];
+    while (fread(size, 1, 2, stdin) == 2) {
+        size_t length = size[0] * 256u + size[1];
+        /* A copy of its own size, so that AddressSanitizer sees each read behind it. */
+        uint8_t *bytes = malloc(length ? length : 1);
+        struct dachreup_message message;
+        if (!bytes || fread(frame, 1, length, stdin) != length)
+            return 1;
+        memcpy(bytes, frame, length);
+        uint32_t number = dachreup_message_read(bytes, length, &message);
+        printf("%u\n", (unsigned)number);
+        if (!number && differs(bytes, length, &message))
+            printf("another encoding\n");
+        struct dachreup_span value;
+        size_t at = 0;
+        for (uint32_t option = 0; !dachreup_option_next(bytes, length, &at, &option, &value);)
+            if (value.at < bytes || value.at + value.count > bytes + length || at > length)
+                printf("outside\n");
+        free(bytes);
+    }
+    return fflush(stdout) != 0;
+}
+
+static int failed;
+
+static void check(const char *what, uint32_t number, uint32_t wanted) {
+    if (number != wanted) {
+        printf("%s: %u, not %u\n", what, (unsigned)number, (unsigned)wanted);
+        failed = 1;
+    }
+}
+
+static void empty(void) {
+    struct dachreup_request get = DACHREUP_REQUEST_GET;
+    struct dachreup_event event;
+    struct dachreup_parts parts;
+    struct dachreup_client_status status;
+    uint64_t token = 7;
+    memset(&event, 9, sizeof event);
+    check("empty send", dachreup_client_send(&client, &get, TEXT("coap+tcp://a"), TEXT(""), &token), DACHREUP_EMPTY);
+    check("empty cancel", dachreup_client_cancel(&client, &get, TEXT("coap+tcp://a"), 1), DACHREUP_EMPTY);
+    check("empty ping", dachreup_client_ping(&client, 0, &token), DACHREUP_EMPTY);
+    check("empty take", dachreup_client_take(&client, TEXT("abc"), &event), DACHREUP_EMPTY);
+    check("event", (uint32_t)(event.bytes + event.kind + event.reason + event.option + event.custody + event.token) + event.message.code, 0);
+    check("spans", (uint32_t)(event.message.token.count + event.message.options.count + event.message.payload.count), 0);
+    check("empty parts", dachreup_client_parts(&client, &parts), DACHREUP_EMPTY);
+    check("empty written", dachreup_client_written(&client, 0), DACHREUP_EMPTY);
+    check("empty ended", dachreup_client_ended(&client), DACHREUP_EMPTY);
+    check("empty status", dachreup_client_status(&client, &status), DACHREUP_EMPTY);
+    check("token", (uint32_t)token, 7);
+    dachreup_client_free(&client);
+}
+
+static void ranges(void) {
+    struct dachreup_limits limits = DACHREUP_LIMITS;
+    size_t *values[6] = {&limits.max_message, &limits.max_sent, &limits.queue, &limits.pending, &limits.observers, &limits.outstanding};
+    for (uint32_t at = 0; at < 6; at++) {
+        size_t before = *values[at];
+        *values[at] = (size_t)1 << 40;
+        check("range", dachreup_client_new(&client, &limits, 0), 16 + at);
+        *values[at] = before;
+    }
+}
+
+static void targets(void) {
+    struct dachreup_place place = {1, 2, 3};
+    uint8_t host[8];
+    static const struct {
+        const char *uri;
+        uint32_t wanted;
+    } uris[] = {{"x", DACHREUP_URI_URL},          {"\xff\xfe", DACHREUP_URI_URL},          {"coap://a", DACHREUP_URI_SCHEME},
+                {"coap+tcp:a", DACHREUP_URI_NO_HOST}, {"coap+tcp://u@a", DACHREUP_URI_USER_INFO}, {"coap+tcp://a#f", DACHREUP_URI_FRAGMENT},
+                {"coap+tcp://a/1/2/3/4/5/6/7/8/9/a/b/c/d/e/f/g/h", DACHREUP_URI_TOO_MANY_PARTS}, {"coap+tcp://12345678", DACHREUP_URI_NO_ROOM},
+                {"coap+tcp://1234567", 0}};
+    for (size_t at = 0; at < sizeof uris / sizeof *uris; at++)
+        check(uris[at].uri, dachreup_target((const uint8_t *)uris[at].uri, strlen(uris[at].uri), host, sizeof host, &place), uris[at].wanted);
+    check("host", (uint32_t)memcmp(host, "1234567", 8) + (uint32_t)place.host * 10 + place.is_address, 70);
+    check("port", place.port, 5683);
+}
+
+static void requests(void) {
+    struct dachreup_limits limits = DACHREUP_LIMITS;
+    struct dachreup_request get = DACHREUP_REQUEST_GET, other = DACHREUP_REQUEST_GET;
+    struct dachreup_event event;
+    struct dachreup_parts parts;
+    uint64_t token = 7;
+    limits.outstanding = 1;
+    check("new", dachreup_client_new(&client, &limits, 0), 0);
+    check("new again", dachreup_client_new(&client, &limits, 0), DACHREUP_OCCUPIED);
+    check("not open", dachreup_client_send(&client, &get, TEXT("coap+tcp://a"), TEXT(""), &token), DACHREUP_REQUEST_NOT_OPEN);
+    check("ping not open", dachreup_client_ping(&client, 0, &token), DACHREUP_REQUEST_NOT_OPEN);
+    check("cancel not open", dachreup_client_cancel(&client, &get, TEXT("coap+tcp://a"), 1), DACHREUP_REQUEST_NOT_OPEN);
+    check("take", dachreup_client_take(&client, TEXT("\x00\xe1"), &event), 0);
+    check("ready", event.kind * 10 + (uint32_t)event.bytes, 12);
+    other.method = 5;
+    check("method", dachreup_client_send(&client, &other, TEXT("coap+tcp://a"), TEXT(""), &token), DACHREUP_NOT_A_CHOICE);
+    other.method = 0;
+    check("no method", dachreup_client_cancel(&client, &other, TEXT("coap+tcp://a"), 1), DACHREUP_NOT_A_CHOICE);
+    other = get, other.observe = 2;
+    check("observe", dachreup_client_send(&client, &other, TEXT("coap+tcp://a"), TEXT(""), &token), DACHREUP_NOT_A_CHOICE);
+    other = get, other.plain = 2;
+    check("plain", dachreup_client_send(&client, &other, TEXT("coap+tcp://a"), TEXT(""), &token), DACHREUP_NOT_A_CHOICE);
+    check("custody", dachreup_client_ping(&client, 2, &token), DACHREUP_NOT_A_CHOICE);
+    check("uri", dachreup_client_send(&client, &get, TEXT("coap://a"), TEXT(""), &token), DACHREUP_URI_SCHEME);
+    check("token unchanged", (uint32_t)token, 7);
+    check("send", dachreup_client_send(&client, &get, TEXT("coap+tcp://a"), TEXT(""), &token), 0);
+    check("token", (uint32_t)token, 1);
+    check("too many", dachreup_client_send(&client, &get, TEXT("coap+tcp://a"), TEXT(""), &token), DACHREUP_REQUEST_TOO_MANY);
+    check("no such token", dachreup_client_cancel(&client, &get, TEXT("coap+tcp://a"), 1), DACHREUP_REQUEST_NO_SUCH_TOKEN);
+    check("parts", dachreup_client_parts(&client, &parts), 0);
+    check("too many written", dachreup_client_written(&client, parts.first.count + parts.second.count + 1), DACHREUP_TOO_MANY);
+    check("all written", dachreup_client_written(&client, parts.first.count + parts.second.count), 0);
+    check("stranger", dachreup_client_take(&client, TEXT("\x01\x45\x09"), &event), 0);
+    check("stranger event", event.kind, DACHREUP_EVENT_STRANGER);
+    check("critical", dachreup_client_take(&client, TEXT("\x21\x45\x01\xd0\xf8"), &event), 0);
+    check("rejected", event.kind * 1000 + event.option + (uint32_t)event.token, 4262);
+    check("broken", dachreup_client_take(&client, TEXT("\x0f\xe1"), &event), 0);
+    check("stopped", event.kind * 100 + event.reason, 703);
+    check("nothing more", dachreup_client_take(&client, TEXT("\x00\xe1"), &event), 0);
+    check("no event", event.kind + (uint32_t)event.bytes, 0);
+    dachreup_client_free(&client);
+}
+
+static void writing(void) {
+    static uint8_t large[1 << 21];
+    uint8_t bytes[8] = {0};
+    size_t used = 0;
+    uint32_t last = 0;
+    check("number", dachreup_option_write(bytes, 8, &used, &last, 65536, TEXT("a")), DACHREUP_OPTION_NUMBER);
+    check("value", dachreup_option_write(bytes, 8, &used, &last, 1, large, 65805), DACHREUP_OPTION_TOO_LONG);
+    check("room", dachreup_option_write(bytes, 2, &used, &last, 11, TEXT("ab")), DACHREUP_NO_ROOM);
+    check("option", dachreup_option_write(bytes, 8, &used, &last, 11, TEXT("ab")), 0);
+    check("used", (uint32_t)used * 100 + last, 311);
+    check("order", dachreup_option_write(bytes, 8, &used, &last, 10, TEXT("ab")), DACHREUP_OPTION_ORDER);
+    used = 9;
+    check("past the end", dachreup_option_write(bytes, 8, &used, &last, 12, TEXT("")), DACHREUP_NO_ROOM);
+    check("code", dachreup_message_write(256, TEXT(""), TEXT(""), TEXT(""), bytes, 8, &used), DACHREUP_WRITE_CODE);
+    check("token length", dachreup_message_write(1, large, 65, TEXT(""), TEXT(""), bytes, 8, &used), DACHREUP_WRITE_TOKEN);
+    check("options", dachreup_message_write(1, TEXT(""), TEXT("\xb1"), TEXT(""), bytes, 8, &used), DACHREUP_WRITE_OPTIONS);
+    check("marker", dachreup_message_write(1, TEXT(""), TEXT("\xff\x01"), TEXT(""), bytes, 8, &used), DACHREUP_WRITE_OPTIONS);
+    check("size", dachreup_message_write(1, TEXT(""), TEXT(""), large, 1048576, large, sizeof large, &used), DACHREUP_WRITE_TOO_LARGE);
+    check("no room", dachreup_message_write(1, TEXT(""), TEXT("\xb2\x61\x62"), TEXT("x"), bytes, 6, &used), DACHREUP_NO_ROOM);
+    check("length unchanged", (uint32_t)used, 9);
+    check("message", dachreup_message_write(1, TEXT("t"), TEXT("\xb1\x61"), TEXT("x"), bytes, 8, &used), 0);
+    check("bytes", (uint32_t)memcmp(bytes, "\x41\x01t\xb1\x61\xffx\x00", 8) + (uint32_t)used, 7);
+}
+
+int main(int count, char **words) {
+    if (count == 3 && !strcmp(words[1], "pair"))
+        return pair(strtoull(words[2], NULL, 10));
+    if (count == 2 && !strcmp(words[1], "messages"))
+        return messages();
+    empty();
+    ranges();
+    targets();
+    requests();
+    writing();
+    empty();
+    return failed;
+}
