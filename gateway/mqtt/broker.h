@@ -1,0 +1,107 @@
+/*
+ * The connection to the broker: MQTT 5 over libmosquitto, in one thread. No call blocks, except for the name of the broker
+ * (getaddrinfo); an address needs no such call.
+ *
+ * Each connection is a new session and a new client object, so nothing is sent again by itself. After the subscription
+ * the gateway publishes a marker. The broker sends everything on one connection in one order, so all retained messages
+ * have come when the marker comes back. From then on the connection is usable. The gateway then publishes a retained
+ * message that names its run as the owner of its id, by which an older run with this id recognises that it must end.
+ */
+#ifndef COAP_MQTT_BROKER_H
+#define COAP_MQTT_BROKER_H
+
+#include <stdbool.h>
+#include <stddef.h>
+#include <stdint.h>
+
+#include "names.h"
+#include "options.h"
+
+/* The broker does not know Content-Formats above this number. */
+#define BROKER_NO_FORMAT UINT32_C(65536)
+
+/* Milliseconds for a connection, a subscription, a marker or an echo. */
+enum { BROKER_PATIENCE = 10000 };
+
+/* Origin of a publication: the run of a gateway, and its number in this run. A run is never 0. */
+struct origin {
+    uint64_t run;
+    uint64_t number;
+};
+
+/* A message on a topic of the subscription. */
+struct broker_message {
+    const char *topic;
+    const uint8_t *bytes; /* not null */
+    size_t length;
+    uint32_t format;      /* or BROKER_NO_FORMAT */
+    bool is_retained;     /* has the RETAIN flag */
+    bool is_removal;      /* has no payload */
+    struct origin origin; /* run 0: of no gateway */
+};
+
+/* The broker's events. They must not destroy the connection. */
+struct broker_events {
+    void *owner;
+    void (*begins)(void *owner);                                          /* retained messages follow */
+    void (*message)(void *owner, const struct broker_message *message);   /* a message, in the broker's order */
+    void (*complete)(void *owner);                                        /* all retained messages have come */
+    void (*refused)(void *owner, int publication, int reason);            /* the broker refused a publication */
+};
+
+struct mosquitto;
+
+enum broker_state { BROKER_AWAY, BROKER_CONNECTING, BROKER_SUBSCRIBING, BROKER_READING, BROKER_READY };
+
+struct broker {
+    const struct options *options;
+    struct broker_events events;
+    struct mosquitto *client; /* NULL while away */
+    enum broker_state state;
+    bool is_usable;    /* the marker of this connection has come */
+    bool is_taken;     /* another gateway with this id has connected */
+    uint64_t since;    /* when the state began, in milliseconds; while away, when the next connection begins */
+    uint64_t run;      /* random number of this run */
+    uint64_t markers;  /* markers published in this run */
+    int marker;        /* last publication of the gateway for itself */
+    uint64_t losses;   /* connections that ended */
+    uint64_t began;    /* milliseconds since 1970 when this run began */
+    bool owns;         /* this run has owned its id */
+    struct origin owner; /* another run that owns the id, by this connection: its run, and when it began */
+    char client_id[32];
+    char filter[TOPIC_ROOM + 2];
+    char control[TOPIC_ROOM + 16]; /* start of the topics of gateways for themselves */
+    char marker_topic[TOPIC_ROOM + 32], owner_topic[TOPIC_ROOM + 32];
+    char fault[160];   /* why the connection must end, or empty */
+};
+
+/* Sets a broker that is away. The first connection begins at the first tick. */
+bool broker_open(struct broker *broker, const struct options *options, const struct broker_events *events);
+void broker_close(struct broker *broker);
+
+/* Returns the socket, or -1. */
+int broker_socket(const struct broker *broker);
+bool broker_wants_write(const struct broker *broker);
+
+/* Reads and writes what the socket is ready for. */
+void broker_ready(struct broker *broker, bool may_read, bool may_write, uint64_t now);
+
+/* Begins a connection if it is time, and ends one that is late. */
+void broker_tick(struct broker *broker, uint64_t now);
+
+/* Lets the connection end, with a reason. The next tick ends it. */
+void broker_fail(struct broker *broker, const char *format, ...) __attribute__((format(printf, 2, 3)));
+
+/* Requests all retained messages once more. The connection must be ready. */
+void broker_read_again(struct broker *broker, uint64_t now);
+
+enum broker_result { BROKER_SENT, BROKER_NOT_SENT, BROKER_TOO_LARGE };
+
+/*
+ * Publishes a retained message, or a removal if `bytes` is NULL. The representation may be empty. Sets *publication to its
+ * number in this connection. The connection must be usable.
+ */
+enum broker_result broker_publish(struct broker *broker, const char *topic, const uint8_t *bytes, size_t length, uint32_t format,
+                                  uint64_t number, int *publication);
+
+#endif

@@ -1,0 +1,230 @@
+#include "gateway.h"
+
+#include <signal.h>
+#include <string.h>
+#include <sys/epoll.h>
+#include <time.h>
+#include <unistd.h>
+
+#include "exchange.h"
+#include "log.h"
+#include "screen.h"
+
+enum {
+    EVENTS_A_TURN = 64,
+    STALLED = 5000,          /* milliseconds of a turn after which the broker may have dropped messages */
+    PAUSE_OF_READINGS = 1000 /* least time between two readings of all retained messages on one connection */
+};
+
+static volatile sig_atomic_t stops;
+
+static void on_signal(int number) {
+    (void)number;
+    stops = 1;
+}
+
+static uint64_t milliseconds(void) {
+    struct timespec time;
+    clock_gettime(CLOCK_MONOTONIC, &time);
+    return (uint64_t)time.tv_sec * 1000 + (uint64_t)time.tv_nsec / 1000000;
+}
+
+static struct timespec real_time(void) {
+    struct timespec time;
+    clock_gettime(CLOCK_REALTIME, &time);
+    return time;
+}
+
+/* ---- readings of the retained messages ---- */
+
+static void on_begin(void *owner) {
+    struct gateway *gateway = owner;
+    mirror_begin(&gateway->mirror);
+}
+
+static void on_complete(void *owner) {
+    struct gateway *gateway = owner;
+    size_t removed = mirror_end(&gateway->mirror);
+    gateway->is_complete = true;
+    gateway->has_output = true;
+    gateway->reading = gateway->now;
+    log_line(LOG_CONNECTIONS, "broker: %zu resources, %zu removed, %llu left out", gateway->mirror.count, removed,
+             (unsigned long long)gateway->mirror.left_out);
+}
+
+/* ---- the loop ---- */
+
+/* Sets the time of the server. Returns true if a new second has begun. */
+static bool tick(struct gateway *gateway) {
+    uint64_t second = (uint64_t)real_time().tv_sec;
+    if (second == gateway->second)
+        return false;
+    gateway->second = second;
+    gateway->has_output = true;
+    dachreup_server_tick(&gateway->server, second);
+    return true;
+}
+
+/* A broker drops messages for a subscriber that does not read. A new connection reads them all. */
+static void check_stall(struct gateway *gateway, uint64_t now) {
+    if (gateway->now && now - gateway->now > STALLED && gateway->broker.client)
+        broker_fail(&gateway->broker, "the gateway did not run for %llu ms", (unsigned long long)(now - gateway->now));
+    gateway->now = now;
+}
+
+static void check_mirror(struct gateway *gateway) {
+    struct broker *broker = &gateway->broker;
+    if (gateway->mirror.is_out_of_memory && broker->client)
+        broker_fail(broker, "no memory for a message");
+    gateway->mirror.is_out_of_memory = false;
+    if (mirror_wants_reading(&gateway->mirror) && broker->state == BROKER_READY && gateway->now - gateway->reading >= PAUSE_OF_READINGS)
+        broker_read_again(broker, gateway->now);
+}
+
+/*
+ * Listens from the first complete mirror on, in a later second than the first version: so a gateway that is restarted in
+ * the second of its start has given no ETag.
+ */
+static bool check_listening(struct gateway *gateway) {
+    if (gateway->peers.listens || !gateway->is_complete || gateway->second <= gateway->started)
+        return true;
+    return peers_listen(&gateway->peers);
+}
+
+/* Watches the socket of the broker. A closed socket has left epoll, and its number may be in use again. */
+static void watch_broker(struct gateway *gateway) {
+    int socket = broker_socket(&gateway->broker);
+    if (gateway->losses != gateway->broker.losses || socket < 0)
+        gateway->watched = -1;
+    gateway->losses = gateway->broker.losses;
+    if (socket < 0)
+        return;
+    uint32_t interest = (uint32_t)EPOLLIN | (broker_wants_write(&gateway->broker) ? (uint32_t)EPOLLOUT : 0);
+    struct epoll_event event = {.events = interest, .data.u64 = EVENT_BROKER};
+    if (gateway->watched != socket)
+        epoll_ctl(gateway->poll, EPOLL_CTL_ADD, socket, &event);
+    else if (interest != gateway->interest)
+        epoll_ctl(gateway->poll, EPOLL_CTL_MOD, socket, &event);
+    gateway->watched = socket;
+    gateway->interest = interest;
+}
+
+static void handle(struct gateway *gateway, const struct epoll_event *event) {
+    uint32_t events = event->events;
+    if (event->data.u64 == EVENT_LISTENER)
+        peers_accept(&gateway->peers);
+    else if (event->data.u64 == EVENT_BROKER)
+        broker_ready(&gateway->broker, events & (EPOLLIN | EPOLLHUP | EPOLLERR), events & EPOLLOUT, gateway->now);
+    else
+        peers_ready(&gateway->peers, (size_t)event->data.u64, events);
+}
+
+/* Returns the milliseconds until the next second, in which time counts for the server and for the broker. */
+static int wait_of(void) {
+    return 1001 - (int)(real_time().tv_nsec / 1000000);
+}
+
+/* One turn. Returns false if the gateway must end. */
+static bool turn(struct gateway *gateway, const sigset_t *signals) {
+    struct epoll_event ready[EVENTS_A_TURN];
+    check_stall(gateway, milliseconds());
+    bool is_new_second = tick(gateway);
+    exchange_check(gateway, is_new_second);
+    check_mirror(gateway);
+    broker_tick(&gateway->broker, gateway->now);
+    if (gateway->broker.is_taken || !check_listening(gateway))
+        return false;
+    gateway->peers.refuses_reads = gateway->options->refuses_stale && !gateway->broker.is_usable;
+    /* Requests in the kept bytes of a peer may cause publications, but no change of the store. */
+    while (gateway->has_output) {
+        gateway->has_output = false;
+        peers_serve(&gateway->peers);
+        exchange_check(gateway, false);
+    }
+    watch_broker(gateway);
+    int found = epoll_pwait(gateway->poll, ready, EVENTS_A_TURN, gateway->broker.fault[0] ? 0 : wait_of(), signals);
+    for (int at = 0; at < found; at++)
+        handle(gateway, &ready[at]);
+    return true;
+}
+
+static bool open_server(struct gateway *gateway) {
+    const struct options *options = gateway->options;
+    struct dachreup_settings settings = DACHREUP_SETTINGS(options->resources);
+    const char *prefix = options->prefix_text;
+    uint32_t methods = 1u << METHOD_POST | 1u << METHOD_PUT | 1u << METHOD_DELETE | 1u << METHOD_REFUSED;
+    gateway->started = (uint64_t)real_time().tv_sec;
+    settings.max_message = options->max_message;
+    settings.max_sent = options->max_sent;
+    settings.queue = options->queue;
+    settings.pending = options->pending;
+    settings.observers = options->observers;
+    settings.connections = options->connections;
+    settings.rep_max = REPRESENTATION_BYTES;
+    settings.moment = gateway->started;
+    /* Gateways with different ids never give one ETag to two states, nor does one in two of its runs. */
+    settings.versions = (uint64_t)options->id << 48 | gateway->started << 16;
+    struct dachreup_applications entries = {0};
+    uint32_t result = dachreup_applications_new(&entries, DEADLINE);
+    if (!result)
+        result = dachreup_applications_add(&entries, (const uint8_t *)prefix, strlen(prefix), methods, (const uint8_t *)"", 0);
+    if (!result)
+        result = dachreup_server_new_for(&gateway->server, &settings, &entries);
+    if (result)
+        log_always("cannot make the server: %u", (unsigned)result);
+    dachreup_applications_free(&entries);
+    return result == DACHREUP_OK;
+}
+
+static bool open_all(struct gateway *gateway) {
+    const struct options *options = gateway->options;
+    struct broker_events events = {gateway, on_begin, exchange_message, on_complete, exchange_refused};
+    gateway->poll = epoll_create1(EPOLL_CLOEXEC);
+    if (gateway->poll < 0 || !open_server(gateway) || !peers_open(&gateway->peers, &gateway->server, options, gateway->poll))
+        return false;
+    gateway->peers.owner = gateway;
+    gateway->peers.request = exchange_request;
+    if (!mirror_open(&gateway->mirror, &gateway->server, &options->prefix, options->resources) ||
+        !writes_open(&gateway->writes, options->pending * options->connections) || !broker_open(&gateway->broker, options, &events))
+        return log_always("no memory"), false;
+    return true;
+}
+
+/* Lets the signals arrive during the wait alone, so that none is missed. */
+static void take_signals(sigset_t *during) {
+    sigset_t blocked;
+    struct sigaction action = {.sa_handler = on_signal};
+    sigemptyset(&blocked);
+    sigaddset(&blocked, SIGTERM);
+    sigaddset(&blocked, SIGINT);
+    sigprocmask(SIG_BLOCK, &blocked, during);
+    sigdelset(during, SIGTERM);
+    sigdelset(during, SIGINT);
+    sigaction(SIGTERM, &action, NULL);
+    sigaction(SIGINT, &action, NULL);
+    signal(SIGPIPE, SIG_IGN);
+}
+
+static void close_all(struct gateway *gateway) {
+    broker_close(&gateway->broker);
+    peers_close(&gateway->peers);
+    writes_close(&gateway->writes);
+    mirror_close(&gateway->mirror);
+    dachreup_server_free(&gateway->server);
+    if (gateway->poll >= 0)
+        close(gateway->poll);
+}
+
+int gateway_run(const struct options *options) {
+    struct gateway gateway = {.options = options, .watched = -1, .poll = -1, .peers.listener = -1};
+    sigset_t signals;
+    bool runs = open_all(&gateway);
+    take_signals(&signals);
+    while (runs && !stops)
+        runs = turn(&gateway, &signals);
+    bool is_taken = gateway.broker.is_taken;
+    close_all(&gateway);
+    if (is_taken)
+        log_always("another gateway has the id %u: the broker gave it the session (DISCONNECT 0x8E)", (unsigned)options->id);
+    return is_taken ? STATUS_ID_TAKEN : runs ? STATUS_ENDED : STATUS_FAILED;
+}

@@ -1,0 +1,44 @@
+/* The gateway: it joins the server, the broker, the mirror and the peers, in one loop over epoll. */
+#ifndef COAP_MQTT_GATEWAY_H
+#define COAP_MQTT_GATEWAY_H
+
+#include <coap_proved.h>
+#include <stdbool.h>
+#include <stddef.h>
+#include <stdint.h>
+
+#include "broker.h"
+#include "mirror.h"
+#include "options.h"
+#include "peers.h"
+#include "writes.h"
+
+enum { STATUS_ENDED = 0, STATUS_OPTIONS = 1, STATUS_FAILED = 3, STATUS_ID_TAKEN = 4 };
+
+enum {
+    REPRESENTATION_BYTES = 65000, /* as in coap-server: a response with it fits in 65,536 bytes */
+    DEADLINE = 10                 /* seconds that a request waits for its echo: then the server sends 5.04 */
+};
+
+struct gateway {
+    const struct options *options;
+    struct dachreup_server server;
+    struct broker broker;
+    struct mirror mirror;
+    struct writes writes;
+    struct peers peers;
+    int poll;
+    int watched;            /* socket of the broker in epoll, or -1 */
+    uint32_t interest;      /* its events */
+    uint64_t losses;        /* connections to the broker that had ended when it was added */
+    uint64_t started;       /* second of the first version */
+    uint64_t second;        /* second of the last tick */
+    uint64_t now, reading;  /* milliseconds: now, and when the last reading ended */
+    bool is_complete;       /* the mirror was complete once */
+    bool has_output;        /* the store changed, so any peer can have output */
+};
+
+/* Runs until SIGTERM or SIGINT, or until a failure. Returns the exit status. */
+int gateway_run(const struct options *options);
+
+#endif

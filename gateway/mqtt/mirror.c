@@ -1,0 +1,171 @@
+#include "mirror.h"
+
+#include <stdlib.h>
+#include <string.h>
+
+#include "log.h"
+
+bool mirror_open(struct mirror *mirror, struct dachreup_server *server, const struct path *prefix, size_t limit) {
+    *mirror = (struct mirror){.server = server, .prefix = *prefix, .limit = limit, .places = 16};
+    while (mirror->places < 2 * limit)
+        mirror->places *= 2;
+    mirror->entries = calloc(mirror->places, sizeof *mirror->entries);
+    return mirror->entries != NULL;
+}
+
+void mirror_close(struct mirror *mirror) {
+    free(mirror->entries);
+}
+
+/* ---- the table of stored paths ---- */
+
+/* FNV-1a. A publisher that finds equal values only makes searches among at most `limit` entries longer. */
+static size_t home_of(const struct mirror *mirror, const uint8_t *text, size_t length) {
+    uint64_t hash = UINT64_C(14695981039346656037);
+    for (size_t at = 0; at < length; at++)
+        hash = (hash ^ text[at]) * UINT64_C(1099511628211);
+    return (size_t)(hash ^ hash >> 32) & (mirror->places - 1);
+}
+
+/* Returns the entry of a path, or the free place where it belongs. The table is at most half full. */
+static struct mirrored *place_of(const struct mirror *mirror, const uint8_t *text, size_t length) {
+    size_t at = home_of(mirror, text, length);
+    for (struct mirrored *entry;; at = (at + 1) & (mirror->places - 1)) {
+        entry = &mirror->entries[at];
+        if (!entry->reading || (entry->length == length && !memcmp(entry->text, text, length)))
+            return entry;
+    }
+}
+
+/* Records that this reading has a path. */
+static void note(struct mirror *mirror, const uint8_t *text, size_t length) {
+    struct mirrored *entry = place_of(mirror, text, length);
+    if (!entry->reading) {
+        entry->length = length;
+        memcpy(entry->text, text, length);
+        mirror->count++;
+    }
+    entry->reading = mirror->reading;
+}
+
+/* Frees an entry, and moves each later one whose search would end at the gap. */
+static void forget(struct mirror *mirror, struct mirrored *entry) {
+    size_t mask = mirror->places - 1, gap = (size_t)(entry - mirror->entries);
+    mirror->count--;
+    mirror->entries[gap].reading = 0;
+    for (size_t at = (gap + 1) & mask; mirror->entries[at].reading; at = (at + 1) & mask) {
+        struct mirrored *later = &mirror->entries[at];
+        size_t home = home_of(mirror, later->text, later->length);
+        if (((at - home) & mask) < ((at - gap) & mask))
+            continue;
+        mirror->entries[gap] = *later;
+        later->reading = 0;
+        gap = at;
+    }
+}
+
+/* ---- changes ---- */
+
+/* Removes a stored resource, and notifies its observers. */
+static enum mirror_change take_away(struct mirror *mirror, const uint8_t *text, size_t length) {
+    struct mirrored *entry = place_of(mirror, text, length);
+    if (!entry->reading)
+        return MIRROR_UNCHANGED;
+    dachreup_server_remove(mirror->server, text, length);
+    forget(mirror, entry);
+    mirror->has_room_again = true;
+    return MIRROR_REMOVED;
+}
+
+static bool is_equal(const struct dachreup_state *state, const struct broker_message *message) {
+    uint32_t format = state->format < BROKER_NO_FORMAT ? state->format : BROKER_NO_FORMAT;
+    return format == message->format && state->bytes.count == message->length &&
+           (message->length == 0 || memcmp(state->bytes.at, message->bytes, message->length) == 0);
+}
+
+/* A message that has no place leaves none to the state before it: a reader gets 4.04, not old bytes. */
+static enum mirror_change leave_out(struct mirror *mirror, const uint8_t *text, size_t length, const char *reason) {
+    char printed[PRINTED_ROOM];
+    mirror->left_out++;
+    log_line(LOG_WARNINGS, "left out: %s: %s (%llu left out)", printed_name(printed, text, length), reason, (unsigned long long)mirror->left_out);
+    take_away(mirror, text, length);
+    return MIRROR_LEFT_OUT;
+}
+
+/* Stores a message. One that equals the stored state changes nothing, so that nobody is notified twice. */
+static enum mirror_change store(struct mirror *mirror, const uint8_t *text, size_t length, const struct broker_message *message) {
+    struct dachreup_state state = {{0}, 0, 0};
+    uint64_t version = 0;
+    bool is_stored = dachreup_server_state(mirror->server, text, length, &state) == DACHREUP_OK;
+    if (is_stored && is_equal(&state, message)) {
+        note(mirror, text, length);
+        return MIRROR_UNCHANGED;
+    }
+    switch (dachreup_server_put(mirror->server, text, length, message->format, message->bytes, message->length, &version)) {
+    case DACHREUP_OK: note(mirror, text, length); return is_stored ? MIRROR_CHANGED : MIRROR_CREATED;
+    case DACHREUP_TOO_LARGE: return leave_out(mirror, text, length, "payload above the size limit");
+    case DACHREUP_LIMIT: mirror->lacks_room = true; return leave_out(mirror, text, length, "no place for another resource");
+    case DACHREUP_MEMORY: mirror->is_out_of_memory = true; return leave_out(mirror, text, length, "no memory");
+    case DACHREUP_VERSIONS_SPENT: return leave_out(mirror, text, length, "no version is left");
+    default: return MIRROR_IGNORED;
+    }
+}
+
+static enum mirror_change ignore(const struct broker_message *message, const char *reason) {
+    char printed[PRINTED_ROOM];
+    log_line(LOG_WARNINGS, "ignored: %s: %s", printed_name(printed, message->topic, strlen(message->topic)), reason);
+    return MIRROR_IGNORED;
+}
+
+enum mirror_change mirror_apply(struct mirror *mirror, const struct broker_message *message) {
+    struct path path;
+    uint8_t text[PATH_BYTES];
+    size_t length = 0;
+    if (!message->is_retained)
+        return ignore(message, "a message that is not retained");
+    if (!path_of_topic(&path, message->topic) || !path_begins(&path, &mirror->prefix))
+        return ignore(message, "the topic of no path");
+    if ((length = path_text(&path, text)) == 0)
+        return ignore(message, "a segment with a slash");
+    enum mirror_change change = message->is_removal ? take_away(mirror, text, length) : store(mirror, text, length, message);
+    return change == MIRROR_IGNORED ? ignore(message, "the path of a built-in resource") : change;
+}
+
+/* ---- readings ---- */
+
+void mirror_begin(struct mirror *mirror) {
+    mirror->reading++;
+    mirror->left_out = 0;
+    mirror->lacks_room = mirror->has_room_again = false;
+}
+
+size_t mirror_end(struct mirror *mirror) {
+    size_t removed = 0;
+    /* A removal moves later entries into its place, so the place is looked at again. */
+    for (size_t at = 0; at < mirror->places;) {
+        struct mirrored *entry = &mirror->entries[at];
+        if (!entry->reading || entry->reading == mirror->reading) {
+            at++;
+            continue;
+        }
+        dachreup_server_remove(mirror->server, entry->text, entry->length);
+        forget(mirror, entry);
+        mirror->has_room_again = true;
+        removed++;
+    }
+    return removed;
+}
+
+bool mirror_wants_reading(const struct mirror *mirror) {
+    return mirror->lacks_room && mirror->has_room_again;
+}
+
+bool mirror_state(const struct mirror *mirror, const struct path *path, struct dachreup_state *state) {
+    uint8_t text[PATH_BYTES];
+    size_t length = path_text(path, text);
+    return length && dachreup_server_state(mirror->server, text, length, state) == DACHREUP_OK;
+}
+
+bool mirror_is_full(const struct mirror *mirror) {
+    return mirror->count >= mirror->limit;
+}

@@ -1,0 +1,246 @@
+#include "options.h"
+
+#include <arpa/inet.h>
+#include <getopt.h>
+#include <stdio.h>
+#include <stdlib.h>
+#include <string.h>
+
+#include "log.h"
+
+#ifndef COAP_MQTT_VERSION
+#define COAP_MQTT_VERSION "unknown"
+#endif
+
+/* Long options without a letter of their own. */
+enum {
+    MAX_MESSAGE = 256,
+    MAX_SENT,
+    QUEUE,
+    PENDING,
+    OBSERVERS,
+    CONNECTIONS,
+    BROKER_HOST,
+    BROKER_PORT,
+    USERNAME,
+    PASSWORD_FILE,
+    CAFILE,
+    CERT,
+    KEY,
+    ID,
+    PREFIX,
+    STALE,
+    LOG,
+    AFTER_LAST
+};
+
+static const struct option names[] = {
+    {"max-message", required_argument, NULL, MAX_MESSAGE},
+    {"max-sent", required_argument, NULL, MAX_SENT},
+    {"queue", required_argument, NULL, QUEUE},
+    {"pending", required_argument, NULL, PENDING},
+    {"observers", required_argument, NULL, OBSERVERS},
+    {"connections", required_argument, NULL, CONNECTIONS},
+    {"broker-host", required_argument, NULL, BROKER_HOST},
+    {"broker-port", required_argument, NULL, BROKER_PORT},
+    {"username", required_argument, NULL, USERNAME},
+    {"password-file", required_argument, NULL, PASSWORD_FILE},
+    {"cafile", required_argument, NULL, CAFILE},
+    {"cert", required_argument, NULL, CERT},
+    {"key", required_argument, NULL, KEY},
+    {"id", required_argument, NULL, ID},
+    {"prefix", required_argument, NULL, PREFIX},
+    {"stale", required_argument, NULL, STALE},
+    {"log", required_argument, NULL, LOG},
+    {"help", no_argument, NULL, 'h'},
+    {"version", no_argument, NULL, 'V'},
+    {NULL, 0, NULL, 0},
+};
+
+static const char help[] =
+    "Usage: coap-mqtt [OPTIONS]\n"
+    "\n"
+    "Serves CoAP over TCP. Resources below a prefix are the retained messages of an MQTT broker.\n"
+    "\n"
+    "CoAP:\n"
+    "  -A ADDRESS            listen at this IPv4 or IPv6 address (default 0.0.0.0)\n"
+    "  -p PORT               listen at this TCP port (default 5683)\n"
+    "  -d MAX                maximum number of resources, 1 to 1000 (default 1000)\n"
+    "      --max-message N   maximum size of a received message (default 65536)\n"
+    "      --max-sent N      maximum size of a sent message (default 65536)\n"
+    "      --queue N         size of the output queue of a connection (default 131072)\n"
+    "      --pending N       maximum number of pending requests of a connection (default 16)\n"
+    "      --observers N     maximum number of observations of a connection (default 16)\n"
+    "      --connections N   maximum number of connections (default 16)\n"
+    "\n"
+    "Broker:\n"
+    "      --broker-host HOST    name or address of the broker (default 127.0.0.1)\n"
+    "      --broker-port PORT    port of the broker (default 1883, or 8883 with --cafile)\n"
+    "      --username NAME       user at the broker\n"
+    "      --password-file FILE  file with the password in its first line\n"
+    "      --cafile FILE         use TLS, with the authorities in this file\n"
+    "      --cert FILE           certificate of the gateway, for TLS\n"
+    "      --key FILE            its key\n"
+    "      --id N                number of this gateway, 0 to 65535, different for each (default 0)\n"
+    "\n"
+    "      --prefix PATH     path of the shared resources, and their topic (default shared)\n"
+    "      --stale WHAT      serve (default) or refuse reads while the broker is away\n"
+    "      --log LEVEL       0 nothing, 1 warnings (default), 2 connections, 3 messages\n"
+    "  -h, --help            print this help\n"
+    "  -V, --version         print the version\n";
+
+/* Reads a decimal number of 1 to 20 digits. Returns false if it is malformed or out of its range. */
+static bool read_number(const char *text, uint64_t least, uint64_t greatest, uint64_t *number) {
+    uint64_t value = 0;
+    size_t length = strlen(text);
+    if (length < 1 || length > 20 || strspn(text, "0123456789") != length)
+        return false;
+    for (; *text; text++) {
+        uint64_t digit = (uint64_t)(*text - '0');
+        if (value > (UINT64_MAX - digit) / 10)
+            return false;
+        value = value * 10 + digit;
+    }
+    *number = value;
+    return value >= least && value <= greatest;
+}
+
+static bool read_size(const char *text, uint64_t least, uint64_t greatest, size_t *size) {
+    uint64_t number = 0;
+    bool is_good = read_number(text, least, greatest, &number);
+    *size = (size_t)number;
+    return is_good;
+}
+
+static bool read_small(const char *text, uint64_t least, uint16_t *small) {
+    uint64_t number = 0;
+    bool is_good = read_number(text, least, UINT16_MAX, &number);
+    *small = (uint16_t)number;
+    return is_good;
+}
+
+static bool read_address(struct options *options, const char *text) {
+    uint8_t bytes[16];
+    options->address = text;
+    return inet_pton(AF_INET, text, bytes) == 1 || inet_pton(AF_INET6, text, bytes) == 1;
+}
+
+/* The topic of the prefix is a level of its own, so a broker must deliver it to `prefix/#`: not so with a leading dollar. */
+static bool read_prefix(struct options *options, const char *text) {
+    options->prefix_text = text;
+    return path_read(&options->prefix, text) && text[0] != '$' && strcmp(text, "time") != 0 && strcmp(text, "async") != 0;
+}
+
+static bool read_stale(struct options *options, const char *text) {
+    options->refuses_stale = strcmp(text, "refuse") == 0;
+    return options->refuses_stale || strcmp(text, "serve") == 0;
+}
+
+static bool read_level(struct options *options, const char *text) {
+    size_t level = 0;
+    bool is_good = read_size(text, 0, 3, &level);
+    options->log_level = (int)level;
+    return is_good;
+}
+
+/* Reads a value of the CoAP side. Returns false if it is bad, or if the option is not one of these. */
+static bool read_coap(struct options *options, int name, const char *text) {
+    switch (name) {
+    case 'A': return read_address(options, text);
+    case 'p': return read_small(text, 1, &options->port);
+    case 'd': return read_size(text, 1, 1000, &options->resources);
+    case MAX_MESSAGE: return read_size(text, 1152, 1048576, &options->max_message);
+    case MAX_SENT: return read_size(text, 1152, 65536, &options->max_sent);
+    case QUEUE: return read_size(text, 1152, 4194304, &options->queue);
+    case PENDING: return read_size(text, 1, 256, &options->pending);
+    case OBSERVERS: return read_size(text, 0, 256, &options->observers);
+    case CONNECTIONS: return read_size(text, 1, 256, &options->connections);
+    default: return false;
+    }
+}
+
+/* Reads the value of an option. Returns false if it is bad. */
+static bool read_value(struct options *options, int name, const char *text) {
+    switch (name) {
+    case BROKER_HOST: options->broker_host = text; return *text != 0;
+    case BROKER_PORT: return read_small(text, 1, &options->broker_port);
+    case USERNAME: options->username = text; return true;
+    case PASSWORD_FILE: options->password_file = text; return true;
+    case CAFILE: options->cafile = text; return true;
+    case CERT: options->cert = text; return true;
+    case KEY: options->key = text; return true;
+    case ID: return read_small(text, 0, &options->id);
+    case PREFIX: return read_prefix(options, text);
+    case STALE: return read_stale(options, text);
+    case LOG: return read_level(options, text);
+    default: return read_coap(options, name, text);
+    }
+}
+
+static void set_defaults(struct options *options) {
+    *options = (struct options){.address = "0.0.0.0", .port = 5683, .resources = 1000, .max_message = 65536, .max_sent = 65536,
+                                .queue = 131072, .pending = 16, .observers = 16, .connections = 16, .broker_host = "127.0.0.1",
+                                .log_level = LOG_WARNINGS};
+    read_prefix(options, "shared");
+}
+
+/* The password is in a file, since every user of the machine can read a command line. */
+static bool read_password(struct options *options) {
+    FILE *file = fopen(options->password_file, "r");
+    if (!file)
+        return false;
+    bool is_read = fgets(options->password, PASSWORD_ROOM, file) != NULL;
+    size_t length = strcspn(options->password, "\r\n");
+    is_read = is_read && (options->password[length] || length < PASSWORD_ROOM - 1);
+    options->password[length] = 0;
+    fclose(file);
+    return is_read;
+}
+
+/* Checks the options that depend on others. Prints the error and returns false if they do not fit. */
+static bool check(struct options *options) {
+    if (!options->broker_port)
+        options->broker_port = options->cafile ? 8883 : 1883;
+    if (options->queue < options->max_sent)
+        return log_always("bad value for --queue: below --max-sent"), false;
+    if (options->password_file && !options->username)
+        return log_always("--password-file needs --username"), false;
+    if (!options->cert != !options->key || (options->cert && !options->cafile))
+        return log_always("--cert and --key need each other and --cafile"), false;
+    if (options->password_file && !read_password(options))
+        return log_always("cannot read a password of at most %d bytes from %s", PASSWORD_ROOM - 2, options->password_file), false;
+    return true;
+}
+
+/* Returns the name of an option for a message. */
+static const char *name_of(int option, char *room) {
+    for (const struct option *one = names; one->name; one++)
+        if (one->val == option) {
+            snprintf(room, 32, "--%s", one->name);
+            return room;
+        }
+    snprintf(room, 32, "-%c", option);
+    return room;
+}
+
+enum options_result options_read(struct options *options, int count, char **words) {
+    bool is_given[AFTER_LAST] = {false};
+    char name[32];
+    set_defaults(options);
+    for (int option; (option = getopt_long(count, words, "A:p:d:hV", names, NULL)) != -1;) {
+        if (option == '?')
+            return OPTIONS_BAD;
+        if (option == 'h' || option == 'V') {
+            fputs(option == 'h' ? help : PROGRAM " " COAP_MQTT_VERSION "\n", stdout);
+            return OPTIONS_DONE;
+        }
+        if (is_given[option])
+            return log_always("%s is given twice", name_of(option, name)), OPTIONS_BAD;
+        is_given[option] = true;
+        if (!read_value(options, option, optarg))
+            return log_always("bad value for %s: %s", name_of(option, name), optarg), OPTIONS_BAD;
+    }
+    if (optind < count)
+        return log_always("unexpected argument: %s", words[optind]), OPTIONS_BAD;
+    return check(options) ? OPTIONS_RUN : OPTIONS_BAD;
+}

@@ -1,0 +1,39 @@
+/* The options of the command line. */
+#ifndef COAP_MQTT_OPTIONS_H
+#define COAP_MQTT_OPTIONS_H
+
+#include <stdbool.h>
+#include <stddef.h>
+#include <stdint.h>
+
+#include "names.h"
+
+enum { PASSWORD_ROOM = 256 };
+
+struct options {
+    /* CoAP, as in coap-server */
+    const char *address;
+    uint16_t port;
+    size_t resources, max_message, max_sent, queue, pending, observers, connections;
+    /* the broker */
+    const char *broker_host;
+    uint16_t broker_port;
+    const char *username, *password_file, *cafile, *cert, *key;
+    char password[PASSWORD_ROOM]; /* the first line of password_file */
+    uint16_t id;
+    /* the resources that all gateways share */
+    struct path prefix;
+    const char *prefix_text;
+    bool refuses_stale; /* answers 5.03 to reads while there is no connection to the broker */
+    int log_level;
+};
+
+enum options_result { OPTIONS_RUN, OPTIONS_DONE, OPTIONS_BAD };
+
+/*
+ * Reads the options and the password. After OPTIONS_DONE, the help or the version is on standard output. After OPTIONS_BAD,
+ * the error is on standard error.
+ */
+enum options_result options_read(struct options *options, int count, char **words);
+
+#endif

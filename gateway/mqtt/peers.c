@@ -1,0 +1,286 @@
+#include "peers.h"
+
+#include <arpa/inet.h>
+#include <errno.h>
+#include <netinet/in.h>
+#include <netinet/tcp.h>
+#include <stdio.h>
+#include <stdlib.h>
+#include <string.h>
+#include <sys/epoll.h>
+#include <sys/socket.h>
+#include <sys/uio.h>
+#include <unistd.h>
+
+#include "log.h"
+#include "screen.h"
+
+/* A message of the largest size fits with its header and its token, whichever of them the size counts. */
+enum { HEADER_ROOM = 128, BACKLOG = 256 };
+
+/* An address of either family, as text. */
+struct address {
+    struct sockaddr_storage bytes;
+    socklen_t length;
+    char text[INET6_ADDRSTRLEN + 10];
+};
+
+static void print_address(struct address *address) {
+    char host[INET6_ADDRSTRLEN] = "?";
+    const struct sockaddr_in *four = (const struct sockaddr_in *)&address->bytes;
+    const struct sockaddr_in6 *six = (const struct sockaddr_in6 *)&address->bytes;
+    bool is_six = address->bytes.ss_family == AF_INET6;
+    inet_ntop(address->bytes.ss_family, is_six ? (const void *)&six->sin6_addr : (const void *)&four->sin_addr, host, sizeof host);
+    snprintf(address->text, sizeof address->text, is_six ? "[%s]:%u" : "%s:%u", host, (unsigned)ntohs(is_six ? six->sin6_port : four->sin_port));
+}
+
+static struct address address_of(const struct options *options) {
+    struct address address = {.length = sizeof(struct sockaddr_in)};
+    struct sockaddr_in *four = (struct sockaddr_in *)&address.bytes;
+    struct sockaddr_in6 *six = (struct sockaddr_in6 *)&address.bytes;
+    four->sin_family = AF_INET;
+    four->sin_port = htons(options->port);
+    if (inet_pton(AF_INET, options->address, &four->sin_addr) == 1)
+        return address;
+    address.length = sizeof *six;
+    six->sin6_family = AF_INET6;
+    six->sin6_port = htons(options->port);
+    inet_pton(AF_INET6, options->address, &six->sin6_addr);
+    return address;
+}
+
+bool peers_open(struct peers *peers, struct dachreup_server *server, const struct options *options, int poll) {
+    struct address address = address_of(options);
+    int yes = 1;
+    *peers = (struct peers){.server = server, .options = options, .count = options->connections, .poll = poll,
+                            .room = options->max_message + HEADER_ROOM};
+    peers->all = calloc(peers->count, sizeof *peers->all);
+    peers->listener = socket(address.bytes.ss_family, SOCK_STREAM | SOCK_NONBLOCK | SOCK_CLOEXEC, 0);
+    if (!peers->all || peers->listener < 0)
+        return log_always("no memory or no descriptor"), false;
+    for (size_t at = 0; at < peers->count; at++)
+        peers->all[at].socket = -1;
+    setsockopt(peers->listener, SOL_SOCKET, SO_REUSEADDR, &yes, sizeof yes);
+    if (bind(peers->listener, (struct sockaddr *)&address.bytes, address.length) == 0)
+        return true;
+    print_address(&address);
+    return log_always("cannot listen at %s: %s", address.text, strerror(errno)), false;
+}
+
+static void end(struct peers *peers, struct peer *peer);
+
+void peers_close(struct peers *peers) {
+    for (size_t at = 0; peers->all && at < peers->count; at++)
+        if (peers->all[at].socket >= 0)
+            end(peers, &peers->all[at]);
+    free(peers->all);
+    if (peers->listener >= 0)
+        close(peers->listener);
+}
+
+/* Watches the listening socket while the server has room for a connection. Further peers wait. */
+static void watch_listener(struct peers *peers) {
+    bool wants = peers->listens && peers->open < peers->count && !peers->is_short;
+    struct epoll_event event = {.events = EPOLLIN, .data.u64 = EVENT_LISTENER};
+    if (wants != peers->accepts)
+        epoll_ctl(peers->poll, wants ? EPOLL_CTL_ADD : EPOLL_CTL_DEL, peers->listener, &event);
+    peers->accepts = wants;
+}
+
+bool peers_listen(struct peers *peers) {
+    struct address address = address_of(peers->options);
+    print_address(&address);
+    if (listen(peers->listener, BACKLOG) < 0)
+        return log_always("cannot listen at %s: %s", address.text, strerror(errno)), false;
+    peers->listens = true;
+    watch_listener(peers);
+    log_always("listening on %s", address.text);
+    return true;
+}
+
+/* ---- one peer ---- */
+
+static void end(struct peers *peers, struct peer *peer) {
+    dachreup_server_drop(peers->server, peer->id);
+    close(peer->socket);
+    free(peer->bytes);
+    log_line(LOG_CONNECTIONS, "connection %llu ended", (unsigned long long)peer->id);
+    *peer = (struct peer){.socket = -1};
+    peers->open--;
+    watch_listener(peers);
+}
+
+/* Writes the queued bytes as far as the socket accepts them. Returns their number. */
+static size_t flush(struct peers *peers, struct peer *peer) {
+    struct dachreup_parts parts = {{0}, {0}};
+    if (dachreup_server_parts(peers->server, peer->id, &parts) || parts.first.count + parts.second.count == 0)
+        return 0;
+    struct iovec both[2] = {{(void *)parts.first.at, parts.first.count}, {(void *)parts.second.at, parts.second.count}};
+    struct msghdr message = {.msg_iov = both, .msg_iovlen = 2};
+    ssize_t count = sendmsg(peer->socket, &message, MSG_NOSIGNAL | MSG_DONTWAIT);
+    return count > 0 && !dachreup_server_written(peers->server, peer->id, (size_t)count) ? (size_t)count : 0;
+}
+
+/* Returns the number of bytes to offer to the server: a whole message, or all if they are none. */
+static size_t next_frame(struct peers *peers, struct peer *peer) {
+    size_t size = peer->is_raw ? FRAME_BAD : frame_size(peer->bytes + peer->start, peer->kept);
+    if (size == FRAME_BAD || size > peers->room) {
+        /* The server ends this connection with an Abort, so where later messages begin is of no concern. */
+        peer->is_raw = true;
+        return peer->kept;
+    }
+    return size <= peer->kept ? size : 0;
+}
+
+/* Offers one message. Returns the number of bytes that the server accepted, or sets *failed. */
+static size_t offer(struct peers *peers, struct peer *peer, bool *failed) {
+    struct dachreup_took took = {0};
+    uint8_t *frame = peer->bytes + peer->start, first[6];
+    size_t size = next_frame(peers, peer), head = size < sizeof first ? size : sizeof first;
+    if (size == 0)
+        return 0;
+    memcpy(first, frame, head);
+    if (!peer->is_raw)
+        screen(frame, size, &peers->options->prefix, peers->refuses_reads);
+    *failed = dachreup_server_take(peers->server, peer->id, frame, size, &took) != DACHREUP_OK;
+    if (took.request.count)
+        peers->request(peers->owner, peer->id, &took.request);
+    /* The code, which is among these bytes, is screened anew when the message is offered again. */
+    if (took.bytes == 0)
+        memcpy(frame, first, head);
+    peer->start += took.bytes;
+    peer->kept -= took.bytes;
+    return took.bytes;
+}
+
+/* Watches the socket for input if there is room, and for output if bytes are queued. */
+static void watch(struct peers *peers, struct peer *peer) {
+    struct dachreup_status status = {0};
+    dachreup_server_status(peers->server, peer->id, &status);
+    uint32_t interest = (!peer->has_ended && peer->kept < peers->room ? (uint32_t)EPOLLIN : 0) | (status.waiting ? (uint32_t)EPOLLOUT : 0);
+    struct epoll_event event = {.events = interest, .data.u64 = (uint64_t)(peer - peers->all)};
+    if (interest != peer->interest)
+        epoll_ctl(peers->poll, EPOLL_CTL_MOD, peer->socket, &event);
+    peer->interest = interest;
+}
+
+/* Records the end of the input, after all whole messages before it. */
+static void finish(struct peers *peers, struct peer *peer) {
+    if (!peer->has_ended || peer->is_finished || next_frame(peers, peer))
+        return;
+    peer->is_finished = true;
+    dachreup_server_ended(peers->server, peer->id);
+    flush(peers, peer);
+}
+
+/* Offers the kept bytes, and writes what they cause, until nothing moves. */
+static void serve(struct peers *peers, struct peer *peer) {
+    struct dachreup_status status = {0};
+    bool failed = false;
+    for (size_t moved = 1; moved && !failed;) {
+        moved = offer(peers, peer, &failed);
+        moved += flush(peers, peer);
+    }
+    finish(peers, peer);
+    if (failed || (!dachreup_server_status(peers->server, peer->id, &status) && status.finished))
+        end(peers, peer);
+    else
+        watch(peers, peer);
+}
+
+/* Moves the kept bytes to the start of the buffer, if it has no room after them. */
+static void make_room(struct peers *peers, struct peer *peer) {
+    if (peer->start + peer->kept < peers->room)
+        return;
+    memmove(peer->bytes, peer->bytes + peer->start, peer->kept);
+    peer->start = 0;
+}
+
+/* Reads as much as there is room for. Returns false if the connection failed. */
+static bool receive(struct peers *peers, struct peer *peer) {
+    if (peer->kept == 0)
+        peer->start = 0;
+    make_room(peers, peer);
+    size_t room = peers->room - peer->start - peer->kept;
+    ssize_t count = room ? recv(peer->socket, peer->bytes + peer->start + peer->kept, room, MSG_DONTWAIT) : -1;
+    if (count < 0)
+        return room == 0 || errno == EAGAIN || errno == EINTR;
+    peer->has_ended = count == 0;
+    peer->kept += (size_t)count;
+    return true;
+}
+
+void peers_ready(struct peers *peers, size_t place, uint32_t events) {
+    struct peer *peer = &peers->all[place];
+    if (peer->socket < 0)
+        return;
+    /* A reset: nothing can be read or written any more. */
+    bool is_gone = events & (EPOLLHUP | EPOLLERR);
+    if (is_gone || (!peer->has_ended && (events & EPOLLIN) && !receive(peers, peer)))
+        end(peers, peer);
+    else
+        serve(peers, peer);
+}
+
+void peers_serve(struct peers *peers) {
+    for (size_t at = 0; at < peers->count; at++)
+        if (peers->all[at].socket >= 0)
+            serve(peers, &peers->all[at]);
+    peers->is_short = false;
+    watch_listener(peers);
+}
+
+/* ---- new peers ---- */
+
+/* A peer that is gone without a word is found after two minutes, as by coap-server. */
+static void set_socket(int client) {
+    int yes = 1, idle = 60, interval = 15, probes = 4;
+    setsockopt(client, IPPROTO_TCP, TCP_NODELAY, &yes, sizeof yes);
+    setsockopt(client, SOL_SOCKET, SO_KEEPALIVE, &yes, sizeof yes);
+    setsockopt(client, IPPROTO_TCP, TCP_KEEPIDLE, &idle, sizeof idle);
+    setsockopt(client, IPPROTO_TCP, TCP_KEEPINTVL, &interval, sizeof interval);
+    setsockopt(client, IPPROTO_TCP, TCP_KEEPCNT, &probes, sizeof probes);
+}
+
+/* Gives a client a free place. Returns false if there is no memory. */
+static bool admit(struct peers *peers, int client, const char *address) {
+    size_t at = 0;
+    while (peers->all[at].socket >= 0)
+        at++;
+    struct peer *peer = &peers->all[at];
+    struct epoll_event event = {.events = EPOLLIN, .data.u64 = at};
+    peer->bytes = malloc(peers->room);
+    if (!peer->bytes || dachreup_server_open(peers->server, &peer->id)) {
+        free(peer->bytes);
+        peer->bytes = NULL;
+        return false;
+    }
+    peer->socket = client;
+    peer->interest = EPOLLIN;
+    peers->open++;
+    epoll_ctl(peers->poll, EPOLL_CTL_ADD, client, &event);
+    log_line(LOG_CONNECTIONS, "connection %llu opened by %s", (unsigned long long)peer->id, address);
+    serve(peers, peer);
+    return true;
+}
+
+void peers_accept(struct peers *peers) {
+    while (peers->open < peers->count) {
+        struct address address = {.length = sizeof address.bytes};
+        int client = accept4(peers->listener, (struct sockaddr *)&address.bytes, &address.length, SOCK_NONBLOCK | SOCK_CLOEXEC);
+        if (client < 0) {
+            peers->is_short = errno == EMFILE || errno == ENFILE || errno == ENOBUFS || errno == ENOMEM;
+            if (peers->is_short)
+                log_line(LOG_WARNINGS, "connections not accepted: %s", strerror(errno));
+            break;
+        }
+        set_socket(client);
+        print_address(&address);
+        if (!admit(peers, client, address.text)) {
+            log_line(LOG_WARNINGS, "connection not accepted: no memory");
+            close(client);
+            break;
+        }
+    }
+    watch_listener(peers);
+}

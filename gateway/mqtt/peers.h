@@ -1,0 +1,58 @@
+/* The connections of CoAP peers: one listening socket, and the sockets that it accepts, over epoll. */
+#ifndef COAP_MQTT_PEERS_H
+#define COAP_MQTT_PEERS_H
+
+#include <coap_proved.h>
+#include <stdbool.h>
+#include <stddef.h>
+#include <stdint.h>
+
+#include "options.h"
+
+/* Values of epoll_data.u64. Those below are the places of peers. */
+enum { EVENT_LISTENER = 1000, EVENT_BROKER = 1001 };
+
+/* A connection: its socket (-1: the place is free), its id in the server, and the bytes that the server has not accepted. */
+struct peer {
+    int socket;
+    uint64_t id;
+    uint8_t *bytes;
+    size_t start, kept;
+    uint32_t interest; /* events of epoll */
+    bool has_ended;    /* the peer sends nothing more */
+    bool is_finished;  /* the server knows that */
+    bool is_raw;       /* its bytes are no messages any more, so the server ends the connection */
+};
+
+struct peers {
+    struct dachreup_server *server;
+    const struct options *options;
+    void *owner;
+    void (*request)(void *owner, uint64_t id, const struct dachreup_span *request); /* a request that the gateway answers */
+    struct peer *all;
+    size_t count, open;
+    size_t room;        /* bytes of a peer's buffer: more than the largest message */
+    int poll, listener;
+    bool listens;       /* the socket listens */
+    bool accepts;       /* the socket is watched */
+    bool refuses_reads; /* GET below the prefix is answered 5.03 */
+    bool is_short;      /* accept failed for lack of descriptors or memory; it is tried again a second later */
+};
+
+/* Binds the address, and does not listen yet. Prints the error and returns false if that fails. */
+bool peers_open(struct peers *peers, struct dachreup_server *server, const struct options *options, int poll);
+void peers_close(struct peers *peers);
+
+/* Listens. Prints the address. Returns false if that fails. */
+bool peers_listen(struct peers *peers);
+
+/* Accepts peers until none waits or all places are occupied. */
+void peers_accept(struct peers *peers);
+
+/* Serves a peer whose socket is ready. */
+void peers_ready(struct peers *peers, size_t place, uint32_t events);
+
+/* Serves all peers: after a change of the store, any connection can have output. */
+void peers_serve(struct peers *peers);
+
+#endif

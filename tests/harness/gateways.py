@@ -1,0 +1,282 @@
+"""Starts gateways to MQTT and their broker, and sends requests to them."""
+
+import collections
+import contextlib
+import os
+import select
+import socket
+import subprocess
+import tempfile
+import time
+
+import messages
+from checks import CSM
+from peers import LOCAL, free_port
+from workspace import ROOT
+
+CONFIGURATION = os.path.join(ROOT, "install", "mosquitto.conf")
+
+# Seconds that a step may take, and within which a change reaches the other gateway.
+LIMIT, SOON = 20, 1
+
+GET, POST, PUT, DELETE = 1, 2, 3, 4
+CREATED, DELETED, VALID, CHANGED, CONTENT = 0x41, 0x42, 0x43, 0x44, 0x45
+BAD_REQUEST, BAD_OPTION, NOT_FOUND, NOT_ALLOWED, NOT_ACCEPTABLE, PRECONDITION, TOO_LARGE = 0x80, 0x82, 0x84, 0x85, 0x86, 0x8C, 0x8D
+UNAVAILABLE, TIMEOUT = 0xA3, 0xA4
+
+IF_MATCH, ETAG, IF_NONE_MATCH, OBSERVE, LOCATION_PATH, URI_PATH, FORMAT, SIZE1 = 1, 4, 5, 6, 8, 11, 12, 60
+
+USER, PASSWORD, PREFIX = "gateways", "a password", "shared"
+
+
+def number(value):
+    return value.to_bytes((value.bit_length() + 7) // 8, "big")
+
+
+def extended(value):
+    """Returns the nibble of a number, and its extension."""
+    if value < 13:
+        return value, b""
+    return (13, bytes([value - 13])) if value < 269 else (14, (value - 269).to_bytes(2, "big"))
+
+
+def encode(code, token, options=(), payload=b""):
+    """Returns a message. `options` are pairs of number and value."""
+    body, last = b"", 0
+    for option, value in sorted(options, key=lambda it: it[0]):
+        (high, first), (low, second) = extended(option - last), extended(len(value))
+        body, last = body + bytes([high << 4 | low]) + first + second + value, option
+    body += b"\xff" + payload if payload else b""
+    nibble, extension = extended(len(body)) if len(body) < 65805 else (15, (len(body) - 65805).to_bytes(4, "big"))
+    return bytes([nibble << 4 | len(token)]) + extension + bytes([code]) + token + body
+
+
+Response = collections.namedtuple("Response", ["code", "payload", "options"])
+
+
+class Peer:
+    """A CoAP peer. Its requests have tokens 1, 2, ..., and notifications are kept by token."""
+
+    def __init__(self, port, source=LOCAL, context=None):
+        self.socket = socket.create_connection((LOCAL, port), LIMIT, source_address=(source, 0))
+        self.socket.setsockopt(socket.IPPROTO_TCP, socket.TCP_NODELAY, 1)
+        if context:
+            self.socket = context.wrap_socket(self.socket, server_hostname=LOCAL)
+        self.left, self.token, self.received = b"", 0, collections.defaultdict(collections.deque)
+        # A Max-Message-Size that is enough for each response.
+        self.socket.sendall(bytes.fromhex(CSM))
+
+    def __enter__(self):
+        return self
+
+    def __exit__(self, *_):
+        self.socket.close()
+
+    def send(self, code, path, options=(), payload=b"", form=None):
+        """Sends a request, and returns its token."""
+        self.token += 1
+        token = self.token.to_bytes(4, "big")
+        segments = path.split("/") if isinstance(path, str) else path
+        options = [*options, *((URI_PATH, it.encode() if isinstance(it, str) else it) for it in segments)]
+        options += [(FORMAT, number(form))] if form is not None else []
+        self.socket.sendall(encode(code, token, options, payload))
+        return token
+
+    def read(self, seconds):
+        """Reads the bytes that arrive within this time. Returns false at a timeout, and raises at the end of the connection."""
+        is_ready = hasattr(self.socket, "pending") and self.socket.pending()
+        if not is_ready and not select.select([self.socket], [], [], max(seconds, 0))[0]:
+            return False
+        piece = self.socket.recv(65536)
+        if not piece:
+            raise ConnectionError("the gateway ended the connection")
+        frames, self.left = messages.split(self.left + piece)
+        for frame in frames:
+            code, token, options, payload = messages.parse(frame)
+            self.received[token].append(Response(code, payload, options))
+        return True
+
+    def wait(self, token, seconds=LIMIT):
+        """Returns the next response with a token, or None at a timeout."""
+        ends = time.monotonic() + seconds
+        while not self.received[token]:
+            if not self.read(ends - time.monotonic()):
+                return None
+        return self.received[token].popleft()
+
+    def ask(self, *words, seconds=LIMIT, **more):
+        return self.wait(self.send(*words, **more), seconds)
+
+    def code(self, *words, **more):
+        response = self.ask(*words, **more)
+        return response and response.code
+
+    def get(self, path):
+        """Returns the code, the payload and the Content-Format of a resource."""
+        response = self.ask(GET, path)
+        return response and (response.code, response.payload, format_of(response))
+
+
+def option_of(response, option):
+    return next((value for at, value in response.options if at == option), None)
+
+
+def format_of(response):
+    value = option_of(response, FORMAT)
+    return None if value is None else int.from_bytes(value, "big")
+
+
+class Broker:
+    """mosquitto, with the installed configuration."""
+
+    def __init__(self, folder, changes=()):
+        self.folder, self.port, self.process, self.changes = folder, free_port(), None, list(changes)
+        os.makedirs(f"{folder}/kept", exist_ok=True)
+        subprocess.run(["mosquitto_passwd", "-b", "-c", f"{folder}/passwd", USER, PASSWORD], check=True, capture_output=True, timeout=LIMIT)
+        with open(f"{folder}/acl", "w", encoding="ascii") as file:
+            file.write(f"user {USER}\ntopic readwrite {PREFIX}/#\n")
+        with open(f"{folder}/password", "w", encoding="ascii") as file:
+            file.write(f"{PASSWORD}\n")
+
+    def __enter__(self):
+        self.start()
+        return self
+
+    def __exit__(self, *_):
+        self.kill()
+
+    def configure(self):
+        with open(CONFIGURATION, encoding="utf-8") as file:
+            text = file.read()
+        replaced = [("listener 1883 127.0.0.1", f"listener {self.port} {LOCAL}"), ("/var/lib/mosquitto/", f"{self.folder}/kept/"),
+                    ("/etc/mosquitto/gateways.passwd", f"{self.folder}/passwd"), ("/etc/mosquitto/gateways.acl", f"{self.folder}/acl"), *self.changes]
+        for old, new in replaced:
+            if text.count(old) != 1:
+                raise LookupError(f"{old!r} occurs {text.count(old)} times in the configuration")
+            text = text.replace(old, new)
+        with open(f"{self.folder}/mosquitto.conf", "w", encoding="utf-8") as file:
+            # mosquitto that is started by root changes to a user of its own, who cannot read the folder.
+            file.write(text + ("user root\n" if os.geteuid() == 0 else ""))
+
+    def start(self):
+        self.configure()
+        with open(f"{self.folder}/mosquitto.log", "ab") as log:
+            self.process = subprocess.Popen(["mosquitto", "-c", f"{self.folder}/mosquitto.conf"], stdout=log, stderr=log, stdin=subprocess.DEVNULL)
+        ends = time.monotonic() + LIMIT
+        while time.monotonic() < ends:
+            with contextlib.suppress(OSError):
+                socket.create_connection((LOCAL, self.port), 1).close()
+                return
+            time.sleep(0.02)
+        with open(f"{self.folder}/mosquitto.log", encoding="utf-8", errors="replace") as log:
+            raise OSError("the broker does not listen: %s" % log.read())
+
+    def kill(self):
+        self.process.kill()
+        self.process.wait(LIMIT)
+
+    def words(self):
+        return ["-h", LOCAL, "-p", str(self.port), "-V", "5", "-u", USER, "-P", PASSWORD]
+
+    def publish(self, topic, payload, *words, retain=True):
+        """Publishes a message as another program would. Returns the status of mosquitto_pub."""
+        line = ["mosquitto_pub", *self.words(), "-q", "1", "-t", topic, *(["-r"] if retain else []), *words]
+        line += ["-n"] if payload == b"" else ["-s"]
+        return subprocess.run(line, input=payload, capture_output=True, timeout=LIMIT).returncode
+
+    def retained(self):
+        """Returns the payload of each retained message, by topic."""
+        line = ["mosquitto_sub", *self.words(), "-q", "1", "-t", f"{PREFIX}/#", "-F", "%t %x", "--retained-only", "-W", "2"]
+        done = subprocess.run(line, stdin=subprocess.DEVNULL, capture_output=True, timeout=LIMIT)
+        pairs = (line.rpartition(b" ") for line in done.stdout.splitlines())
+        return {topic.decode(): bytes.fromhex(payload.decode()) for topic, _, payload in pairs if b"/%gateway-" not in topic}
+
+
+# Gateways that did not end with status 0, with the ends of their logs.
+FAULTS = []
+
+
+class Gateway:
+    """A gateway. Its log is in a file."""
+
+    def __init__(self, program, broker, folder, gateway=0, words=(), before=()):
+        self.line = [*before, program, "-A", LOCAL, "--broker-port", str(broker.port), "--username", USER, "--password-file", f"{broker.folder}/password"]
+        self.gateway, self.words, self.folder, self.port = gateway, list(words), folder, free_port()
+        self.name, self.process = f"{folder}/gateway-{gateway}.log", None
+
+    def __enter__(self):
+        self.start()
+        return self
+
+    def __exit__(self, *_):
+        """Ends the gateway, if it runs. Sanitizers and valgrind report by its status."""
+        if self.process.poll() is None and self.stop() != 0:
+            FAULTS.append((self.process.returncode, self.log()[-3000:]))
+
+    def start(self, waits=True):
+        open(self.name, "wb").close()
+        words = [*self.line, "-p", str(self.port), "--id", str(self.gateway), "--log", "2", *self.words]
+        with open(self.name, "ab") as log:
+            self.process = subprocess.Popen(words, stdin=subprocess.DEVNULL, stdout=subprocess.DEVNULL, stderr=log)
+        if waits and not self.says("listening on"):
+            raise OSError("the gateway does not listen: %s" % self.log())
+
+    def log(self):
+        with open(self.name, encoding="utf-8", errors="replace") as file:
+            return file.read()
+
+    def says(self, text, count=1, seconds=LIMIT):
+        """Waits until the log has a text, `count` times."""
+        ends = time.monotonic() + seconds
+        while self.log().count(text) < count:
+            if time.monotonic() > ends or self.process.poll() is not None:
+                return self.log().count(text) >= count
+            time.sleep(0.02)
+        return True
+
+    def kill(self):
+        self.process.kill()
+        self.process.wait(LIMIT)
+
+    def stop(self):
+        """Ends the gateway by SIGTERM, and returns its status."""
+        self.process.terminate()
+        try:
+            return self.process.wait(LIMIT)
+        except subprocess.TimeoutExpired:
+            self.kill()
+            return "killed"
+
+    def peer(self):
+        return Peer(self.port)
+
+
+class Setting:
+    """A broker and gateways with ids from 1 on."""
+
+    def __init__(self, program, gateways=2, words=(), before=(), changes=()):
+        self.program, self.count, self.words, self.before, self.changes = program, gateways, words, before, changes
+        self.stack, self.gateways, self.broker, self.folder = contextlib.ExitStack(), [], None, None
+
+    def __enter__(self):
+        with contextlib.ExitStack() as stack:
+            self.folder = stack.enter_context(tempfile.TemporaryDirectory(prefix="coap-mqtt-"))
+            self.broker = stack.enter_context(Broker(self.folder, self.changes))
+            for at in range(self.count):
+                self.gateways.append(stack.enter_context(Gateway(self.program, self.broker, self.folder, at + 1, self.words, self.before)))
+            self.stack = stack.pop_all()
+        return self
+
+    def __exit__(self, *_):
+        self.stack.close()
+
+    def peers(self):
+        return [self.stack.enter_context(it.peer()) for it in self.gateways]
+
+
+def soon(look, wanted, seconds=SOON):
+    """Returns the last result of a look, which is repeated until it is the wanted one."""
+    ends = time.monotonic() + seconds
+    while (found := look()) != wanted and time.monotonic() < ends:
+        time.sleep(0.01)
+    return found
