@@ -1,8 +1,9 @@
 # Proves, builds, runs, tests and measures. Requires Rattle's toolchain (`rt`) and Python 3. `make test` installs Debian's dpkg-dev,
-# g++, gcc, haproxy, libc6-dev, libcoap3-bin, libcoap3-dev, lintian, mandoc, openssl, pkg-config, tshark and valgrind if they are missing.
-# `make bench` installs gcc, gnuplot-nox, haproxy, libc6-dev, libcoap3-bin and valgrind. `make lib` needs binutils, and `make deb` dpkg-dev too.
+# g++, gcc, haproxy, libc6-dev, libcoap3-bin, libcoap3-dev, libmosquitto-dev, lintian, mandoc, mosquitto, mosquitto-clients, openssl, pkg-config, tshark
+# and valgrind if they are missing. `make bench` installs gcc, gnuplot-nox, haproxy, libc6-dev, libcoap3-bin and valgrind. `make lib` needs binutils,
+# `make gateway` gcc and libmosquitto-dev too, and `make deb` dpkg-dev too.
 
-.PHONY: all lib run test mutants faults bench try install install-lib uninstall deb clean
+.PHONY: all lib gateway run test mutants faults bench try install install-lib install-gateway uninstall deb clean
 
 # Prefix under which `make install` puts the programs, their manuals, the systemd unit and the configuration of HAProxy. DESTDIR
 # is put before the prefix, for packaging.
@@ -10,7 +11,7 @@ PREFIX ?= /usr/local
 DESTDIR ?=
 
 # Proves every crate and builds the programs.
-all: bin/coap-server bin/coap-client bin/coap-explain
+all: bin/coap-server bin/coap-client bin/coap-explain bin/coap-directory
 
 SOURCES := $(shell find crates -name out -prune -o -type f -print) crates.txt
 
@@ -18,8 +19,8 @@ bin/coap-server bin/coap-client &: $(SOURCES)
 	tests/build coap_server coap_client_main
 
 # Waits for the other programs, so that only one build runs at a time.
-bin/coap-explain: $(SOURCES) | bin/coap-server
-	tests/build coap_explain
+bin/coap-explain bin/coap-directory &: $(SOURCES) | bin/coap-server
+	tests/build coap_explain coap_directory
 
 # Proves the C library and builds its archive and its pkg-config file.
 lib: bin/libcoap_proved.a bin/coap_proved.pc
@@ -32,6 +33,15 @@ bin/libcoap_proved.a: $(SOURCES) install/library/build | bin/coap-explain
 bin/coap_proved.pc: install/library/coap_proved.pc.in VERSION
 	@mkdir -p bin
 	sed -e 's|@PREFIX@|$(PREFIX)|g' -e 's|@LIBDIR@|lib|g' -e "s|@VERSION@|$$(cat VERSION)|g" $< > $@
+
+# Builds the gateway to MQTT: C over the library and libmosquitto. The C is tested, not proved.
+gateway: bin/coap-mqtt
+
+GATEWAY_FLAGS := -std=c11 -D_GNU_SOURCE -O2 -Wall -Wextra -fPIE -fstack-protector-strong -D_FORTIFY_SOURCE=2
+
+bin/coap-mqtt: $(wildcard gateway/mqtt/*.c gateway/mqtt/*.h) include/coap_proved.h VERSION bin/libcoap_proved.a
+	$(CC) $(GATEWAY_FLAGS) $(CFLAGS) -DCOAP_MQTT_VERSION='"'$$(cat VERSION)'"' -Iinclude gateway/mqtt/*.c bin/libcoap_proved.a \
+	    -pie -Wl,-z,relro,-z,now $(LDFLAGS) -lmosquitto -o $@
 
 # Runs the server on short recorded streams, and prints the meaning of each message. If the program is not built yet, the same
 # source runs unproved while the proofs begin. At the end, the program that they build runs.
@@ -57,10 +67,11 @@ faults: bin/coap-server
 	tests/tools/fail_alloc.py
 
 # Measures the server and libcoap's, then the server with a record, behind HAProxy, and with observers that do not read. Then counts instructions,
-# copies and memory. Draws the new figures in docs/pictures. Fails if a target is missed.
-bench: bin/coap-server bin/libcoap_proved.a
+# copies and memory. Measures changes through two gateways to MQTT, beside mosquitto. Draws the new figures in docs/pictures. Fails if a target is
+# missed.
+bench: bin/coap-server bin/libcoap_proved.a bin/coap-mqtt
 	tests/build coap_probe
-	bench/throughput; missed=$$?; bench/record || missed=1; bench/front || missed=1; tests/system/flood.py bin/coap-server observers || missed=1; \
+	bench/throughput; missed=$$?; bench/record || missed=1; bench/front || missed=1; bench/gateway || missed=1; tests/system/flood.py bin/coap-server observers || missed=1; \
 	bench/asymptotics || missed=1; bench/instructions && exit $$missed
 
 # UNPROVED: runs the source on the recorded streams before any proof, in up to a minute, for work in progress.
@@ -69,13 +80,14 @@ try:
 
 # Installs the output of `make all`. Builds nothing, so that another user can run it.
 install:
-	@test -x bin/coap-server -a -x bin/coap-client -a -x bin/coap-explain || { echo "Run 'make all' first: bin/ does not have all programs." >&2; exit 1; }
-	install -D -m 0755 -t "$(DESTDIR)$(PREFIX)/bin" bin/coap-server bin/coap-client bin/coap-explain
-	install -D -m 0644 -t "$(DESTDIR)$(PREFIX)/share/man/man1" man/coap-server.1 man/coap-client.1 man/coap-explain.1
+	@test -x bin/coap-server -a -x bin/coap-client -a -x bin/coap-explain -a -x bin/coap-directory || { echo "Run 'make all' first: bin/ does not have all programs." >&2; exit 1; }
+	install -D -m 0755 -t "$(DESTDIR)$(PREFIX)/bin" bin/coap-server bin/coap-client bin/coap-explain bin/coap-directory
+	install -D -m 0644 -t "$(DESTDIR)$(PREFIX)/share/man/man1" man/coap-server.1 man/coap-client.1 man/coap-explain.1 man/coap-directory.1
 	install -D -m 0644 install/coap-server.service.in "$(DESTDIR)$(PREFIX)/lib/systemd/system/coap-server.service"
 	sed -i 's|@PREFIX@|$(PREFIX)|g' "$(DESTDIR)$(PREFIX)/lib/systemd/system/coap-server.service"
 	install -D -m 0644 -t "$(DESTDIR)$(PREFIX)/share/doc/coap-server/examples" install/haproxy.cfg
 	@if [ -e bin/libcoap_proved.a ]; then $(MAKE) --silent --no-print-directory install-lib; fi
+	@if [ -e bin/coap-mqtt ]; then $(MAKE) --silent --no-print-directory install-gateway; fi
 
 # Installs the output of `make lib`. `make install` does so too, if it exists.
 install-lib:
@@ -85,20 +97,31 @@ install-lib:
 	install -D -m 0644 install/library/coap_proved.pc.in "$(DESTDIR)$(PREFIX)/lib/pkgconfig/coap_proved.pc"
 	sed -i -e 's|@PREFIX@|$(PREFIX)|g' -e 's|@LIBDIR@|lib|g' -e "s|@VERSION@|$$(cat VERSION)|g" "$(DESTDIR)$(PREFIX)/lib/pkgconfig/coap_proved.pc"
 
+# Installs the output of `make gateway`. `make install` does so too, if it exists.
+install-gateway:
+	install -D -m 0755 -t "$(DESTDIR)$(PREFIX)/bin" bin/coap-mqtt
+	install -D -m 0644 -t "$(DESTDIR)$(PREFIX)/share/man/man1" man/coap-mqtt.1
+	install -D -m 0644 install/coap-mqtt.service.in "$(DESTDIR)$(PREFIX)/lib/systemd/system/coap-mqtt@.service"
+	sed -i 's|@PREFIX@|$(PREFIX)|g' "$(DESTDIR)$(PREFIX)/lib/systemd/system/coap-mqtt@.service"
+	install -D -m 0644 -t "$(DESTDIR)$(PREFIX)/share/doc/coap-mqtt/examples" install/mosquitto.conf
+
 # Removes the files that `make install` installed, and leaves the directories.
 uninstall:
 	rm -f "$(DESTDIR)$(PREFIX)/bin/coap-server" "$(DESTDIR)$(PREFIX)/bin/coap-client" "$(DESTDIR)$(PREFIX)/bin/coap-explain"
 	rm -f "$(DESTDIR)$(PREFIX)/share/man/man1/coap-server.1" "$(DESTDIR)$(PREFIX)/share/man/man1/coap-client.1"
 	rm -f "$(DESTDIR)$(PREFIX)/share/man/man1/coap-explain.1"
+	rm -f "$(DESTDIR)$(PREFIX)/bin/coap-directory" "$(DESTDIR)$(PREFIX)/share/man/man1/coap-directory.1"
 	rm -f "$(DESTDIR)$(PREFIX)/lib/systemd/system/coap-server.service"
 	rm -f "$(DESTDIR)$(PREFIX)/share/doc/coap-server/examples/haproxy.cfg"
 	rm -f "$(DESTDIR)$(PREFIX)/lib/libcoap_proved.a" "$(DESTDIR)$(PREFIX)/lib/pkgconfig/coap_proved.pc"
 	rm -f "$(DESTDIR)$(PREFIX)/include/coap_proved.h" "$(DESTDIR)$(PREFIX)/share/man/man3/coap_proved.3"
+	rm -f "$(DESTDIR)$(PREFIX)/bin/coap-mqtt" "$(DESTDIR)$(PREFIX)/share/man/man1/coap-mqtt.1"
+	rm -f "$(DESTDIR)$(PREFIX)/lib/systemd/system/coap-mqtt@.service" "$(DESTDIR)$(PREFIX)/share/doc/coap-mqtt/examples/mosquitto.conf"
 
-# Builds the Debian packages of the output of `make all` and `make lib`, bin/dachreup_VERSION_ARCHITECTURE.deb and
-# bin/libdachreup-dev_VERSION_ARCHITECTURE.deb.
-deb: all lib
-	install/debian/build bin/coap-server bin/coap-client bin/coap-explain bin/libcoap_proved.a bin
+# Builds the Debian packages of the output of `make all`, `make lib` and `make gateway`: bin/NAME_VERSION_ARCHITECTURE.deb for the names
+# dachreup, libdachreup-dev and dachreup-mqtt.
+deb: all lib gateway
+	install/debian/build bin/coap-server bin/coap-client bin/coap-explain bin/coap-directory bin/libcoap_proved.a bin/coap-mqtt bin
 
 clean:
 	rm -rf bin crates/*/out

@@ -1,6 +1,6 @@
 """Installs the programs, their manuals, the systemd unit, the configuration of HAProxy and the C library into temporary folders, and uninstalls them.
 
-    tests/system/install.py bin/coap-server bin/coap-client bin/coap-explain [bin/libcoap_proved.a]
+    tests/system/install.py bin/coap-server bin/coap-client bin/coap-explain bin/coap-directory [bin/libcoap_proved.a]
 
 `make` runs on a copy of the installed files, with sources that are newer than the programs and a build script that fails. A build would therefore
 be noticed. Without the archive of the C library, only the programs are installed. If systemd-analyze exists, it checks the unit. The script does not
@@ -20,7 +20,7 @@ from checks import Checks  # noqa: E402
 from packages import install  # noqa: E402
 from workspace import ROOT  # noqa: E402
 
-PROGRAMS = ["coap-server", "coap-client", "coap-explain"]
+PROGRAMS = ["coap-server", "coap-client", "coap-explain", "coap-directory"]
 
 UNIT = "lib/systemd/system/coap-server.service"
 

@@ -1,6 +1,6 @@
 """Compares the manuals with the programs and their sources: form, options, ranges, defaults, statuses, lines and examples.
 
-    tests/system/manuals.py bin/coap-server bin/coap-client bin/coap-explain
+    tests/system/manuals.py bin/coap-server bin/coap-client bin/coap-explain bin/coap-directory
 
 The script needs Debian's package mandoc, and installs it if it is missing.
 """
@@ -40,12 +40,16 @@ LIBRARIES = ["coap_io/src/*.rt", "coap_program/src/*.rt", "coap_sockets/src/*.rt
 
 SOURCES = {
     # Source files with the lines and statuses of a program.
-    "coap-server": ["coap_server/src/*.rt", "coap_server_streams/src/*.rt", "coap_server_listener/src/*.rt", "coap_script/src/*.rt", "coap_model/src/*.rt",
+    "coap-server": ["coap_server/src/*.rt", "coap_server_common/src/listening.rt", "coap_server_streams/src/*.rt", "coap_server_listener/src/*.rt", "coap_script/src/*.rt", "coap_model/src/*.rt",
                     "coap_server_engine/src/*.rt"] + LIBRARIES,
     "coap-client": ["coap_client_main/src/*.rt", "coap_client_engine/src/run.rt", "coap_client_engine/src/run/*.rt",
                     "coap_client_engine/src/error_lines.rt", "coap_client_engine/src/cause_line.rt"] + LIBRARIES,
     "coap-explain": ["coap_explain/src/*.rt"] + LIBRARIES,
+    "coap-directory": ["coap_directory/src/*.rt", "coap_server_common/src/listening.rt", "coap_server_listener/src/*.rt", "coap_server_engine/src/io_fault.rt"] + LIBRARIES,
 }
+
+# An address of no machine (RFC 5737). The directory ends at once, because it cannot listen there.
+FOREIGN = "203.0.113.1"
 
 # Text for a plan that no command line can make, and texts for ends that no run of the client has. The manuals do not have them.
 UNREACHED = {"a limit is out of its range", "the message is too large", "the queue has no room", "the client sent Release"}
@@ -65,6 +69,16 @@ def server_faults(port):
         (["--stdio", "--record", "/nothing/here"], b"", "cannot open file"),
         (["--script", "/"], b"", "cannot read"),
         (["--turns", "1", "--stdio"], b"\x00\xe1", "too many turns"),
+    ]
+
+
+def directory_faults(port):
+    """Returns arguments, standard input, and the line of the manual for them. The directory cannot listen at the port."""
+    return [
+        (["-p", "0"], b"", "bad value for option"),
+        (["--registrations", "0"], b"", "bad value for option"),
+        ([b"\xff"], b"", "words that are not UTF-8"),
+        (["-A", "127.0.0.1", "-p", str(port)], b"", "cannot listen"),
     ]
 
 
@@ -208,7 +222,8 @@ def check_order(checks, manual, program, more):
     """Checks that of several bad values the first one in the order of the synopsis is reported."""
     left = [name for name, value in manual.called_with() if value and name not in ("-e", "-f", "-o", "--script", "--record")]
     while left:
-        words = [program] + [word for name in reversed(left) for word in (name, "x")] + more
+        # No option is given twice.
+        words = [program] + [word for name in reversed(left) for word in (name, "x")] + ([] if more[:1] == left[:1] else more)
         told = "%s: bad value for %s" % (manual.name, left[0])
         status, output, error = run(words)
         checks.same("%s: bad values of %r" % (manual.name, left), (status, output, error.partition("\n")[0]), (USAGE, "", told))
@@ -365,13 +380,14 @@ def closed_port():
         yield taken.getsockname()[1]
 
 
-def check(server, client, explain):
+def check(server, client, explain, directory):
     checks = Checks()
-    with closed_port() as port, named_programs(server=server, client=client, explain=explain) as programs:
+    with closed_port() as port, named_programs(server=server, client=client, explain=explain, directory=directory) as programs:
         for name, program, faults, more in (
             ("coap-server", server, server_faults(port), ["--stdio"]),
             ("coap-client", client, client_faults(port), [URI % port]),
             ("coap-explain", explain, explain_faults(port), ["-"]),
+            ("coap-directory", directory, directory_faults(port), ["-A", FOREIGN]),
         ):
             manual = Manual(name)
             source = source_of(SOURCES[name])

@@ -1,9 +1,9 @@
 """Builds the Debian packages, checks them with lintian, and installs, upgrades, removes and purges them.
 
-    tests/system/package.py bin/coap-server bin/coap-client bin/coap-explain [bin/libcoap_proved.a]
+    tests/system/package.py bin/coap-server bin/coap-client bin/coap-explain bin/coap-directory [bin/libcoap_proved.a]
 
-The script needs Debian's packages dpkg-dev, gcc, libc6-dev, libcoap3-bin, lintian and pkg-config, and installs the missing ones. `make deb` runs on a
-copy of its inputs.
+The script needs Debian's packages dpkg-dev, gcc, libc6-dev, libcoap3-bin, libmosquitto-dev, lintian and pkg-config, and installs the missing ones.
+`make deb` runs on a copy of its inputs, and builds the gateway to MQTT there.
 
 The installation needs root. The script installs no package if any of their files already exists, and prints the first of these. It starts the server
 by the command of the installed unit, because systemd may not run. It compiles the installed example of the C library, and runs it. In the end it
@@ -36,25 +36,28 @@ PACKAGES = {
     "cc": "gcc",
     "/usr/include/stdlib.h": "libc6-dev",
     "coap-client-notls": "libcoap3-bin",
+    "/usr/include/mosquitto.h": "libmosquitto-dev",
     "lintian": "lintian",
     "pkg-config": "pkg-config",
 }
 
-# The package of the programs, and that of the C library.
-NAME, LIBRARY = "dachreup", "libdachreup-dev"
+# The package of the programs, that of the C library, and that of the gateway to MQTT.
+NAME, LIBRARY, GATEWAY = "dachreup", "libdachreup-dev", "dachreup-mqtt"
 
-PROGRAMS = ["coap-server", "coap-client", "coap-explain"]
+PROGRAMS = ["coap-server", "coap-client", "coap-explain", "coap-directory"]
 
 # The text of each manual's first section.
 TITLES = {
     "coap-server": "CoAP server over TCP",
     "coap-client": "CoAP client over TCP",
     "coap-explain": "explain a record of a CoAP server",
-    "coap_proved": "server engine for CoAP over TCP (RFC 8323), as a C library",
+    "coap-directory": "CoRE resource directory over TCP",
+    "coap_proved": "server and client engines for CoAP over TCP (RFC 8323), as a C library",
+    "coap-mqtt": "CoAP over TCP for the retained messages of an MQTT broker",
 }
 
 # The crates of each package.
-CRATES = {NAME: ["coap_server", "coap_client_main", "coap_explain"], LIBRARY: ["coap_c"]}
+CRATES = {NAME: ["coap_server", "coap_client_main", "coap_explain", "coap_directory"], LIBRARY: ["coap_c"]}
 
 OPTIONS = "/etc/default/coap-server"
 
@@ -70,6 +73,7 @@ RECORDS = "/var/lib/systemd/deb-systemd-helper-enabled"
 LEFTOVERS = [OPTIONS, ENABLED, RECORDS + "/coap-server.service.dsh-also", RECORDS + "/multi-user.target.wants/coap-server.service"]
 
 EXAMPLE = "/usr/share/doc/libdachreup-dev/examples/server.c"
+CLIENT_EXAMPLE = "/usr/share/doc/libdachreup-dev/examples/client.c"
 
 # Directory of libraries. The function `here` replaces the placeholder.
 LIBRARIES = "/usr/lib/@TRIPLET@"
@@ -81,12 +85,15 @@ FILES = {NAME: {
     "/usr/bin/coap-server": (0o755, None),
     "/usr/bin/coap-client": (0o755, None),
     "/usr/bin/coap-explain": (0o755, None),
+    "/usr/bin/coap-directory": (0o755, None),
     "/usr/share/man/man1/coap-server.1.gz": (0o644, None),
     "/usr/share/man/man1/coap-client.1.gz": (0o644, None),
     "/usr/share/man/man1/coap-explain.1.gz": (0o644, None),
+    "/usr/share/man/man1/coap-directory.1.gz": (0o644, None),
     "/usr/share/bash-completion/completions/coap-server": (0o644, "install/completions/coap-server"),
     "/usr/share/bash-completion/completions/coap-client": (0o644, "install/completions/coap-client"),
     "/usr/share/bash-completion/completions/coap-explain": (0o644, "install/completions/coap-explain"),
+    "/usr/share/bash-completion/completions/coap-directory": (0o644, "install/completions/coap-directory"),
     "/usr/share/doc/dachreup/changelog.gz": (0o644, None),
     "/usr/share/doc/dachreup/copyright": (0o644, "install/debian/copyright"),
     "/usr/share/doc/dachreup/examples/haproxy.cfg": (0o644, "install/haproxy.cfg"),
@@ -99,7 +106,15 @@ FILES = {NAME: {
     "/usr/share/doc/libdachreup-dev/changelog.gz": (0o644, None),
     "/usr/share/doc/libdachreup-dev/copyright": (0o644, "install/debian/copyright"),
     EXAMPLE: (0o644, "examples/c/server.c"),
+    CLIENT_EXAMPLE: (0o644, "examples/c/client.c"),
     "/usr/share/man/man3/coap_proved.3.gz": (0o644, None),
+}, GATEWAY: {
+    "/usr/bin/coap-mqtt": (0o755, None),
+    "/usr/share/man/man1/coap-mqtt.1.gz": (0o644, None),
+    "/usr/lib/systemd/system/coap-mqtt@.service": (0o644, None),
+    "/usr/share/doc/dachreup-mqtt/changelog.gz": (0o644, None),
+    "/usr/share/doc/dachreup-mqtt/copyright": (0o644, "install/debian/copyright"),
+    "/usr/share/doc/dachreup-mqtt/examples/mosquitto.conf": (0o644, "install/mosquitto.conf"),
 }}
 
 # Folders in which the installation may create files, folders and links.
@@ -110,6 +125,7 @@ PLACES = ["/etc", "/usr/bin", "/usr/include", "/usr/lib/systemd", LIBRARIES + "/
 FIELDS = {
     NAME: {"Package": NAME, "Section": "net", "Depends": r"libc6 \(>= [\d.]+\)"},
     LIBRARY: {"Package": LIBRARY, "Source": NAME, "Section": "libdevel", "Depends": r"libc6-dev \| libc-dev", "Multi-Arch": "same"},
+    GATEWAY: {"Package": GATEWAY, "Source": NAME, "Section": "net", "Depends": r"libc6 \(>= [\d.]+\), libmosquitto1 \(>= [\d.]+\)"},
 }
 
 # Maintainer scripts with their arguments, and the calls that they make on a machine with systemd. None starts or restarts the server.
@@ -165,6 +181,8 @@ COMPLETED = [
     (["coap-explain", "--connection"], "", []),
     (["coap-explain", "--connection", "="], "", []),
     (["coap-explain", "--connection", "1"], "t", ["two"]),
+    (["coap-directory"], "--reg", ["--registrations"]),
+    (["coap-directory", "--registrations", "="], "", []),
 ]
 
 # Timeout of each command in seconds.
@@ -233,7 +251,7 @@ def check_completion(checks, programs):
             script = os.path.join(ROOT, "install/completions", name)
             helped = re.findall(r"(?m)^ +(?:(-\w)(?:, )?)?(--[\w-]+)?(?: <(\S+)>)?  ", run([program, "--help"])[1].partition("Options:\n")[2])
             options = {option for short, long, _ in helped for option in (short, long) if option}
-            checks.same("%s: the options of --help are found" % name, len(options) > (4 if name == "coap-explain" else 10), True)
+            checks.same("%s: the options of --help are found" % name, len(options) > (4 if name in ("coap-explain", "coap-directory") else 10), True)
             checks.same("%s: completed options" % name, sorted(completions(script, [name, "-"], folder)), sorted(options))
             for option, value in ((short or long, value) for short, long, value in helped if value):
                 got = completions(script, [name, option, ""], folder)
@@ -287,7 +305,7 @@ def check_scripts(checks):
 def copy_tree(tree, programs, archive):
     """Copies the inputs of `make deb`. The programs and the archive are newer than the sources, so that they are not built again."""
     os.makedirs(os.path.join(tree, "crates"))
-    for name in ("examples", "include", "install", "man"):
+    for name in ("examples", "gateway", "include", "install", "man"):
         shutil.copytree(os.path.join(ROOT, name), os.path.join(tree, name))
     for name in ("Makefile", "VERSION", "crates.txt"):
         shutil.copy(os.path.join(ROOT, name), tree)
@@ -302,7 +320,7 @@ def make_deb(checks, tree, wanted, mask=0o022):
     """Builds the packages of this version from a copy. Returns their paths, that of the programs first."""
     status, said = run(["make", "deb"], cwd=tree, umask=mask)
     architecture = run(["dpkg", "--print-architecture"])[1].strip()
-    made = [os.path.join(tree, "bin", "%s_%s_%s.deb" % (name, wanted, architecture)) for name in (NAME, LIBRARY)]
+    made = [os.path.join(tree, "bin", "%s_%s_%s.deb" % (name, wanted, architecture)) for name in (NAME, LIBRARY, GATEWAY)]
     missing = [path for path in made if not os.path.isfile(path)]
     checks.same("make deb, version %s" % wanted, (status, missing), (0, []))
     if missing:
@@ -385,9 +403,11 @@ def check_packages(checks, folder, programs, archive):
     for one, other in zip(first, second):
         with open(one, "rb") as left, open(other, "rb") as right:
             checks.same("equal bytes of two packages %s" % os.path.basename(one), left.read() == right.read(), True)
-    checks.same("files of both packages", sorted(files(NAME).keys() & files(LIBRARY).keys()), [])
+    paths = [path for name in FILES for path in files(name)]
+    checks.same("files of two packages", sorted(path for path in set(paths) if paths.count(path) > 1), [])
     check_programs(checks, first[0])
     check_library(checks, first[1], archive, folder)
+    check_content(checks, GATEWAY, first[2])
     return list(zip(first, make_deb(checks, trees[1], raise_version(trees[1]))))
 
 
@@ -519,9 +539,19 @@ def check_library_life(checks, package, higher, client):
     check_ended(checks, LIBRARY, [])
 
 
+def check_gateway_life(checks, package, higher):
+    """Installs the package of the gateway, runs its program, upgrades it, removes it and purges it."""
+    check_installed(checks, GATEWAY, package)
+    check_manuals(checks, ["coap-mqtt"])
+    checks.same("the installed gateway", run(["/usr/bin/coap-mqtt", "--version"]), (0, "coap-mqtt %s\n" % version()))
+    check_upgraded(checks, GATEWAY, higher)
+    checks.same("the upgraded gateway", run(["/usr/bin/coap-mqtt", "--version"]), (0, "coap-mqtt %s+test\n" % version()))
+    check_ended(checks, GATEWAY, [])
+
+
 def clean_up():
     """Removes all that is left of the packages after a failed check."""
-    for name in (NAME, LIBRARY):
+    for name in FILES:
         if dpkg_status(name) and dpkg("-P", name)[0]:
             # A wrong maintainer script prevents the purge.
             for path in glob.glob("/var/lib/dpkg/info/%s.p*" % name):
@@ -536,10 +566,10 @@ def hindrance():
     """Returns the reason for which no package is installed, or nothing."""
     if os.geteuid() != 0:
         return "the script does not run as root"
-    for name in (NAME, LIBRARY):
+    for name in FILES:
         if dpkg_status(name):
             return "the package %s is already installed" % name
-    found = [path for path in [*files(NAME), *files(LIBRARY), *LEFTOVERS] if os.path.lexists(path)]
+    found = [path for path in [*(path for name in FILES for path in files(name)), *LEFTOVERS] if os.path.lexists(path)]
     return "%s already exists" % found[0] if found else ""
 
 
@@ -550,13 +580,14 @@ def check(programs, archive):
     check_copyright(checks)
     check_scripts(checks)
     with tempfile.TemporaryDirectory() as folder:
-        built, library = check_packages(checks, folder, programs, archive)
+        built, library, gateway = check_packages(checks, folder, programs, archive)
         if reason := hindrance():
             print("%s: no package was installed" % reason)
         else:
             before = files_in_places()
             try:
                 check_library_life(checks, *library, programs[1])
+                check_gateway_life(checks, *gateway)
                 check_life(checks, *built)
                 after = files_in_places()
                 checks.same("files after the purge", sorted(after - before), [])
