@@ -4,6 +4,7 @@
        c_client messages        reads records of two bytes of length and a frame; prints the numbers of the errors, and each frame that is
                                 written otherwise than it was read
        c_client wrong           prints each check that fails */
+#include "c_checks.h"
 #include <coap_proved.h>
 #include <stdio.h>
 #include <stdlib.h>
@@ -131,7 +132,7 @@ static int messages(void) {
     uint8_t size[2];
     while (fread(size, 1, 2, stdin) == 2) {
         size_t length = size[0] * 256u + size[1];
-        /* A copy of its own size, so that AddressSanitizer sees each read behind it. */
+        /* A copy of its own size, so that AddressSanitizer sees each read after its end. */
         uint8_t *bytes = malloc(length ? length : 1);
         struct dachreup_message message;
         if (!bytes || fread(frame, 1, length, stdin) != length)
@@ -149,15 +150,6 @@ static int messages(void) {
         free(bytes);
     }
     return fflush(stdout) != 0;
-}
-
-static int failed;
-
-static void check(const char *what, uint32_t number, uint32_t wanted) {
-    if (number != wanted) {
-        printf("%s: %u, not %u\n", what, (unsigned)number, (unsigned)wanted);
-        failed = 1;
-    }
 }
 
 static void empty(void) {

@@ -3,6 +3,7 @@
        c_library stdio MAX_MESSAGE MAX_SENT QUEUE DYNAMIC PIECE     reads pieces of this size; a call that reports 2 is made once more
        c_library application                                        entries, requests of the application and its responses; prints each check that fails
        c_library wrong                                              prints each check that fails */
+#include "c_checks.h"
 #include <coap_proved.h>
 #include <stdio.h>
 #include <stdlib.h>
@@ -56,15 +57,6 @@ static int serve(struct dachreup_settings *settings, size_t size) {
         return 6;
     dachreup_server_free(&server);
     return fflush(stdout) != 0;
-}
-
-static int failed;
-
-static void check(const char *what, uint32_t number, uint32_t wanted) {
-    if (number != wanted) {
-        printf("%s: %u, not %u\n", what, (unsigned)number, (unsigned)wanted);
-        failed = 1;
-    }
 }
 
 static void empty(uint64_t id) {
