@@ -2,6 +2,7 @@
 
 use crate::request::Method;
 use crate::target::Target;
+use coap_application::Applications;
 use coap_conn::Limits;
 use coap_print::LogLevel;
 use std::net::IpAddr;
@@ -51,6 +52,8 @@ pub struct ServerPlan {
     pub record: Option<String>,
     /// Size in bytes at which the record ends, at least 1. A run without a record does not use it.
     pub record_limit: u64,
+    /// Entries of the application of a script, or `None` for a run without an application. Only scripts have some.
+    pub applications: Option<Applications>,
 }
 
 /// Settings of a run of `coap-client`.

@@ -33,7 +33,7 @@ pub use coap_server_engine::{
 pub use coap_server_listener::{
     Service, SilenceWatch, serve_door, serve_door_for, serve_door_timed, serve_door_with,
 };
-pub use coap_server_streams::{Report, serve_one, serve_one_with};
+pub use coap_server_streams::{Report, serve_one, serve_one_for, serve_one_with};
 pub use coap_store::{PathKey, Present, State, StoreFault};
 pub use coap_text::{bytes_in, number_in};
 
@@ -48,7 +48,7 @@ pub mod laws {
     };
     pub use coap_server_engine::laws::{
         each_message_taken_is_handled_once, no_change_is_lost, only_stores_allocate,
-        script_segmentation_is_irrelevant, segmentation_is_irrelevant,
+        responses_at_once_have_room, script_segmentation_is_irrelevant, segmentation_is_irrelevant,
         waiting_until_next_deadline_is_safe,
     };
     pub use coap_server_listener::laws::{

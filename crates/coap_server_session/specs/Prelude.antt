@@ -121,7 +121,7 @@ pub use Rattle.coap_server_session.specs.values.Sessions.{is_marked}
 pub use Rattle.coap_server_session.specs.values.Sessions.{mark_of, session_max, session_ready}
 pub use Rattle.coap_server_session.specs.values.Sessions.{session_rejected, session_replied, session_settled_so}
 pub use Rattle.coap_server_session.specs.values.Sessions.{state_on}
-pub use Rattle.coap_server_session.specs.values.Sessions.{taking_found, taking_read, MarkedSession, AreMarked, IsMarked, KeepsSplit}
+pub use Rattle.coap_server_session.specs.values.Sessions.{taking_found, taking_read, MarkedSession, AreMarked, IsMarked}
 pub use Rattle.coap_server_session.specs.values.Sessions.{empty_host, host_with, observers_left}
 unfoldable pub use Rattle.coap_server_session.specs.values.Sessions.{changed_mark}
 unfoldable pub use Rattle.coap_server_session.specs.values.Sessions.{without_entry, is_stale, session_settled}
@@ -130,7 +130,8 @@ unfoldable pub use Rattle.coap_server_session.specs.values.Sessions.{next_held_i
 unfoldable pub use Rattle.coap_server_session.specs.values.Sessions.{taking}
 unfoldable pub use Rattle.coap_server_session.specs.values.Sessions.{session_settled_within}
 pub use Rattle.coap_server_session.specs.values.HandedRequests.{is_handed, is_handed_over, handed_read, handed_found}
-unfoldable pub use Rattle.coap_server_session.specs.values.HandedRequests.{handed}
+unfoldable pub use Rattle.coap_server_session.specs.values.HandedRequests.{handed, completed}
+pub use Rattle.coap_server_session.specs.values.HandedRequests.{found_frame}
 -- ---- this crate: views
 pub use Rattle.coap_server_session.specs.views.ChainViews.{Linked, linked, concerns_path, last_in, previous_in}
 pub use Rattle.coap_server_session.specs.views.ChainViews.{next_index}

@@ -269,7 +269,23 @@ fn hand_over(link: &mut Link, observers: &mut Observers, request: &MessageRef, m
 ///
 /// A delayed response is sent here, and 5.04 to a request that the application has not answered. A Pong with Custody is
 /// queued by `Link::due` (RFC 8323 section 5.4.1).
+#[inline(always)]
 pub(crate) fn send_due(link: &mut Link, now: u64) -> bool
+    requires { IsReady link.old }
+    ensures sent { (e : PendingEntryValue) → first_due now link.old.held ≡ Some e → link.new ≡ link_sent link.old now e }
+    ensures silent { first_due now link.old.held ≡ None → link.new ≡ link.old }
+    ensures found { result ≡ is_some (first_due now link.old.held) }
+{
+    if link.pending() == 0 {
+        return false;
+    }
+    send_first_due(link, now)
+}
+
+/// Does the same as `send_due`. (A separate function: a function clears all its locals, so these would slow down a
+/// connection without pending entries.)
+#[inline(never)]
+fn send_first_due(link: &mut Link, now: u64) -> bool
     requires { IsReady link.old }
     ensures sent { (e : PendingEntryValue) → first_due now link.old.held ≡ Some e → link.new ≡ link_sent link.old now e }
     ensures silent { first_due now link.old.held ≡ None → link.new ≡ link.old }

@@ -12,7 +12,7 @@ ghost use Rattle.coap_server_session.specs.Prelude.{is_finished, release_refusal
 ghost use Rattle.coap_server_session.specs.Prelude.{observers_left, new_session, session_takes, taking};
 ghost use Rattle.coap_server_session.specs.Prelude.{session_written, session_ended, session_released};
 ghost use Rattle.coap_server_session.specs.Prelude.{session_announced, session_given, RefusesPiece, IsAnnounced};
-ghost use Rattle.coap_server_session.specs.Prelude.{handed, is_handed_over, frame_back, takes_messages};
+ghost use Rattle.coap_server_session.specs.Prelude.{handed, is_handed_over, completed, frame_back};
 ghost use Rattle.coap_server_session.specs.Prelude.{frame_refusal, OnMessage, message_of, fit, limit_in, bare_response};
 ghost use Rattle.coap_server_session.specs.contracts.session.Session.{the_row};
 
@@ -130,8 +130,7 @@ impl Session {
             ≡ change_hash (taking host.old self.old.session piece.now).change) }
         ensures handed { IfOk result (λ t. t.handed ≡ is_some (handed host.old self.old.session piece.now)) }
         ensures quiet { IfOk result (λ t. t.handed ≡ true → t.changed ≡ None) }
-        ensures frame { IfOk result (λ t. IfSome (handed host.old self.old.session piece.now) (λ frame.
-            takes_messages self.new.session.link.phase ≡ true →
+        ensures frame { IfOk result (λ t. IfSome (completed self.old.session piece.now) (λ frame.
             frame_back self.new.split (take t.count piece.now) ≡ frame)) }
         ensures after { OnOk result (self.new.session ≡ (taking host.old self.old.session piece.now).session) }
         ensures host { OnOk result (host.new
@@ -429,12 +428,22 @@ fn discard(framer: &mut Framer, link: &Link, observers: &mut Observers)
         Phase::Waiting => observers.clear(),
         Phase::Open => {}
         Phase::Releasing(_) => {
-            framer.clear();
+            discard_unfinished(framer);
             observers.clear();
         }
         Phase::Stopped(_) => {
-            framer.clear();
+            discard_unfinished(framer);
             observers.clear();
         }
+    }
+}
+
+/// Removes the bytes of an unfinished frame. A split frame that the framer has just returned stays: its message may have
+/// stopped the connection and yet changed the store.
+fn discard_unfinished(framer: &mut Framer)
+    ensures { framer.new ≡ record framer.old { kept = [] } }
+{
+    if framer.kept() > 0 {
+        framer.clear();
     }
 }

@@ -1,6 +1,6 @@
 //! The plans for requests. Each function makes one group of checks.
 
-ghost use Rattle.std.specs.Prelude.{◌≡◌, ◌≢◌, true, [], Option, option_map, is_none, ◌≤◌, ℕ, length};
+ghost use Rattle.std.specs.Prelude.{◌≡◌, ◌≢◌, true, [], Option, option_map, is_none, ◌≤◌, ℕ, length, not, ◌&&◌};
 ghost use Rattle.coap_store.specs.Prelude.{LARGEST_MESSAGE, Message, is_path, Representation, path_of as path_asked};
 ghost use Rattle.coap_store.specs.Prelude.{values_of, is_method as is_known_method, preconditions_hold as hold};
 ghost use Rattle.coap_store.specs.Prelude.{get_answer, read_answer, etag_at, max_age_at, is_accepted as accepts};
@@ -8,7 +8,7 @@ ghost use Rattle.coap_store.specs.Prelude.{is_among as is_one_of, watch_of, remo
 ghost use Rattle.coap_store.specs.Prelude.{stored as stored_there, delete_answer, found_value, target_value, found_in};
 ghost use Rattle.coap_store.specs.Prelude.{kind_of_path, target_of, state_at, answer_of, answer_at, resource_answer};
 ghost use Rattle.coap_store.specs.Prelude.{store_answer, no_answer, needs_resource as needs, TakesChange, changes};
-ghost use Rattle.coap_store.specs.Prelude.{IsStore, IsFoundAt, IsChangeAt, IfSome, only};
+ghost use Rattle.coap_store.specs.Prelude.{IsStore, IsFoundAt, IsChangeAt, IfSome, only, is_dynamic, is_async};
 ghost use Rattle.coap_wire.specs.OptionNumbers as numbers;
 ghost use Rattle.coap_path.specs.declared.resource_kind.ResourceKind.TheVariants.{Dynamic};
 
@@ -312,6 +312,10 @@ fn get<'s, 'r>(
     if !is_accepted(asked.accept(), found.format) {
         return plan.only(Code::NOT_ACCEPTABLE);
     }
+    // Without an ETag, none is moved.
+    if is_prompt_built_in(place) {
+        return plan.content(None, found, max_age_of(place), watch_for(asked, place));
+    }
     let etag = etag_for(place, found.version);
     if is_valid(asked, etag.as_ref()) {
         return plan.valid(etag, watch_for(asked, place));
@@ -324,6 +328,13 @@ fn get<'s, 'r>(
         return plan.delay(asked.seconds());
     }
     plan.content(etag, found, max_age_of(place), watch_for(asked, place));
+}
+
+/// Returns `true` if the resource is built in, and its responses are not delayed.
+fn is_prompt_built_in(place: ResourceKind) -> bool
+    ensures { result ≡ not (is_dynamic place) && not (is_async place) }
+{
+    !place.is_dynamic() && !place.is_async()
 }
 
 /// Returns `true` if the representation has the format in Accept, or there is no Accept (RFC 7252 section 5.10.4).

@@ -82,8 +82,7 @@ impl<'t, 'p, const N: usize> CompactBuilder<'t, 'p, N> {
         self.last = number;
     }
 
-    /// Appends an option of format uint, with the shortest value (RFC 7252 section 3.2). Its encoding has at most 9
-    /// bytes.
+    /// Appends an option of format uint, with the shortest value (RFC 7252 section 3.2). It needs at most 9 bytes.
     ///
     /// # Preconditions
     ///

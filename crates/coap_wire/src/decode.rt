@@ -94,8 +94,7 @@ pub(crate) fn read_token_length(nibble: u8, bytes: &[u8]) -> Option<(u32, &[u8])
     read_option_number(nibble, bytes)
 }
 
-/// Returns the token, the body and the code of a frame with this layout. The body is the options, the marker and the
-/// payload.
+/// Returns the token, the body and the code of a frame with this layout. The body: options, marker and payload.
 #[inline(always)]
 pub(crate) fn head_laid_out(frame: &[u8], layout: FrameLayout) -> (TokenRef<'_>, &[u8], Code)
     requires { IsLaidOut frame.now layout }

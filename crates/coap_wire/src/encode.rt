@@ -78,15 +78,29 @@ fn append_several<S: Sink>(out: &mut S, bytes: &[u8])
     ensures appended { S.contents out.new ≡ S.contents out.old ++ bytes.now }
     ensures less_room { S.space out.new + length bytes.now ≡ S.space out.old }
 {
-    if bytes.len() < 4 || 8 < bytes.len() {
+    if bytes.len() <= 4 {
         return append_few(out, bytes);
     }
+    append_many(out, bytes);
+}
+
+/// Does the same as `append_short`. (A separate function: it saves registers, which 4 bytes do not need.)
+#[inline(never)]
+fn append_many<S: Sink>(out: &mut S, bytes: &[u8])
+    requires { length bytes.now ≤ S.space out.old }
+    ensures appended { S.contents out.new ≡ S.contents out.old ++ bytes.now }
+    ensures less_room { S.space out.new + length bytes.now ≡ S.space out.old }
+{
+    if bytes.len() < 4 || 8 < bytes.len() {
+        return out.append(bytes);
+    }
     let (four, rest) = bytes.split_at(4);
-    out.append(four);
+    append_few(out, four);
     append_few(out, rest);
 }
 
 /// Appends bytes as `Sink::append` does. At most 4 bytes are an array, whose length the compiler knows.
+#[inline(always)]
 fn append_few<S: Sink>(out: &mut S, bytes: &[u8])
     requires { length bytes.now ≤ S.space out.old }
     ensures appended { S.contents out.new ≡ S.contents out.old ++ bytes.now }

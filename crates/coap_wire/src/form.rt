@@ -63,8 +63,7 @@ pub(crate) fn write_length_extension<S: Sink>(out: &mut S, count: u64)
     out.append(&((count - 65805) as u32).to_be_bytes())
 }
 
-/// Returns the nibble of an option delta, an option length or a token length (RFC 7252 section 3.1, RFC 8974 section
-/// 2.1).
+/// Returns the nibble of an option delta, option length or token length (RFC 7252 section 3.1, RFC 8974 section 2.1).
 #[inline]
 pub(crate) fn option_nibble(number: u32) -> u8
     requires { number ≤ MAX_EXTENDED_LENGTH }

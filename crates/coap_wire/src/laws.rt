@@ -11,15 +11,13 @@ ghost use Rattle.coap_wire.specs.Prelude.{frames_on, Stream, SplitsAs, sized_spl
 ghost use Rattle.coap_wire.specs.Prelude.{split_on, uint_of, bytes_of_uint, IsFirstWithNumber, IsRecognised};
 ghost use Rattle.coap_wire.specs.Prelude.{is_recognised, Declared, FormatFault, FrameFault};
 
-/// States that each length up to 4,295,033,100 has exactly one encoding: a nibble and its extension (RFC 8323 section
-/// 3.2).
+/// States that each length up to 4,295,033,100 has one encoding: a nibble and its extension (RFC 8323 section 3.2).
 pub fn length_has_one_form()
     ensures has { (n : ℕ) → n ≤ greatest_length → IsLengthForm (length_form n).0 (length_form n).1 n }
     ensures no_other { (n x : ℕ) (e : List ℕ) → IsLengthForm x e n → (x ≡ (length_form n).0) × (e ≡ (length_form n).1) }
 {}
 
-/// States that each option delta and option length up to 65,804 has exactly one encoding: a nibble and its extension
-/// (RFC 7252 section 3.1).
+/// States that each option delta and length up to 65,804 has one encoding: a nibble and its extension (RFC 7252, 3.1).
 pub fn option_number_has_one_form()
     ensures has { (n : ℕ) → n ≤ MAX_EXTENDED_LENGTH → IsOptionForm (option_form n).0 (option_form n).1 n }
     ensures no_other { (n x : ℕ) (e : List ℕ) → IsOptionForm x e n → (x ≡ (option_form n).0) × (e ≡ (option_form n).1) }
@@ -153,8 +151,7 @@ pub fn prefix_kind_finds_first_frame()
     ensures neither_stands { (M : ℕ) (s : List ℕ) → prefix_kind M s ≡ Unfinished → IsUnfinished M s }
 {}
 
-/// States that a frame found by `prefix_kind` is the first 2 to `M` bytes of the stream, and is found without the bytes
-/// after it.
+/// States that a frame found by `prefix_kind` is the first 2 to `M` bytes of the stream, and is found without later ones.
 pub fn frame_at_the_front_is_the_first_bytes()
     ensures bytes { (M : ℕ) (s frame rest : List ℕ) → prefix_kind M s ≡ Whole frame rest → s ≡ frame ++ rest }
     ensures at_least { (M : ℕ) (s frame rest : List ℕ) → prefix_kind M s ≡ Whole frame rest → 2 ≤ length frame }
@@ -185,15 +182,13 @@ pub fn unfinished_beginning_needs_more_bytes()
         prefix_kind M (s ++ b ∷ []) ≡ Faulty fault → fault_bytes (s ++ b ∷ []) ≡ s ++ b ∷ [] }
 {}
 
-/// States that the bytes of a number below 2^64 encode that number, so numbers with equal bytes are equal (RFC 7252
-/// section 3.2).
+/// States that the bytes of a number below 2^64 encode it, so numbers with equal bytes are equal (RFC 7252 section 3.2).
 pub fn bytes_of_a_number_mean_it()
     ensures mean { (n : ℕ) → n < 2 ^ 64 → uint_of (bytes_of_uint n) ≡ n }
     ensures distinct { (m n : ℕ) → m < 2 ^ 64 → n < 2 ^ 64 → bytes_of_uint m ≡ bytes_of_uint n → m ≡ n }
 {}
 
-/// States that in an ordered list, an option is the first with its number if and only if the option before it has
-/// another number.
+/// States that in an ordered list, an option is the first with its number if and only if the one before has another.
 pub fn first_has_another_number_than_the_one_before()
     ensures alone { (o : CoapOption) → IsFirstWithNumber [] o }
     ensures behind { (earlier after : List CoapOption) (p o : CoapOption) → AreOrdered 0 (earlier ++ (p ∷ o ∷ after)) →

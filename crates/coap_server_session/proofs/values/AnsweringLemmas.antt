@@ -1,5 +1,5 @@
 -- The link and the entries after a request, after a due entry was sent, and after a notification.
-use Rattle.std.proofs.Common.{◌≡◌, ℕ, Bool, true, false, ◌&&◌, List, [], Option, Some, None, refl, sym, ap, ◌∙◌, ◌==◌, slice_get, slice_set, if◌then◌else◌}
+use Rattle.std.proofs.Common.{◌≡◌, ℕ, Bool, true, false, ◌&&◌, List, Option, Some, None, refl, sym, ap, ◌∙◌, ◌==◌, slice_get, slice_set, if◌then◌else◌}
 use Rattle.coap_server_session.specs.Prelude.{remove, Message, Reply, fit, bare_response, first_due, link_after, LinkValue}
 use Rattle.coap_server_session.specs.Prelude.{limit_in, can_hold, path_of, says, only, answer_of, immediate_answer, changes}
 use Rattle.coap_server_session.specs.Prelude.{StoreValue, application_deadline, prompt_answer, unless_handed, Application}

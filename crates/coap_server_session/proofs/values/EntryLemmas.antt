@@ -1,13 +1,11 @@
 -- Entries by their index, and the list after the first stale entry is changed.
-use Rattle.std.proofs.Common.{◌≡◌, ℕ, zero, suc, ◌<◌, ◌≤◌, Bool, true, false, List, [], ◌∷◌, length, map, get_or, Some, None, refl, ap, subst, ◌∙◌, arith, find, filter, not, option_map, slice_get, slice_set, if◌then◌else◌}
-use Rattle.coap_server_session.specs.Prelude.{AllByRecursion, AllWithin, remove, same_bytes}
+use Rattle.std.proofs.Common.{◌≡◌, ℕ, suc, ◌<◌, Bool, true, false, List, [], ◌∷◌, length, map, get_or, Some, None, refl, ap, subst, ◌∙◌, arith, find, filter, not, option_map, slice_get, slice_set, if◌then◌else◌}
+use Rattle.coap_server_session.specs.Prelude.{AllByRecursion, remove, same_bytes}
 use Rattle.coap_server_session.specs.Prelude.{first_becomes}
 use Rattle.coap_server_session.specs.Prelude.{without_entry, first_index, observer_value}
-use Rattle.std.proofs.lemmas.List.Elements.{recursion_from_All}
 use Rattle.std.proofs.lemmas.Option.{slice_get_read, slice_get-map}
 use Rattle.coap_server_session.specs.declared.observer.Observer.{Observer}
 use Rattle.coap_model.proofs.OptionLemmas.{none_made, one_made}
-use Rattle.coap_model.proofs.world.EntryLemmas.{all_map}
 
 -- ---- the first index
 

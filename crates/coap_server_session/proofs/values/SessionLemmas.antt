@@ -8,7 +8,7 @@ use Rattle.coap_server_session.specs.Prelude.{with_size, Verdict, LimitValues, A
 use Rattle.coap_server_session.specs.Prelude.{Pong, first_due, fits, LinkValue, IsReady, free_in, limit_in, own_csm}
 use Rattle.coap_server_session.specs.Prelude.{link_after, is_open, takes_messages, answers, is_request, IsPut, ServerState, Inside}
 use Rattle.coap_server_session.specs.Prelude.{ObserverValue, ObserversValue, SessionValue, is_stale, session_ready}
-use Rattle.coap_server_session.specs.Prelude.{session_takes, sizes_of, frame_on, session_with, without_entry}
+use Rattle.coap_server_session.specs.Prelude.{session_takes, sizes_of, session_with, without_entry}
 use Rattle.coap_server_session.specs.Prelude.{Delay, delay_on, held_in, session_replied, asks_this, session_handled, change_by}
 use Rattle.coap_server_session.specs.Prelude.{TakeOutcome, taking_read, taking, RefusesPiece, notification_on, session_notified}
 use Rattle.coap_server_session.specs.Prelude.{next_held_in, next_stale, link_sent, session_settled_once, first_index}
@@ -35,18 +35,26 @@ pub sizes_responded : (l new : LinkValue) (read : Result Message FormatFault) �
 sizes_responded l new (Ok m) none is = ap sizes_of is ∙ stays_so sizes_of (answers l.phase && is_none (response_refusal l m)) l _ refl
 sizes_responded l new (Err e) none is = absurd cc
 
+-- A framer without the bytes of an unfinished frame.
+emptied : (f : FramerValue) → IsFramer f → IsFramer (record f { kept = [] })
+emptied f is = record {
+  low = is.low;
+  high = is.high;
+  countable = is.countable;
+  unfinished = (empty_framer f.max [] f.copied is.low is.high is.countable refl).unfinished;
+  whole = elim is.whole [ inl none ↦ inl none | inr both ↦ inr (both.0, refl) ];
+}
+
 -- The invariant holds after fields were changed and the state that a stop discards was removed.
 pub given_up : (s : Inside) (l : LinkValue) (f g : FramerValue) (o p : ObserversValue) → IsSession s → sizes_of l ≡ sizes_of s.link → f.max ≡ s.framer.max → IsFramer f → o.room ≡ s.observers.room → g ≡ framer_on l f → p ≡ observers_left l o
     → IsSession (record { framer = g; link = l; observers = p })
 given_up s l f g o p is sizes max framer room g_is p_is =
-    let emptied = empty_framer f.max [] f.copied framer.low framer.high framer.countable refl in
-    let kept =
-    cond_both (takes_messages l.phase) f (record f { kept = []; spent = [] }) (λ k. IsFramer k × (k.max ≡ f.max)) (λ _. (framer, refl)) (λ _. (emptied, refl)) in
+    let kept = cond_both (takes_messages l.phase) f.kept [] (λ bytes. IsFramer (record f { kept = bytes })) (λ _. framer) (λ _. emptied f framer) in
     let limits : l.limits ≡ s.link.limits = ap (λ (both : LimitValues × ℕ). both.0) sizes in
     rw (g_is, p_is) (record {
       ranges = subst AreInRange (sym limits) is.ranges;
-      greatest = kept.1 ∙ max ∙ is.greatest ∙ ap (λ (both : LimitValues × ℕ). both.1) (sym sizes);
-      framer = kept.0;
+      greatest = max ∙ is.greatest ∙ ap (λ (both : LimitValues × ℕ). both.1) (sym sizes);
+      framer = kept;
       room = room ∙ is.room ∙ ap (λ (k : LimitValues). k.observers) (sym limits);
       open_only = elim (is_open l.phase) as (λ b. (b ≡ true) ⊎ ((if b then o.entries else []) ≡ [])) [ true ↦ inl refl | false ↦ inr refl ];
     })
@@ -138,8 +146,6 @@ ready_is l false same = false_from_ne_true (nat_le l.limits.max_sent (free_in l)
 -- The value of a session after the state that a stop discards was removed.
 given_up_seen : (s : Inside) (l : LinkValue) (g : FramerValue) (o p : ObserversValue) → g ≡ framer_on l s.framer → p ≡ observers_left l o → record { frame = g.kept; link = l; observers = p.entries } ≡ session_with s.framer.kept l o.entries
 given_up_seen s l g o p g_is p_is =
-    let kept : (framer_on l s.framer).kept ≡ frame_on l s.framer.kept =
-    elim (takes_messages l.phase) as (λ b. (if b then s.framer else record s.framer { kept = []; spent = [] }).kept ≡ (if b then s.framer.kept else [])) [ true ↦ refl | false ↦ refl ] in
     cc
 
 -- A session whose first stale observer, at this index, was notified.

@@ -1,68 +1,15 @@
--- The split frame of a connection, and the request that a take hands to the application.
-use Rattle.std.proofs.Common.{◌≡◌, ℕ, Bool, true, false, ◌&&◌, List, [], ◌∷◌, ◌++◌, take, Option, Some, None, Result, Ok, Err, refl, sym, ap, subst, ◌∙◌, is_some, IfSome, if◌then◌else◌}
+-- The frame that a take completed, and the request that it hands to the application.
+use Rattle.std.proofs.Common.{◌≡◌, ℕ, Bool, true, false, List, [], ◌∷◌, ◌++◌, take, Option, Some, None, Result, Ok, Err, refl, sym, ap, ◌∙◌, is_some, IfSome, if◌then◌else◌}
 use Rattle.std.proofs.lemmas.Bool.{and_left}
 use Rattle.coap_wire.specs.StreamPrefix.{Whole}
 use Rattle.coap_server_session.specs.Prelude.{StreamPrefix, Faulty, Unfinished, prefix_kind, Message, message_of, FormatFault}
 use Rattle.coap_server_session.specs.Prelude.{FramerValue, IsFramer, AFrame, AFault, frame_back, framing_at, framing, framing_of, framer_after}
 use Rattle.coap_frame.specs.Framing.{split_frame, Nothing}
 use Rattle.coap_frame.proofs.GivenLaws.{frame_taken}
-use Rattle.coap_server_session.specs.Prelude.{PendingEntryValue, Answer, Pong, first_due, fit, bare_response, LinkValue, limit_in, can_hold}
-use Rattle.coap_server_session.specs.Prelude.{standing_in, standing_due, link_after, answers, takes_messages, send, link_with, Application, Engine}
-use Rattle.coap_server_session.specs.Prelude.{application_deadline, answer_of, Delay, delay_by, delay_on, held_in, ServerState}
+use Rattle.coap_server_session.specs.Prelude.{LinkValue, can_hold, Application}
+use Rattle.coap_server_session.specs.Prelude.{Delay, delay_on, held_in, ServerState}
 use Rattle.coap_server_session.specs.Prelude.{asks_this, is_handed, is_handed_over, handed, handed_read, Inside, IsSession, session_value}
-use Rattle.coap_server_session.specs.Prelude.{ObserversValue, MarkedSession, KeepsSplit, framer_on, session_takes, link_sent}
-use Rattle.coap_server_session.specs.views.SessionViews.{marked_session}
-use Rattle.coap_conn.specs.Calls as call
-use Rattle.coap_conn.specs.declared.phase.Reply.{Reply}
-use Rattle.coap_conn.specs.declared.phase.Reply.TheVariants as reply
-use Rattle.coap_conn.specs.Reaction.{ConnectionState, send_as, due_effect}
-use Rattle.coap_server_session.proofs.values.AnsweringLemmas.{delay_unhanded}
-
--- ---- a connection that accepts messages accepted them before
-
-sent_live : (l : LinkValue) (s : ConnectionState) (m less : Message) (r : Reply) → takes_messages (send_as s m less r).phase ≡ true → takes_messages s.phase ≡ true
-sent_live l s m less reply.Whole live = live
-sent_live l s m less reply.Bare live = live
-sent_live l s m less reply.Stopped live = absurd cc
-
-replied_live : (l : LinkValue) (m : Message) → takes_messages (link_after l (call.Reply m)).phase ≡ true → takes_messages l.phase ≡ true
-replied_live l m =
-    elim (answers l.phase) as (λ b. takes_messages (if b then link_with l (send (standing_in l) m (bare_response m)) else l).phase ≡ true → takes_messages l.phase ≡ true) [
-      | true ↦ sent_live l (standing_in l) m (bare_response m) (fit (limit_in l) m (bare_response m))
-      | false ↦ λ live. live
-    ]
-
-due_live : (l : LinkValue) (s : ConnectionState) (e : Option PendingEntryValue) → takes_messages (due_effect s e).phase ≡ true → takes_messages s.phase ≡ true
-due_live l s None live = live
-due_live l s (Some (Answer by token moment)) live = live
-due_live l s (Some (Pong token)) live = sent_live l s _ _ (fit s.limit _ _) live
-
-pub sent_entry_live : (l : LinkValue) (now : ℕ) (e : PendingEntryValue) → takes_messages (link_sent l now e).phase ≡ true → takes_messages l.phase ≡ true
-sent_entry_live l now (Answer by token moment) live = due_live l (standing_due now (standing_in l)) (first_due now l.held) (replied_live (link_after l (call.Due now)) _ live)
-sent_entry_live l now (Pong token) live = due_live l (standing_due now (standing_in l)) (first_due now l.held) live
-
-pub reply_live : (l new : LinkValue) (m : Message) → new ≡ link_after l (call.Reply m) → takes_messages new.phase ≡ true → takes_messages l.phase ≡ true
-reply_live l new m is live = replied_live l m (ap (λ (k : LinkValue). takes_messages k.phase) (sym is) ∙ live)
-
--- ---- the split frame
-
-pub split_same : (m : MarkedSession) → KeepsSplit m m
-split_same m = record { live = λ live. live; split = λ live. refl }
-
-pub split_seen : (a b new : MarkedSession) → a ≡ b → KeepsSplit a new → KeepsSplit b new
-split_seen a b new same keeps = subst (λ (m : MarkedSession). KeepsSplit m new) same keeps
-
-pub split_then : (a b c : MarkedSession) → KeepsSplit a b → KeepsSplit b c → KeepsSplit a c
-split_then a b c first second =
-    record { live = λ live. first.live (second.live live); split = λ live. second.split live ∙ first.split (second.live live) }
-
-framer_stays : (l : LinkValue) (f : FramerValue) → takes_messages l.phase ≡ true → framer_on l f ≡ f
-framer_stays l f live = ap (λ (b : Bool). if b then f else record f { kept = []; spent = [] }) live
-
--- A session after a change of its link, without the state that a stop discards.
-pub split_kept : (s : Inside) (l : LinkValue) (g : FramerValue) (p : ObserversValue) → (takes_messages l.phase ≡ true → takes_messages s.link.phase ≡ true) → g ≡ framer_on l s.framer → KeepsSplit (marked_session s) (marked_session (record { framer = g; link = l; observers = p }))
-split_kept s l g p stays is =
-    record { live = stays; split = λ live. ap (λ (f : FramerValue). f.spent) (is ∙ framer_stays l s.framer live) }
+use Rattle.coap_server_session.specs.Prelude.{completed, framer_on, session_takes}
 
 -- ---- the frame that a take completed
 
@@ -125,11 +72,31 @@ module _ (s : Inside) (is : IsSession s) (host : ServerState) (piece : List ℕ)
             ∙ elim (is_handed_over host s.link m) as (λ d. d ≡ is_some (if d then Some frame else None)) [ true ↦ refl | false ↦ refl ]
             ∙ ap is_some (sym (handed_of_frame (Ok m) reads))
 
-        pub handed_shown : (l : LinkValue) (g : FramerValue) → g ≡ framer_on l (framer_after s.framer piece)
-            → IfSome (handed host (session_value s) piece) (λ f. takes_messages l.phase ≡ true → frame_back g.spent (take (framing_of s.framer piece).taken piece) ≡ f)
-        handed_shown l g g_is =
-            let back : takes_messages l.phase ≡ true → frame_back g.spent (take (framing_of s.framer piece).taken piece) ≡ frame = λ live.
-            ap (λ (f : FramerValue). frame_back f.spent (take (framing_of s.framer piece).taken piece)) (g_is ∙ framer_stays l (framer_after s.framer piece) live)
-            ∙ frame_is_back s.framer piece frame is.framer found in
-            rw (handed_of_frame (Ok m) reads)
-            (elim (is_handed_over host s.link m) as (λ b. IfSome (if b then Some frame else None) (λ f. takes_messages l.phase ≡ true → frame_back g.spent (take (framing_of s.framer piece).taken piece) ≡ f)) [ true ↦ back | false ↦ tt ])
+-- ---- the frame that a take completed
+
+module _ (s : Inside) (is : IsSession s) (piece : List ℕ) where
+  pub completed_unready : session_takes (session_value s) ≡ false → completed (session_value s) piece ≡ None
+  unfolding completed
+  completed_unready takes = cc takes
+
+  module _ (takes : session_takes (session_value s) ≡ true) where
+    pub completed_nothing : (framing_of s.framer piece).finding ≡ Nothing → completed (session_value s) piece ≡ None
+    unfolding completed
+    completed_nothing found = cc (takes, is.greatest, found)
+
+    pub completed_fault : (fault : _) → (framing_of s.framer piece).finding ≡ AFault fault → completed (session_value s) piece ≡ None
+    unfolding completed
+    completed_fault fault found = cc (takes, is.greatest, found)
+
+    module _ (frame : List ℕ) (found : (framing_of s.framer piece).finding ≡ AFrame frame) where
+      completed_frame : completed (session_value s) piece ≡ Some frame
+      unfolding completed
+      completed_frame = cc (takes, is.greatest, found)
+
+      -- The frame is lent after any change of the link, since only the bytes of an unfinished frame are removed.
+      pub completed_shown : (l : LinkValue) (g : FramerValue) → g ≡ framer_on l (framer_after s.framer piece)
+          → IfSome (completed (session_value s) piece) (λ f. frame_back g.spent (take (framing_of s.framer piece).taken piece) ≡ f)
+      completed_shown l g g_is =
+          rw completed_frame
+          (ap (λ (f : FramerValue). frame_back f.spent (take (framing_of s.framer piece).taken piece)) g_is
+          ∙ frame_is_back s.framer piece frame is.framer found)

@@ -3,7 +3,6 @@
 use Rattle.std.specs.Prelude.{◌≡◌, ℕ, Bool, ◌&&◌, List, [], ◌∷◌, length, Option, Some, None, is_some, option_map, slice_get, suc, ◌==◌, if◌then◌else◌}
 use Rattle.coap_wire.specs.Message.{Message}
 use Rattle.coap_frame.specs.Framing.{FramerValue}
-use Rattle.coap_conn.specs.Phases.{takes_messages}
 use Rattle.coap_conn.specs.Fit.{fit, bare_response}
 use Rattle.coap_conn.specs.LinkValue.{LinkValue, limit_in}
 use Rattle.coap_conn.specs.Calls.{link_after}
@@ -14,7 +13,7 @@ use Rattle.coap_server_session.specs.declared.server_state.ServerState.{ServerSt
 use Rattle.coap_server_session.specs.declared.observers.StaleObserver.{StaleObserver}
 use Rattle.coap_model.specs.world.Connections.{moment_after, Delay, hold_call}
 use Rattle.coap_model.specs.world.Observers.{has_place, is_whole, with_entry, goes_on, first_becomes}
-use Rattle.coap_server_session.specs.values.Sessions.{ObserverValue, SessionValue, new_entry, answer_on, entry_left, mark_of, state_on, is_stale, notification_on, session_settled}
+use Rattle.coap_server_session.specs.values.Sessions.{ObserverValue, SessionValue, frame_on, new_entry, answer_on, entry_left, mark_of, state_on, is_stale, notification_on, session_settled}
 
 -- The index of the first element for which `due` is `true`.
 unfoldable pub first_index : {O : Type 0} → (O → Bool) → List O → Option ℕ
@@ -76,6 +75,7 @@ settled_held host v = if length v.link.held == 0 then v else session_settled hos
 
 -- ---- a stop
 
--- The framer of a link: empty if the link no longer accepts messages.
+-- The framer of a link: without the bytes of an unfinished frame if the link no longer accepts messages. The split frame
+-- that it returned last stays.
 abbrev pub framer_on : LinkValue → FramerValue → FramerValue
-framer_on l f = if takes_messages l.phase then f else record f { kept = []; spent = [] }
+framer_on l f = record f { kept = frame_on l f.kept }

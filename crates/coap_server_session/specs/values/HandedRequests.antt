@@ -1,4 +1,5 @@
--- Defined by this project: the request that a message hands to the application, which then may respond to it.
+-- Defined by this project: the frame that an input slice completes, and the request that it hands to the application.
+-- The application then may respond to it.
 use Rattle.std.specs.Prelude.{ℕ, Bool, true, false, ◌&&◌, List, Option, Some, None, Result, Ok, Err, if◌then◌else◌}
 use Rattle.coap_wire.specs.Message.{Message}
 use Rattle.coap_wire.specs.Reading.{message_of}
@@ -43,3 +44,13 @@ handed_found host v (AFrame frame) = handed_read host v frame (message_of frame)
 unfoldable pub handed : ServerState → SessionValue → List ℕ → Option (List ℕ)
 handed host v piece =
     if session_takes v then handed_found host v (framing (session_max v) v.frame piece).finding else None
+
+-- The frame that the framer found, if it found one.
+abbrev pub found_frame : FrameEventValue → Option (List ℕ)
+found_frame Nothing = None
+found_frame (AFault fault) = None
+found_frame (AFrame frame) = Some frame
+
+-- The first frame that an input slice completes, if the connection accepts bytes.
+unfoldable pub completed : SessionValue → List ℕ → Option (List ℕ)
+completed v piece = if session_takes v then found_frame (framing (session_max v) v.frame piece).finding else None

@@ -339,9 +339,3 @@ session_settled host v = session_settled_within (length v.link.held + length v.o
 -- Holds if nothing is left to settle: no pending entry is due and no observer is stale, or the queue has no room.
 abbrev pub IsSettled : ServerState → SessionValue → Type 0
 IsSettled host v = (next_held_in host.now v ≡ None) × (next_stale host v ≡ None)
-
--- Holds if a connection still has its split frame, unless it no longer accepts messages. A connection that accepts
--- messages accepted them before.
-pub record KeepsSplit (old new : MarkedSession) : Type 0 where
-  pub live : takes_messages new.session.link.phase ≡ true → takes_messages old.session.link.phase ≡ true
-  pub split : takes_messages new.session.link.phase ≡ true → new.split ≡ old.split

@@ -9,7 +9,7 @@ impl Session {
     ghost use Rattle.std.specs.Prelude.{◌≡◌, false, ◌≤◌, ◌||◌, Some, length, is_some};
     ghost use Rattle.coap_server_session.specs.Prelude.{IsReady, IsMarkedBut, IsMarked, next_held_in, next_stale};
     ghost use Rattle.coap_server_session.specs.Prelude.{session_notified, session_settled_once, session_written};
-    ghost use Rattle.coap_server_session.specs.Prelude.{session_settled, IsSettled, settled_held, KeepsSplit};
+    ghost use Rattle.coap_server_session.specs.Prelude.{session_settled, IsSettled, settled_held};
 
     /// Settles the connection: sends the pending entries that are due, then notifies the stale observers, one after the
     /// other.
@@ -26,7 +26,7 @@ impl Session {
         ensures after { self.new.session ≡ session_settled host.entry.now self.old.session }
         ensures settled { IsSettled host.entry.now self.new.session }
         ensures marked { IsMarked host.entry.now self.new }
-        ensures split { KeepsSplit self.old self.new }
+        ensures split { self.new.split ≡ self.old.split }
     {
         if self.settle_bound() > 0 {
             self.settle_each(host);
@@ -41,7 +41,7 @@ impl Session {
         ensures after { self.new.session ≡ session_settled host.entry.now self.old.session }
         ensures settled { IsSettled host.entry.now self.new.session }
         ensures marked { IsMarked host.entry.now self.new }
-        ensures split { KeepsSplit self.old self.new }
+        ensures split { self.new.split ≡ self.old.split }
     {
         for _ in 0..self.settle_bound() {
             if !self.settle_once(host) {
@@ -59,6 +59,7 @@ impl Session {
         requires { IsMarkedBut cause host.now self.old }
         ensures after { self.new.session ≡ session_settled host.entry.now self.old.session }
         ensures marked { IsMarked host.entry.now self.new }
+        ensures split { self.new.split ≡ self.old.split }
     {
         self.observers.mark(cause, host);
         self.settle(host);
@@ -73,7 +74,7 @@ impl Session {
         requires { IsMarked host.now self.old }
         ensures after { self.new.session ≡ settled_held host.entry.now self.old.session }
         ensures marked { IsMarked host.entry.now self.new }
-        ensures split { KeepsSplit self.old self.new }
+        ensures split { self.new.split ≡ self.old.split }
     {
         if self.link.pending() > 0 {
             self.settle(host);
@@ -88,7 +89,7 @@ impl Session {
         ensures found { result ≡ (is_some (next_held_in host.entry.now.now self.old.session)
             || is_some (next_stale host.entry.now self.old.session)) }
         ensures marked { IsMarked host.entry.now self.new }
-        ensures split { KeepsSplit self.old self.new }
+        ensures split { self.new.split ≡ self.old.split }
     {
         if !self.link.ready() {
             return false;
@@ -108,7 +109,7 @@ impl Session {
             ≡ session_notified host.entry.now self.old.session (next_stale host.entry.now self.old.session) }
         ensures found { result ≡ is_some (next_stale host.entry.now self.old.session) }
         ensures marked { IsMarked host.entry.now self.new }
-        ensures split { KeepsSplit self.old self.new }
+        ensures split { self.new.split ≡ self.old.split }
     {
         let Some(stale) = self.observers.first_changed() else {
             return false;

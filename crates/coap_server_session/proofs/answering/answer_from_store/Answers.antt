@@ -1,4 +1,4 @@
-use Rattle.std.proofs.Common.{◌≡◌, ◌+◌, Bool, true, false, ◌&&◌, List, ℕ, [], min, map, Option, Some, None, refl, sym, ap, subst, ◌∙◌, nat_lt, length}
+use Rattle.std.proofs.Common.{◌≡◌, ◌+◌, Bool, true, false, ◌&&◌, List, ℕ, min, map, Option, Some, None, refl, sym, ap, subst, ◌∙◌, nat_lt, length}
 use Rattle.std.proofs.Math.Bool.{not-not}
 use Rattle.coap_server_session.specs.Prelude.{StoreValue, Nothing, changed, IsPut, changes, asks_entry, is_whole, with_entry}
 use Rattle.coap_server_session.specs.Prelude.{ObserverValue, ObserversValue, answer_on, answer_of, Delay, Engine, delay_by, delay_on, held_in, host_changed}

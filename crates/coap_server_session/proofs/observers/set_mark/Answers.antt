@@ -2,7 +2,6 @@ use Rattle.std.proofs.Common.{map, ap, arith}
 use Rattle.std.proofs.Math.Seq.{map-set_same}
 use Rattle.std.proofs.lemmas.List.{length-map, map-set}
 use Rattle.coap_server_session.specs.Prelude.{observer_value, linked, mark_in}
-use Rattle.coap_server_session.specs.declared.observer.Observer.{Observer}
 use Rattle.coap_server_session.proofs.values.FlagLemmas.{put_flagged}
 use Rattle.coap_server_session.proofs.observers.set_mark.Goals.{After-put}
 use Rattle.coap_server_session.proofs.observers.set_mark.Goals as goal

@@ -1,4 +1,4 @@
-use Rattle.std.proofs.Common.{◌≡◌, [], ◌∙◌}
+use Rattle.std.proofs.Common.{◌≡◌, []}
 use Rattle.coap_server_session.specs.Prelude.{Message}
 use Rattle.coap_server_session.proofs.values.ResponseLemmas.{change_response}
 use Rattle.coap_server_session.proofs.response.respond_code.Goals as goal

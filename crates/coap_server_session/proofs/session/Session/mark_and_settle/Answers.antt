@@ -20,4 +20,5 @@ returns c =
           c.settle.ensures.after ∙ ap (λ (o : ObserversValue). session_settled host (with_observers o)) c.mark.ensures
           ∙ ap (λ (m : MarkedSession). session_settled host m.session) c.self.view_is;
       marked = c.settle.ensures.marked;
+      split = c.settle.ensures.split ∙ ap (λ (m : MarkedSession). m.split) c.self.view_is;
     }

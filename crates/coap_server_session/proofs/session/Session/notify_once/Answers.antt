@@ -1,13 +1,12 @@
-use Rattle.std.proofs.Common.{sym, ap, subst, ◌∙◌, Option, is_some}
+use Rattle.std.proofs.Common.{refl, sym, ap, subst, ◌∙◌, Option, is_some}
 use Rattle.std.proofs.lemmas.Bool.{le-leb}
 use Rattle.coap_server_session.specs.Prelude.{free_in, ObserverValue, SessionValue, MarkedSession, is_stale}
 use Rattle.coap_server_session.specs.Prelude.{session_ready, session_notified, session_value, IsMarked}
-use Rattle.coap_server_session.specs.Prelude.{next_stale, KeepsSplit}
+use Rattle.coap_server_session.specs.Prelude.{next_stale, FramerValue}
 use Rattle.coap_server_session.proofs.values.EntryLemmas.{none_at_index}
 use Rattle.coap_server_session.proofs.values.MarkLemmas.{left_marked_by, marked_is_stale, unmarked_is_told}
 use Rattle.coap_server_session.proofs.values.SettleLemmas.{found_ready}
-use Rattle.coap_server_session.proofs.values.SessionLemmas.{session_is_notified, next_found, notified_session, notified_once}
-use Rattle.coap_server_session.proofs.values.SplitLemmas.{split_same, split_seen, split_kept, reply_live}
+use Rattle.coap_server_session.proofs.values.SessionLemmas.{next_found, notified_session, notified_once}
 use Rattle.coap_server_session.proofs.session.Session.notify_once.Goals as goal
 
 pub returns-in_default : goal.returns-in_default
@@ -20,7 +19,7 @@ returns-in_default c =
     let none = none_at_index (is_stale host) s.observers.entries (unmarked_is_told host s.observers.entries s.observers.marks marked c.in_default.ensures.none) in
     let silent = (found_ready host v ready).1 ∙ none in
     rw (c.first_changed.ensures.same, ← c.self.view_is)
-    (record { after = ap (session_notified host v) (sym silent); found = ap (λ (o : Option ObserverValue). is_some o) (sym silent); marked = marked; split = split_same _ })
+    (record { after = ap (session_notified host v) (sym silent); found = ap (λ (o : Option ObserverValue). is_some o) (sym silent); marked = marked; split = refl })
 
 pub notify-requires-clause-first : goal.notify-requires-clause-first
 notify-requires-clause-first c =
@@ -57,11 +56,9 @@ returns c =
     let e = rw c.first_changed.ensures.same at c.notify.ensures in
     let after =
     notified_once host s c.in-Some.stale.index c.notify.new.link c.notify.new.observers ready first e.link e.entries c.discard_if_closed.new.framer c.discard_if_closed.new.observers c.discard_if_closed.ensures.framer c.discard_if_closed.ensures.observers in
-    let there = session_is_notified host s c.in-Some.stale.index c.notify.new.link c.notify.new.observers ready first e.link e.entries in
-    let live = reply_live s.link c.notify.new.link _ (e.link there.0 there.1) in
     record {
       after = after ∙ ap (λ (m : MarkedSession). session_notified host m.session (next_stale host m.session)) c.self.view_is;
       found = next_found host s c.in-Some.stale.index c.notify.new.link c.notify.new.observers ready first e.link e.entries ∙ ap (λ (m : MarkedSession). is_some (next_stale host m.session)) c.self.view_is;
       marked = left_marked_by host c.notify.new.link c.notify.new.observers c.discard_if_closed.new.observers c.discard_if_closed.ensures.observers c.notify.ensures.marked;
-      split = split_seen _ _ _ c.self.view_is (split_kept s c.notify.new.link c.discard_if_closed.new.framer c.discard_if_closed.new.observers live c.discard_if_closed.ensures.framer);
+      split = ap (λ (f : FramerValue). f.spent) c.discard_if_closed.ensures.framer ∙ ap (λ (m : MarkedSession). m.split) c.self.view_is;
     }

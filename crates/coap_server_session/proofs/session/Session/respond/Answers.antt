@@ -1,4 +1,4 @@
-use Rattle.std.proofs.Common.{refl, ap, ◌∙◌}
+use Rattle.std.proofs.Common.{refl}
 use Rattle.coap_server_session.proofs.values.SessionLemmas.{given_up, sizes_responded}
 use Rattle.coap_server_session.proofs.session.Session.respond.Goals as goal
 

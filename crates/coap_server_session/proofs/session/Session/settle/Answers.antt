@@ -1,7 +1,6 @@
-use Rattle.std.proofs.Common.{◌≡◌, ◌+◌, ℕ, sym, ap, subst, length, arith}
+use Rattle.std.proofs.Common.{◌≡◌, ◌+◌, ℕ, refl, sym, ap, subst, length, arith}
 use Rattle.coap_server_session.specs.Prelude.{IsSettled, session_settled, session_settled_within}
 use Rattle.coap_server_session.proofs.values.SettleLemmas.{settled_is_settled}
-use Rattle.coap_server_session.proofs.values.SplitLemmas.{split_same}
 use Rattle.coap_server_session.proofs.session.Session.settle.Goals as goal
 
 -- No entry is pending, and there is no observer.
@@ -12,4 +11,4 @@ returns-else-settle_bound-gt0 c =
     let v = c.args.self.now.session in
     let none : length v.link.held + length v.observers ≡ 0 = omega (arith, c.settle_bound.ensures, c.if-settle_bound-gt0.false) in
     let after = sym (ap (λ (n : ℕ). session_settled_within n host v) none) in
-    record { after = after; settled = subst (IsSettled host) (sym after) (settled_is_settled host v); marked = c.requires; split = split_same c.args.self.now }
+    record { after = after; settled = subst (IsSettled host) (sym after) (settled_is_settled host v); marked = c.requires; split = refl }

@@ -1,7 +1,6 @@
-use Rattle.std.proofs.Common.{◌≡◌, ◌+◌, ◌-◌, suc, ℕ, sym, ap, subst, ◌∙◌, length, arith}
+use Rattle.std.proofs.Common.{◌≡◌, ◌+◌, ◌-◌, suc, ℕ, refl, sym, ap, subst, ◌∙◌, length, arith}
 use Rattle.coap_server_session.specs.Prelude.{IsSettled, session_settled, session_settled_within}
 use Rattle.coap_server_session.proofs.values.SettleLemmas.{settled_is_settled, last_turn}
-use Rattle.coap_server_session.proofs.values.SplitLemmas.{split_same, split_then}
 use Rattle.coap_server_session.proofs.session.Session.settle_each.Goals as goal
 
 pub loop-init : goal.loop-init
@@ -9,7 +8,7 @@ unfolding session_settled
 loop-init c =
     let v = c.args.self.now.session in
     let all : c.settle_bound-end.result - 0 ≡ length v.link.held + length v.observers = omega (arith, c.settle_bound-end.ensures) in
-    (ap (λ (n : ℕ). session_settled_within n c.args.host.now v) all, (c.requires, split_same c.args.self.now))
+    (ap (λ (n : ℕ). session_settled_within n c.args.host.now v) all, (c.requires, refl))
 
 pub loop-preserved : goal.loop-preserved
 unfolding session_settled_within
@@ -18,13 +17,13 @@ loop-preserved c =
     let less = c.settle_bound-end.result - (c.loop.counter + 1) in
     let one : c.settle_bound-end.result - c.loop.counter ≡ suc less = omega (arith, c.loop-test.true) in
     let same = ap (session_settled_within less host) c.settle_once.ensures.after ∙ sym (ap (λ (n : ℕ). session_settled_within n host c.loop.self.session) one) ∙ c.loop.invariant.0 in
-    (same, (c.settle_once.ensures.marked, split_then c.args.self.now c.loop.self c.settle_once.new.self c.loop.invariant.1.1 c.settle_once.ensures.split))
+    (same, (c.settle_once.ensures.marked, c.settle_once.ensures.split ∙ c.loop.invariant.1.1))
 
 pub returns-then-not-settle_once : goal.returns-then-not-settle_once
 returns-then-not-settle_once c =
     let host = c.args.host.now in
     let after = last_turn host c.loop.self.session c.settle_once.new.self.session (c.settle_bound-end.result - c.loop.counter) c.settle_once.ensures.after (sym c.if-not-settle_once.true ∙ c.settle_once.ensures.found) ∙ c.loop.invariant.0 in
-    record { after = after; settled = subst (IsSettled host) (sym after) (settled_is_settled host c.args.self.now.session); marked = c.settle_once.ensures.marked; split = split_then c.args.self.now c.loop.self c.settle_once.new.self c.loop.invariant.1.1 c.settle_once.ensures.split }
+    record { after = after; settled = subst (IsSettled host) (sym after) (settled_is_settled host c.args.self.now.session); marked = c.settle_once.ensures.marked; split = c.settle_once.ensures.split ∙ c.loop.invariant.1.1 }
 
 pub returns : goal.returns
 unfolding session_settled_within

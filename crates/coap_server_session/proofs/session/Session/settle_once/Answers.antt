@@ -1,12 +1,11 @@
-use Rattle.std.proofs.Common.{◌≡◌, true, sym, ap, subst, ◌∙◌, ◌||◌, Option, is_some}
-use Rattle.coap_server_session.specs.Prelude.{PendingEntryValue, first_due, ObserverValue, SessionValue, MarkedSession, LinkValue}
+use Rattle.std.proofs.Common.{◌≡◌, refl, sym, ap, subst, ◌∙◌, ◌||◌, Option, is_some}
+use Rattle.coap_server_session.specs.Prelude.{PendingEntryValue, first_due, ObserverValue, SessionValue, MarkedSession, LinkValue, FramerValue}
 use Rattle.coap_server_session.specs.Prelude.{next_held_in, next_stale, IsMarked}
 use Rattle.coap_server_session.specs.Prelude.{session_ready, session_settled_once, session_settled_so, session_notified}
-use Rattle.coap_server_session.specs.Prelude.{session_value, KeepsSplit, takes_messages}
+use Rattle.coap_server_session.specs.Prelude.{session_value}
 use Rattle.coap_server_session.proofs.values.MarkLemmas.{left_marked_by}
 use Rattle.coap_server_session.proofs.values.SettleLemmas.{stays_once, settled_unready, found_ready}
-use Rattle.coap_server_session.proofs.values.SessionLemmas.{due, ready_is, held_found, sent_session, sent_once}
-use Rattle.coap_server_session.proofs.values.SplitLemmas.{split_same, split_seen, split_kept, sent_entry_live}
+use Rattle.coap_server_session.proofs.values.SessionLemmas.{ready_is, held_found, sent_session, sent_once}
 use Rattle.coap_server_session.proofs.session.Session.settle_once.Goals as goal
 use Rattle.coap_model.proofs.OptionLemmas.{there_is_none}
 
@@ -20,7 +19,7 @@ returns-then-not-ready c =
       after = sym (stays_once host v settled);
       found = ap (λ (o : Option ObserverValue). is_some o) (sym settled.1) ∙ ap (λ (e : Option PendingEntryValue). is_some e || is_some (next_stale host v)) (sym settled.0);
       marked = c.requires;
-      split = split_same c.args.self.now;
+      split = refl;
     }
 
 -- The pending entry that was due first was sent.
@@ -36,9 +35,6 @@ returns-then-send_due c =
     let s = c.self.inside in
     let ready = ready_is s.link c.ready.result c.ready.ensures ∙ c.if-not-ready.false in
     let some = sym c.send_due.ensures.found ∙ c.if-send_due.true in
-    let entry = due host s _ ready some c.send_due.ensures.sent in
-    let live : takes_messages c.send_due.new.link.phase ≡ true → takes_messages s.link.phase ≡ true = λ is.
-    sent_entry_live s.link host.now entry.0 (ap (λ (k : LinkValue). takes_messages k.phase) (sym (c.send_due.ensures.sent entry.0 entry.1)) ∙ is) in
     record {
       after =
           sent_once host s _ ready some c.send_due.ensures.sent c.discard_if_closed.new.framer c.discard_if_closed.new.observers c.discard_if_closed.ensures.framer c.discard_if_closed.ensures.observers
@@ -47,7 +43,7 @@ returns-then-send_due c =
           held_found host s _ ready some c.send_due.ensures.sent
           ∙ ap (λ (m : MarkedSession). is_some (next_held_in host.now m.session) || is_some (next_stale host m.session)) c.self.view_is;
       marked = left_marked_by host c.send_due.new.link s.observers c.discard_if_closed.new.observers c.discard_if_closed.ensures.observers (subst (IsMarked host) (sym c.self.view_is) c.requires);
-      split = split_seen _ _ _ c.self.view_is (split_kept s c.send_due.new.link c.discard_if_closed.new.framer c.discard_if_closed.new.observers live c.discard_if_closed.ensures.framer);
+      split = ap (λ (f : FramerValue). f.spent) c.discard_if_closed.ensures.framer ∙ ap (λ (m : MarkedSession). m.split) c.self.view_is;
     }
 
 pub notify_once-requires-clause-marked : goal.notify_once-requires-clause-marked
@@ -70,5 +66,5 @@ returns c =
       after = c.notify_once.ensures.after ∙ ap notifies same ∙ sym settles ∙ ap (λ (m : MarkedSession). session_settled_once host m.session) c.self.view_is;
       found = rw (← c.self.view_is, none) (rw same at c.notify_once.ensures.found);
       marked = c.notify_once.ensures.marked;
-      split = split_seen _ _ _ c.self.view_is (rw same at c.notify_once.ensures.split);
+      split = c.notify_once.ensures.split ∙ ap (λ (m : MarkedSession). m.split) c.self.view_is;
     }

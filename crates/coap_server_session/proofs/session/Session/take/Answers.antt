@@ -8,7 +8,8 @@ use Rattle.coap_server_session.specs.Prelude.{finding_laid_out, MarkedSession, I
 use Rattle.coap_conn.proofs.LinkLemmas.{stays_so}
 use Rattle.coap_server_session.proofs.values.SessionLemmas.{taken_session, reframed, frame_takes_some, put_refused, kept_but_last}
 use Rattle.coap_server_session.proofs.session.Session.take.Goals.{In-Ok-Some, In-Ok-None, In-Err, After-unread}
-use Rattle.coap_server_session.proofs.values.SplitLemmas.{handed_unready, handed_nothing, handed_fault, handed_bad, handed_flag, handed_shown}
+use Rattle.coap_server_session.proofs.values.SplitLemmas.{handed_unready, handed_nothing, handed_fault, handed_bad, handed_flag}
+use Rattle.coap_server_session.proofs.values.SplitLemmas.{completed_unready, completed_nothing, completed_fault, completed_shown}
 use Rattle.coap_server_session.proofs.session.Session.take.Goals as goal
 
 pub invariant_of-self-in-Err : goal.invariant_of-self-in-Err
@@ -89,7 +90,7 @@ returns-then-not-takes-clause-handed c =
 pub returns-then-not-takes-clause-frame : goal.returns-then-not-takes-clause-frame
 returns-then-not-takes-clause-frame c =
     let takes = ap (λ (m : MarkedSession). session_takes m.session) c.self.view_is ∙ sym c.takes.ensures ∙ c.if-not-takes.true in
-    rw (← c.self.view_is, handed_unready c.self.inside c.self.invariant c.args.host.now c.args.piece.now takes) tt
+    rw (← c.self.view_is, completed_unready c.self.inside c.self.invariant c.args.piece.now takes) tt
 
 -- The framer found no frame.
 none_found : (c : In-Ok-None) → (framing_of c.self.inside.framer c.args.piece.now).finding ≡ Nothing
@@ -103,7 +104,7 @@ returns-in-Ok-None-clause-handed c =
 pub returns-in-Ok-None-clause-frame : goal.returns-in-Ok-None-clause-frame
 returns-in-Ok-None-clause-frame c =
     let takes = ap (λ (m : MarkedSession). session_takes m.session) c.self.view_is ∙ sym c.takes.ensures ∙ c.if-not-takes.false in
-    rw (← c.self.view_is, handed_nothing c.self.inside c.self.invariant c.args.host.now c.args.piece.now takes (none_found (goal.at.returns-in-Ok-None-clause-frame c).In-Ok-None)) tt
+    rw (← c.self.view_is, completed_nothing c.self.inside c.self.invariant c.args.piece.now takes (none_found (goal.at.returns-in-Ok-None-clause-frame c).In-Ok-None)) tt
 
 -- The framer found an error.
 fault_found : (c : In-Err) → (framing_of c.self.inside.framer c.args.piece.now).finding ≡ AFault c.in-Err.fault
@@ -117,7 +118,7 @@ returns-in-Err-clause-handed c =
 pub returns-in-Err-clause-frame : goal.returns-in-Err-clause-frame
 returns-in-Err-clause-frame c =
     let takes = ap (λ (m : MarkedSession). session_takes m.session) c.self.view_is ∙ sym c.takes.ensures ∙ c.if-not-takes.false in
-    rw (← c.self.view_is, handed_fault c.self.inside c.self.invariant c.args.host.now c.args.piece.now takes c.in-Err.fault (fault_found (goal.at.returns-in-Err-clause-frame c).In-Err)) tt
+    rw (← c.self.view_is, completed_fault c.self.inside c.self.invariant c.args.piece.now takes c.in-Err.fault (fault_found (goal.at.returns-in-Err-clause-frame c).In-Err)) tt
 
 pub returns-in-Err-parse-clause-handed : goal.returns-in-Err-parse-clause-handed
 returns-in-Err-parse-clause-handed c =
@@ -127,7 +128,9 @@ returns-in-Err-parse-clause-handed c =
 pub returns-in-Err-parse-clause-frame : goal.returns-in-Err-parse-clause-frame
 returns-in-Err-parse-clause-frame c =
     let takes = ap (λ (m : MarkedSession). session_takes m.session) c.self.view_is ∙ sym c.takes.ensures ∙ c.if-not-takes.false in
-    rw (← c.self.view_is, handed_bad c.self.inside c.self.invariant c.args.host.now c.args.piece.now takes c.in-Ok-Some.frame.bytes.now (frame_found (goal.at.returns-in-Err-parse-clause-frame c).In-Ok-Some) _ (sym c.parse.ensures ∙ c.in-Err-parse.is)) tt
+    rw (← c.self.view_is, c.without_message-in-Err-parse.ensures, c.next_frame-framed.ensures.framed.taken)
+    (completed_shown c.self.inside c.self.invariant c.args.piece.now takes c.in-Ok-Some.frame.bytes.now (frame_found (goal.at.returns-in-Err-parse-clause-frame c).In-Ok-Some) c.reject.new.self _
+    (rw c.next_frame-framed.follows.holds-at-none at c.discard_if_closed.ensures.framer))
 
 pub returns-in-Ok-handle-clause-handed : goal.returns-in-Ok-handle-clause-handed
 returns-in-Ok-handle-clause-handed c =
@@ -139,5 +142,5 @@ pub returns-in-Ok-handle-clause-frame : goal.returns-in-Ok-handle-clause-frame
 returns-in-Ok-handle-clause-frame c =
     let takes = ap (λ (m : MarkedSession). session_takes m.session) c.self.view_is ∙ sym c.takes.ensures ∙ c.if-not-takes.false in
     rw (← c.self.view_is, c.next_frame-framed.ensures.framed.taken)
-    (handed_shown c.self.inside c.self.invariant c.args.host.now c.args.piece.now takes c.in-Ok-Some.frame.bytes.now (frame_found (goal.at.returns-in-Ok-handle-clause-frame c).In-Ok-Some) c.in-Ok.message (sym c.in-Ok.ensures) c.handle.new.link _
+    (completed_shown c.self.inside c.self.invariant c.args.piece.now takes c.in-Ok-Some.frame.bytes.now (frame_found (goal.at.returns-in-Ok-handle-clause-frame c).In-Ok-Some) c.handle.new.link _
     (rw c.next_frame-framed.follows.holds-at-none at c.discard_if_closed-in-Ok-handle.ensures.framer))
