@@ -7,7 +7,7 @@ use Rattle.coap_links.specs.Reading.{links_from, attributes_from}
 use Rattle.coap_registry.specs.Registrations.{RegistrationValue, RegistryValue, place_of, registered, updated, has_location, registrations}
 use Rattle.coap_registry.specs.Matching.{CriterionValue}
 use Rattle.coap_registry.specs.Lookups.{PageValue, ListingValue, started, offered_links, offered_endpoint}
-use Rattle.coap_directory_core.specs.Requests.{named, lifetime_in, criteria_from, page_in}
+use Rattle.coap_directory_core.specs.Requests.{named, repeats_parameter, lifetime_in, criteria_from, page_in}
 use Rattle.coap_directory_core.specs.Parameters.{key_in, is_base, is_limited, has_format, is_well_formed, parameters_text}
 use Rattle.coap_directory_core.specs.declared.refusal.Refusal.{Refusal}
 use Rattle.coap_directory_core.specs.declared.refusal.Refusal.TheVariants as refusal
@@ -47,10 +47,11 @@ base_with (Some b) = if is_base b then Some b else None
 unfoldable pub identified : List CoapOption → Result (List ℕ × ℕ × List ℕ) Refusal
 identified os =
     if list_all has_format os
-    then (or_refused refusal.Endpoint (key_with (named (codes "d") os) (named (codes "ep") os)) >>= λ key.
+    then (if repeats_parameter os then Err refusal.Repeated
+    else (or_refused refusal.Endpoint (key_with (named (codes "d") os) (named (codes "ep") os)) >>= λ key.
     or_refused refusal.Lifetime (lifetime_in (named (codes "lt") os)) >>= λ lifetime.
     or_refused refusal.Base (base_with (named (codes "base") os)) >>= λ base.
-    only_if (list_all is_well_formed os) refusal.Query (key, lifetime, base))
+    only_if (list_all is_well_formed os) refusal.Query (key, lifetime, base)))
     else Err refusal.Format
 
 -- The attributes of the endpoint: the queries other than `lt` and `base`, and its resource type.

@@ -7,7 +7,7 @@ pub use Rattle.coap_registry.specs.RegistrationViews.{criterion_of, criteria_of}
 pub use Rattle.coap_registry.specs.Lookups.{PageValue}
 pub use Rattle.coap_registry.specs.PageViews.{page_of}
 pub use Rattle.coap_directory_core.specs.RequestViews.{segment_list}
-pub use Rattle.coap_directory_core.specs.Requests.{split_query, value_with, query_value, first_value, named, is_part_name}
+pub use Rattle.coap_directory_core.specs.Requests.{split_query, value_with, query_value, first_value, named, is_repeated, repeats_parameter, is_part_name}
 pub use Rattle.coap_directory_core.specs.Requests.{with_parts, with_criterion, criteria_from, small_value, page_with, page_in}
 pub use Rattle.coap_directory_core.specs.Requests.{allowed_lifetime, lifetime_in, segments, location_of, lookup_of, route_of}
 pub use Rattle.coap_directory_core.specs.Parameters.{key_in, is_scheme, is_scheme_char, is_authority, is_authority_char}

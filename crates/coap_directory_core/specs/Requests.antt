@@ -1,5 +1,5 @@
 -- The parts of a request to a resource directory.
-use Rattle.std.specs.Prelude.{ℕ, ◌+◌, ◌*◌, ◌^◌, ◌-◌, Bool, ◌||◌, ◌++◌, length, nat_lt, nat_le, List, [], ◌∷◌, take, drop, nat_eq, codes, Option, Some, None, option_map, position, ◌==◌, if◌then◌else◌}
+use Rattle.std.specs.Prelude.{ℕ, ◌+◌, ◌*◌, ◌^◌, ◌-◌, Bool, false, ◌||◌, is_some, ◌++◌, length, nat_lt, nat_le, List, [], ◌∷◌, take, drop, nat_eq, codes, Option, Some, None, option_map, position, ◌==◌, if◌then◌else◌}
 use Rattle.std.specs.Option.{option_and_then}
 use Rattle.std.specs.Cmp.Lexicographic.{pointwise}
 use Rattle.coap_text.specs.Words.{decimal_value}
@@ -31,6 +31,16 @@ first_value (Some v) others = Some v
 abbrev pub named : List ℕ → List CoapOption → Option (List ℕ)
 named name [] = None
 named name (o ∷ os) = first_value (query_value name o) (named name os)
+
+-- Two queries or more have this name.
+abbrev pub is_repeated : List ℕ → List CoapOption → Bool
+is_repeated name [] = false
+is_repeated name (o ∷ os) = if is_some (query_value name o) then is_some (named name os) else is_repeated name os
+
+-- RFC 9176 section 5: a parameter of a registration is given twice.
+abbrev pub repeats_parameter : List CoapOption → Bool
+repeats_parameter os =
+    is_repeated (codes "ep") os || (is_repeated (codes "d") os || (is_repeated (codes "lt") os || is_repeated (codes "base") os))
 
 -- A query with this name selects a part of the results.
 abbrev pub is_part_name : List ℕ → Bool

@@ -19,8 +19,6 @@ mod reply;
 mod requests;
 mod response;
 mod route;
-#[cfg(test)]
-mod tests;
 
 pub use directory::Directory;
 pub use refusal::Refusal;

@@ -4,7 +4,7 @@ ghost use Rattle.std.specs.Prelude.{◌≡◌, ◌<◌, ◌==◌, Some, None, []
 ghost use Rattle.std.specs.Prelude.{if◌then◌else◌};
 ghost use Rattle.coap_directory_core.specs.Prelude.{split_query as query_parts, named, coap_option, query_value};
 ghost use Rattle.coap_directory_core.specs.Prelude.{is_part_name, with_criterion, criteria_from, small_value, page_in};
-ghost use Rattle.coap_directory_core.specs.Prelude.{lifetime_in, criteria_of, page_of};
+ghost use Rattle.coap_directory_core.specs.Prelude.{lifetime_in, criteria_of, page_of, is_repeated, repeats_parameter};
 
 use arrayvec::ArrayVec;
 use coap_registry::{Criterion, Page};
@@ -66,6 +66,32 @@ pub(crate) fn value_named<'a>(request: &MessageRef<'a>, name: &[u8]) -> Option<&
         }
     }
     None
+}
+
+/// Returns `true` if two queries or more have this name.
+fn is_given_twice(request: &MessageRef, name: &[u8]) -> bool
+    ensures { result ≡ is_repeated name.now request.now.options }
+{
+    let mut found = false;
+    for option in request.options() {
+        if value_in(&option, name).is_some() {
+            if found {
+                return true;
+            }
+            found = true;
+        }
+    }
+    false
+}
+
+/// Returns `true` if a request gives a parameter of a registration twice.
+pub(crate) fn repeats_a_parameter(request: &MessageRef) -> bool
+    ensures { result ≡ repeats_parameter request.now.options }
+{
+    is_given_twice(request, b"ep")
+        || is_given_twice(request, b"d")
+        || is_given_twice(request, b"lt")
+        || is_given_twice(request, b"base")
 }
 
 /// Returns `true` if a query with this name selects a part of the results.

@@ -14,6 +14,8 @@ pub enum Refusal {
     Method,
     /// The payload is not in link format by its Content-Format (4.15).
     Format,
+    /// A parameter of a registration is given twice (4.00).
+    Repeated,
     /// The endpoint has no name, or a name of more than 63 bytes (4.00).
     Endpoint,
     /// The lifetime is no number from 1 to 4,294,967,295 (4.00).
@@ -41,6 +43,7 @@ impl Refusal {
             Refusal::Path => Code::NOT_FOUND,
             Refusal::Method => Code::METHOD_NOT_ALLOWED,
             Refusal::Format => Code::new(0x8f),
+            Refusal::Repeated => Code::BAD_REQUEST,
             Refusal::Endpoint => Code::BAD_REQUEST,
             Refusal::Lifetime => Code::BAD_REQUEST,
             Refusal::Base => Code::BAD_REQUEST,
@@ -60,6 +63,7 @@ impl Refusal {
             Refusal::Path => b"",
             Refusal::Method => b"",
             Refusal::Format => b"Content-Format must be 40",
+            Refusal::Repeated => b"ep, d, lt and base can be given once",
             Refusal::Endpoint => b"ep must have 1 to 63 bytes, d at most 63",
             Refusal::Lifetime => b"lt must be 1 to 4294967295",
             Refusal::Base => b"base is required, as in coap+tcp://host:5683",

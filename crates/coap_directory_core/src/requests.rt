@@ -8,7 +8,9 @@ ghost use Rattle.coap_directory_core.specs.Prelude.{renewed_lifetime, renewed_ba
 use crate::parameters::{
     accepts_format, are_limited, are_well_formed, endpoint_key, is_base, push_parameters,
 };
-use crate::query::{criteria_of_request, lifetime_of, page_of_request, value_named};
+use crate::query::{
+    criteria_of_request, lifetime_of, page_of_request, repeats_a_parameter, value_named,
+};
 use crate::refusal::Refusal;
 use coap_links::{AttributeText, LinkText};
 use coap_registry::{EndpointKey, Listing, Registration, Registry};
@@ -49,6 +51,9 @@ fn identify<'a>(request: &MessageRef<'a>) -> Result<(EndpointKey, u32, &'a [u8])
 {
     if !accepts_format(request) {
         return Err(Refusal::Format);
+    }
+    if repeats_a_parameter(request) {
+        return Err(Refusal::Repeated);
     }
     let Some(key) = requested_key(request) else {
         return Err(Refusal::Endpoint);
@@ -160,15 +165,13 @@ pub(crate) fn register(
     ensures ok { IfOk result (λ r. Changes (λ n. n) r registry.old registry.new (registering registry.old now request.now)) }
     ensures err { OnErr result (registry.new ≡ registry.old) }
 {
-    let (key, mut registration) = match prepare(alloc, now, request)? {
+    let (key, registration) = match prepare(alloc, now, request)? {
         Ok(parts) => parts,
         Err(refusal) => return Ok(Err(refusal)),
     };
-    let Some(number) = registry.place(&key) else {
+    let Some(number) = registry.register(key, registration)? else {
         return Ok(Err(Refusal::Full));
     };
-    registration.number = number;
-    registry.register(key, registration)?;
     Ok(Ok(number))
 }
 

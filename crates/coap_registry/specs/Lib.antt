@@ -1,9 +1,11 @@
 pub mod Registrations
 pub mod Matching
+pub mod Labels
 pub mod Lookups
 pub mod RegistrationViews
 pub mod PageViews
 pub mod ListingViews
+pub mod IndexViews
 pub mod EntryViews
 pub mod RegistryViews
 pub mod Prelude

@@ -48,6 +48,11 @@ registered v key r = record {
   limit = v.limit;
 }
 
+-- The directory after this registration of the endpoint at the location with this number, if it gets one.
+abbrev pub registered_at : Option ℕ → RegistryValue → List ℕ → RegistrationValue → RegistryValue
+registered_at None v key r = v
+registered_at (Some n) v key r = registered v key (record r { number = n })
+
 -- The directory without the registrations that have ended at this time.
 unfoldable pub expired : RegistryValue → ℕ → RegistryValue
 expired v now = record v { entries = filter (λ e. nat_lt now e.1.deadline) v.entries }

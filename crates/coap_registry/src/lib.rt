@@ -11,7 +11,9 @@
 //! `registry.rt`, then `matching.rt`.
 #![tactic(auto)]
 
+mod candidates;
 mod criterion;
+mod label;
 mod listing;
 mod matching;
 mod registration;

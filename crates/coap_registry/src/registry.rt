@@ -1,33 +1,58 @@
 //! The registrations of a directory.
 
-ghost use Rattle.std.specs.Prelude.{◌≡◌, ◌<◌, ◌≤◌, ◌^◌, [], OnOk, OnErr, fold, position, nat_eq, nat_le, true};
+ghost use Rattle.std.specs.Prelude.{◌≡◌, ◌<◌, ◌≤◌, ◌^◌, [], Some, IfOk, OnOk, OnErr, IfSome, fold, nat_le, true};
 ghost use Rattle.std.specs.List.{list_all};
-ghost use Rattle.coap_registry.specs.Prelude.{place_of, registered, expired, removed, has_location, registration_of};
+ghost use Rattle.std.specs.List.Sorted.{IsStrictlySortedBy};
+ghost use Rattle.std.specs.Ordering.{nat_cmp};
+ghost use Rattle.std.specs.Map.{lookup, keys_of};
+ghost use Rattle.std.specs.Cmp.Lexicographic.{pointwise};
+ghost use Rattle.coap_registry.specs.Prelude.{place_of, registered_at, expired, removed, has_location, registration_of};
 ghost use Rattle.coap_registry.specs.Prelude.{criteria_of, offered_links, offered_endpoint, registrations};
-ghost use Rattle.coap_registry.specs.Prelude.{all_links_offered, endpoints_offered, updated, renewed, IsChangedAt};
-ghost use Rattle.coap_registry.specs.Prelude.{next_location};
-ghost use Rattle.std.specs.Prelude.{length, option_map};
+ghost use Rattle.coap_registry.specs.Prelude.{updated, renewed, registered, next_location, number_in, all_counted};
+ghost use Rattle.coap_registry.specs.Prelude.{counted, counted_at, Each, IsFound, exact_name, is_number};
+ghost use Rattle.coap_registry.specs.Prelude.{without_label, registration_label};
+ghost use Rattle.std.specs.Prelude.{option_map, nat_eq, filter, is_some};
 
+use crate::candidates::{Labels, next_candidate};
 use crate::criterion::Criterion;
+use crate::label::{label_of, label_of_name, pack, requested_name};
 use crate::listing::Listing;
 use crate::registration::Registration;
 use crate::results::{offer_endpoint, offer_links};
 use arrayvec::ArrayVec;
 use indexmap::IndexMap;
 use std::alloc::{AllocError, Global};
+use std::collections::BTreeMap;
 use std::marker::Model;
+use std::mem::replace;
 
 /// Key of an endpoint: a byte with the length of its sector, its sector, and its name.
 pub type EndpointKey = ArrayVec<u8, 127>;
 
-/// Registrations by the keys of their endpoints.
-type Entries = IndexMap<EndpointKey, Registration>;
+/// Registration with the key of its endpoint.
+#[derive(Drop)]
+struct Stored {
+    key: EndpointKey,
+    registration: Registration,
+}
+
+/// Registrations by the numbers of their locations.
+type Entries = BTreeMap<u64, Stored>;
+
+/// Numbers of locations by the keys of the endpoints.
+type Numbers = IndexMap<EndpointKey, u64>;
 
 /// Registrations of a directory, in the order in which their endpoints were first registered. Contracts see a
 /// `RegistryValue`.
+///
+/// The cost of a call is logarithmic in the number of registrations, except in two cases. `expire` reads all registrations
+/// if one may have ended. A lookup reads all unless it asks for one name of an endpoint.
 #[derive(Drop)]
 pub struct Registry {
+    /// In the order of their numbers, which is that of the first registrations.
     entries: Entries,
+    numbers: Numbers,
+    labels: Labels,
     /// Number of the next new location.
     next: u64,
     /// Maximum number of registrations.
@@ -54,7 +79,9 @@ impl Registry {
         ensures { result ≡ record { entries = []; next = 1; limit = limit } }
     {
         Registry {
-            entries: IndexMap::new(alloc),
+            entries: BTreeMap::new(alloc),
+            numbers: IndexMap::new(alloc),
+            labels: BTreeMap::new(alloc),
             next: 1,
             limit,
             earliest: u64::MAX,
@@ -66,8 +93,8 @@ impl Registry {
     pub fn place(&self, key: &EndpointKey) -> Option<u64>
         ensures { result ≡ place_of self.now key.now.items }
     {
-        if let Some(present) = self.entries.get(key) {
-            return Some(present.number);
+        if let Some(number) = number_of(&self.entries, &self.numbers, key) {
+            return Some(number);
         }
         if self.entries.len() >= self.limit {
             return None;
@@ -78,31 +105,69 @@ impl Registry {
         Some(self.next)
     }
 
-    /// Stores the registration of an endpoint. It replaces a present one and keeps its place.
+    /// Stores the registration of an endpoint at the location that `place` gives, and returns the number of the location.
+    /// It replaces a present one and keeps its place. Returns `None`, and stores nothing, if the limit of registrations is
+    /// reached.
     ///
     /// # Errors
     ///
-    /// - `AllocError` if allocation fails. The registry is unchanged.
+    /// - `AllocError` if allocation fails. The registrations are unchanged.
     pub fn register(
         &mut self,
         key: EndpointKey,
+        mut registration: Registration,
+    ) -> Result<Option<u64>, AllocError>
+        ensures place { IfOk result (λ n. n ≡ place_of self.old key.items) }
+        ensures ok { OnOk result (self.new ≡ registered_at (place_of self.old key.items) self.old key.items (registration_of registration)) }
+        ensures err { OnErr result (self.new ≡ self.old) }
+    {
+        let Some(number) = self.place(&key) else {
+            return Ok(None);
+        };
+        registration.number = number;
+        self.store(number, key, registration)?;
+        Ok(Some(number))
+    }
+
+    /// Stores the registration of an endpoint at its location.
+    ///
+    /// # Errors
+    ///
+    /// - `AllocError` if allocation fails. The registrations are unchanged.
+    fn store(
+        &mut self,
+        number: u64,
+        key: EndpointKey,
         registration: Registration,
     ) -> Result<(), AllocError>
+        requires place { place_of self.old key.items ≡ Some number }
+        requires number { registration.number ≡ number }
         ensures ok { OnOk result (self.new ≡ registered self.old key.items (registration_of registration)) }
         ensures err { OnErr result (self.new ≡ self.old) }
     {
-        self.entries.reserve(1)?;
+        let label = label_of(&registration);
         let earliest = earlier(registration.deadline, self.earliest);
-        let next = next_after(self.next, registration.number);
-        let Ok(_) = self.entries.insert(key, registration) else {
+        let next = next_after(self.next, number);
+        let copy = copy_of(&key);
+        self.numbers.reserve(1)?;
+        self.labels.insert(pack(label, number), number)?;
+        let old = self.entries.insert(
+            number,
+            Stored {
+                key: copy,
+                registration,
+            },
+        )?;
+        let Ok(_) = self.numbers.insert(key, number) else {
             unreachable!()
         };
+        forget_label(&mut self.labels, &old, label, number);
         self.earliest = earliest;
         self.next = next;
         Ok(())
     }
 
-    /// Removes the registrations that have ended. Looks at all of them if one may have ended, and at none otherwise.
+    /// Removes the registrations that have ended. Reads all of them if one may have ended, and none otherwise.
     pub fn expire(&mut self, now: u64)
         ensures { self.new ≡ expired self.old now }
     {
@@ -110,12 +175,14 @@ impl Registry {
             return;
         }
         self.entries
-            .retain(|_, registration| now < registration.deadline);
+            .retain(|_, stored| now < stored.registration.deadline);
+        keep_numbers(&mut self.numbers, &self.entries);
+        keep_labels(&mut self.labels, &self.entries);
         self.earliest = earliest_deadline(&self.entries);
     }
 
     /// Renews the registration at a location from this time on, with its lifetime and base URI or with new ones. Returns
-    /// `false` if there is none. The cost is linear in the number of registrations.
+    /// `false` if there is none.
     ///
     /// # Preconditions
     ///
@@ -131,40 +198,88 @@ impl Registry {
         ensures found { result ≡ has_location self.old number }
         ensures after { self.new ≡ updated self.old number now lifetime (option_map (λ b. b.items) base) }
     {
-        let Some(index) = index_of(&self.entries, number) else {
+        let Some(stored) = self.entries.get_mut(&number) else {
             return false;
         };
-        let deadline = change_at(&mut self.entries, index, now, lifetime, base);
+        let deadline = change(&mut stored.registration, now, lifetime, base);
         self.earliest = earlier(deadline, self.earliest);
         true
     }
 
-    /// Removes the registration at a location. Returns `false` if there is none. The cost is linear in the number of
-    /// registrations.
+    /// Removes the registration at a location. Returns `false` if there is none.
     pub fn remove(&mut self, number: u64) -> bool
         ensures found { result ≡ has_location self.old number }
         ensures after { self.new ≡ removed self.old number }
     {
-        let Some(index) = index_of(&self.entries, number) else {
+        let Some(stored) = self.entries.remove(&number) else {
             return false;
         };
-        self.entries.shift_remove_index(index);
+        self.labels
+            .remove(&pack(label_of(&stored.registration), number));
+        self.numbers.swap_remove(&stored.key);
         true
     }
 
-    /// Counts the links that the criteria select, and appends those in the part of the listing.
+    /// Counts the links that the criteria select, and appends those in the part of the listing. Reads only the registrations
+    /// with the name of an endpoint, if a criterion asks for one.
     pub fn list_resources(&self, criteria: &[Criterion], listing: &mut Listing)
         ensures { listing.new ≡ fold (offered_links (criteria_of criteria.now)) listing.old (registrations self.now) }
     {
-        offer_all_links(&self.entries, criteria, listing);
+        self.list(false, criteria, listing);
     }
 
-    /// Counts the endpoints that the criteria select, and appends the links of those in the part of the listing.
+    /// Counts the endpoints that the criteria select, and appends the links of those in the part of the listing. Reads only
+    /// the registrations with the name of an endpoint, if a criterion asks for one.
     pub fn list_endpoints(&self, criteria: &[Criterion], listing: &mut Listing)
         ensures { listing.new ≡ fold (offered_endpoint (criteria_of criteria.now)) listing.old (registrations self.now) }
     {
-        offer_endpoints(&self.entries, criteria, listing);
+        self.list(true, criteria, listing);
     }
+
+    /// Counts the endpoints or the links that the criteria select, and appends those in the part.
+    fn list(&self, endpoints: bool, criteria: &[Criterion], listing: &mut Listing)
+        ensures { listing.new ≡ fold (counted endpoints (criteria_of criteria.now)) listing.old (registrations self.now) }
+    {
+        let Some(name) = requested_name(criteria) else {
+            offer_all(&self.entries, endpoints, criteria, listing);
+            return;
+        };
+        offer_candidates(
+            &self.entries,
+            &self.labels,
+            name,
+            endpoints,
+            criteria,
+            listing,
+        );
+    }
+}
+
+/// Returns a copy of a key.
+fn copy_of(key: &EndpointKey) -> EndpointKey
+    ensures { result.items ≡ key.now.items }
+{
+    let mut copy = EndpointKey::new();
+    let Ok(()) = copy.try_extend_from_slice(key) else {
+        unreachable!()
+    };
+    copy
+}
+
+/// Returns the number of the location of an endpoint, if it is registered.
+fn number_of(entries: &Entries, numbers: &Numbers, key: &EndpointKey) -> Option<u64>
+    ensures { result ≡ number_in key.now.items (lookup (λ k. pointwise nat_eq key.now.items k.items) numbers.now.entries) entries.now.entries }
+{
+    let Some(number) = numbers.get(key) else {
+        return None;
+    };
+    let Some(stored) = entries.get(number) else {
+        return None;
+    };
+    if stored.key.as_slice() != key.as_slice() {
+        return None;
+    }
+    Some(*number)
 }
 
 /// Returns the earlier of two times.
@@ -191,22 +306,13 @@ fn next_after(next: u64, number: u64) -> u64
 
 /// Returns a time before which no registration ends.
 fn earliest_deadline(entries: &Entries) -> u64
-    ensures { list_all (λ e. nat_le result e.1.deadline) entries.now.entries ≡ true }
+    ensures { list_all (λ e. nat_le result e.1.registration.deadline) entries.now.entries ≡ true }
 {
     let mut earliest = u64::MAX;
-    for (_, registration) in entries.iter() {
-        earliest = earlier(registration.deadline, earliest);
+    for (_, stored) in entries.iter() {
+        earliest = earlier(stored.registration.deadline, earliest);
     }
     earliest
-}
-
-/// Returns the index of the registration at a location.
-fn index_of(entries: &Entries, number: u64) -> Option<usize>
-    ensures { result ≡ position (λ e. nat_eq e.1.number number) entries.now.entries }
-{
-    entries
-        .iter()
-        .position(|(_, registration)| registration.number == number)
 }
 
 /// Renews a registration, and returns the time at which it ends.
@@ -230,38 +336,91 @@ fn change(
     registration.deadline
 }
 
-/// Renews the registration at an index, and returns the time at which it ends.
-fn change_at(
-    entries: &mut Entries,
-    index: usize,
-    now: u64,
-    lifetime: Option<u32>,
-    base: Option<Vec<u8>>,
-) -> u64
-    requires within { index < length entries.old.entries }
-    requires early { now < 2 ^ 63 }
-    ensures { IsChangedAt index (λ r. registration_of r) (renewed now lifetime (option_map (λ b. b.items) base)) (λ r. r.deadline) entries.old.entries entries.new.entries result }
+/// Counts a registration: its endpoint or its links, and appends those in the part.
+fn offer(
+    listing: &mut Listing,
+    endpoints: bool,
+    criteria: &[Criterion],
+    registration: &Registration,
+)
+    ensures { listing.new ≡ counted endpoints (criteria_of criteria.now) listing.old (registration_of registration.now) }
 {
-    let Some(registration) = entries.get_index_mut(index) else {
-        unreachable!()
-    };
-    change(registration, now, lifetime, base)
-}
-
-/// Counts the links of all registrations that the criteria select, and appends those in the part.
-fn offer_all_links(entries: &Entries, criteria: &[Criterion], listing: &mut Listing)
-    ensures { listing.new ≡ all_links_offered (criteria_of criteria.now) listing.old entries.now.entries }
-{
-    for (_, registration) in entries.iter() {
+    if endpoints {
+        offer_endpoint(listing, criteria, registration);
+    } else {
         offer_links(listing, criteria, registration);
     }
 }
 
-/// Counts the endpoints that the criteria select, and appends the links of those in the part.
-fn offer_endpoints(entries: &Entries, criteria: &[Criterion], listing: &mut Listing)
-    ensures { listing.new ≡ endpoints_offered (criteria_of criteria.now) listing.old entries.now.entries }
+/// Counts all registrations, and appends those in the part.
+fn offer_all(entries: &Entries, endpoints: bool, criteria: &[Criterion], listing: &mut Listing)
+    ensures { listing.new ≡ all_counted endpoints (criteria_of criteria.now) listing.old entries.now.entries }
 {
-    for (_, registration) in entries.iter() {
-        offer_endpoint(listing, criteria, registration);
+    for (_, stored) in entries.iter() {
+        offer(listing, endpoints, criteria, &stored.registration);
     }
+}
+
+/// Counts the registration at a location, if there is one.
+fn offer_at(
+    entries: &Entries,
+    number: u64,
+    endpoints: bool,
+    criteria: &[Criterion],
+    listing: &mut Listing,
+)
+    ensures { listing.new ≡ counted_at endpoints (criteria_of criteria.now) entries.now.entries number listing.old }
+{
+    if let Some(stored) = entries.get(&number) {
+        offer(listing, endpoints, criteria, &stored.registration);
+    }
+}
+
+/// Counts the registrations that can have the name of an endpoint that the criteria ask for.
+fn offer_candidates(
+    entries: &Entries,
+    labels: &Labels,
+    name: &[u8],
+    endpoints: bool,
+    criteria: &[Criterion],
+    listing: &mut Listing,
+)
+    requires ordered { IsStrictlySortedBy nat_cmp (keys_of entries.now.entries) }
+    requires labelled { Each (IsFound labels.now.entries) entries.now.entries }
+    requires asked { exact_name (criteria_of criteria.now) ≡ Some name.now }
+    ensures { listing.new ≡ all_counted endpoints (criteria_of criteria.now) listing.old entries.now.entries }
+{
+    let label = label_of_name(name);
+    let mut from: u128 = 0;
+    while let Some(number) = next_candidate(labels, label, from) {
+        offer_at(entries, number, endpoints, criteria, listing);
+        from = u128::from(number) + 1;
+    }
+}
+
+/// Removes the label of a registration that was replaced, unless the new one has it.
+fn forget_label(labels: &mut Labels, replaced: &Option<Stored>, label: u64, number: u64)
+    ensures { labels.new.entries ≡ without_label (option_map (λ s. registration_label (registration_of s.registration)) replaced.now) label number labels.old.entries }
+{
+    let Some(replaced) = replaced else {
+        return;
+    };
+    let old = label_of(&replaced.registration);
+    if old != label {
+        labels.remove(&pack(old, number));
+    }
+}
+
+/// Removes the keys of the endpoints that are no longer registered.
+fn keep_numbers(numbers: &mut Numbers, entries: &Entries)
+    ensures { numbers.new.entries ≡ filter (λ e. is_some (lookup (is_number e.1) entries.now.entries)) numbers.old.entries }
+{
+    numbers.retain(|_, number| entries.contains_key(&*number));
+}
+
+/// Removes the labels of the registrations that have ended.
+fn keep_labels(labels: &mut Labels, entries: &Entries)
+    ensures { labels.new.entries ≡ filter (λ e. is_some (lookup (is_number e.1) entries.now.entries)) labels.old.entries }
+{
+    labels.retain(|_, number| entries.contains_key(&*number));
 }

@@ -1,7 +1,6 @@
 //! Worked examples of RFC 9176, from request to response.
 
-use crate::directory::Directory;
-use crate::response::write_response;
+use coap_directory_core::{Directory, write_response};
 use coap_wire::{Code, MessageBuilder, TokenRef, parse};
 use std::test::Fail;
 
@@ -78,7 +77,12 @@ const REGISTRATION: Example<'static> = Example {
 #[test]
 fn endpoint_is_registered_and_found(rt: HostRuntime) -> Result<(), Fail> {
     let mut directory = Directory::new(rt.alloc(), 10, 1000)?;
-    check(&rt, &mut directory, 100, &REGISTRATION, 0x41, b"")?;
+    registers_and_finds(&rt, &mut directory)
+}
+
+/// Registers an endpoint, and looks it and its links up.
+fn registers_and_finds(rt: &HostRuntime, directory: &mut Directory) -> Result<(), Fail> {
+    check(rt, directory, 100, &REGISTRATION, 0x41, b"")?;
     let endpoints = Example {
         code: Code::GET,
         path: &[b"rd-lookup", b"ep"],
@@ -86,8 +90,8 @@ fn endpoint_is_registered_and_found(rt: HostRuntime) -> Result<(), Fail> {
         payload: b"",
     };
     check(
-        &rt,
-        &mut directory,
+        rt,
+        directory,
         101,
         &endpoints,
         0x45,
@@ -100,8 +104,8 @@ fn endpoint_is_registered_and_found(rt: HostRuntime) -> Result<(), Fail> {
         payload: b"",
     };
     check(
-        &rt,
-        &mut directory,
+        rt,
+        directory,
         102,
         &resources,
         0x45,
@@ -114,8 +118,8 @@ fn endpoint_is_registered_and_found(rt: HostRuntime) -> Result<(), Fail> {
         payload: b"",
     };
     check(
-        &rt,
-        &mut directory,
+        rt,
+        directory,
         103,
         &anchors,
         0x45,
@@ -126,14 +130,19 @@ fn endpoint_is_registered_and_found(rt: HostRuntime) -> Result<(), Fail> {
 #[test]
 fn registration_is_renewed_and_removed(rt: HostRuntime) -> Result<(), Fail> {
     let mut directory = Directory::new(rt.alloc(), 10, 1000)?;
-    check(&rt, &mut directory, 100, &REGISTRATION, 0x41, b"")?;
+    renews_and_removes(&rt, &mut directory)
+}
+
+/// Registers an endpoint, renews and removes it, and looks it up between.
+fn renews_and_removes(rt: &HostRuntime, directory: &mut Directory) -> Result<(), Fail> {
+    check(rt, directory, 100, &REGISTRATION, 0x41, b"")?;
     let update = Example {
         code: Code::POST,
         path: &[b"rd", b"1"],
         queries: &[b"lt=60", b"base=coaps://new.example.com"],
         payload: b"",
     };
-    check(&rt, &mut directory, 200, &update, 0x44, b"")?;
+    check(rt, directory, 200, &update, 0x44, b"")?;
     let endpoints = Example {
         code: Code::GET,
         path: &[b"rd-lookup", b"ep"],
@@ -141,23 +150,23 @@ fn registration_is_renewed_and_removed(rt: HostRuntime) -> Result<(), Fail> {
         payload: b"",
     };
     check(
-        &rt,
-        &mut directory,
+        rt,
+        directory,
         259,
         &endpoints,
         0x45,
         b"</rd/1>;base=\"coaps://new.example.com\";ep=\"node1\";rt=\"core.rd-ep\"",
     )?;
-    check(&rt, &mut directory, 260, &endpoints, 0x45, b"")?;
-    check(&rt, &mut directory, 300, &REGISTRATION, 0x41, b"")?;
+    check(rt, directory, 260, &endpoints, 0x45, b"")?;
+    check(rt, directory, 300, &REGISTRATION, 0x41, b"")?;
     let removal = Example {
         code: Code::DELETE,
         path: &[b"rd", b"2"],
         queries: &[],
         payload: b"",
     };
-    check(&rt, &mut directory, 301, &removal, 0x42, b"")?;
-    check(&rt, &mut directory, 302, &removal, 0x84, b"")
+    check(rt, directory, 301, &removal, 0x42, b"")?;
+    check(rt, directory, 302, &removal, 0x84, b"")
 }
 
 #[test]

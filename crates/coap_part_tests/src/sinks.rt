@@ -1,0 +1,44 @@
+//! Sinks at concrete types: a slice, and a vector with reserved capacity.
+
+use coap_wire::{Builder, Code, Sink, SliceSink, TokenRef};
+use std::process::Abort;
+use std::test::Fail;
+
+/// Bytes that `fill` writes: one byte, a CSM with a Max-Message-Size of 65,536, and two bytes.
+const FILLED: [u8; 9] = [0xaa, 0x40, 0xe1, 0x23, 0x01, 0x00, 0x00, 0xbb, 0xcc];
+
+/// Pushes a byte, writes a message and appends two bytes, and asserts that each write reduces the room.
+fn fill<S: Sink>(rt: &impl Abort, sink: &mut S) -> Result<(), Fail> {
+    let mut message = Builder::with_token_ref(Code::CSM, TokenRef::empty());
+    message.option(2, &[1, 0, 0])?;
+    let room = sink.room();
+    assert!(rt; room > 0);
+    sink.push(0xaa);
+    assert!(rt; sink.room() == room - 1);
+    assert!(rt; message.size() <= sink.room() as u64);
+    message.write(sink);
+    assert!(rt; 2 <= sink.room());
+    sink.append(&[0xbb, 0xcc]);
+    Ok(())
+}
+
+#[test]
+fn writes_into_a_slice(rt: HostRuntime) -> Result<(), Fail> {
+    let mut bytes = [0; 10];
+    let mut sink = SliceSink::new(&mut bytes);
+    fill(&rt, &mut sink)?;
+    assert!(&rt; sink.room() == 1);
+    assert!(&rt; sink.written() == FILLED.as_slice());
+    Ok(())
+}
+
+#[test]
+fn writes_behind_what_is_there(rt: HostRuntime) -> Result<(), Fail> {
+    let mut bytes = Vec::with_capacity(rt.alloc(), 10)?;
+    bytes.push(0x99)?;
+    fill(&rt, &mut bytes)?;
+    assert!(&rt; bytes.room() == 0);
+    assert!(&rt; bytes.first() == Some(&0x99));
+    assert!(&rt; bytes.get(1..) == Some(FILLED.as_slice()));
+    Ok(())
+}
