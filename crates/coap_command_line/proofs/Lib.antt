@@ -3,3 +3,4 @@ pub mod PlanLemmas
 pub mod ReasonLemmas
 mod WordsWorked
 mod ReasonsWorked
+pub mod ApplicationLemmas

@@ -5,7 +5,8 @@ use Rattle.coap_command_line.specs.Prelude.{codes, client_app, server_app, decim
 use Rattle.coap_command_line.specs.Prelude.{records_to_output}
 use Rattle.coap_command_line.specs.Reasons.{server_value, client_value, server_clash, client_clash, row_in, least_queue}
 use Rattle.coap_command_line.specs.Reasons.{queue_text, method_text, target_reason, url_text, scheme_text, fragment_text}
-use Rattle.coap_command_line.specs.Reasons.{has_zone, before, after, script_clash, stdio_clash, listener_clash}
+use Rattle.coap_command_line.specs.Reasons.{has_zone, script_clash, stdio_clash, listener_clash, alone_clash}
+use Rattle.coap_command_line.specs.CommandLines.{before, after}
 use Rattle.coap_request.specs.declared.target.TargetFault.TheVariants as target
 use Rattle.clap.proofs.OnLiterals.{clap_on_literals}
 
@@ -62,43 +63,43 @@ nothing_given = refl
 -- ---- options that exclude each other
 
 two_modes : server_clash (matches_of server_app (codes "--stdio" ∷ codes "--script" ∷ codes "-" ∷ codes "--idle" ∷ codes "1" ∷ [])) ≡ codes "--stdio and --script cannot be used together"
-unfolding clap_on_literals server_clash script_clash stdio_clash listener_clash records_to_output is_used
+unfolding clap_on_literals server_clash script_clash stdio_clash listener_clash alone_clash records_to_output is_used
 two_modes = refl
 
 log_of_a_script : server_clash (matches_of server_app (codes "--idle" ∷ codes "1" ∷ codes "--log" ∷ codes "1" ∷ codes "--script" ∷ codes "-" ∷ [])) ≡ codes "--script and --log cannot be used together"
-unfolding clap_on_literals server_clash script_clash stdio_clash listener_clash records_to_output is_used
+unfolding clap_on_literals server_clash script_clash stdio_clash listener_clash alone_clash records_to_output is_used
 log_of_a_script = refl
 
 silence_of_a_script : server_clash (matches_of server_app (codes "--idle" ∷ codes "1" ∷ codes "--script" ∷ codes "-" ∷ [])) ≡ codes "--script and --idle cannot be used together"
-unfolding clap_on_literals server_clash script_clash stdio_clash listener_clash records_to_output is_used
+unfolding clap_on_literals server_clash script_clash stdio_clash listener_clash alone_clash records_to_output is_used
 silence_of_a_script = refl
 
 silence_of_standard_input : server_clash (matches_of server_app (codes "--idle" ∷ codes "1" ∷ codes "--stdio" ∷ [])) ≡ codes "--stdio and --idle cannot be used together"
-unfolding clap_on_literals server_clash script_clash stdio_clash listener_clash records_to_output is_used
+unfolding clap_on_literals server_clash script_clash stdio_clash listener_clash alone_clash records_to_output is_used
 silence_of_standard_input = refl
 
 starts_of_a_listener : server_clash (matches_of server_app (codes "--starts" ∷ codes "1,2,3" ∷ codes "-p" ∷ codes "5700" ∷ [])) ≡ codes "--starts can be used only with --stdio or --script"
-unfolding clap_on_literals server_clash script_clash stdio_clash listener_clash records_to_output is_used
+unfolding clap_on_literals server_clash script_clash stdio_clash listener_clash alone_clash records_to_output is_used
 starts_of_a_listener = refl
 
 record_of_a_script : server_clash (matches_of server_app (codes "--record-limit" ∷ codes "1" ∷ codes "--record" ∷ codes "r" ∷ codes "--script" ∷ codes "-" ∷ [])) ≡ codes "--script and --record cannot be used together"
-unfolding clap_on_literals server_clash script_clash stdio_clash listener_clash records_to_output is_used
+unfolding clap_on_literals server_clash script_clash stdio_clash listener_clash alone_clash records_to_output is_used
 record_of_a_script = refl
 
 record_of_standard_input : server_clash (matches_of server_app (codes "--record" ∷ codes "-" ∷ codes "--stdio" ∷ [])) ≡ codes "--stdio and --record - cannot be used together"
-unfolding clap_on_literals server_clash script_clash stdio_clash listener_clash records_to_output is_used
+unfolding clap_on_literals server_clash script_clash stdio_clash listener_clash alone_clash records_to_output is_used
 record_of_standard_input = refl
 
 limit_of_a_script : server_clash (matches_of server_app (codes "--record-limit" ∷ codes "1" ∷ codes "--script" ∷ codes "-" ∷ [])) ≡ codes "--record-limit can be used only with --record"
-unfolding clap_on_literals server_clash script_clash stdio_clash listener_clash records_to_output is_used
+unfolding clap_on_literals server_clash script_clash stdio_clash listener_clash alone_clash records_to_output is_used
 limit_of_a_script = refl
 
 limit_of_standard_input : server_clash (matches_of server_app (codes "--record-limit" ∷ codes "1" ∷ codes "--stdio" ∷ [])) ≡ codes "--record-limit can be used only with --record"
-unfolding clap_on_literals server_clash script_clash stdio_clash listener_clash records_to_output is_used
+unfolding clap_on_literals server_clash script_clash stdio_clash listener_clash alone_clash records_to_output is_used
 limit_of_standard_input = refl
 
 limit_of_a_listener : server_clash (matches_of server_app (codes "--record-limit" ∷ codes "1" ∷ [])) ≡ codes "--record-limit can be used only with --record"
-unfolding clap_on_literals server_clash script_clash stdio_clash listener_clash records_to_output is_used
+unfolding clap_on_literals server_clash script_clash stdio_clash listener_clash alone_clash records_to_output is_used
 limit_of_a_listener = refl
 
 two_payloads : client_clash (matches_of client_app (codes "-e" ∷ codes "x" ∷ codes "-f" ∷ codes "y" ∷ codes "coap+tcp://h/" ∷ [])) ≡ codes "-e and -f cannot be used together"

@@ -4,19 +4,25 @@ use Rattle.coap_command_line.specs.Prelude.{result_ok, ipv4_octets, ipv6_segment
 use Rattle.coap_command_line.specs.Prelude.{Read, read_ipv4, read_ipv6, whole_value, IpAddr, App, Rule, Text, first_of}
 use Rattle.coap_command_line.specs.Prelude.{first_value, rows_of, with_rule, Found, list_any, Bor, AreHalves, is_comma}
 use Rattle.coap_command_line.specs.Prelude.{address_of, three_in}
-use Rattle.coap_command_line.specs.ServerWords.{comma, three_of}
+use Rattle.coap_command_line.specs.CommandLines.{comma}
+use Rattle.coap_command_line.specs.ServerWords.{three_of}
 use Rattle.coap_text.specs.Words.{parts}
 use Rattle.std.proofs.lemmas.List.Splits.{length-slice_split}
 use Rattle.std.specs.declared.net.ip_addr.IpAddr.TheVariants as ip
 use Rattle.std.proofs.NetLemmas.Ipv4.{read_ipv4_complete, read_ipv4_sound}
 use Rattle.std.proofs.NetLemmas.Ipv6.{EndsGroups-nil, IsDotted-not_colon_hex, read_ipv6_complete, read_ipv6_sound}
-use Rattle.clap.proofs.WalkLemmas.{first_value-rows}
+use Rattle.clap.proofs.WalkLemmas.{first_value-rows, raw_values-rows}
+use Rattle.clap.specs.Words.{all_of, matched_of, raw_values}
 use Rattle.std.proofs.lemmas.Str.Pattern.{IsSplitOnceResult, split_once_first, split_parts}
 use Rattle.clap.proofs.CutLemmas.{list_any-Lacks, list_any-at}
 
 -- The text that `clap` keeps for an option is that of its row.
 pub first_text : (f : Found) (name : Text) (said : Option Text) → said ≡ first_value f name → said ≡ first_of name (rows_of f)
 first_text f name said e = e ∙ first_value-rows f name
+
+-- The texts that `clap` keeps for an option are those of its row.
+pub all_texts : (f : Found) (name : Text) (said : Option (List Text)) → said ≡ option_map raw_values (matched_of f name) → said ≡ all_of name (rows_of f)
+all_texts f name said e = e ∙ raw_values-rows f name
 
 -- Another option adds another rule.
 pub shape_with_rule : (before after shape : App) (rule : Rule) → after ≡ with_rule before rule → before ≡ shape → after ≡ with_rule shape rule

@@ -9,179 +9,183 @@ use Rattle.coap_command_line.specs.Prelude.{Script, Stdio, address_of, every_add
 use Rattle.coap_command_line.specs.Prelude.{server_plan_of, values_said, excludes_mode, level_in, level_of, log_said}
 use Rattle.coap_command_line.specs.Prelude.{Nothing, Warnings, Connections, Messages}
 use Rattle.coap_command_line.specs.Prelude.{from_zero, three_in, starts_in, starts_a_listener, file_name}
-use Rattle.coap_command_line.specs.Prelude.{records_to_output, excludes_record}
+use Rattle.coap_command_line.specs.Prelude.{records_to_output, excludes_record, excludes_application, applications_said}
+use Rattle.coap_command_line.specs.Prelude.{code_in, codes_of, method_in, no_entries, with_text, with_texts}
+use Rattle.coap_command_line.specs.CommandLines.{after, before}
+use Rattle.coap_script.specs.Prelude.{path_value, segments_of, key_for, is_path}
+use Rattle.coap_application.specs.Prelude.{entry_refusal, are_methods, are_attributes, is_name_char, is_token_char}
 use Rattle.std.specs.declared.net.ip_addr.IpAddr.TheVariants as ip
 use Rattle.clap.specs.declared.error.kind.ErrorKind.TheVariants as kind
 use Rattle.clap.proofs.OnLiterals.{clap_on_literals}
 
 -- ---- coap-server
 
-no_words : server_plan_of ([]) ≡ Ok (record { mode = Listen every_address 5683; limits = limits_of 65536 65536 131072 16 16 16; connections = 16; dynamic_max = 0; turns = 1000000000000; log = Nothing; idle = 0; starts = from_zero; «record» = None; record_limit = 1073741824 })
-unfolding clap_on_literals server_plan_of server_plan_in values_said limits_said level_in level_of starts_in three_in starts_a_listener excludes_mode file_name records_to_output excludes_record number_within decimal_value is_used address_of read_ipv4 read_ipv6 read_octet read_segment read_segments read_number
+no_words : server_plan_of ([]) ≡ Ok (record { mode = Listen every_address 5683; limits = limits_of 65536 65536 131072 16 16 16; connections = 16; dynamic_max = 0; turns = 1000000000000; log = Nothing; idle = 0; starts = from_zero; «record» = None; record_limit = 1073741824; applications = None })
+unfolding clap_on_literals server_plan_of server_plan_in values_said limits_said level_in level_of starts_in three_in starts_a_listener excludes_mode file_name records_to_output excludes_record number_within decimal_value is_used address_of read_ipv4 read_ipv6 read_octet read_segment read_segments read_number excludes_application applications_said
 no_words = refl
 
-stdio_with_a_port : server_plan_of (codes "-p" ∷ codes "5700" ∷ codes "--stdio" ∷ []) ≡ Ok (record { mode = Stdio; limits = limits_of 65536 65536 131072 16 16 16; connections = 16; dynamic_max = 0; turns = 1000000000000; log = Nothing; idle = 0; starts = from_zero; «record» = None; record_limit = 1073741824 })
-unfolding clap_on_literals server_plan_of server_plan_in values_said limits_said level_in level_of starts_in three_in starts_a_listener excludes_mode file_name records_to_output excludes_record number_within decimal_value is_used address_of read_ipv4 read_ipv6 read_octet read_segment read_segments read_number
+stdio_with_a_port : server_plan_of (codes "-p" ∷ codes "5700" ∷ codes "--stdio" ∷ []) ≡ Ok (record { mode = Stdio; limits = limits_of 65536 65536 131072 16 16 16; connections = 16; dynamic_max = 0; turns = 1000000000000; log = Nothing; idle = 0; starts = from_zero; «record» = None; record_limit = 1073741824; applications = None })
+unfolding clap_on_literals server_plan_of server_plan_in values_said limits_said level_in level_of starts_in three_in starts_a_listener excludes_mode file_name records_to_output excludes_record number_within decimal_value is_used address_of read_ipv4 read_ipv6 read_octet read_segment read_segments read_number excludes_application applications_said
 stdio_with_a_port = refl
 
 queue_too_small : server_plan_of (codes "-p" ∷ codes "5700" ∷ codes "--stdio" ∷ codes "--queue" ∷ codes "1000" ∷ []) ≡ Err (Value (codes "--queue"))
-unfolding clap_on_literals server_plan_of server_plan_in values_said limits_said level_in level_of starts_in three_in starts_a_listener excludes_mode file_name records_to_output excludes_record number_within decimal_value is_used address_of read_ipv4 read_ipv6 read_octet read_segment read_segments read_number
+unfolding clap_on_literals server_plan_of server_plan_in values_said limits_said level_in level_of starts_in three_in starts_a_listener excludes_mode file_name records_to_output excludes_record number_within decimal_value is_used address_of read_ipv4 read_ipv6 read_octet read_segment read_segments read_number excludes_application applications_said
 queue_too_small = refl
 
-queue_of_the_greatest_message : server_plan_of (codes "--max-sent" ∷ codes "1152" ∷ codes "--queue=1152" ∷ codes "-d7" ∷ []) ≡ Ok (record { mode = Listen every_address 5683; limits = limits_of 65536 1152 1152 16 16 16; connections = 16; dynamic_max = 7; turns = 1000000000000; log = Nothing; idle = 0; starts = from_zero; «record» = None; record_limit = 1073741824 })
-unfolding clap_on_literals server_plan_of server_plan_in values_said limits_said level_in level_of starts_in three_in starts_a_listener excludes_mode file_name records_to_output excludes_record number_within decimal_value is_used address_of read_ipv4 read_ipv6 read_octet read_segment read_segments read_number
+queue_of_the_greatest_message : server_plan_of (codes "--max-sent" ∷ codes "1152" ∷ codes "--queue=1152" ∷ codes "-d7" ∷ []) ≡ Ok (record { mode = Listen every_address 5683; limits = limits_of 65536 1152 1152 16 16 16; connections = 16; dynamic_max = 7; turns = 1000000000000; log = Nothing; idle = 0; starts = from_zero; «record» = None; record_limit = 1073741824; applications = None })
+unfolding clap_on_literals server_plan_of server_plan_in values_said limits_said level_in level_of starts_in three_in starts_a_listener excludes_mode file_name records_to_output excludes_record number_within decimal_value is_used address_of read_ipv4 read_ipv6 read_octet read_segment read_segments read_number excludes_application applications_said
 queue_of_the_greatest_message = refl
 
 first_in_the_order_of_the_line : server_plan_of (codes "--turns" ∷ codes "x" ∷ codes "--stdio" ∷ codes "--script" ∷ codes "-" ∷ codes "-p" ∷ codes "0" ∷ []) ≡ Err (Value (codes "-p"))
-unfolding clap_on_literals server_plan_of server_plan_in values_said limits_said level_in level_of starts_in three_in starts_a_listener excludes_mode file_name records_to_output excludes_record number_within decimal_value is_used address_of read_ipv4 read_ipv6 read_octet read_segment read_segments read_number
+unfolding clap_on_literals server_plan_of server_plan_in values_said limits_said level_in level_of starts_in three_in starts_a_listener excludes_mode file_name records_to_output excludes_record number_within decimal_value is_used address_of read_ipv4 read_ipv6 read_octet read_segment read_segments read_number excludes_application applications_said
 first_in_the_order_of_the_line = refl
 
 two_modes : server_plan_of (codes "--stdio" ∷ codes "--script" ∷ codes "-" ∷ []) ≡ Err Clash
-unfolding clap_on_literals server_plan_of server_plan_in values_said limits_said level_in level_of starts_in three_in starts_a_listener excludes_mode file_name records_to_output excludes_record number_within decimal_value is_used address_of read_ipv4 read_ipv6 read_octet read_segment read_segments read_number
+unfolding clap_on_literals server_plan_of server_plan_in values_said limits_said level_in level_of starts_in three_in starts_a_listener excludes_mode file_name records_to_output excludes_record number_within decimal_value is_used address_of read_ipv4 read_ipv6 read_octet read_segment read_segments read_number excludes_application applications_said
 two_modes = refl
 
-a_script : server_plan_of (codes "--script" ∷ codes "-" ∷ codes "--observers" ∷ codes "0256" ∷ []) ≡ Ok (record { mode = Script (codes "-"); limits = limits_of 65536 65536 131072 16 256 16; connections = 16; dynamic_max = 0; turns = 1000000000000; log = Nothing; idle = 0; starts = from_zero; «record» = None; record_limit = 1073741824 })
-unfolding clap_on_literals server_plan_of server_plan_in values_said limits_said level_in level_of starts_in three_in starts_a_listener excludes_mode file_name records_to_output excludes_record number_within decimal_value is_used address_of read_ipv4 read_ipv6 read_octet read_segment read_segments read_number
+a_script : server_plan_of (codes "--script" ∷ codes "-" ∷ codes "--observers" ∷ codes "0256" ∷ []) ≡ Ok (record { mode = Script (codes "-"); limits = limits_of 65536 65536 131072 16 256 16; connections = 16; dynamic_max = 0; turns = 1000000000000; log = Nothing; idle = 0; starts = from_zero; «record» = None; record_limit = 1073741824; applications = None })
+unfolding clap_on_literals server_plan_of server_plan_in values_said limits_said level_in level_of starts_in three_in starts_a_listener excludes_mode file_name records_to_output excludes_record number_within decimal_value is_used address_of read_ipv4 read_ipv6 read_octet read_segment read_segments read_number excludes_application applications_said
 a_script = refl
 
 a_stray_word : server_plan_of (codes "x" ∷ []) ≡ Err (Usage (kind.UnknownArgument ∷ []))
-unfolding clap_on_literals server_plan_of server_plan_in values_said limits_said level_in level_of starts_in three_in starts_a_listener excludes_mode file_name records_to_output excludes_record number_within decimal_value is_used address_of read_ipv4 read_ipv6 read_octet read_segment read_segments read_number
+unfolding clap_on_literals server_plan_of server_plan_in values_said limits_said level_in level_of starts_in three_in starts_a_listener excludes_mode file_name records_to_output excludes_record number_within decimal_value is_used address_of read_ipv4 read_ipv6 read_octet read_segment read_segments read_number excludes_application applications_said
 a_stray_word = refl
 
 help_of_the_server : server_plan_of (codes "--help" ∷ []) ≡ Err (Usage (kind.DisplayHelp ∷ []))
-unfolding clap_on_literals server_plan_of server_plan_in values_said limits_said level_in level_of starts_in three_in starts_a_listener excludes_mode file_name records_to_output excludes_record number_within decimal_value is_used address_of read_ipv4 read_ipv6 read_octet read_segment read_segments read_number
+unfolding clap_on_literals server_plan_of server_plan_in values_said limits_said level_in level_of starts_in three_in starts_a_listener excludes_mode file_name records_to_output excludes_record number_within decimal_value is_used address_of read_ipv4 read_ipv6 read_octet read_segment read_segments read_number excludes_application applications_said
 help_of_the_server = refl
 
 help_by_its_letter : server_plan_of (codes "-p" ∷ codes "0" ∷ codes "-h" ∷ []) ≡ Err (Usage (kind.DisplayHelp ∷ []))
-unfolding clap_on_literals server_plan_of server_plan_in values_said limits_said level_in level_of starts_in three_in starts_a_listener excludes_mode file_name records_to_output excludes_record number_within decimal_value is_used address_of read_ipv4 read_ipv6 read_octet read_segment read_segments read_number
+unfolding clap_on_literals server_plan_of server_plan_in values_said limits_said level_in level_of starts_in three_in starts_a_listener excludes_mode file_name records_to_output excludes_record number_within decimal_value is_used address_of read_ipv4 read_ipv6 read_octet read_segment read_segments read_number excludes_application applications_said
 help_by_its_letter = refl
 
 version_of_the_server : server_plan_of (codes "--version" ∷ []) ≡ Err (Usage (kind.DisplayVersion ∷ []))
-unfolding clap_on_literals server_plan_of server_plan_in values_said limits_said level_in level_of starts_in three_in starts_a_listener excludes_mode file_name records_to_output excludes_record number_within decimal_value is_used address_of read_ipv4 read_ipv6 read_octet read_segment read_segments read_number
+unfolding clap_on_literals server_plan_of server_plan_in values_said limits_said level_in level_of starts_in three_in starts_a_listener excludes_mode file_name records_to_output excludes_record number_within decimal_value is_used address_of read_ipv4 read_ipv6 read_octet read_segment read_segments read_number excludes_application applications_said
 version_of_the_server = refl
 
 version_by_its_letter : server_plan_of (codes "-V" ∷ codes "--turns" ∷ codes "0" ∷ []) ≡ Err (Usage (kind.DisplayVersion ∷ []))
-unfolding clap_on_literals server_plan_of server_plan_in values_said limits_said level_in level_of starts_in three_in starts_a_listener excludes_mode file_name records_to_output excludes_record number_within decimal_value is_used address_of read_ipv4 read_ipv6 read_octet read_segment read_segments read_number
+unfolding clap_on_literals server_plan_of server_plan_in values_said limits_said level_in level_of starts_in three_in starts_a_listener excludes_mode file_name records_to_output excludes_record number_within decimal_value is_used address_of read_ipv4 read_ipv6 read_octet read_segment read_segments read_number excludes_application applications_said
 version_by_its_letter = refl
 
 an_option_twice : server_plan_of (codes "-p" ∷ codes "1" ∷ codes "-p" ∷ codes "1" ∷ []) ≡ Err (Usage (kind.ArgumentConflict ∷ []))
-unfolding clap_on_literals server_plan_of server_plan_in values_said limits_said level_in level_of starts_in three_in starts_a_listener excludes_mode file_name records_to_output excludes_record number_within decimal_value is_used address_of read_ipv4 read_ipv6 read_octet read_segment read_segments read_number
+unfolding clap_on_literals server_plan_of server_plan_in values_said limits_said level_in level_of starts_in three_in starts_a_listener excludes_mode file_name records_to_output excludes_record number_within decimal_value is_used address_of read_ipv4 read_ipv6 read_octet read_segment read_segments read_number excludes_application applications_said
 an_option_twice = refl
 
-an_address : server_plan_of (codes "-A" ∷ codes "127.0.0.1" ∷ []) ≡ Ok (record { mode = Listen (ip.V4 (record { octets = 127 ∷ 0 ∷ 0 ∷ 1 ∷ [] })) 5683; limits = limits_of 65536 65536 131072 16 16 16; connections = 16; dynamic_max = 0; turns = 1000000000000; log = Nothing; idle = 0; starts = from_zero; «record» = None; record_limit = 1073741824 })
-unfolding clap_on_literals server_plan_of server_plan_in values_said limits_said level_in level_of starts_in three_in starts_a_listener excludes_mode file_name records_to_output excludes_record number_within decimal_value is_used address_of read_ipv4 read_ipv6 read_octet read_segment read_segments read_number
+an_address : server_plan_of (codes "-A" ∷ codes "127.0.0.1" ∷ []) ≡ Ok (record { mode = Listen (ip.V4 (record { octets = 127 ∷ 0 ∷ 0 ∷ 1 ∷ [] })) 5683; limits = limits_of 65536 65536 131072 16 16 16; connections = 16; dynamic_max = 0; turns = 1000000000000; log = Nothing; idle = 0; starts = from_zero; «record» = None; record_limit = 1073741824; applications = None })
+unfolding clap_on_literals server_plan_of server_plan_in values_said limits_said level_in level_of starts_in three_in starts_a_listener excludes_mode file_name records_to_output excludes_record number_within decimal_value is_used address_of read_ipv4 read_ipv6 read_octet read_segment read_segments read_number excludes_application applications_said
 an_address = refl
 
-an_address_with_colons : server_plan_of (codes "-A" ∷ codes "::1" ∷ []) ≡ Ok (record { mode = Listen (ip.V6 (record { segments = 0 ∷ 0 ∷ 0 ∷ 0 ∷ 0 ∷ 0 ∷ 0 ∷ 1 ∷ [] })) 5683; limits = limits_of 65536 65536 131072 16 16 16; connections = 16; dynamic_max = 0; turns = 1000000000000; log = Nothing; idle = 0; starts = from_zero; «record» = None; record_limit = 1073741824 })
-unfolding clap_on_literals server_plan_of server_plan_in values_said limits_said level_in level_of starts_in three_in starts_a_listener excludes_mode file_name records_to_output excludes_record number_within decimal_value is_used address_of read_ipv4 read_ipv6 read_octet read_segment read_segments read_number
+an_address_with_colons : server_plan_of (codes "-A" ∷ codes "::1" ∷ []) ≡ Ok (record { mode = Listen (ip.V6 (record { segments = 0 ∷ 0 ∷ 0 ∷ 0 ∷ 0 ∷ 0 ∷ 0 ∷ 1 ∷ [] })) 5683; limits = limits_of 65536 65536 131072 16 16 16; connections = 16; dynamic_max = 0; turns = 1000000000000; log = Nothing; idle = 0; starts = from_zero; «record» = None; record_limit = 1073741824; applications = None })
+unfolding clap_on_literals server_plan_of server_plan_in values_said limits_said level_in level_of starts_in three_in starts_a_listener excludes_mode file_name records_to_output excludes_record number_within decimal_value is_used address_of read_ipv4 read_ipv6 read_octet read_segment read_segments read_number excludes_application applications_said
 an_address_with_colons = refl
 
 no_address : server_plan_of (codes "-A" ∷ codes "localhost" ∷ []) ≡ Err (Value (codes "-A"))
-unfolding clap_on_literals server_plan_of server_plan_in values_said limits_said level_in level_of starts_in three_in starts_a_listener excludes_mode file_name records_to_output excludes_record number_within decimal_value is_used address_of read_ipv4 read_ipv6 read_octet read_segment read_segments read_number
+unfolding clap_on_literals server_plan_of server_plan_in values_said limits_said level_in level_of starts_in three_in starts_a_listener excludes_mode file_name records_to_output excludes_record number_within decimal_value is_used address_of read_ipv4 read_ipv6 read_octet read_segment read_segments read_number excludes_application applications_said
 no_address = refl
 
-a_log : server_plan_of (codes "--log" ∷ codes "2" ∷ codes "--idle" ∷ codes "5" ∷ []) ≡ Ok (record { mode = Listen every_address 5683; limits = limits_of 65536 65536 131072 16 16 16; connections = 16; dynamic_max = 0; turns = 1000000000000; log = Connections; idle = 5; starts = from_zero; «record» = None; record_limit = 1073741824 })
-unfolding clap_on_literals server_plan_of server_plan_in values_said limits_said level_in level_of starts_in three_in starts_a_listener excludes_mode file_name records_to_output excludes_record number_within decimal_value is_used address_of read_ipv4 read_ipv6 read_octet read_segment read_segments read_number
+a_log : server_plan_of (codes "--log" ∷ codes "2" ∷ codes "--idle" ∷ codes "5" ∷ []) ≡ Ok (record { mode = Listen every_address 5683; limits = limits_of 65536 65536 131072 16 16 16; connections = 16; dynamic_max = 0; turns = 1000000000000; log = Connections; idle = 5; starts = from_zero; «record» = None; record_limit = 1073741824; applications = None })
+unfolding clap_on_literals server_plan_of server_plan_in values_said limits_said level_in level_of starts_in three_in starts_a_listener excludes_mode file_name records_to_output excludes_record number_within decimal_value is_used address_of read_ipv4 read_ipv6 read_octet read_segment read_segments read_number excludes_application applications_said
 a_log = refl
 
 no_level : server_plan_of (codes "--idle" ∷ codes "x" ∷ codes "--log" ∷ codes "4" ∷ []) ≡ Err (Value (codes "--log"))
-unfolding clap_on_literals server_plan_of server_plan_in values_said limits_said level_in level_of starts_in three_in starts_a_listener excludes_mode file_name records_to_output excludes_record number_within decimal_value is_used address_of read_ipv4 read_ipv6 read_octet read_segment read_segments read_number
+unfolding clap_on_literals server_plan_of server_plan_in values_said limits_said level_in level_of starts_in three_in starts_a_listener excludes_mode file_name records_to_output excludes_record number_within decimal_value is_used address_of read_ipv4 read_ipv6 read_octet read_segment read_segments read_number excludes_application applications_said
 no_level = refl
 
 too_long_a_silence : server_plan_of (codes "--idle" ∷ codes "4294967296" ∷ []) ≡ Err (Value (codes "--idle"))
-unfolding clap_on_literals server_plan_of server_plan_in values_said limits_said level_in level_of starts_in three_in starts_a_listener excludes_mode file_name records_to_output excludes_record number_within decimal_value is_used address_of read_ipv4 read_ipv6 read_octet read_segment read_segments read_number
+unfolding clap_on_literals server_plan_of server_plan_in values_said limits_said level_in level_of starts_in three_in starts_a_listener excludes_mode file_name records_to_output excludes_record number_within decimal_value is_used address_of read_ipv4 read_ipv6 read_octet read_segment read_segments read_number excludes_application applications_said
 too_long_a_silence = refl
 
 a_log_of_a_script : server_plan_of (codes "--script" ∷ codes "-" ∷ codes "--log" ∷ codes "0" ∷ []) ≡ Err Clash
-unfolding clap_on_literals server_plan_of server_plan_in values_said limits_said level_in level_of starts_in three_in starts_a_listener excludes_mode file_name records_to_output excludes_record number_within decimal_value is_used address_of read_ipv4 read_ipv6 read_octet read_segment read_segments read_number
+unfolding clap_on_literals server_plan_of server_plan_in values_said limits_said level_in level_of starts_in three_in starts_a_listener excludes_mode file_name records_to_output excludes_record number_within decimal_value is_used address_of read_ipv4 read_ipv6 read_octet read_segment read_segments read_number excludes_application applications_said
 a_log_of_a_script = refl
 
 silence_of_a_script : server_plan_of (codes "--script" ∷ codes "-" ∷ codes "--idle" ∷ codes "0" ∷ []) ≡ Err Clash
-unfolding clap_on_literals server_plan_of server_plan_in values_said limits_said level_in level_of starts_in three_in starts_a_listener excludes_mode file_name records_to_output excludes_record number_within decimal_value is_used address_of read_ipv4 read_ipv6 read_octet read_segment read_segments read_number
+unfolding clap_on_literals server_plan_of server_plan_in values_said limits_said level_in level_of starts_in three_in starts_a_listener excludes_mode file_name records_to_output excludes_record number_within decimal_value is_used address_of read_ipv4 read_ipv6 read_octet read_segment read_segments read_number excludes_application applications_said
 silence_of_a_script = refl
 
 silence_of_standard_input : server_plan_of (codes "--stdio" ∷ codes "--idle" ∷ codes "0" ∷ []) ≡ Err Clash
-unfolding clap_on_literals server_plan_of server_plan_in values_said limits_said level_in level_of starts_in three_in starts_a_listener excludes_mode file_name records_to_output excludes_record number_within decimal_value is_used address_of read_ipv4 read_ipv6 read_octet read_segment read_segments read_number
+unfolding clap_on_literals server_plan_of server_plan_in values_said limits_said level_in level_of starts_in three_in starts_a_listener excludes_mode file_name records_to_output excludes_record number_within decimal_value is_used address_of read_ipv4 read_ipv6 read_octet read_segment read_segments read_number excludes_application applications_said
 silence_of_standard_input = refl
 
-a_log_of_standard_input : server_plan_of (codes "--stdio" ∷ codes "--log" ∷ codes "3" ∷ []) ≡ Ok (record { mode = Stdio; limits = limits_of 65536 65536 131072 16 16 16; connections = 16; dynamic_max = 0; turns = 1000000000000; log = Messages; idle = 0; starts = from_zero; «record» = None; record_limit = 1073741824 })
-unfolding clap_on_literals server_plan_of server_plan_in values_said limits_said level_in level_of starts_in three_in starts_a_listener excludes_mode file_name records_to_output excludes_record number_within decimal_value is_used address_of read_ipv4 read_ipv6 read_octet read_segment read_segments read_number
+a_log_of_standard_input : server_plan_of (codes "--stdio" ∷ codes "--log" ∷ codes "3" ∷ []) ≡ Ok (record { mode = Stdio; limits = limits_of 65536 65536 131072 16 16 16; connections = 16; dynamic_max = 0; turns = 1000000000000; log = Messages; idle = 0; starts = from_zero; «record» = None; record_limit = 1073741824; applications = None })
+unfolding clap_on_literals server_plan_of server_plan_in values_said limits_said level_in level_of starts_in three_in starts_a_listener excludes_mode file_name records_to_output excludes_record number_within decimal_value is_used address_of read_ipv4 read_ipv6 read_octet read_segment read_segments read_number excludes_application applications_said
 a_log_of_standard_input = refl
 
-starts_of_a_script : server_plan_of (codes "--script" ∷ codes "-" ∷ codes "--starts" ∷ codes "1700000000,111411200000000,7" ∷ []) ≡ Ok (record { mode = Script (codes "-"); limits = limits_of 65536 65536 131072 16 16 16; connections = 16; dynamic_max = 0; turns = 1000000000000; log = Nothing; idle = 0; starts = record { moment = 1700000000; versions = 111411200000000; ids = 7 }; «record» = None; record_limit = 1073741824 })
-unfolding clap_on_literals server_plan_of server_plan_in values_said limits_said level_in level_of starts_in three_in starts_a_listener excludes_mode file_name records_to_output excludes_record number_within decimal_value is_used address_of read_ipv4 read_ipv6 read_octet read_segment read_segments read_number
+starts_of_a_script : server_plan_of (codes "--script" ∷ codes "-" ∷ codes "--starts" ∷ codes "1700000000,111411200000000,7" ∷ []) ≡ Ok (record { mode = Script (codes "-"); limits = limits_of 65536 65536 131072 16 16 16; connections = 16; dynamic_max = 0; turns = 1000000000000; log = Nothing; idle = 0; starts = record { moment = 1700000000; versions = 111411200000000; ids = 7 }; «record» = None; record_limit = 1073741824; applications = None })
+unfolding clap_on_literals server_plan_of server_plan_in values_said limits_said level_in level_of starts_in three_in starts_a_listener excludes_mode file_name records_to_output excludes_record number_within decimal_value is_used address_of read_ipv4 read_ipv6 read_octet read_segment read_segments read_number excludes_application applications_said
 starts_of_a_script = refl
 
-starts_of_standard_input : server_plan_of (codes "--starts=1,2,3" ∷ codes "--stdio" ∷ codes "--log" ∷ codes "1" ∷ []) ≡ Ok (record { mode = Stdio; limits = limits_of 65536 65536 131072 16 16 16; connections = 16; dynamic_max = 0; turns = 1000000000000; log = Warnings; idle = 0; starts = record { moment = 1; versions = 2; ids = 3 }; «record» = None; record_limit = 1073741824 })
-unfolding clap_on_literals server_plan_of server_plan_in values_said limits_said level_in level_of starts_in three_in starts_a_listener excludes_mode file_name records_to_output excludes_record number_within decimal_value is_used address_of read_ipv4 read_ipv6 read_octet read_segment read_segments read_number
+starts_of_standard_input : server_plan_of (codes "--starts=1,2,3" ∷ codes "--stdio" ∷ codes "--log" ∷ codes "1" ∷ []) ≡ Ok (record { mode = Stdio; limits = limits_of 65536 65536 131072 16 16 16; connections = 16; dynamic_max = 0; turns = 1000000000000; log = Warnings; idle = 0; starts = record { moment = 1; versions = 2; ids = 3 }; «record» = None; record_limit = 1073741824; applications = None })
+unfolding clap_on_literals server_plan_of server_plan_in values_said limits_said level_in level_of starts_in three_in starts_a_listener excludes_mode file_name records_to_output excludes_record number_within decimal_value is_used address_of read_ipv4 read_ipv6 read_octet read_segment read_segments read_number excludes_application applications_said
 starts_of_standard_input = refl
 
 starts_of_a_listener : server_plan_of (codes "--starts" ∷ codes "0,0,0" ∷ []) ≡ Err Clash
-unfolding clap_on_literals server_plan_of server_plan_in values_said limits_said level_in level_of starts_in three_in starts_a_listener excludes_mode file_name records_to_output excludes_record number_within decimal_value is_used address_of read_ipv4 read_ipv6 read_octet read_segment read_segments read_number
+unfolding clap_on_literals server_plan_of server_plan_in values_said limits_said level_in level_of starts_in three_in starts_a_listener excludes_mode file_name records_to_output excludes_record number_within decimal_value is_used address_of read_ipv4 read_ipv6 read_octet read_segment read_segments read_number excludes_application applications_said
 starts_of_a_listener = refl
 
 starts_after_the_idle_time : server_plan_of (codes "--starts" ∷ codes "x" ∷ codes "--idle" ∷ codes "x" ∷ codes "--stdio" ∷ []) ≡ Err (Value (codes "--idle"))
-unfolding clap_on_literals server_plan_of server_plan_in values_said limits_said level_in level_of starts_in three_in starts_a_listener excludes_mode file_name records_to_output excludes_record number_within decimal_value is_used address_of read_ipv4 read_ipv6 read_octet read_segment read_segments read_number
+unfolding clap_on_literals server_plan_of server_plan_in values_said limits_said level_in level_of starts_in three_in starts_a_listener excludes_mode file_name records_to_output excludes_record number_within decimal_value is_used address_of read_ipv4 read_ipv6 read_octet read_segment read_segments read_number excludes_application applications_said
 starts_after_the_idle_time = refl
 
 starts_of_two_numbers : server_plan_of (codes "--starts" ∷ codes "1,2" ∷ codes "--script" ∷ codes "-" ∷ []) ≡ Err (Value (codes "--starts"))
-unfolding clap_on_literals server_plan_of server_plan_in values_said limits_said level_in level_of starts_in three_in starts_a_listener excludes_mode file_name records_to_output excludes_record number_within decimal_value is_used address_of read_ipv4 read_ipv6 read_octet read_segment read_segments read_number
+unfolding clap_on_literals server_plan_of server_plan_in values_said limits_said level_in level_of starts_in three_in starts_a_listener excludes_mode file_name records_to_output excludes_record number_within decimal_value is_used address_of read_ipv4 read_ipv6 read_octet read_segment read_segments read_number excludes_application applications_said
 starts_of_two_numbers = refl
 
 a_value_before_a_clash : server_plan_of (codes "--starts" ∷ codes "1,2" ∷ []) ≡ Err (Value (codes "--starts"))
-unfolding clap_on_literals server_plan_of server_plan_in values_said limits_said level_in level_of starts_in three_in starts_a_listener excludes_mode file_name records_to_output excludes_record number_within decimal_value is_used address_of read_ipv4 read_ipv6 read_octet read_segment read_segments read_number
+unfolding clap_on_literals server_plan_of server_plan_in values_said limits_said level_in level_of starts_in three_in starts_a_listener excludes_mode file_name records_to_output excludes_record number_within decimal_value is_used address_of read_ipv4 read_ipv6 read_octet read_segment read_segments read_number excludes_application applications_said
 a_value_before_a_clash = refl
 
-a_record : server_plan_of (codes "--record-limit" ∷ codes "5" ∷ codes "--record" ∷ codes "a/b" ∷ []) ≡ Ok (record { mode = Listen every_address 5683; limits = limits_of 65536 65536 131072 16 16 16; connections = 16; dynamic_max = 0; turns = 1000000000000; log = Nothing; idle = 0; starts = from_zero; «record» = Some (codes "a/b"); record_limit = 5 })
-unfolding clap_on_literals server_plan_of server_plan_in values_said limits_said level_in level_of starts_in three_in starts_a_listener excludes_mode file_name records_to_output excludes_record number_within decimal_value is_used address_of read_ipv4 read_ipv6 read_octet read_segment read_segments read_number
+a_record : server_plan_of (codes "--record-limit" ∷ codes "5" ∷ codes "--record" ∷ codes "a/b" ∷ []) ≡ Ok (record { mode = Listen every_address 5683; limits = limits_of 65536 65536 131072 16 16 16; connections = 16; dynamic_max = 0; turns = 1000000000000; log = Nothing; idle = 0; starts = from_zero; «record» = Some (codes "a/b"); record_limit = 5; applications = None })
+unfolding clap_on_literals server_plan_of server_plan_in values_said limits_said level_in level_of starts_in three_in starts_a_listener excludes_mode file_name records_to_output excludes_record number_within decimal_value is_used address_of read_ipv4 read_ipv6 read_octet read_segment read_segments read_number excludes_application applications_said
 a_record = refl
 
-a_record_of_the_usual_size : server_plan_of (codes "--record" ∷ codes "r" ∷ []) ≡ Ok (record { mode = Listen every_address 5683; limits = limits_of 65536 65536 131072 16 16 16; connections = 16; dynamic_max = 0; turns = 1000000000000; log = Nothing; idle = 0; starts = from_zero; «record» = Some (codes "r"); record_limit = 1073741824 })
-unfolding clap_on_literals server_plan_of server_plan_in values_said limits_said level_in level_of starts_in three_in starts_a_listener excludes_mode file_name records_to_output excludes_record number_within decimal_value is_used address_of read_ipv4 read_ipv6 read_octet read_segment read_segments read_number
+a_record_of_the_usual_size : server_plan_of (codes "--record" ∷ codes "r" ∷ []) ≡ Ok (record { mode = Listen every_address 5683; limits = limits_of 65536 65536 131072 16 16 16; connections = 16; dynamic_max = 0; turns = 1000000000000; log = Nothing; idle = 0; starts = from_zero; «record» = Some (codes "r"); record_limit = 1073741824; applications = None })
+unfolding clap_on_literals server_plan_of server_plan_in values_said limits_said level_in level_of starts_in three_in starts_a_listener excludes_mode file_name records_to_output excludes_record number_within decimal_value is_used address_of read_ipv4 read_ipv6 read_octet read_segment read_segments read_number excludes_application applications_said
 a_record_of_the_usual_size = refl
 
-a_record_on_standard_output : server_plan_of (codes "--record" ∷ codes "-" ∷ []) ≡ Ok (record { mode = Listen every_address 5683; limits = limits_of 65536 65536 131072 16 16 16; connections = 16; dynamic_max = 0; turns = 1000000000000; log = Nothing; idle = 0; starts = from_zero; «record» = Some (codes "-"); record_limit = 1073741824 })
-unfolding clap_on_literals server_plan_of server_plan_in values_said limits_said level_in level_of starts_in three_in starts_a_listener excludes_mode file_name records_to_output excludes_record number_within decimal_value is_used address_of read_ipv4 read_ipv6 read_octet read_segment read_segments read_number
+a_record_on_standard_output : server_plan_of (codes "--record" ∷ codes "-" ∷ []) ≡ Ok (record { mode = Listen every_address 5683; limits = limits_of 65536 65536 131072 16 16 16; connections = 16; dynamic_max = 0; turns = 1000000000000; log = Nothing; idle = 0; starts = from_zero; «record» = Some (codes "-"); record_limit = 1073741824; applications = None })
+unfolding clap_on_literals server_plan_of server_plan_in values_said limits_said level_in level_of starts_in three_in starts_a_listener excludes_mode file_name records_to_output excludes_record number_within decimal_value is_used address_of read_ipv4 read_ipv6 read_octet read_segment read_segments read_number excludes_application applications_said
 a_record_on_standard_output = refl
 
-a_record_of_standard_input : server_plan_of (codes "--stdio" ∷ codes "--record=r" ∷ codes "--record-limit=18446744073709551615" ∷ []) ≡ Ok (record { mode = Stdio; limits = limits_of 65536 65536 131072 16 16 16; connections = 16; dynamic_max = 0; turns = 1000000000000; log = Nothing; idle = 0; starts = from_zero; «record» = Some (codes "r"); record_limit = 18446744073709551615 })
-unfolding clap_on_literals server_plan_of server_plan_in values_said limits_said level_in level_of starts_in three_in starts_a_listener excludes_mode file_name records_to_output excludes_record number_within decimal_value is_used address_of read_ipv4 read_ipv6 read_octet read_segment read_segments read_number
+a_record_of_standard_input : server_plan_of (codes "--stdio" ∷ codes "--record=r" ∷ codes "--record-limit=18446744073709551615" ∷ []) ≡ Ok (record { mode = Stdio; limits = limits_of 65536 65536 131072 16 16 16; connections = 16; dynamic_max = 0; turns = 1000000000000; log = Nothing; idle = 0; starts = from_zero; «record» = Some (codes "r"); record_limit = 18446744073709551615; applications = None })
+unfolding clap_on_literals server_plan_of server_plan_in values_said limits_said level_in level_of starts_in three_in starts_a_listener excludes_mode file_name records_to_output excludes_record number_within decimal_value is_used address_of read_ipv4 read_ipv6 read_octet read_segment read_segments read_number excludes_application applications_said
 a_record_of_standard_input = refl
 
 a_record_of_standard_input_on_standard_output : server_plan_of (codes "--record" ∷ codes "-" ∷ codes "--stdio" ∷ []) ≡ Err Clash
-unfolding clap_on_literals server_plan_of server_plan_in values_said limits_said level_in level_of starts_in three_in starts_a_listener excludes_mode file_name records_to_output excludes_record number_within decimal_value is_used address_of read_ipv4 read_ipv6 read_octet read_segment read_segments read_number
+unfolding clap_on_literals server_plan_of server_plan_in values_said limits_said level_in level_of starts_in three_in starts_a_listener excludes_mode file_name records_to_output excludes_record number_within decimal_value is_used address_of read_ipv4 read_ipv6 read_octet read_segment read_segments read_number excludes_application applications_said
 a_record_of_standard_input_on_standard_output = refl
 
 a_record_of_a_script : server_plan_of (codes "--script" ∷ codes "s" ∷ codes "--record" ∷ codes "r" ∷ []) ≡ Err Clash
-unfolding clap_on_literals server_plan_of server_plan_in values_said limits_said level_in level_of starts_in three_in starts_a_listener excludes_mode file_name records_to_output excludes_record number_within decimal_value is_used address_of read_ipv4 read_ipv6 read_octet read_segment read_segments read_number
+unfolding clap_on_literals server_plan_of server_plan_in values_said limits_said level_in level_of starts_in three_in starts_a_listener excludes_mode file_name records_to_output excludes_record number_within decimal_value is_used address_of read_ipv4 read_ipv6 read_octet read_segment read_segments read_number excludes_application applications_said
 a_record_of_a_script = refl
 
 a_limit_without_a_record : server_plan_of (codes "--record-limit" ∷ codes "1" ∷ []) ≡ Err Clash
-unfolding clap_on_literals server_plan_of server_plan_in values_said limits_said level_in level_of starts_in three_in starts_a_listener excludes_mode file_name records_to_output excludes_record number_within decimal_value is_used address_of read_ipv4 read_ipv6 read_octet read_segment read_segments read_number
+unfolding clap_on_literals server_plan_of server_plan_in values_said limits_said level_in level_of starts_in three_in starts_a_listener excludes_mode file_name records_to_output excludes_record number_within decimal_value is_used address_of read_ipv4 read_ipv6 read_octet read_segment read_segments read_number excludes_application applications_said
 a_limit_without_a_record = refl
 
 a_limit_of_a_script : server_plan_of (codes "--record-limit" ∷ codes "1" ∷ codes "--script" ∷ codes "-" ∷ []) ≡ Err Clash
-unfolding clap_on_literals server_plan_of server_plan_in values_said limits_said level_in level_of starts_in three_in starts_a_listener excludes_mode file_name records_to_output excludes_record number_within decimal_value is_used address_of read_ipv4 read_ipv6 read_octet read_segment read_segments read_number
+unfolding clap_on_literals server_plan_of server_plan_in values_said limits_said level_in level_of starts_in three_in starts_a_listener excludes_mode file_name records_to_output excludes_record number_within decimal_value is_used address_of read_ipv4 read_ipv6 read_octet read_segment read_segments read_number excludes_application applications_said
 a_limit_of_a_script = refl
 
 a_record_without_a_name : server_plan_of (codes "--record=" ∷ codes "--script" ∷ codes "-" ∷ []) ≡ Err (Value (codes "--record"))
-unfolding clap_on_literals server_plan_of server_plan_in values_said limits_said level_in level_of starts_in three_in starts_a_listener excludes_mode file_name records_to_output excludes_record number_within decimal_value is_used address_of read_ipv4 read_ipv6 read_octet read_segment read_segments read_number
+unfolding clap_on_literals server_plan_of server_plan_in values_said limits_said level_in level_of starts_in three_in starts_a_listener excludes_mode file_name records_to_output excludes_record number_within decimal_value is_used address_of read_ipv4 read_ipv6 read_octet read_segment read_segments read_number excludes_application applications_said
 a_record_without_a_name = refl
 
 a_record_without_a_byte : server_plan_of (codes "--record-limit" ∷ codes "0" ∷ codes "--record" ∷ codes "r" ∷ []) ≡ Err (Value (codes "--record-limit"))
-unfolding clap_on_literals server_plan_of server_plan_in values_said limits_said level_in level_of starts_in three_in starts_a_listener excludes_mode file_name records_to_output excludes_record number_within decimal_value is_used address_of read_ipv4 read_ipv6 read_octet read_segment read_segments read_number
+unfolding clap_on_literals server_plan_of server_plan_in values_said limits_said level_in level_of starts_in three_in starts_a_listener excludes_mode file_name records_to_output excludes_record number_within decimal_value is_used address_of read_ipv4 read_ipv6 read_octet read_segment read_segments read_number excludes_application applications_said
 a_record_without_a_byte = refl
 
 a_limit_too_large : server_plan_of (codes "--record" ∷ codes "r" ∷ codes "--record-limit" ∷ codes "18446744073709551616" ∷ []) ≡ Err (Value (codes "--record-limit"))
-unfolding clap_on_literals server_plan_of server_plan_in values_said limits_said level_in level_of starts_in three_in starts_a_listener excludes_mode file_name records_to_output excludes_record number_within decimal_value is_used address_of read_ipv4 read_ipv6 read_octet read_segment read_segments read_number
+unfolding clap_on_literals server_plan_of server_plan_in values_said limits_said level_in level_of starts_in three_in starts_a_listener excludes_mode file_name records_to_output excludes_record number_within decimal_value is_used address_of read_ipv4 read_ipv6 read_octet read_segment read_segments read_number excludes_application applications_said
 a_limit_too_large = refl
 
 record_after_the_starts : server_plan_of (codes "--record-limit" ∷ codes "0" ∷ codes "--record=" ∷ codes "--starts" ∷ codes "1,2" ∷ codes "--stdio" ∷ []) ≡ Err (Value (codes "--starts"))
-unfolding clap_on_literals server_plan_of server_plan_in values_said limits_said level_in level_of starts_in three_in starts_a_listener excludes_mode file_name records_to_output excludes_record number_within decimal_value is_used address_of read_ipv4 read_ipv6 read_octet read_segment read_segments read_number
+unfolding clap_on_literals server_plan_of server_plan_in values_said limits_said level_in level_of starts_in three_in starts_a_listener excludes_mode file_name records_to_output excludes_record number_within decimal_value is_used address_of read_ipv4 read_ipv6 read_octet read_segment read_segments read_number excludes_application applications_said
 record_after_the_starts = refl
 
 record_before_its_limit : server_plan_of (codes "--record-limit" ∷ codes "0" ∷ codes "--record=" ∷ []) ≡ Err (Value (codes "--record"))
-unfolding clap_on_literals server_plan_of server_plan_in values_said limits_said level_in level_of starts_in three_in starts_a_listener excludes_mode file_name records_to_output excludes_record number_within decimal_value is_used address_of read_ipv4 read_ipv6 read_octet read_segment read_segments read_number
+unfolding clap_on_literals server_plan_of server_plan_in values_said limits_said level_in level_of starts_in three_in starts_a_listener excludes_mode file_name records_to_output excludes_record number_within decimal_value is_used address_of read_ipv4 read_ipv6 read_octet read_segment read_segments read_number excludes_application applications_said
 record_before_its_limit = refl
 
 -- Start values: three numbers, of which the last is smaller than the others.
@@ -237,6 +241,60 @@ a_space = refl
 a_sign : starts_in (codes "+1,2,3") ≡ None
 unfolding starts_in three_in number_within decimal_value
 a_sign = refl
+
+-- ---- entries of an application
+
+a_method_by_its_name : method_in (codes "ipatch") ≡ Some 7
+unfolding method_in
+a_method_by_its_name = refl
+
+a_method_by_its_code : method_in (codes "0.08") ≡ Some 8
+unfolding method_in code_in number_within decimal_value
+a_method_by_its_code = refl
+
+the_last_method : method_in (codes "0.31") ≡ Some 31
+unfolding method_in code_in number_within decimal_value
+the_last_method = refl
+
+a_code_of_no_method : method_in (codes "0.32") ≡ None
+unfolding method_in code_in number_within decimal_value
+a_code_of_no_method = refl
+
+an_empty_message : method_in (codes "0.00") ≡ None
+unfolding method_in code_in number_within decimal_value
+an_empty_message = refl
+
+a_code_of_a_response : method_in (codes "2.01") ≡ None
+unfolding method_in code_in number_within decimal_value
+a_code_of_a_response = refl
+
+an_entry : with_text no_entries (codes "/rd/%3B;post,get;rt=x;ct=40") ≡ Some (record { deadline = 60; entries = record { prefix = codes "rd" ∷ codes ";" ∷ []; methods = 2 ∷ 1 ∷ []; attributes = codes "rt=x;ct=40" } ∷ [] })
+unfolding with_texts with_text codes_of method_in code_in before after path_value segments_of percent_decode key_for is_path entry_refusal are_methods are_attributes is_name_char is_token_char number_within decimal_value
+an_entry = refl
+
+an_entry_without_attributes : with_text no_entries (codes "/a;get") ≡ Some (record { deadline = 60; entries = record { prefix = codes "a" ∷ []; methods = 1 ∷ []; attributes = [] } ∷ [] })
+unfolding with_texts with_text codes_of method_in code_in before after path_value segments_of percent_decode key_for is_path entry_refusal are_methods are_attributes is_name_char is_token_char number_within decimal_value
+an_entry_without_attributes = refl
+
+an_entry_without_methods : with_text no_entries (codes "/a") ≡ None
+unfolding with_texts with_text codes_of method_in code_in before after path_value segments_of percent_decode key_for is_path entry_refusal are_methods are_attributes is_name_char is_token_char number_within decimal_value
+an_entry_without_methods = refl
+
+the_root : with_text no_entries (codes "/;get") ≡ None
+unfolding with_texts with_text codes_of method_in code_in before after path_value segments_of percent_decode key_for is_path entry_refusal are_methods are_attributes is_name_char is_token_char number_within decimal_value
+the_root = refl
+
+the_same_path_twice : with_texts no_entries (codes "/a;get" ∷ codes "/a;post" ∷ []) ≡ Err (codes "/a;post")
+unfolding with_texts with_text codes_of method_in code_in before after path_value segments_of percent_decode key_for is_path entry_refusal are_methods are_attributes is_name_char is_token_char number_within decimal_value
+the_same_path_twice = refl
+
+entries_of_a_listener : server_plan_of (codes "--application" ∷ codes "/a;get" ∷ []) ≡ Err Clash
+unfolding clap_on_literals server_plan_of server_plan_in values_said limits_said level_in level_of starts_in three_in starts_a_listener excludes_mode file_name records_to_output excludes_record number_within decimal_value is_used address_of read_ipv4 read_ipv6 read_octet read_segment read_segments read_number excludes_application applications_said with_texts with_text codes_of method_in code_in before after path_value segments_of percent_decode key_for is_path entry_refusal are_methods are_attributes is_name_char is_token_char
+entries_of_a_listener = refl
+
+a_bad_entry_before_a_clash : server_plan_of (codes "--application=/a" ∷ codes "--stdio" ∷ []) ≡ Err (Value (codes "--application"))
+unfolding clap_on_literals server_plan_of server_plan_in values_said limits_said level_in level_of starts_in three_in starts_a_listener excludes_mode file_name records_to_output excludes_record number_within decimal_value is_used address_of read_ipv4 read_ipv6 read_octet read_segment read_segments read_number excludes_application applications_said with_texts with_text codes_of method_in code_in before after path_value segments_of percent_decode key_for is_path entry_refusal are_methods are_attributes is_name_char is_token_char
+a_bad_entry_before_a_clash = refl
 
 -- ---- coap-client
 

@@ -1,13 +1,13 @@
 -- Defined by this project: the parts of a command line that both programs share. The crate `clap` finds the options and
 -- their texts, and this file defines the values of the texts.
-use Rattle.std.specs.Prelude.{◌∷◌, [], ℕ, Bool, true, false, List, drop, Option, Some, None, Result, Ok, Err, slice_get, codes, bytes_eq, if◌then◌else◌}
+use Rattle.std.specs.Prelude.{◌∷◌, [], ℕ, Bool, true, false, List, drop, Option, Some, None, Result, Ok, Err, slice_get, codes, bytes_eq, ◌==◌, if◌then◌else◌}
 use Rattle.std.specs.Borrow.{Bor}
 use Rattle.std.specs.Option.{option_map_or}
 use Rattle.clap.specs.Simple.{new_shape}
 use Rattle.clap.specs.Words.{App, Kinds, Row, Rule, Text, first_of, new_rule}
-use Rattle.clap.specs.declared.builder.action.ArgAction.TheVariants.{SetTrue}
+use Rattle.clap.specs.declared.builder.action.ArgAction.TheVariants.{Append, SetTrue}
 use Rattle.coap_limits.specs.Limits.{is_within}
-use Rattle.coap_text.specs.Words.{decimal_value}
+use Rattle.coap_text.specs.Words.{decimal_value, parts}
 use Rattle.coap_print.specs.Levels.{level_of}
 use Rattle.coap_print.specs.declared.level.LogLevel.{LogLevel}
 use Rattle.coap_request.specs.declared.target.TargetFault.{TargetFault}
@@ -42,6 +42,10 @@ letter_option name = record (new_rule name) { short = slice_get name 1; value_na
 abbrev pub word_option : Text → Rule
 word_option name = record (new_rule name) { long = Some (drop 2 name); value_names = 1 }
 
+-- A long option with a value that may be given several times.
+abbrev pub repeated_option : Text → Rule
+repeated_option name = record (new_rule name) { long = Some (drop 2 name); value_names = 1; action = Some Append }
+
 -- A short option without a value.
 abbrev pub letter_flag : Text → Rule
 letter_flag name = record (new_rule name) { short = slice_get name 1; action = Some SetTrue }
@@ -75,6 +79,25 @@ infixl 10 ◌>>=◌
 abbrev pub ◌>>=◌ : {A B E : Type 0} → Result A E → (A → Result B E) → Result B E
 Ok value >>= next = next value
 Err name >>= next = Err name
+
+-- ---- parts of a text
+
+abbrev pub comma : ℕ
+comma = 44
+
+-- The first part, if there is one.
+abbrev pub first_part : List Text → Text
+first_part [] = []
+first_part (part ∷ rest) = part
+
+-- The bytes before the first separator, or all if there is none.
+unfoldable pub before : ℕ → Text → Text
+before separator bytes = first_part (parts separator bytes)
+
+-- The bytes after the first separator, or none if there is none.
+unfoldable pub after : ℕ → Text → Text
+after separator [] = []
+after separator (byte ∷ bytes) = if byte == separator then bytes else after separator bytes
 
 -- ---- numbers
 

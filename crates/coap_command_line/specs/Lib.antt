@@ -1,4 +1,5 @@
 pub mod CommandLines
+pub mod ApplicationWords
 pub mod ServerWords
 pub mod ClientWords
 pub mod PlanViews

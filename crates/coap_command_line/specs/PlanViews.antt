@@ -13,6 +13,8 @@ use Rattle.coap_request.specs.declared.plan.ClientPlan.{ClientPlan}
 use Rattle.coap_request.specs.declared.plan.Mode.{Mode}
 use Rattle.coap_request.specs.declared.plan.Mode.TheVariants as modes
 use Rattle.coap_request.specs.declared.plan.ServerPlan.{ServerPlan}
+use Rattle.coap_command_line.specs.declared.arguments.applications.EntryFault.{EntryFault}
+use Rattle.coap_command_line.specs.declared.arguments.applications.EntryFault.TheVariants as entries
 use Rattle.coap_command_line.specs.declared.arguments.WordsFault.{WordsFault}
 use Rattle.coap_command_line.specs.declared.arguments.WordsFault.TheVariants as faults
 
@@ -35,6 +37,7 @@ server_value plan = record {
   starts = plan.starts;
   «record» = option_map string_bytes plan.record;
   record_limit = plan.record_limit;
+  applications = plan.applications;
 }
 
 -- The number and the value of the extra option.
@@ -102,6 +105,13 @@ IsTurnedDown kinds other = ⊥
 abbrev pub TellsServerPlan : Result ServerPlanValue WordsFaultValue → Result ServerPlan WordsFault → Type 0
 TellsServerPlan answer (Ok plan) = answer ≡ Ok (server_value plan)
 TellsServerPlan answer (Err refusal) = IsRefused answer refusal
+
+-- Says that the entries of an application, or the first value that names none, are the expected result `answer`. Nothing is
+-- known if allocation failed.
+abbrev pub TellsEntries : {A : Type 0} → Result A Text → Result A EntryFault → Type 0
+TellsEntries answer (Ok found) = answer ≡ Ok found
+TellsEntries answer (Err (entries.Refused text)) = answer ≡ Err text.now
+TellsEntries answer (Err entries.Memory) = ⊤
 
 -- Says that a plan or an error of the code is the one for these arguments.
 abbrev pub IsServerPlan : List Text → Result ServerPlan WordsFault → Type 0

@@ -2,7 +2,7 @@
 
 -- ---- std and the kit's crates
 pub use Rattle.clap.specs.Words.{first_of, found_of, rows_of, app_of, fault_of, is_simple, is_simple_and_free}
-pub use Rattle.clap.specs.Words.{matches_of, new_rule, with_rule, App, Kinds, Row, Rule, Text, first_value}
+pub use Rattle.clap.specs.Words.{matches_of, new_rule, with_rule, App, Kinds, Row, Rule, Text, all_of, first_value}
 pub use Rattle.clap.specs.declared.parser.matches.Found.{Found}
 unfoldable pub use Rattle.hex.specs.Hex.{decode_pairs}
 unfoldable pub use Rattle.percent_encoding.specs.Percent.{percent_decode}
@@ -38,16 +38,19 @@ unfoldable pub use Rattle.coap_command_line.specs.ClientWords.{clashes, client_p
 unfoldable pub use Rattle.coap_command_line.specs.ClientWords.{format_of, method_named, option_bytes, payload_said}
 unfoldable pub use Rattle.coap_command_line.specs.ClientWords.{request_said, uri_said}
 pub use Rattle.coap_command_line.specs.CommandLines.{named, option_value, Clash, Usage, Value, WordsFaultValue}
-pub use Rattle.coap_command_line.specs.CommandLines.{bare_app, letter_flag, letter_option, word_flag, word_option}
+pub use Rattle.coap_command_line.specs.CommandLines.{bare_app, letter_flag, letter_option, repeated_option, word_flag, word_option}
 unfoldable pub use Rattle.coap_command_line.specs.CommandLines.{number_within, is_used, level_in}
 pub use Rattle.coap_command_line.specs.PlanViews.{IsClientPlan, IsServerPlan, is_help_or_version, words_fault_number}
 pub use Rattle.coap_command_line.specs.PlanViews.{TellsClientPlan, client_value, extra_named, extra_value, IsTurnedDown}
-pub use Rattle.coap_command_line.specs.PlanViews.{TellsServerPlan, mode_value}
+pub use Rattle.coap_command_line.specs.PlanViews.{TellsServerPlan, mode_value, TellsEntries}
 pub use Rattle.coap_command_line.specs.ServerWords.{server_app, Listen, Script, Stdio, every_address}
 unfoldable pub use Rattle.coap_command_line.specs.ServerWords.{address_of, limits_said, server_plan_in, server_plan_of}
 unfoldable pub use Rattle.coap_command_line.specs.ServerWords.{values_said, excludes_mode, three_in, starts_in}
 unfoldable pub use Rattle.coap_command_line.specs.ServerWords.{starts_a_listener, file_name, records_to_output}
-unfoldable pub use Rattle.coap_command_line.specs.ServerWords.{excludes_record}
+unfoldable pub use Rattle.coap_command_line.specs.ServerWords.{excludes_record, excludes_application}
 pub use Rattle.coap_command_line.specs.ServerWords.{from_zero}
+pub use Rattle.coap_command_line.specs.ApplicationWords.{AddsText, no_entries, refused_value}
+unfoldable pub use Rattle.coap_command_line.specs.ApplicationWords.{applications_said, code_in, codes_of, method_in}
+unfoldable pub use Rattle.coap_command_line.specs.ApplicationWords.{with_text, with_texts}
 -- ---- coap_command_line, declared
 pub use Rattle.coap_command_line.specs.declared.arguments.WordsFault.{WordsFault}

@@ -1,17 +1,17 @@
 -- Defined by this project: the reason for a refused command line, a second line after the text of the error. The reason
 -- says what was given and what is allowed.
-use Rattle.std.specs.Prelude.{ℕ, ◌==◌, ◌&&◌, Bool, List, [], ◌∷◌, ◌++◌, drop, length, map, nat_eq, Option, Some, None, is_some, unwrap_or, Result, Ok, Err, codes, bytes_eq, decimal, if◌then◌else◌}
+use Rattle.std.specs.Prelude.{ℕ, ◌==◌, ◌&&◌, Bool, List, [], ◌∷◌, ◌++◌, drop, length, map, nat_eq, Option, Some, None, is_some, not, option_map, unwrap_or, Result, Ok, Err, codes, bytes_eq, decimal, if◌then◌else◌}
 use Rattle.std.specs.Borrow.{Bor}
 use Rattle.std.specs.List.{list_all, list_any, starts_with}
 use Rattle.clap.specs.Words.{Kinds, Row, Text, fault_of, first_of, matches_of}
-use Rattle.coap_text.specs.Words.{parts}
 use Rattle.coap_print.specs.Texts.{is_text, escaped_text}
 use Rattle.coap_print.specs.Lines.{appended}
 use Rattle.coap_print.specs.declared.line.TheConstants.{LINE_LENGTH}
 use Rattle.coap_wire.specs.declared.sizes.TheConstants.{BASE_MESSAGE_SIZE, LARGEST_SENT_MESSAGE}
 use Rattle.coap_request.specs.declared.target.TargetFault.{TargetFault}
 use Rattle.coap_request.specs.declared.target.TargetFault.TheVariants as target
-use Rattle.coap_command_line.specs.CommandLines.{is_used, number_within, option_value}
+use Rattle.coap_command_line.specs.CommandLines.{after, before, is_used, number_within, option_value}
+use Rattle.coap_command_line.specs.ApplicationWords.{applications_said, refused_value}
 use Rattle.coap_command_line.specs.ServerWords.{server_app, records_to_output}
 use Rattle.coap_command_line.specs.ClientWords.{client_app, uri_said}
 use Rattle.coap_command_line.specs.declared.arguments.WordsFault.{WordsFault}
@@ -81,11 +81,17 @@ least_queue rows =
 unfoldable pub queue_text : ℕ → Text → Text
 queue_text least given = value_text (codes "--queue") (decimal least ++ codes " (--max-sent) to 4194304 bytes") given
 
--- The reason for the value of an option of the server.
+-- The text for a value of `--application`.
+unfoldable pub application_text : Text → Text
+application_text given =
+    value_text (codes "--application") (codes "PATH;METHODS;ATTRIBUTES of an entry (at most 16, with different paths)") given
+
+-- The reason for the value of an option of the server. For `--application` it has the first value that is rejected.
 unfoldable pub server_value : List Row → Text → Option Text
 server_value rows name =
     if bytes_eq name (codes "--queue") then Some (queue_text (least_queue rows) (given_for name rows))
-    else row_text (row_in server_values name) (given_for name rows)
+    else (if bytes_eq name (codes "--application") then option_map application_text (refused_value (applications_said rows))
+    else row_text (row_in server_values name) (given_for name rows))
 
 -- The reason for the value of an option of the client.
 unfoldable pub client_value : List Row → Text → Option Text
@@ -96,6 +102,16 @@ client_value rows name = row_text (row_in client_values name) (given_for name ro
 -- The text for the limit of a record without a record.
 abbrev pub limit_alone : Text
 limit_alone = codes "--record-limit can be used only with --record"
+
+-- The text for entries of an application without a script.
+abbrev pub application_alone : Text
+application_alone = codes "--application can be used only with --script"
+
+-- The text for the limit of a record if it is given without a record, and otherwise for entries of an application.
+unfoldable pub alone_clash : List Row → Text
+alone_clash rows =
+    if is_some (first_of (codes "--record-limit") rows) && not (is_some (first_of (codes "--record") rows)) then limit_alone
+    else application_alone
 
 -- The first option that a script excludes.
 unfoldable pub script_clash : List Row → Text
@@ -110,12 +126,12 @@ script_clash rows =
 unfoldable pub stdio_clash : List Row → Text
 stdio_clash rows =
     if is_some (first_of (codes "--idle") rows) then codes "--stdio and --idle cannot be used together"
-    else (if records_to_output rows then codes "--stdio and --record - cannot be used together" else limit_alone)
+    else (if records_to_output rows then codes "--stdio and --record - cannot be used together" else alone_clash rows)
 
 -- The first option that a server which listens excludes.
 unfoldable pub listener_clash : List Row → Text
 listener_clash rows =
-    if is_some (first_of (codes "--starts") rows) then codes "--starts can be used only with --stdio or --script" else limit_alone
+    if is_some (first_of (codes "--starts") rows) then codes "--starts can be used only with --stdio or --script" else alone_clash rows
 
 -- The first two options of the server that exclude each other, or the first one that needs another option.
 unfoldable pub server_clash : List Row → Text
@@ -135,20 +151,6 @@ client_clash rows =
     else method_text (given_for (codes "-m") rows)
 
 -- ---- targets
-
--- The first part, if there is one.
-abbrev pub first_part : List Text → Text
-first_part [] = []
-first_part (part ∷ rest) = part
-
--- The bytes before the first separator, or all if there is none.
-unfoldable pub before : ℕ → Text → Text
-before separator bytes = first_part (parts separator bytes)
-
--- The bytes after the first separator, or none if there is none.
-unfoldable pub after : ℕ → Text → Text
-after separator [] = []
-after separator (byte ∷ bytes) = if byte == separator then bytes else after separator bytes
 
 abbrev pub colon : ℕ
 colon = 0x3a

@@ -6,11 +6,13 @@ use Rattle.std.specs.declared.net.ip_addr.IpAddr.{IpAddr}
 use Rattle.std.specs.declared.net.ip_addr.IpAddr.TheVariants as ip
 use Rattle.clap.specs.Simple.{new_shape}
 use Rattle.clap.specs.Words.{App, Row, Text, fault_of, first_of, matches_of}
+use Rattle.coap_application.specs.Applications.{ApplicationsValue}
 use Rattle.coap_limits.specs.Limits.{LimitValues, limits_of}
 use Rattle.coap_text.specs.Words.{decimal_value, parts}
 use Rattle.coap_print.specs.declared.level.LogLevel.{LogLevel}
 use Rattle.coap_print.specs.declared.level.LogLevel.TheVariants.{Nothing}
-use Rattle.coap_command_line.specs.CommandLines.{◌>>=◌, WordsFaultValue, Clash, Value, is_used, letter_option, level_in, number_within, option_value, unless_refused, word_flag, word_option}
+use Rattle.coap_command_line.specs.CommandLines.{◌>>=◌, WordsFaultValue, Clash, Value, comma, is_used, letter_option, level_in, number_within, option_value, repeated_option, unless_refused, word_flag, word_option}
+use Rattle.coap_command_line.specs.ApplicationWords.{applications_said}
 use Rattle.coap_request.specs.declared.plan.StartCounts.{StartCounts}
 use Rattle.coap_command_line.specs.declared.arguments.server.ServerValues.{ServerValues}
 use Rattle.coap_wire.specs.declared.sizes.TheConstants.{BASE_MESSAGE_SIZE, LARGEST_MESSAGE, LARGEST_SENT_MESSAGE}
@@ -37,11 +39,12 @@ pub record ServerPlanValue : Type 0 where
   pub starts : StartCounts
   pub «record» : Option Text
   pub record_limit : ℕ
+  pub applications : Option ApplicationsValue
 
 -- ---- the options
 
 -- The command as `clap` gets it: without subcommands, with options of one value or none, with a version, and without
--- the program's name. `clap` adds `-h` and `--help`, and `-V` and `--version` for the version. If one of these is used,
+-- the program's name. The last option may be given several times. `clap` adds `-h` and `--help`, and `-V` and `--version` for the version. If one of these is used,
 -- `clap` rejects the arguments with the kind DisplayHelp or DisplayVersion.
 abbrev pub server_app : App
 server_app = record {
@@ -52,7 +55,8 @@ server_app = record {
         ∷ word_option (codes "--pending") ∷ word_option (codes "--observers")
         ∷ word_option (codes "--connections") ∷ word_option (codes "--turns")
         ∷ word_option (codes "--log") ∷ word_option (codes "--idle") ∷ word_option (codes "--starts")
-        ∷ word_option (codes "--record") ∷ word_option (codes "--record-limit") ∷ [];
+        ∷ word_option (codes "--record") ∷ word_option (codes "--record-limit")
+        ∷ repeated_option (codes "--application") ∷ [];
     has_version = true;
     no_binary_name = true;
   };
@@ -86,9 +90,6 @@ limits_said rows = do
   pending ← option_value (codes "--pending") (number_within 0 256) 16 rows
   observers ← option_value (codes "--observers") (number_within 0 256) 16 rows
   Ok (limits_of message sent queue pending observers 16)
-
-abbrev pub comma : ℕ
-comma = 44
 
 -- The start values, if all three are valid.
 abbrev pub counts_of : Option ℕ → Option ℕ → Option ℕ → Option StartCounts
@@ -125,7 +126,7 @@ file_name [] = None
 file_name (byte ∷ bytes) = Some tt
 
 -- The values of all options, or the name of the first option with an invalid text. The order is that of the usage line.
--- The options that choose a mode and the name of the record have no value here.
+-- The options that choose a mode, the name of the record and the entries of the application have no value here.
 unfoldable pub values_said : List Row → Result ServerValues Text
 values_said rows = do
   address ← option_value (codes "-A") address_of every_address rows
@@ -158,6 +159,11 @@ excludes_mode rows =
     || (is_used (codes "--stdio") rows && is_some (first_of (codes "--idle") rows))
     || starts_a_listener rows
 
+-- True if entries of an application are given to a server that runs no script.
+unfoldable pub excludes_application : List Row → Bool
+excludes_application rows =
+    is_some (first_of (codes "--application") rows) && not (is_some (first_of (codes "--script") rows))
+
 -- True if the record is standard output.
 unfoldable pub records_to_output : List Row → Bool
 records_to_output rows = option_map_or (λ name. bytes_eq name (codes "-")) (first_of (codes "--record") rows) false
@@ -178,24 +184,25 @@ mode_of false (Some name) address port = Some (Script name)
 mode_of false None address port = Some (Listen address port)
 mode_of true (Some name) address port = None
 
--- The plan with a mode and the name of the record, or `Clash` if there is no mode.
-abbrev pub with_mode : ServerValues → Option Text → Option ModeValue → Result ServerPlanValue WordsFaultValue
-with_mode values name None = Err Clash
-with_mode values name (Some mode) =
-    Ok (record { mode = mode; limits = values.limits; connections = values.connections; dynamic_max = values.dynamic_max; turns = values.turns; log = values.log; idle = values.idle; starts = values.starts; «record» = name; record_limit = values.record_limit })
+-- The plan with a mode, the name of the record and the entries of the application, or `Clash` if there is no mode.
+abbrev pub with_mode : ServerValues → Option Text → Option ApplicationsValue → Option ModeValue → Result ServerPlanValue WordsFaultValue
+with_mode values name applications None = Err Clash
+with_mode values name applications (Some mode) =
+    Ok (record { mode = mode; limits = values.limits; connections = values.connections; dynamic_max = values.dynamic_max; turns = values.turns; log = values.log; idle = values.idle; starts = values.starts; «record» = name; record_limit = values.record_limit; applications = applications })
 
--- The plan with a mode and the name of the record, or the error of the values. `excluded` is true if options exclude
+-- The plan with a mode, the name of the record and the entries of the application, or the error of the values. `excluded` is true if options exclude
 -- each other.
-abbrev pub planned : Bool → Bool → Option Text → Option Text → Result ServerValues Text → Result ServerPlanValue WordsFaultValue
-planned excluded stdio script name (Err fault) = Err (Value fault)
-planned excluded stdio script name (Ok values) =
-    if excluded then Err Clash else with_mode values name (mode_of stdio script values.address values.port)
+abbrev pub planned : Bool → Bool → Option Text → Option Text → Result ServerValues Text → Result (Option ApplicationsValue) Text → Result ServerPlanValue WordsFaultValue
+planned excluded stdio script name (Err fault) applications = Err (Value fault)
+planned excluded stdio script name (Ok values) (Err refused) = Err (Value (codes "--application"))
+planned excluded stdio script name (Ok values) (Ok applications) =
+    if excluded then Err Clash else with_mode values name applications (mode_of stdio script values.address values.port)
 
 -- The plan for the options that `clap` found, or the error.
 unfoldable pub server_plan_in : List Row → Result ServerPlanValue WordsFaultValue
 server_plan_in rows =
-    planned (excludes_mode rows || excludes_record rows) (is_used (codes "--stdio") rows) (first_of (codes "--script") rows)
-    (first_of (codes "--record") rows) (values_said rows)
+    planned (excludes_mode rows || excludes_record rows || excludes_application rows) (is_used (codes "--stdio") rows) (first_of (codes "--script") rows)
+    (first_of (codes "--record") rows) (values_said rows) (applications_said rows)
 
 -- The plan for the arguments, or the first error that applies. The order is: `clap`, the text of an option, two options
 -- together.

@@ -5,6 +5,7 @@ ghost use Rattle.coap_command_line.specs.Prelude.{IsClientPlan, IsServerPlan, is
 ghost use Rattle.coap_command_line.specs.Reasons.{line_of};
 ghost use Rattle.coap_command_line.specs.Reasons as spec;
 
+mod applications;
 mod client;
 mod commands;
 pub(crate) mod directory;
@@ -86,8 +87,8 @@ impl WordsFault {
 ///
 /// - `Usage`: `clap` rejects the arguments, or they ask for help or for the version.
 /// - `Value`: the value of an option is malformed or out of range.
-/// - `Clash`: both `--stdio` and `--script` are given, an option with a mode that excludes it, or `--record-limit` without
-///   `--record`.
+/// - `Clash`: both `--stdio` and `--script` are given, an option with a mode that excludes it, `--record-limit` without
+///   `--record`, or `--application` without `--script`.
 /// - `Memory`: allocation failed.
 pub fn server_words<'a, S: AsStr>(alloc: Global, words: &'a [S]) -> Result<ServerPlan, WordsFault>
     ensures plan { IsServerPlan (map S.text words.entry.now) result }
@@ -153,7 +154,7 @@ pub fn server_reason<'a, S: AsStr>(
 {
     let command = server_command(alloc)?;
     match matches_in(command, words) {
-        Ok(matches) => Ok(server_line(&matches, fault)),
+        Ok(matches) => server_line(alloc, &matches, fault),
         Err(WordsFault::Usage(_)) => Ok(None),
         Err(_) => Err(AllocError),
     }

@@ -9,7 +9,8 @@
 //! The contracts name the definitions of `specs/script/`: `Script` for the meaning of a text, `Lines` for the lines.
 //!
 //! This crate runs no event and contains no server. `Server::replay` runs the events of a script and writes their lines
-//! (`coap_server_engine/src/replay.rt`). The functions of `coap_text` read decimal numbers and hexadecimal bytes.
+//! (`coap_server_engine/src/replay.rt`). `path_in` reads a path as the lines have it. The functions of `coap_text` read decimal
+//! numbers and hexadecimal bytes.
 //! Continue with `scripts.rt`.
 #![tactic(auto)]
 
@@ -18,7 +19,8 @@ mod scripts;
 
 pub use event::Event;
 pub use scripts::lines::{
-    ShortLine, fault_line, in_line, open_line, out_line, put_line, remove_line, status_line,
-    tick_line, word_line,
+    ShortLine, append_request_line, fault_line, in_line, open_line, out_line, put_line,
+    remove_line, status_line, tick_line, word_line,
 };
+pub use scripts::words::path_in;
 pub use scripts::{ScriptFault, script, scripts_go_on_behind_whole_lines};

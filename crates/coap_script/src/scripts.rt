@@ -6,7 +6,7 @@ ghost use Rattle.coap_script.specs.Prelude.{IsScript, fault_number};
 mod events;
 mod laws;
 pub(crate) mod lines;
-mod words;
+pub(crate) mod words;
 
 use crate::event::Event;
 use coap_text::split_once;

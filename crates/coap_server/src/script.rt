@@ -2,7 +2,10 @@
 
 use crate::PROGRAM;
 use coap_program::{ENDED, FAULT, FileError, USAGE, read_whole};
-use coap_serve::{Config, Event, ReplayFault, ScriptFault, Server, WriteOutlet, script};
+use coap_serve::{
+    Applications, Config, Event, ReplayFault, ScriptFault, Server, WriteOutlet, script,
+};
+use std::alloc::{AllocError, Global};
 use std::io;
 use std::rt::Files;
 
@@ -18,13 +21,26 @@ enum ScriptError {
     Memory,
 }
 
-/// Runs events on a new server, and writes the line of each to standard output.
+/// Returns a new server, whose application has these entries.
+fn server_in(
+    alloc: Global,
+    config: &Config,
+    applications: Option<Applications>,
+) -> Result<Server, AllocError> {
+    match applications {
+        Some(applications) => Server::with_applications(alloc, *config, applications),
+        None => Server::new(alloc, *config),
+    }
+}
+
+/// Runs events on a new server, and writes the lines of each to standard output.
 fn replay(
     rt: &(impl Print + AllocGlobal),
     events: &[Event],
     config: &Config,
+    applications: Option<Applications>,
 ) -> Result<(), ScriptError> {
-    let Ok(mut server) = Server::new(rt.alloc(), *config) else {
+    let Ok(mut server) = server_in(rt.alloc(), config, applications) else {
         return Err(ScriptError::Memory);
     };
     let mut output = WriteOutlet::new(io::writer(rt));
@@ -40,26 +56,29 @@ fn read_and_run(
     rt: &(impl Input + Print + Files + AllocGlobal),
     name: &str,
     config: &Config,
+    applications: Option<Applications>,
 ) -> Result<(), ScriptError> {
     let text = match read_whole(rt, name, usize::MAX) {
         Ok(text) => text,
         Err(trouble) => return Err(ScriptError::File(trouble)),
     };
     match script(rt.alloc(), &text) {
-        Ok(events) => replay(rt, &events, config),
+        Ok(events) => replay(rt, &events, config, applications),
         Err(ScriptFault::Line(number)) => Err(ScriptError::Line(number)),
         Err(ScriptFault::Memory) => Err(ScriptError::Memory),
     }
 }
 
-/// Runs the script in the file with this name, or in standard input if the name is `-`. Returns the exit status: 1 for
-/// a line that is no event, 3 for a failed file, device or allocation. If a line is no event, no event is run.
+/// Runs the script in the file with this name, or in standard input if the name is `-`. The application of the server has
+/// these entries. Returns the exit status: 1 for a line that is no event, 3 for a failed file, device or allocation. If a
+/// line is no event, no event is run.
 pub(crate) fn run(
     rt: &(impl Input + Print + Eprint + Files + AllocGlobal),
     name: &str,
     config: &Config,
+    applications: Option<Applications>,
 ) -> u8 {
-    let Err(trouble) = read_and_run(rt, name, config) else {
+    let Err(trouble) = read_and_run(rt, name, config, applications) else {
         return ENDED;
     };
     match trouble {

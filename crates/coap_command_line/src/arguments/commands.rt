@@ -4,7 +4,7 @@ ghost use Rattle.std.specs.Prelude.{◌≡◌, IfErr, IfOk, Some, [], map, true}
 ghost use Rattle.coap_command_line.specs.Prelude.{app_of, fault_of, found_of, is_simple, is_simple_and_free};
 ghost use Rattle.coap_command_line.specs.Prelude.{matches_of, new_rule, rows_of, with_rule, client_app, uri_rule};
 ghost use Rattle.coap_command_line.specs.Prelude.{IsTurnedDown, server_app};
-ghost use Rattle.clap.specs.declared.builder.action.ArgAction.TheVariants.{SetTrue};
+ghost use Rattle.clap.specs.declared.builder.action.ArgAction.TheVariants.{Append, SetTrue};
 ghost use Rattle.coap_command_line.specs.CommandLines as spec;
 
 use crate::arguments::{WordsFault, help};
@@ -47,6 +47,26 @@ pub(super) fn with_word<'a>(
     let option = Arg::new(alloc, name)
         .long(word)
         .value_name(value)
+        .help(help);
+    command.arg(option)
+}
+
+/// Adds a long option with a value that may be given several times.
+fn with_repeated_word<'a>(
+    alloc: Global,
+    command: Command<'a>,
+    name: &'a str,
+    word: &'a str,
+    value: &'a str,
+    help: &'a str,
+) -> Result<Command<'a>, AllocError>
+    ensures { IfOk result (λ c. app_of c ≡ with_rule (app_of command.entry)
+        (record (new_rule name.entry.now) { long = Some word.entry.now; value_names = 1; action = Some Append })) }
+{
+    let option = Arg::new(alloc, name)
+        .long(word)
+        .value_name(value)
+        .action(ArgAction::Append)
         .help(help);
     command.arg(option)
 }
@@ -144,12 +164,20 @@ pub(super) fn server_command<'a>(alloc: Global) -> Result<Command<'a>, AllocErro
     let command = with_word(alloc, command, "--idle", "idle", "SECONDS", help::IDLE)?;
     let command = with_word(alloc, command, "--starts", "starts", "N,N,N", help::STARTS)?;
     let command = with_word(alloc, command, "--record", "record", "FILE", help::RECORD)?;
-    with_number(
+    let command = with_number(
         alloc,
         command,
         "--record-limit",
         "record-limit",
         help::RECORD_LIMIT,
+    )?;
+    with_repeated_word(
+        alloc,
+        command,
+        "--application",
+        "application",
+        "ENTRY",
+        help::APPLICATION,
     )
 }
 

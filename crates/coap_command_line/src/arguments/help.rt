@@ -51,6 +51,9 @@ pub(super) const RECORD: &str =
 pub(super) const RECORD_LIMIT: &str =
     "Size in bytes at which a record ends, 1 to 18446744073709551615 [default: 1073741824]";
 
+pub(super) const APPLICATION: &str =
+    "Entry of the application of --script: PATH;METHODS;ATTRIBUTES (up to 16 times)";
+
 // ---- coap-explain
 
 pub(super) const EXPLAIN: &str = "Explains a record of coap-server: its events and messages";

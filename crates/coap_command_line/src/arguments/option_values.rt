@@ -1,12 +1,12 @@
 //! Values of options, for all programs.
 
-ghost use Rattle.std.specs.Prelude.{◌≡◌, ◌≤◌, IfOk, IfSome, codes, option_map, string_bytes};
-ghost use Rattle.coap_command_line.specs.Prelude.{first_of, found_of, rows_of, Nothing};
+ghost use Rattle.std.specs.Prelude.{◌≡◌, ◌≤◌, IfOk, IfSome, codes, map, option_map, string_bytes};
+ghost use Rattle.coap_command_line.specs.Prelude.{all_of, first_of, found_of, rows_of, Nothing};
 ghost use Rattle.coap_command_line.specs.CommandLines as spec;
 
 use clap::ArgMatches;
 use coap_print::LogLevel;
-use coap_text::number_in;
+use coap_text::{number_in, split_once};
 use std::alloc::{AllocError, Global};
 
 /// Returns the text of an option, if the option is given.
@@ -15,6 +15,14 @@ pub(super) fn text_of<'a>(matches: &ArgMatches<'a>, name: &str) -> Option<&'a st
     ensures { option_map (λ s. s.now) result ≡ first_of name.now (rows_of (found_of matches.now)) }
 {
     matches.get_str(name)
+}
+
+/// Returns the texts of an option that may be given several times, if the option is given.
+#[tactic(auto, using(crate::proofs::WordLemmas::all_texts))]
+pub(super) fn texts_of<'m, 'a>(matches: &'m ArgMatches<'a>, name: &str) -> Option<&'m [&'a str]>
+    ensures { option_map (λ s. map (λ t. t.now) s.now) result ≡ all_of name.now (rows_of (found_of matches.now)) }
+{
+    matches.get_strs(name)
 }
 
 /// Returns the file name that is the text of an option, if the option is given.
@@ -43,6 +51,31 @@ pub(super) fn is_used(matches: &ArgMatches<'_>, name: &str) -> bool
         Some(text) => text == "true",
         None => false,
     }
+}
+
+/// Returns the bytes before the first separator, or all if there is none.
+#[tactic(auto, unfolding(crate::specs::CommandLines::before))]
+pub(super) fn before(bytes: &[u8], separator: u8) -> &[u8]
+    ensures { result.now ≡ spec.before separator bytes.now }
+{
+    match split_once(bytes, separator) {
+        Some((front, _)) => front,
+        None => bytes,
+    }
+}
+
+/// Returns the bytes after the first separator, or none if there is none.
+#[tactic(auto, unfolding(crate::specs::CommandLines::after))]
+pub(super) fn after(mut bytes: &[u8], separator: u8) -> &[u8]
+    ensures { result.now ≡ spec.after separator bytes.entry.now }
+{
+    while let [byte, rest @ ..] = bytes {
+        if *byte == separator {
+            return rest;
+        }
+        bytes = rest;
+    }
+    bytes
 }
 
 /// Returns the number in a text, if the number is between `low` and `high`.

@@ -1,8 +1,9 @@
 //! Reasons for refused command lines: the second line of an error, which says what was given and what is allowed.
 #![tactic(auto, using(crate::proofs::ReasonLemmas::pieces))]
 
-ghost use Rattle.std.specs.Prelude.{◌≡◌, ◌++◌, [], true, decimal, map, option_map, IfSome};
+ghost use Rattle.std.specs.Prelude.{◌≡◌, ◌++◌, [], true, decimal, map, option_map, IfOk, IfSome};
 ghost use Rattle.coap_command_line.specs.Prelude.{found_of, rows_of, is_text, appended, escaped_text, LINE_LENGTH};
+ghost use Rattle.coap_command_line.specs.Prelude.{applications_said, refused_value};
 ghost use Rattle.coap_command_line.specs.Reasons as spec;
 ghost use Rattle.coap_command_line.specs.ExplainWords.{explain_reason_in, explain_values};
 ghost use Rattle.coap_command_line.specs.DirectoryWords.{directory_reason_in, directory_values};
@@ -11,22 +12,33 @@ mod tables;
 mod targets;
 
 use crate::arguments::WordsFault;
+use crate::arguments::applications::{EntryFault, applications};
 use crate::arguments::option_values::{is_used, number, text_of};
 use crate::arguments::server::records_to_output;
 use clap::ArgMatches;
 use coap_print::Line;
 use coap_wire::{BASE_MESSAGE_SIZE, LARGEST_SENT_MESSAGE};
-use tables::{CLIENT_VALUES, DIRECTORY_VALUES, EXPLAIN_VALUES, SERVER_VALUES, ValueRow};
+use std::alloc::{AllocError, Global};
+use tables::{CLIENT_VALUES, DIRECTORY_VALUES, ENTRY, EXPLAIN_VALUES, SERVER_VALUES, ValueRow};
 use targets::target_line;
 
 /// Returns the reason for an error of the server, from the options that `clap` found.
-pub(super) fn server_line(matches: &ArgMatches<'_>, fault: &WordsFault) -> Option<Line>
-    ensures { result ≡ option_map spec.line_of (spec.server_reason_in (rows_of (found_of matches.now)) fault.now) }
+///
+/// # Errors
+///
+/// Returns `AllocError` if allocation fails.
+pub(super) fn server_line(
+    alloc: Global,
+    matches: &ArgMatches<'_>,
+    fault: &WordsFault,
+) -> Result<Option<Line>, AllocError>
+    ensures { IfOk result (λ line. line
+        ≡ option_map spec.line_of (spec.server_reason_in (rows_of (found_of matches.now)) fault.now)) }
 {
     match fault {
-        WordsFault::Value(name) => server_value(matches, name),
-        WordsFault::Clash => Some(line_of(server_clash(matches))),
-        _ => None,
+        WordsFault::Value(name) => server_value(alloc, matches, name),
+        WordsFault::Clash => Ok(Some(line_of(server_clash(matches)))),
+        _ => Ok(None),
     }
 }
 
@@ -192,16 +204,52 @@ fn queue_line(least: u64, given: &str) -> Line
     least_line("--queue", least, " (--max-sent) to 4194304 bytes", given)
 }
 
+/// Returns the line for a value of `--application`.
+#[tactic(auto, unfolding(crate::specs::Reasons::application_text))]
+fn application_line(given: &str) -> Line
+    ensures { result ≡ spec.line_of (spec.application_text given.now) }
+{
+    value_line("--application", ENTRY, given)
+}
+
+/// Returns the reason for the values of `--application`, with the first one that names no entry.
+///
+/// # Errors
+///
+/// Returns `AllocError` if allocation fails.
+fn application_value(alloc: Global, matches: &ArgMatches<'_>) -> Result<Option<Line>, AllocError>
+    ensures { IfOk result (λ line. line ≡ option_map spec.line_of (option_map spec.application_text
+        (refused_value (applications_said (rows_of (found_of matches.now)))))) }
+{
+    match applications(alloc, matches) {
+        Ok(_) => Ok(None),
+        Err(EntryFault::Refused(text)) => Ok(Some(application_line(text))),
+        Err(EntryFault::Memory) => Err(AllocError),
+    }
+}
+
 /// Returns the reason for the value of an option of the server.
+///
+/// # Errors
+///
+/// Returns `AllocError` if allocation fails.
 #[tactic(auto, unfolding(crate::specs::Reasons::server_value))]
-fn server_value(matches: &ArgMatches<'_>, name: &str) -> Option<Line>
-    ensures { result ≡ option_map spec.line_of (spec.server_value (rows_of (found_of matches.now)) name.now) }
+fn server_value(
+    alloc: Global,
+    matches: &ArgMatches<'_>,
+    name: &str,
+) -> Result<Option<Line>, AllocError>
+    ensures { IfOk result (λ line. line
+        ≡ option_map spec.line_of (spec.server_value (rows_of (found_of matches.now)) name.now)) }
 {
     let given = given_for(matches, name);
     if name == "--queue" {
-        return Some(queue_line(least_queue(matches), given));
+        return Ok(Some(queue_line(least_queue(matches), given)));
     }
-    row_line(&SERVER_VALUES, name, given)
+    if name == "--application" {
+        return application_value(alloc, matches);
+    }
+    Ok(row_line(&SERVER_VALUES, name, given))
 }
 
 /// Returns the reason for the value of an option of the client.
@@ -216,6 +264,22 @@ fn client_value(matches: &ArgMatches<'_>, name: &str) -> Option<Line>
 
 /// Text for the limit of a record without a record.
 const LIMIT_ALONE: &str = "--record-limit can be used only with --record";
+
+/// Text for entries of an application without a script.
+const APPLICATION_ALONE: &str = "--application can be used only with --script";
+
+/// Returns the text for the first option that needs another one.
+#[tactic(auto, unfolding(crate::specs::Reasons::alone_clash))]
+fn alone_clash(matches: &ArgMatches<'_>) -> &'static str
+    ensures text { result.now ≡ spec.alone_clash (rows_of (found_of matches.now)) }
+    ensures printable { is_text result.now ≡ true }
+{
+    if text_of(matches, "--record-limit").is_some() && text_of(matches, "--record").is_none() {
+        LIMIT_ALONE
+    } else {
+        APPLICATION_ALONE
+    }
+}
 
 /// Returns the text for the first option that a script excludes.
 #[tactic(auto, unfolding(crate::specs::Reasons::script_clash))]
@@ -247,7 +311,7 @@ fn stdio_clash(matches: &ArgMatches<'_>) -> &'static str
     } else if records_to_output(matches) {
         "--stdio and --record - cannot be used together"
     } else {
-        LIMIT_ALONE
+        alone_clash(matches)
     }
 }
 
@@ -260,7 +324,7 @@ fn listener_clash(matches: &ArgMatches<'_>) -> &'static str
     if text_of(matches, "--starts").is_some() {
         "--starts can be used only with --stdio or --script"
     } else {
-        LIMIT_ALONE
+        alone_clash(matches)
     }
 }
 

@@ -6,6 +6,7 @@ ghost use Rattle.coap_command_line.specs.Prelude.{TellsServerPlan};
 ghost use Rattle.coap_command_line.specs.ServerWords as spec;
 
 use crate::arguments::WordsFault;
+use crate::arguments::applications::{EntryFault, applications};
 use crate::arguments::option_values::{file_name, is_used, log, number, text_of};
 use clap::ArgMatches;
 use coap_conn::Limits;
@@ -18,7 +19,8 @@ use coap_wire::{
 use std::alloc::{AllocError, Global};
 use std::net::{IpAddr, Ipv4Addr};
 
-/// Values of all options except `--stdio` and `--script`, which choose a mode, and `--record`, which names a file.
+/// Values of all options except `--stdio` and `--script`, which choose a mode, `--record`, which names a file, and
+/// `--application`.
 #[derive(Clone, Copy)]
 pub(super) struct ServerValues {
     pub(super) address: IpAddr,
@@ -180,7 +182,7 @@ fn check_record(matches: &ArgMatches<'_>) -> Result<(), &'static str>
     }
 }
 
-/// Returns the values of all options except `--stdio`, `--script` and `--record`.
+/// Returns the values of all options except `--stdio`, `--script`, `--record` and `--application`.
 ///
 /// The error is the name of the first option whose text is malformed or out of range, in the order of the usage line.
 #[tactic(auto, unfolding(crate::specs::ServerWords::values_said))]
@@ -262,6 +264,14 @@ fn excludes_record(matches: &ArgMatches<'_>) -> bool
     text_of(matches, "--record-limit").is_some() && !is_given
 }
 
+/// Returns `true` if `--application` is given to a server that runs no script.
+#[tactic(auto, unfolding(crate::specs::ServerWords::excludes_application))]
+fn excludes_application(matches: &ArgMatches<'_>) -> bool
+    ensures { result ≡ spec.excludes_application (rows_of (found_of matches.now)) }
+{
+    text_of(matches, "--application").is_some() && text_of(matches, "--script").is_none()
+}
+
 /// Returns the mode of the server, or `None` if both `--stdio` and `--script` are given.
 fn mode_in(
     alloc: Global,
@@ -301,7 +311,12 @@ pub(super) fn server_plan(alloc: Global, matches: &ArgMatches<'_>) -> Result<Ser
         Ok(values) => values,
         Err(name) => return Err(WordsFault::Value(name)),
     };
-    if excludes_mode(matches) || excludes_record(matches) {
+    let applications = match applications(alloc, matches) {
+        Ok(applications) => applications,
+        Err(EntryFault::Refused(_)) => return Err(WordsFault::Value("--application")),
+        Err(EntryFault::Memory) => return Err(WordsFault::Memory),
+    };
+    if excludes_mode(matches) || excludes_record(matches) || excludes_application(matches) {
         return Err(WordsFault::Clash);
     }
     let stdio = is_used(matches, "--stdio");
@@ -325,5 +340,6 @@ pub(super) fn server_plan(alloc: Global, matches: &ArgMatches<'_>) -> Result<Ser
         starts: values.starts,
         record,
         record_limit: values.record_limit,
+        applications,
     })
 }

@@ -24,6 +24,10 @@ bytes_text (byte ∷ bytes) = encode_lower (byte ∷ bytes)
 abbrev pub out_line : ℕ → List ℕ → List ℕ
 out_line id bytes = codes "out " ++ decimal id ++ codes " " ++ bytes_text bytes ++ codes "\n"
 
+-- The application was handed this request, which arrived on a connection. These are its encoded bytes.
+abbrev pub request_line : ℕ → List ℕ → List ℕ
+request_line id bytes = codes "request " ++ decimal id ++ codes " " ++ bytes_text bytes ++ codes "\n"
+
 -- The time is now this number of seconds.
 abbrev pub tick_line : ℕ → List ℕ
 tick_line moment = codes "tick " ++ decimal moment ++ codes "\n"

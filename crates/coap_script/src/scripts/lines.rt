@@ -67,12 +67,13 @@ pub fn in_line(id: u64, taken: u64, stop: Option<u8>) -> ShortLine
     line
 }
 
-/// Returns the start of a line with bytes that were written to a connection.
-fn out_front(id: u64) -> ShortLine
-    ensures { result.items ≡ codes "out " ++ decimal id ++ codes " " }
+/// Returns the start of a line with bytes of a connection: a word with its space, and the connection.
+fn line_front(word: &[u8], id: u64) -> ShortLine
+    requires { length word.now ≤ 8 }
+    ensures { result.items ≡ word.now ++ decimal id ++ codes " " }
 {
     let mut line = ArrayVec::new();
-    append_text(&mut line, b"out ");
+    append_text(&mut line, word);
     append_number(&mut line, id);
     append_text(&mut line, b" ");
     line
@@ -104,10 +105,25 @@ pub fn out_line(alloc: Global, id: u64, bytes: &[u8]) -> Result<Vec<u8>, AllocEr
 {
     let room = bytes.len().saturating_mul(2).saturating_add(SHORT);
     let mut line = Vec::with_capacity(alloc, room)?;
-    line.extend_from_slice(out_front(id).as_slice())?;
+    line.extend_from_slice(line_front(b"out ", id).as_slice())?;
     append_bytes(&mut line, bytes)?;
     line.extend_from_slice(b"\n")?;
     Ok(line)
+}
+
+/// Appends the line `request ID HEX` to other lines: the application was handed a request of a connection. `request` is
+/// its encoding. The hexadecimal digits are lower case.
+///
+/// # Errors
+///
+/// Returns `AllocError` if allocation fails. The lines may end with a part of the new line then.
+pub fn append_request_line(lines: &mut Vec<u8>, id: u64, request: &[u8]) -> Result<(), AllocError>
+    ensures { OnOk result (lines.new.items ≡ lines.old.items ++ spec.request_line id request.now) }
+{
+    lines.reserve(request.len().saturating_mul(2).saturating_add(SHORT))?;
+    lines.extend_from_slice(line_front(b"request ", id).as_slice())?;
+    append_bytes(lines, request)?;
+    lines.extend_from_slice(b"\n")
 }
 
 /// Returns the line `tick MOMENT`: the time is now `moment`, in seconds.

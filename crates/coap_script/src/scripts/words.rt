@@ -60,12 +60,13 @@ fn segments_in(alloc: Global, text: &[u8]) -> Result<Vec<CowSlice<'_, u8>>, Allo
     Ok(segments)
 }
 
-/// Returns the path that a word names, or `None` if it names none.
+/// Returns the path that a word names, or `None` if it names none. The word is a slash, followed by percent-encoded
+/// segments with a slash between each two.
 ///
 /// # Errors
 ///
 /// Returns `AllocError` if allocation fails.
-pub(super) fn path_in(alloc: Global, word: &[u8]) -> Result<Option<PathKey>, AllocError>
+pub fn path_in(alloc: Global, word: &[u8]) -> Result<Option<PathKey>, AllocError>
     ensures { IfOk result (λ found. found ≡ spec.path_value word.now) }
 {
     let Some((first, text)) = word.split_first() else {

@@ -1,13 +1,15 @@
 use Rattle.std.proofs.Common.{◌∙◌, map}
+use Rattle.std.proofs.lemmas.Result.{IfOk-weaker}
 use Rattle.coap_command_line.specs.Prelude.{app_of, found_of, rows_of}
 use Rattle.coap_command_line.proofs.ReasonLemmas.{server_found, server_rejected}
 use Rattle.coap_command_line.proofs.arguments.server_reason.Goals as goal
 
 pub returns-in-Ok : goal.returns-in-Ok
 returns-in-Ok g c =
-    c.server_line.ensures
-    ∙ server_found (app_of c.in_ok-command.command) (map g.S.AsStr.text c.args.words.now) (rows_of (found_of c.in-Ok.matches)) c.args.fault.now c.in_ok-command.ensures
-    c.in-Ok.ensures.kinds c.in-Ok.ensures.rows
+    let found =
+    server_found (app_of c.in_ok-command.command) (map g.S.AsStr.text c.args.words.now) (rows_of (found_of c.in-Ok.matches)) c.args.fault.now c.in_ok-command.ensures
+    c.in-Ok.ensures.kinds c.in-Ok.ensures.rows in
+    IfOk-weaker c.server_line.result _ _ (λ line is. is ∙ found) c.server_line.ensures
 
 pub returns-in-Err-Usage : goal.returns-in-Err-Usage
 returns-in-Err-Usage g c =

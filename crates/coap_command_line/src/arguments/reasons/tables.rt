@@ -10,10 +10,15 @@ const FORMAT: &str = "a number from 0 to 65535 or a name such as application/jso
 const STARTS: &str =
     "three numbers MOMENT,VERSIONS,IDS from 0 to 18446744073709551615 (IDS to 18446744073709551614)";
 
+/// Values of `--application`.
+pub(super) const ENTRY: &str =
+    "PATH;METHODS;ATTRIBUTES of an entry (at most 16, with different paths)";
+
 /// Values of `--log`.
 const LEVEL: &str = "a level from 0 to 3";
 
-/// Options of `coap-server`. The minimum of `--queue` depends on `--max-sent`, so the table does not have it.
+/// Options of `coap-server`. The minimum of `--queue` depends on `--max-sent`, and `--application` has several
+/// values, so the table does not have them.
 pub const SERVER_VALUES: [ValueRow; 14] = [
     ("-A", "a numeric IPv4 or IPv6 address"),
     ("-p", "a port from 1 to 65535"),

@@ -6,10 +6,10 @@ ghost use Rattle.std.specs.List.{list_any};
 ghost use Rattle.coap_command_line.specs.Prelude.{is_text, appended, escaped_text, LINE_LENGTH};
 ghost use Rattle.coap_command_line.specs.Reasons as spec;
 
+use crate::arguments::option_values::{after, before};
 use crate::arguments::reasons::{append_given, around, line_of};
 use coap_print::Line;
 use coap_request::TargetFault;
-use coap_text::split_once;
 
 /// Returns the reason for a URI that is no target.
 #[tactic(auto, unfolding(crate::specs::Reasons::target_reason))]
@@ -43,31 +43,6 @@ fn with_given(text: &str, given: &[u8]) -> Line
     line.text(text);
     append_given(&mut line, given);
     line
-}
-
-/// Returns the bytes before the first separator, or all if there is none.
-#[tactic(auto, unfolding(crate::specs::Reasons::before))]
-fn before(bytes: &[u8], separator: u8) -> &[u8]
-    ensures { result.now ≡ spec.before separator bytes.now }
-{
-    match split_once(bytes, separator) {
-        Some((front, _)) => front,
-        None => bytes,
-    }
-}
-
-/// Returns the bytes after the first separator, or none if there is none.
-#[tactic(auto, unfolding(crate::specs::Reasons::after))]
-fn after(mut bytes: &[u8], separator: u8) -> &[u8]
-    ensures { result.now ≡ spec.after separator bytes.entry.now }
-{
-    while let [byte, rest @ ..] = bytes {
-        if *byte == separator {
-            return rest;
-        }
-        bytes = rest;
-    }
-    bytes
 }
 
 /// Returns `true` if a text has a percent sign.

@@ -1,6 +1,6 @@
 use Rattle.std.proofs.Common.{codes}
 use Rattle.std.proofs.lemmas.Result.{IfOk-weaker}
-use Rattle.coap_command_line.specs.Prelude.{app_of, bare_app, letter_option, word_flag, word_option}
+use Rattle.coap_command_line.specs.Prelude.{app_of, bare_app, letter_option, repeated_option, word_flag, word_option}
 use Rattle.coap_command_line.proofs.WordLemmas.{shape_with_rule}
 use Rattle.coap_command_line.proofs.arguments.commands.server_command.Goals as goal
 
@@ -22,4 +22,5 @@ returns c =
     let e14 = shape_with_rule (app_of c.in_ok-command-13.command) (app_of c.in_ok-command-14.command) _ (word_option (codes "--idle")) c.in_ok-command-14.ensures e13 in
     let e15 = shape_with_rule (app_of c.in_ok-command-14.command) (app_of c.in_ok-command-15.command) _ (word_option (codes "--starts")) c.in_ok-command-15.ensures e14 in
     let e16 = shape_with_rule (app_of c.in_ok-command-15.command) (app_of c.in_ok-command-16.command) _ (word_option (codes "--record")) c.in_ok-command-16.ensures e15 in
-    IfOk-weaker c.with_number-8.result _ _ (λ done h. shape_with_rule (app_of c.in_ok-command-16.command) (app_of done) _ (word_option (codes "--record-limit")) h e16) c.with_number-8.ensures
+    let e17 = shape_with_rule (app_of c.in_ok-command-16.command) (app_of c.in_ok-command-17.command) _ (word_option (codes "--record-limit")) c.in_ok-command-17.ensures e16 in
+    IfOk-weaker c.with_repeated_word.result _ _ (λ done h. shape_with_rule (app_of c.in_ok-command-17.command) (app_of done) _ (repeated_option (codes "--application")) h e17) c.with_repeated_word.ensures

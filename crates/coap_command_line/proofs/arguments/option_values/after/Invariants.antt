@@ -1,6 +1,6 @@
 use Rattle.std.proofs.Common.{◌≡◌, length}
-use Rattle.coap_command_line.specs.Reasons.{after}
-use Rattle.coap_command_line.proofs.arguments.reasons.targets.after.Given as goal
+use Rattle.coap_command_line.specs.CommandLines.{after}
+use Rattle.coap_command_line.proofs.arguments.option_values.after.Given as goal
 
 -- The bytes that are left have the same bytes after the first separator.
 abbrev pub invariant-loop-bytes : goal.invariant-loop-bytes
