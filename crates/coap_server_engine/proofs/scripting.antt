@@ -3,5 +3,6 @@ pub mod WorkedCuts
 pub mod ShownLemmas
 pub mod FollowLemmas
 pub mod ReplayLemmas
+pub mod ListedLemmas
 pub mod CutTakes
 pub mod CutScripts

@@ -4,5 +4,8 @@ pub mod TurnLemmas
 pub mod ServerDueLemmas
 pub mod ServerCauseLemmas
 pub mod ServerTakenLemmas
+pub mod ChangedLemmas
 pub mod ResponseLemmas
 pub mod ServingLemmas
+pub mod AtOnceLemmas
+pub mod DueAtOnceLemmas

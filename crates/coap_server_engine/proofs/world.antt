@@ -6,3 +6,6 @@ pub mod CallLaws
 pub mod HandledLaws
 pub mod RefusedLaws
 pub mod RequestLaws
+pub mod DeadlineLaws
+pub mod AtOnceLaws
+mod WorkedAtOnce

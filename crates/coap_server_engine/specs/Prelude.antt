@@ -106,6 +106,9 @@ pub use Rattle.coap_server_engine.specs.script.Replayed.{replay_number, IsReplay
 pub use Rattle.coap_server_engine.specs.script.Replayed.{IsUnrun}
 pub use Rattle.coap_server_engine.specs.script.Shown.{unless_any, ShowsRun, IsShownReplay, ShowsPart, IsPartlyMade, ShowsRefusedAt}
 unfoldable pub use Rattle.coap_server_engine.specs.script.Shown.{events_made, events_ran}
+pub use Rattle.coap_server_engine.specs.script.RequestLines.{request_text, request_lines, IsTakeRefused, IsLineRefused}
+pub use Rattle.coap_server_engine.specs.script.RequestLines.{IsUnlisted, IsUnfinishedIn, IsUnlistedAfter, IsUnfinishedAfter}
+unfoldable pub use Rattle.coap_server_engine.specs.script.RequestLines.{request_turns}
 -- ---- this crate: values
 pub use Rattle.coap_server_engine.specs.values.Calls.{call_value, TellsPartlyFed, Following}
 unfoldable pub use Rattle.coap_server_engine.specs.values.Calls.{FollowsMore}
@@ -137,7 +140,7 @@ pub use Rattle.coap_server_engine.specs.values.Servers.{server_dropped, ServerVa
 pub use Rattle.coap_server_engine.specs.values.Servers.{is_there, server_written, server_ended, server_released}
 pub use Rattle.coap_server_engine.specs.values.Servers.{server_announced, server_responded, server_given, session_given_by, settled_entry, count_on, on_session, server_settled}
 pub use Rattle.coap_server_engine.specs.values.Servers.{server_taken_on, server_taken_so, session_becomes, unmarked_entry}
-pub use Rattle.coap_server_engine.specs.values.Servers.{unmarked, AreAllMarked}
+pub use Rattle.coap_server_engine.specs.values.Servers.{unmarked, AreAllMarked, splits_of}
 unfoldable pub use Rattle.coap_server_engine.specs.values.Servers.{session_of, count_taken, server_taken, changed_at}
 pub use Rattle.coap_server_session.specs.values.Sessions.{host_changed}
 pub use Rattle.coap_server_session.specs.values.Sessions.{SessionValue}
@@ -147,15 +150,18 @@ pub use Rattle.coap_server_session.specs.values.Sessions.{change_by, new_session
 pub use Rattle.coap_server_session.specs.values.Sessions.{session_takes, IsSettled, RefusesPiece}
 pub use Rattle.coap_server_session.specs.values.Sessions.{TakeOutcome}
 pub use Rattle.coap_server_session.specs.values.HandedRequests.{is_handed, is_handed_over, handed_read, handed_found}
-unfoldable pub use Rattle.coap_server_session.specs.values.HandedRequests.{handed}
+unfoldable pub use Rattle.coap_server_session.specs.values.HandedRequests.{handed, completed}
+pub use Rattle.coap_server_session.specs.values.HandedRequests.{found_frame}
 pub use Rattle.coap_server_session.specs.values.Sessions.{session_raises}
 pub use Rattle.coap_server_session.specs.values.Sessions.{session_rejected}
-pub use Rattle.coap_server_session.specs.values.Sessions.{taking_found, taking_read, MarkedSession, IsMarked, KeepsSplit}
+pub use Rattle.coap_server_session.specs.values.Sessions.{taking_found, taking_read, MarkedSession, IsMarked}
 unfoldable pub use Rattle.coap_server_session.specs.values.Sessions.{changed_mark}
 unfoldable pub use Rattle.coap_server_session.specs.values.Sessions.{session_settled, session_handled}
 unfoldable pub use Rattle.coap_server_session.specs.values.Sessions.{taking}
 pub use Rattle.coap_server_engine.specs.values.HandedRequests.{handed_on, handed_by, frame_message, message_in, IsTakenRequest}
 unfoldable pub use Rattle.coap_server_engine.specs.values.HandedRequests.{handed_frame}
+pub use Rattle.coap_server_engine.specs.values.ChangedRequests.{changing_on, request_key, frame_key, DifferAt, DifferBy, ChangesBy}
+unfoldable pub use Rattle.coap_server_engine.specs.values.ChangedRequests.{changing_frame}
 pub use Rattle.coap_server_engine.specs.values.Exchanges.{Exchange, Asked, Offered, Given, Gone, Answering, offers}
 unfoldable pub use Rattle.coap_server_engine.specs.values.Exchanges.{AnswersMore}
 pub use Rattle.coap_server_engine.specs.values.ApplicationCalls.{server_offered, offered_events, failure_with, response_for, AskResult, asking, ServeResult}

@@ -9,5 +9,6 @@ pub mod ServerCauses
 pub mod Calls
 pub mod Faults
 pub mod HandedRequests
+pub mod ChangedRequests
 pub mod Exchanges
 pub mod ApplicationCalls

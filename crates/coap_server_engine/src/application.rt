@@ -23,7 +23,11 @@ pub trait Application {
     /// request, to `response`, which is empty. If it writes nothing, it responds later, through `next_response`. A
     /// response of more than `limit` bytes is reduced to its code and token: no larger message may be sent on the connection.
     ///
-    /// If the server does not accept the response (`Server::respond`), it sends 5.00 (Internal Server Error).
+    /// If the server does not accept the response (`Server::respond`), it sends 5.00 (Internal Server Error). The response
+    /// always has room (`laws::responses_at_once_have_room`). So two errors remain:
+    ///
+    /// - `NotAResponse`: the bytes encode no message, or one whose code is no response or that has Observe.
+    /// - `NoSuchRequest`: no pending request has the token.
     fn request(
         &mut self,
         from: ConnId,

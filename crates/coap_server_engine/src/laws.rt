@@ -1,6 +1,7 @@
 //! Theorems on a server after any calls, and on scripts.
 
-ghost use Rattle.std.specs.Prelude.{◌≡◌, ◌⊎◌, ℕ, Bool, ◌+◌, ◌<◌, ◌^◌, ◌≤◌, List, ◌∷◌, ◌++◌, map, false, Some};
+ghost use Rattle.std.specs.Prelude.{◌≡◌, ◌≢◌, ◌⊎◌, ℕ, Bool, ◌+◌, ◌<◌, ◌^◌, ◌≤◌, List, [], ◌∷◌, ◌++◌, map};
+ghost use Rattle.std.specs.Prelude.{false, true, Some, None, Ok, IfSome};
 ghost use Rattle.coap_server_engine.specs.Prelude.{concat, StreamFault, reject_of, reject_reason, takes_messages};
 ghost use Rattle.coap_server_engine.specs.Prelude.{IsStore, ConfigValues, IsNotTaken, ServerValue, AreSettled};
 ghost use Rattle.coap_server_engine.specs.Prelude.{WrittenFault, ReleaseFault, WaitsForDeadlines, Connection};
@@ -9,10 +10,14 @@ ghost use Rattle.coap_server_engine.specs.Prelude.{Took, stream_on, steps_of, wo
 ghost use Rattle.coap_server_engine.specs.Prelude.{server_of, normalised_step, normalised_steps, kept_at};
 ghost use Rattle.coap_server_engine.specs.Prelude.{IsRefusedStored, StoresNothing, ScriptEventValue, in_result};
 ghost use Rattle.coap_server_engine.specs.Prelude.{replayed, DifferInCuts, AreInTime, lines_of, other_lines};
+ghost use Rattle.coap_server_engine.specs.Prelude.{Message, message_of, ResponseFault, handed_by, server_taken};
+ghost use Rattle.coap_server_engine.specs.Prelude.{responded_refusal, response_for};
+ghost use Rattle.coap_conn.specs.Responses.{is_plain_response};
 ghost use Rattle.coap_conn.specs.declared.phase.Phase.TheVariants.{Stopped};
 ghost use Rattle.coap_model.specs.declared.answers.TakeFault.TheVariants.{Memory};
 ghost use Rattle.coap_model.specs.declared.answers.WrittenFault.TheVariants as writing;
 ghost use Rattle.coap_model.specs.declared.answers.ReleaseFault.TheVariants as releasing;
+ghost use Rattle.coap_model.specs.declared.answers.ResponseFault.TheVariants as responding;
 ghost use Rattle.coap_model.specs.world.World.{Ended};
 
 /// States that no change is lost. After every call, a connection is up to date if its queue has room for a message of
@@ -127,4 +132,37 @@ pub fn each_message_taken_is_handled_once()
         AreAccepted c events → side_of id (world_after c events).sides ≡ Some s →
         (stream_on c.limits.max_message id events).fault ≡ Some fault →
         s.history.phase ≡ Stopped (reject_reason (reject_of fault)) }
+{}
+
+/// States that a response at once has room: one that is given directly after the take that handed over its request.
+///
+/// A take accepts bytes only if the queue has room for a message of `max_sent` bytes. A request that is handed over queues
+/// nothing, and makes nothing else due. So there is room for any response, since no larger message is sent.
+///
+/// - `refused`: `respond` has two other errors. Bytes that encode no message, or one that is no response or has Observe,
+///   are `NotAResponse`. A response whose token no pending request has is `NoSuchRequest`.
+/// - `accepted`: a response with the token of the request, of class 2, 4 or 5 and without Observe, is accepted.
+/// - `answered`: whatever bytes the application writes, the server accepts these or the 5.00 that `take_all_for` gives in
+///   their place. If it writes none, the request stays pending.
+///
+/// For `accepted` and `answered`, two conditions apply. The deadline of the application is at least one second, as
+/// `Applications::new` requires. The time is not the last one, 2^64 - 1. Otherwise the deadline has come at once, and the
+/// server has answered by 5.04.
+pub fn responses_at_once_have_room()
+    ensures refused { (v : ServerValue) (events : List AcceptedCall) (id : ℕ) (piece bytes : List ℕ) (m : Message)
+        (fault : ResponseFault) → Shows v events → handed_by v id piece ≡ Some m →
+        responded_refusal (server_taken v id piece) id bytes ≡ Some fault →
+        (fault ≡ responding.NotAResponse) ⊎ (fault ≡ responding.NoSuchRequest) }
+    ensures accepted { (v : ServerValue) (events : List AcceptedCall) (id : ℕ) (piece bytes : List ℕ)
+        (m response : Message) → Shows v events →
+        IfSome v.config.applications (λ a. 1 ≤ a.deadline) → v.host.now < 18446744073709551615 →
+        handed_by v id piece ≡ Some m →
+        message_of bytes ≡ Ok response → response.token ≡ m.token → is_plain_response response ≡ true →
+        responded_refusal (server_taken v id piece) id bytes ≡ None }
+    ensures answered { (v : ServerValue) (events : List AcceptedCall) (id : ℕ) (piece bytes : List ℕ) (m : Message) →
+        Shows v events →
+        IfSome v.config.applications (λ a. 1 ≤ a.deadline) → v.host.now < 18446744073709551615 →
+        handed_by v id piece ≡ Some m → bytes ≢ [] →
+        responded_refusal (server_taken v id piece) id (response_for (server_taken v id piece) id m.token bytes)
+        ≡ None }
 {}

@@ -1,9 +1,11 @@
-//! Runs the events of a script on a server, and writes one line for each.
+//! Runs the events of a script on a server, and writes one line for each. The line of an `in` is followed by one for each
+//! request that the application receives.
 //!
 //! If the line of an event needs memory, the line is built before the event runs, so that no event runs without its
-//! line. `remove` calls `can_remove` first, so that an event that fails needs no memory.
+//! line. Only the lines of requests are built while their event runs. `remove` calls `can_remove` first, so that an event
+//! that fails needs no memory.
 
-ghost use Rattle.std.specs.Prelude.{◌≡◌, option_map, true, false, List, map, IfOk, OnErr};
+ghost use Rattle.std.specs.Prelude.{◌≡◌, ◌++◌, option_map, true, false, List, map, IfOk, OnErr};
 ghost use Rattle.coap_server_engine.specs.Prelude.{refusal_in, open_refusal_in, replay_number, line_bytes, event_value};
 ghost use Rattle.coap_server_engine.specs.Prelude.{event_ran, stop_number, drained, IsReplayed, fails_write};
 ghost use Rattle.coap_server_engine.specs.Prelude.{events_made, ShowsMore, ShowsRun, IsShownReplay, AddsBytes};
@@ -13,8 +15,10 @@ ghost use Rattle.coap_script.specs.script.Events as event;
 ghost use Rattle.coap_script.specs.script.Lines as lines;
 ghost use Rattle.coap_model.specs.world.Events as world;
 
+mod listed;
+
 use crate::server::Server;
-use coap_io::{Outlet, write_all};
+use coap_io::{Outlet, write_parts};
 use coap_model::{ConnId, OpenFault, ReleaseFault, ResponseFault};
 use coap_script::{
     Event, ShortLine, fault_line, in_line, open_line, out_line, put_line, remove_line, status_line,
@@ -47,23 +51,26 @@ impl ReplayFault {
     }
 }
 
-/// Output line of an event.
+/// Output of an event.
 #[derive(Drop)]
 enum OutputLine {
     /// Line built without allocation.
     Short(ShortLine),
     /// Line allocated before the event ran.
     Long(Vec<u8>),
+    /// Line of an `in`, followed by those of the requests that were handed to the application.
+    Listed { line: ShortLine, requests: Vec<u8> },
 }
 
 impl OutputLine {
-    /// Returns the bytes of the line.
-    fn as_slice(&self) -> &[u8]
-        ensures { result.now ≡ line_bytes self.now }
+    /// Returns the bytes of the output, in two slices.
+    fn parts(&self) -> (&[u8], &[u8])
+        ensures { result.0.now ++ result.1.now ≡ line_bytes self.now }
     {
         match self {
-            OutputLine::Short(line) => line.as_slice(),
-            OutputLine::Long(line) => line.as_slice(),
+            OutputLine::Short(line) => (line.as_slice(), b""),
+            OutputLine::Long(line) => (line.as_slice(), b""),
+            OutputLine::Listed { line, requests } => (line.as_slice(), requests.as_slice()),
         }
     }
 }
@@ -128,8 +135,8 @@ impl Server {
     ///
     /// - `Write`: a write failed. The event whose line is incomplete was the last one that ran.
     /// - `Memory`: allocation failed for the event with this number, from 1. The events before it ran, and their lines
-    ///   were written. This event did not run, but an `in` accepted all bytes before the last one of the message that
-    ///   needed memory.
+    ///   were written. This event did not run, but an `in` accepted bytes. These are all before the last one of the
+    ///   message that needed memory. If the line of a request did, they are all up to the end of that request.
     ///
     /// # Preconditions
     ///
@@ -146,7 +153,8 @@ impl Server {
             let Ok(line) = self.run_event(event) else {
                 return Err(ReplayFault::Memory(index as u64 + 1));
             };
-            let Ok(()) = write_all(out, line.as_slice()) else {
+            let (first, second) = line.parts();
+            let Ok(()) = write_parts(out, first, second) else {
                 return Err(ReplayFault::Write);
             };
         }
@@ -157,8 +165,7 @@ impl Server {
     ///
     /// # Errors
     ///
-    /// Returns `AllocError` if allocation fails. The event did not run then, but an `in` accepted all bytes before the
-    /// last one of the message that needed memory.
+    /// Returns `AllocError` if allocation fails. The event did not run then, but an `in` accepted bytes, as `replay` says.
     fn run_event(&mut self, event: &Event) -> Result<OutputLine, AllocError>
         ensures run { IsRun self.old (event_value event.now) self.new result }
         ensures shows { ShowsRun self.old (event_value event.now) self.new result }
@@ -204,12 +211,14 @@ impl Server {
         ensures run { IsRun self.old (event.In id bytes.now) self.new result }
         ensures shows { ShowsRun self.old (event.In id bytes.now) self.new result }
     {
-        if self.status(id).is_none() {
+        let Some(at) = self.index_of(id) else {
             return Ok(OutputLine::Short(fault_line("in", Some(id), 1)));
-        }
-        let taken = self.take_all(id, bytes)?;
+        };
+        let mut requests = Vec::new(self.alloc());
+        let taken = self.take_all_listed(at, id, bytes, &mut requests)?;
         let stop = self.stop_number(id);
-        Ok(OutputLine::Short(in_line(id, taken as u64, stop)))
+        let line = in_line(id, taken as u64, stop);
+        Ok(OutputLine::Listed { line, requests })
     }
 
     /// Returns the number of the reason for which a connection no longer accepts messages, if there is one.

@@ -6,3 +6,5 @@ pub mod FlushShown
 pub mod TakeLemmas
 pub mod PieceLemmas
 pub mod RunLemmas
+pub mod ApplicationLemmas
+pub mod ApplicationTurns

@@ -3,3 +3,5 @@
 pub mod StdioRun
 pub mod StdioCalls
 pub mod StdioProgress
+pub mod ApplicationRun
+pub mod ApplicationProgress

@@ -4,7 +4,7 @@ use Rattle.std.proofs.Common.{◌≡◌, ℕ, ◌+◌, ◌<◌, ◌≤◌, ◌^�
 use Rattle.coap_server_engine.specs.Prelude.{concat, release_refusal, put_refusal, remove_refusal, ScriptEventValue, Open, In}
 use Rattle.coap_server_engine.specs.Prelude.{Drain, Tick, Remove, Release, Drop, Status, EventResult, comes_to, open_number}
 use Rattle.coap_server_engine.specs.Prelude.{store_number, release_number, tick_refusal, unless_refused, on_connection, in_result}
-use Rattle.coap_server_engine.specs.Prelude.{in_ran, drained, drain_ran, status_ran, event_ran, replayed, open_line}
+use Rattle.coap_server_engine.specs.Prelude.{in_ran, request_lines, drained, drain_ran, status_ran, event_ran, replayed, open_line}
 use Rattle.coap_server_engine.specs.Prelude.{tick_line, put_line, remove_line, word_line, in_before, joined, DifferInCuts}
 use Rattle.coap_server_engine.specs.Prelude.{lines_of, other_lines, IsInTime, AreInTime, SessionValue, ServerValue}
 use Rattle.coap_server_engine.specs.Prelude.{session_of, server_opened, server_taken, server_ticked, server_put}
@@ -64,7 +64,7 @@ event_shown v Open in_time shown =
     unless_shown v (codes "open") None (comes_to (server_opened v) (open_line (v.ids + 1))) (option_map open_number (open_refusal v)) shown
     (λ none. open_shown v shown (none_made open_number (open_refusal v) none))
 event_shown v (In id bytes) in_time shown =
-    connection_shown v (codes "in") id (λ s. in_ran id (in_result v id bytes)) (session_of id v.sessions) shown (λ s at.
+    connection_shown v (codes "in") id (λ s. in_ran id (request_lines v id bytes) (in_result v id bytes)) (session_of id v.sessions) shown (λ s at.
     turns_keep (λ f. IsShown f.server) id bytes
     (λ f now. take_shown_by f.server id (drop f.count bytes) (session_of id f.server.sessions) refl now) v shown (length bytes))
 event_shown v (Drain id most) in_time shown =
@@ -101,7 +101,7 @@ event_shown v (Status id) in_time shown = connection_shown v (codes "status") id
 
 -- ---- a divided `in`
 
-in_by : (v : ServerValue) (id : ℕ) (bytes : List ℕ) (found : Option SessionValue) → session_of id v.sessions ≡ found → (on_connection v (codes "in") id (λ s. in_ran id (in_result v id bytes)) found).server ≡ (in_result v id bytes).server
+in_by : (v : ServerValue) (id : ℕ) (bytes : List ℕ) (found : Option SessionValue) → session_of id v.sessions ≡ found → (on_connection v (codes "in") id (λ s. in_ran id (request_lines v id bytes) (in_result v id bytes)) found).server ≡ (in_result v id bytes).server
 in_by v id bytes None at = sym (stuck_turns v id (absent_stuck v id at) bytes (length bytes)).server
 in_by v id bytes (Some s) at = refl
 

@@ -7,7 +7,7 @@ use Rattle.std.proofs.Math.ListN.{get_or-map}
 use Rattle.std.proofs.Math.Bool.{and-false}
 use Rattle.coap_server_engine.specs.Prelude.{IsErr, AllocError, Path, StoreValue, remove_refusal, NoSuch, ScriptEventValue}
 use Rattle.coap_server_engine.specs.Prelude.{event_value, EventResult, fed_turns, in_result, event_ran, replayed, IsPartialIn, IsUnrun}
-use Rattle.coap_server_engine.specs.Prelude.{IsRefusedAt, IsCutAt, where_there, took_turns, took, events_ran, ShowsMore}
+use Rattle.coap_server_engine.specs.Prelude.{IsRefusedAt, IsCutAt, where_there, took_turns, took, events_ran, ShowsMore, ShowsPartlyFed}
 use Rattle.coap_server_engine.specs.Prelude.{ShowsPart, events_made, ShowsRefusedAt, AddsBytes, WritesPart, SessionValue}
 use Rattle.coap_server_engine.specs.Prelude.{InResult, ServerValue, server_taken, count_taken, is_there, session_of, IsNotTaken, IsRun}
 use Rattle.coap_server_engine.specs.Prelude.{IsDrainable, Took, Drained, OutputLine, Shows, AcceptedCall, FollowsMore, Following, TellsPartlyFed}
@@ -96,11 +96,11 @@ abbrev pub TellsTake : Following → Following → ServerValue → ℕ → List 
 TellsTake b c now id left = FollowsMore b c (where_there (session_of id now.sessions) (λ s. Took id (take (count_taken now id left) left)))
 
 module _ (v : ServerValue) (id : ℕ) (bytes : List ℕ) (now : ServerValue) (taken : ℕ) (feeds : Feeds v id bytes now taken) (left : taken < length bytes) where
-  turn_more_feeds : fed_turns (feeds.turns + 1) v id bytes ≡ record { server = server_taken now id (drop taken bytes); count = taken + count_taken now id (drop taken bytes); done = count_taken now id (drop taken bytes) == 0 }
+  pub turn_more_feeds : fed_turns (feeds.turns + 1) v id bytes ≡ record { server = server_taken now id (drop taken bytes); count = taken + count_taken now id (drop taken bytes); done = count_taken now id (drop taken bytes) == 0 }
   unfolding fed_turns
   turn_more_feeds = rw (add-one, feeds.so_far, lt-ltb taken (length bytes) left)
 
-  shows_more : (after : ServerValue) → ShowsTake now id (drop taken bytes) after → ShowsMore v after (took_turns (feeds.turns + 1) v id bytes)
+  pub shows_more : (after : ServerValue) → ShowsTake now id (drop taken bytes) after → ShowsMore v after (took_turns (feeds.turns + 1) v id bytes)
   unfolding took_turns
   shows_more after more =
       rw (add-one, feeds.so_far, lt-ltb taken (length bytes) left) (shows_then v now after (took_turns feeds.turns v id bytes) _ feeds.shows more)
@@ -120,6 +120,11 @@ module _ (v : ServerValue) (id : ℕ) (bytes : List ℕ) (now : ServerValue) (ta
     so_far = cc (turn_more_feeds, ne_eqb k 0 some);
     shows = shows_more after more;
   }
+
+  pub turns_of_more : (k : ℕ) (after : ServerValue) (within : k ≤ length (drop taken bytes)) (counted : k ≡ count_taken now id (drop taken bytes)) (some : k ≢ 0) (is : after ≡ server_taken now id (drop taken bytes)) (more : ShowsTake now id (drop taken bytes) after)
+      → (feeds_more k after within counted some is more).turns ≡ feeds.turns + 1
+  unfolding feeds_more
+  turns_of_more k after within counted some is more = refl
 
   pub feeds_told : (a b c : Following) (k : ℕ) (after : ServerValue) (within : k ≤ length (drop taken bytes)) (counted : k ≡ count_taken now id (drop taken bytes)) (some : k ≢ 0) (is : after ≡ server_taken now id (drop taken bytes)) (more : ShowsTake now id (drop taken bytes) after)
       → FollowsMore a b (took_turns feeds.turns v id bytes) → TellsTake b c now id (drop taken bytes) → FollowsMore a c (took_turns (feeds_more k after within counted some is more).turns v id bytes)
@@ -151,6 +156,14 @@ module _ (v : ServerValue) (id : ℕ) (bytes : List ℕ) (now : ServerValue) (ta
     count = count;
     going = rw (feeds.so_far, lt-ltb taken (length bytes) left);
     refused = rw feeds.so_far refused;
+  }
+
+  pub short_shown : (count : ℕ) (after : ServerValue) → IsNotTaken now id (drop taken bytes) (taking.Memory count) after → ShowsMore now after (Took id (take count (drop taken bytes)) ∷ []) → ShowsPartlyFed v id bytes after
+  unfolding short
+  short_shown count after refused more = record {
+    more = _;
+    part = record { in_result = short count after refused; made = rw feeds.so_far };
+    shows = shows_then v now after (took_turns feeds.turns v id bytes) _ feeds.shows more;
   }
 
   pub short_told : (a b c : Following) (count : ℕ) (after : ServerValue) → IsNotTaken now id (drop taken bytes) (taking.Memory count) after → ShowsMore now after (Took id (take count (drop taken bytes)) ∷ [])

@@ -2,8 +2,8 @@
 use Rattle.std.proofs.Common.{[], ◌≡◌, ℕ, false, List, ◌∷◌, ◌++◌, Option, Some, None, Result, Ok, Err, refl, subst, append_assoc, zero, suc, drop, arith}
 use Rattle.std.proofs.lemmas.List.{append-nil}
 use Rattle.std.proofs.lemmas.Bool.{cond_both}
-use Rattle.coap_server_engine.specs.Prelude.{IsErr, AllocError, ScriptEventValue, In, event_ran, replayed, InResult, unfed, fed_more}
-use Rattle.coap_server_engine.specs.Prelude.{fed_turns, events_ran, ShowsMore, IsPartlyMade, ShowsPart, ShowsPartlyFed, ShowsRun, took_turns}
+use Rattle.coap_server_engine.specs.Prelude.{IsErr, AllocError, ScriptEventValue, event_ran, replayed, InResult, unfed, fed_more}
+use Rattle.coap_server_engine.specs.Prelude.{fed_turns, events_ran, ShowsMore, IsPartlyMade, ShowsPart, ShowsRun, took_turns}
 use Rattle.coap_server_engine.specs.Prelude.{ServerValue, session_of, is_there, server_taken, server_taken_on, count_taken, AcceptedCall, Shows}
 use Rattle.coap_server_engine.specs.values.InResults.{goes_on}
 
@@ -43,10 +43,6 @@ events_ran_on v (e ∷ es) fs = rw (events_ran_on (event_ran v e).server es fs, 
 -- Allocation failed for an event that makes no calls then.
 pub nothing_made : (v : ServerValue) (e : ScriptEventValue) (after : ServerValue) → after ≡ v → IsPartlyMade v e after [] → ShowsPart v e after
 nothing_made v e after is part = record { more = []; part = part; shows = shows_same v after is }
-
--- Allocation failed within the takes of an `in`.
-pub in_refused : (v : ServerValue) (id : ℕ) (bytes : List ℕ) (after : ServerValue) → ShowsPartlyFed v id bytes after → ShowsPart v (In id bytes) after
-in_refused v id bytes after partly = record { more = partly.more; part = partly.part; shows = partly.shows }
 
 pub run_refused : {T : Type 0} (v : ServerValue) (e : ScriptEventValue) (after : ServerValue) (r : Result T AllocError) → IsErr r → ShowsPart v e after → ShowsRun v e after r
 run_refused v e after (Ok line) is part = absurd cc

@@ -4,11 +4,10 @@ use Rattle.std.proofs.lemmas.List.{append-nil, length-append}
 use Rattle.coap_wire.specs.Forms.{token_form}
 use Rattle.coap_wire.specs.Reading as reading
 use Rattle.std.proofs.lemmas.Bool.{eqb-true}
-use Rattle.coap_server_engine.specs.Prelude.{Message, message_of, FormatFault, RefusedBy, ResponseFault}
-use Rattle.coap_server_engine.specs.Prelude.{SessionValue, ServerValue, LiesAt, session_of, server_given, session_given_by, responded_refusal, responded_refusal_on, response_event}
-use Rattle.coap_server_engine.specs.Prelude.{Responded, spelling}
+use Rattle.coap_server_engine.specs.Prelude.{Message, message_of, RefusedBy, ResponseFault}
+use Rattle.coap_server_engine.specs.Prelude.{ServerValue, LiesAt, session_of, server_given, session_given_by, responded_refusal, responded_refusal_on, response_event}
+use Rattle.coap_server_engine.specs.Prelude.{spelling}
 use Rattle.coap_server_engine.specs.Prelude.{server_offered, offered_events, response_for, failure_with, Exchange, Answering, AnswersMore}
-use Rattle.coap_server_engine.specs.values.Calls.{response_in}
 use Rattle.coap_server_engine.proofs.values.ServerLemmas.{lies_where_taken}
 
 -- ---- exchanges

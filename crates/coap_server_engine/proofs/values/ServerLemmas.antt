@@ -5,7 +5,7 @@ use Rattle.coap_server_engine.specs.Prelude.{values_of, nat_eq_equiv, set_value_
 use Rattle.coap_server_engine.specs.Prelude.{new_session, session_settled, IsSettled, ServerValue, LiesAt, session_of}
 use Rattle.coap_server_engine.specs.Prelude.{is_there, changed_at, session_becomes, on_session, settled_entry}
 use Rattle.coap_server_engine.specs.Prelude.{server_settled, server_ticked, server_opened, server_dropped, AreSettled}
-use Rattle.coap_server_engine.specs.Prelude.{IsServer, open_refusal, KeepsSplit, MarkedSession, unmarked, unmarked_entry}
+use Rattle.coap_server_engine.specs.Prelude.{IsServer, open_refusal, splits_of, MarkedSession, unmarked, unmarked_entry}
 use Rattle.std.proofs.lemmas.Bool.{eqb-true, ne_eqb, cond_both}
 use Rattle.std.proofs.lemmas.List.{length-map, length_push}
 use Rattle.std.proofs.lemmas.List.Sums.{length-filter, count_by-le-length}
@@ -125,12 +125,24 @@ read_written [] i s new at = absurd cc
 read_written (e ∷ es) zero s new at = refl
 read_written (e ∷ es) (suc i) s new at = read_written es i s new at
 
-pub at_index : (es : MarkedEntries) (i : ℕ) (s was t new : MarkedSession) → slice_get (values_of es) i ≡ Some was → slice_get (values_of es) i ≡ Some s → slice_get (values_of (set_value_at es i new)) i ≡ Some t → KeepsSplit was new → KeepsSplit s t
-at_index es i s was t new at old now keeps =
-    let first : was ≡ s = cc (at, old) in
-    let written = read_written es i was new at in
-    let second : new ≡ t = cc (written, now) in
-    subst (λ (m : MarkedSession). KeepsSplit s m) second (subst (λ (m : MarkedSession). KeepsSplit m new) first keeps)
+-- A connection that is written with the same split frame.
+pub splits_written : (es : MarkedEntries) (i : ℕ) (s new : MarkedSession) → slice_get (values_of es) i ≡ Some s → new.split ≡ s.split → splits_of (set_value_at es i new) ≡ splits_of es
+splits_written [] i s new at same = refl
+splits_written (e ∷ es) zero s new at same =
+    let is : e.1 ≡ s = cc in
+    ap (λ (split : List ℕ). split ∷ splits_of es) (same ∙ ap (λ (m : MarkedSession). m.split) (sym is))
+splits_written (e ∷ es) (suc i) s new at same = ap (λ rest. e.1.split ∷ rest) (splits_written es i s new at same)
+
+split_there : (es : MarkedEntries) (i : ℕ) (s : MarkedSession) → slice_get (values_of es) i ≡ Some s → slice_get (splits_of es) i ≡ Some s.split
+split_there [] i s at = absurd cc
+split_there (e ∷ es) zero s at = ap (λ (m : MarkedSession). Some m.split) (let is : e.1 ≡ s = cc in is)
+split_there (e ∷ es) (suc i) s at = split_there es i s at
+
+-- If no split frame changed, that of the connection at an index is the same.
+pub same_split : (es fs : MarkedEntries) (i : ℕ) (s t : MarkedSession) → slice_get (values_of es) i ≡ Some s → slice_get (values_of fs) i ≡ Some t → splits_of fs ≡ splits_of es → t.split ≡ s.split
+same_split es fs i s t at now same =
+    let both : Some t.split ≡ Some s.split = sym (split_there fs i t now) ∙ ap (λ (splits : List (List ℕ)). slice_get splits i) same ∙ split_there es i s at in
+    cc
 
 -- Writing the present value changes nothing.
 pub same_written : {S : Type 0} (es : List (ℕ × S)) (i : ℕ) (s : S) → slice_get (values_of es) i ≡ Some s → set_value_at es i s ≡ es

@@ -1,14 +1,13 @@
 -- After input that changes no resource, a server only has to settle the connection that received it, and only if an
 -- entry is pending.
-use Rattle.std.proofs.Common.{◌≡◌, ℕ, Bool, true, false, cond, List, take, Option, Some, None, is_some, is_none, IfSome, refl, sym, ap, subst, ◌∙◌, map, slice_get}
+use Rattle.std.proofs.Common.{◌≡◌, ℕ, Bool, false, cond, List, take, Option, Some, refl, sym, ap, subst, ◌∙◌, map, slice_get}
 use Rattle.coap_server_engine.specs.Prelude.{values_of, set_value_at, stop_of, Reason, changes, ServerState, SessionValue, TakeOutcome}
 use Rattle.coap_server_engine.specs.Prelude.{session_takes, taking, host_changed, IsSettled, RefusesPiece, settled_held}
 use Rattle.coap_server_engine.specs.Prelude.{ServerValue, LiesAt, session_of, changed_at, session_becomes, settled_entry}
 use Rattle.coap_server_engine.specs.Prelude.{AreSettled, server_taken_on, server_taken, count_on, count_taken, handled_so}
-use Rattle.coap_server_engine.specs.Prelude.{handled_by, RefusesPieceOn, IsServer, handed, handed_on, handed_frame, MarkedSession, KeepsSplit, frame_back, takes_messages}
+use Rattle.coap_server_engine.specs.Prelude.{handled_by, RefusesPieceOn, IsServer, handed_on, handed_frame, changing_on, changing_frame}
 use Rattle.coap_server_engine.specs.Prelude.{Change}
 use Rattle.coap_store.specs.Answer as store_change
-use Rattle.coap_model.proofs.OptionLemmas.{there_is_none}
 use Rattle.std.proofs.lemmas.Bool.{cond_both}
 use Rattle.coap_server_engine.proofs.values.ServerLemmas.{Entries, one_of_all, written_at_index, changed_one, changed_written, settling, one_settles, all_settled_stay, all_still, taken_server_with, lies_where_taken}
 use Rattle.coap_server_session.proofs.values.TakenLemmas.{host_stays, refused_changes_nothing, refused_stays_settled, taking_settles_held}
@@ -88,39 +87,16 @@ module _ (v : ServerValue) (id i : ℕ) (s : SessionValue) (piece : List ℕ) (s
     unfolding handed_frame
     taken_request stop now there stop_is = cc (taken_lies.found, taken_value, lies.found)
 
+    -- The request that changes the store.
+    pub taken_change : changing_on v piece (Some s) ≡ changing_frame v id piece
+    unfolding changing_frame
+    taken_change = ap (changing_on v piece) (sym (lies.found ∙ here))
+
 -- A change of the store keeps the applications.
 pub applications_stay : (host : ServerState) (c : Change) → (host_changed host c).store.applications ≡ host.store.applications
 applications_stay host store_change.Nothing = refl
 applications_stay host (store_change.Put path format bytes) = refl
 applications_stay host (store_change.Delete path) = refl
-
--- ---- the request that a take hands to the application
-
-module _ (v : ServerValue) (piece : List ℕ) (s : SessionValue) where
-  -- It has this frame.
-  pub handed_given : (flag : Bool) (stop : Option Reason) (new now : MarkedSession) (taken given : List ℕ) → flag ≡ is_some (handed v.host s piece) → flag ≡ true → IfSome (handed v.host s piece) (λ frame. takes_messages new.session.link.phase ≡ true → frame_back new.split taken ≡ frame)
-      → KeepsSplit new now → stop ≡ stop_of now.session.link.phase → is_some stop ≡ false → given ≡ frame_back now.split taken → Some given ≡ handed_on v piece (Some s) stop
-  handed_given flag None new now taken given counted flagged shown keeps stops none is = by (handed v.host s piece) refl (sym counted ∙ flagged) shown
-    where
-      live : takes_messages now.session.link.phase ≡ true
-      live = ap is_none (sym stops)
-
-      by : (h : Option (List ℕ)) → handed v.host s piece ≡ h → is_some (handed v.host s piece) ≡ true → IfSome (handed v.host s piece) (λ frame. takes_messages new.session.link.phase ≡ true → frame_back new.split taken ≡ frame) → Some given ≡ handed v.host s piece
-      by None e some frame = absurd cc
-      by (Some bytes) e some frame =
-          let back : takes_messages new.session.link.phase ≡ true → frame_back new.split taken ≡ bytes = rw e at frame in
-          ap (λ (b : List ℕ). Some b) (is ∙ ap (λ (split : List ℕ). frame_back split taken) (keeps.split live) ∙ back (keeps.live live)) ∙ sym e
-  handed_given flag (Some why) new now taken given counted flagged shown keeps stops none is = absurd cc
-
-  -- The connection has stopped.
-  pub stopped_none : (stop : Option Reason) → is_some stop ≡ true → None ≡ handed_on v piece (Some s) stop
-  stopped_none None stops = absurd cc
-  stopped_none (Some why) stops = refl
-
-  -- No request is handed over.
-  pub unhanded_none : (flag : Bool) → flag ≡ is_some (handed v.host s piece) → flag ≡ false → (stop : Option Reason) → None ≡ handed_on v piece (Some s) stop
-  unhanded_none flag counted unset None = sym (there_is_none (handed v.host s piece) (sym counted ∙ unset))
-  unhanded_none flag counted unset (Some why) = refl
 
 -- ---- the server after allocation failed
 

@@ -65,7 +65,7 @@ one_becomes M id es fs f g t ps distinct there same becomes =
 -- ---- settling
 
 -- A server settles as its model does.
-server_after_settling : (c : ConfigValues) (es : List AcceptedCall) (w : World) → IsKnownWorld w → server_shown c es (all_settled w) ≡ server_settled (server_shown c es w)
+pub server_after_settling : (c : ConfigValues) (es : List AcceptedCall) (w : World) → IsKnownWorld w → server_shown c es (all_settled w) ≡ server_settled (server_shown c es w)
 server_after_settling c es w known =
     let shown : ConnectionEntry → ℕ × SessionValue = place_shown c.limits.max_message es in
     let settles : ConnectionEntry → ConnectionEntry = settled_place w.store w.now in

@@ -7,6 +7,7 @@ use Rattle.coap_store.specs.declared.fault.StoreFault.{StoreFault}
 use Rattle.coap_store.specs.declared.fault.StoreFault.TheVariants as storing
 use Rattle.coap_script.specs.script.Events.{ScriptEventValue, Open, In, Drain, Tick, Put, Remove, End, Release, Respond, Drop, Status}
 use Rattle.coap_script.specs.script.Lines.{open_line, in_line, out_line, tick_line, put_line, remove_line, word_line, status_line, fault_line}
+use Rattle.coap_server_engine.specs.script.RequestLines.{request_lines}
 use Rattle.coap_server_engine.specs.values.InResults.{InResult, in_result}
 use Rattle.coap_server_session.specs.values.Sessions.{SessionValue}
 use Rattle.coap_server_engine.specs.values.Servers.{ServerValue, session_of, server_opened, server_written, server_ticked, server_put, server_removed, server_ended, server_released, server_given, server_dropped}
@@ -81,9 +82,10 @@ abbrev pub stop_number : Option SessionValue → Option ℕ
 stop_number None = None
 stop_number (Some s) = option_map reason_number (stop_of s.link.phase)
 
--- The result of an `in` after the takes of its bytes.
-abbrev pub in_ran : ℕ → InResult → EventResult
-in_ran id f = comes_to f.server (in_line id f.count (stop_number (session_of id f.server.sessions)))
+-- The result of an `in` after the takes of its bytes. Its line is followed by those of the requests that the takes handed
+-- to the application, in order.
+abbrev pub in_ran : ℕ → List ℕ → InResult → EventResult
+in_ran id requests f = comes_to f.server (in_line id f.count (stop_number (session_of id f.server.sessions)) ++ requests)
 
 -- ---- `drain` and `status`
 
@@ -105,7 +107,7 @@ status_ran v id s = comes_to v (status_line id s.link.phase (length s.frame) (le
 -- The result of an event: the server after it, and its line.
 unfoldable pub event_ran : ServerValue → ScriptEventValue → EventResult
 event_ran v Open = unless_refused v (codes "open") None (comes_to (server_opened v) (open_line (v.ids + 1))) (option_map open_number (open_refusal v))
-event_ran v (In id bytes) = on_connection v (codes "in") id (λ s. in_ran id (in_result v id bytes)) (session_of id v.sessions)
+event_ran v (In id bytes) = on_connection v (codes "in") id (λ s. in_ran id (request_lines v id bytes) (in_result v id bytes)) (session_of id v.sessions)
 event_ran v (Drain id most) = on_connection v (codes "drain") id (λ s. drain_ran v id (drained most s.link.waiting)) (session_of id v.sessions)
 event_ran v (Tick now) = unless_refused v (codes "tick") None (comes_to (server_ticked v now) (tick_line now)) (tick_refusal v now)
 event_ran v (Put path format bytes) =

@@ -4,7 +4,8 @@ use Rattle.coap_store.specs.Refusals.{put_refusal, remove_refusal}
 use Rattle.coap_script.specs.script.Events.{ScriptEventValue, Open, In, Drain, Tick, Put, Remove, End, Release, Respond, Drop, Status}
 use Rattle.coap_server_engine.specs.script.Replay.{event_ran, replayed}
 use Rattle.coap_server_engine.specs.script.Shown.{events_ran}
-use Rattle.coap_server_engine.specs.values.InResults.{IsPartialIn, ShowsMore}
+use Rattle.coap_server_engine.specs.script.RequestLines.{IsUnfinishedIn}
+use Rattle.coap_server_engine.specs.values.InResults.{ShowsMore}
 use Rattle.coap_server_engine.specs.values.Servers.{ServerValue, session_of, is_there}
 use Rattle.coap_server_engine.specs.values.ServerAnswers.{open_refusal}
 use Rattle.coap_server_engine.specs.declared.replay.ReplayFault.{ReplayFault}
@@ -16,11 +17,12 @@ replay_number Write = 1
 replay_number (Memory event) = 2
 
 -- States the server after allocation failed for an event. Such an event is an `in`, or it is an `open`, `drain`, `put`,
--- `remove` or `status` that would not fail otherwise. The server is unchanged, except that an `in` has accepted its
--- bytes before the last one of the message that needed memory.
+-- `remove` or `status` that would not fail otherwise. The server is unchanged, except that an `in` has accepted bytes.
+-- These are the bytes before the last one of the message that needed memory. If the line of a request did, they are those
+-- up to the end of that request.
 abbrev pub IsUnrun : ServerValue → ScriptEventValue → ServerValue → Type 0
 IsUnrun v Open after = (open_refusal v ≡ None) × (after ≡ v)
-IsUnrun v (In id bytes) after = IsPartialIn v id bytes after
+IsUnrun v (In id bytes) after = IsUnfinishedIn v id bytes after
 IsUnrun v (Drain id most) after = (is_there (session_of id v.sessions) ≡ true) × (after ≡ v)
 IsUnrun v (Tick now) after = ⊥
 IsUnrun v (Put path format bytes) after = (put_refusal v.host.store path bytes ≡ None) × (after ≡ v)

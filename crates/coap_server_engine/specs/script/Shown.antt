@@ -5,7 +5,8 @@ use Rattle.coap_store.specs.Refusals.{put_refusal, remove_refusal}
 use Rattle.coap_script.specs.script.Events.{ScriptEventValue, Open, In, Drain, Tick, Put, Remove, End, Release, Respond, Drop, Status}
 use Rattle.coap_wire.specs.Reading.{message_of}
 use Rattle.coap_server_engine.specs.script.Replay.{drained, tick_refusal, event_ran, replayed}
-use Rattle.coap_server_engine.specs.values.InResults.{where_there, took, ShowsMore, IsPartlyTaken}
+use Rattle.coap_server_engine.specs.script.RequestLines.{IsUnfinishedAfter}
+use Rattle.coap_server_engine.specs.values.InResults.{where_there, took, ShowsMore}
 use Rattle.coap_server_engine.specs.values.Servers.{ServerValue, session_of}
 use Rattle.coap_server_engine.specs.values.ServerAnswers.{open_refusal, released_refusal, responded_refusal, response_event}
 use Rattle.coap_model.specs.world.Events.{AcceptedCall, Opened, Wrote, Ticked, Stored, Removed, Ended, Released, Dropped}
@@ -49,7 +50,7 @@ events_ran v (e ∷ es) = events_made v e ++ events_ran (event_ran v e).server e
 -- Holds if `more` are the calls that an event made before allocation failed for it. Only an `in` makes any.
 abbrev pub IsPartlyMade : ServerValue → ScriptEventValue → ServerValue → List AcceptedCall → Type 0
 IsPartlyMade v Open after more = more ≡ []
-IsPartlyMade v (In id bytes) after more = IsPartlyTaken v id bytes after more
+IsPartlyMade v (In id bytes) after more = IsUnfinishedAfter v id bytes after more
 IsPartlyMade v (Drain id most) after more = more ≡ []
 IsPartlyMade v (Tick now) after more = more ≡ []
 IsPartlyMade v (Put path format bytes) after more = more ≡ []

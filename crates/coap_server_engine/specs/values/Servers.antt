@@ -80,6 +80,10 @@ abbrev pub is_there : {A : Type 0} → Option A → Bool
 is_there None = false
 is_there (Some x) = true
 
+-- The split frame that each connection completed last.
+abbrev pub splits_of : List (ℕ × MarkedSession) → List (List ℕ)
+splits_of sessions = map (λ e. e.1.split) sessions
+
 -- ---- calls
 
 -- The server state (`ServerState`) of a new server, which stores nothing.

@@ -8,7 +8,7 @@ use super::Server;
 use super::sessions::{find, settle_after, what_was_handled};
 use crate::application::Application;
 use crate::monitor::{Call, Monitor};
-use crate::taken_request::{TakenRequest, frame_of};
+use crate::taken_request::{TakenRequest, frame_of, lent_if, lent_unless_stopped};
 use arrayvec::ArrayVec;
 use coap_conn::Reply;
 use coap_model::{ConnId, Handled, ResponseFault, TakeFault, Taken};
@@ -37,11 +37,15 @@ impl Server {
     ghost use Rattle.coap_server_engine.specs.Prelude.{AreAskedLater, IsTakenRequest, server_offered};
     ghost use Rattle.coap_server_engine.specs.Prelude.{offered_events, response_for, RefusedBy};
     ghost use Rattle.coap_server_engine.specs.Prelude.{responded_refusal, IsReplyOn, IsTakenFor, IsNotTakenFor};
-    ghost use Rattle.coap_server_engine.specs.Prelude.{asks_for, message_limit};
+    ghost use Rattle.coap_server_engine.specs.Prelude.{asks_for, message_limit, changing_frame, frame_key, ChangesBy};
     ghost use Rattle.coap_server_engine.specs.contracts.server.Server.{the_row};
 
     /// Accepts bytes as `take` does, and lends the request that it handed to the application, if the accepted bytes end with
-    /// one.
+    /// one. It also lends the request that stored or deleted a resource, by which the program follows the resources that
+    /// clients change.
+    ///
+    /// The request that changed a resource is lent in every case, also if its response stopped the connection. A request
+    /// that changes nothing is not lent: a GET, one with an error response, or a DELETE of an absent resource.
     ///
     /// The application answers requests of the entries in `Applications`. The server itself answers with 4.02 for an
     /// unrecognised critical option, 5.05 for proxying, or 5.03 if the list of pending entries is full. No request is lent
@@ -89,6 +93,10 @@ impl Server {
         ensures request { IfOk result (λ t. (events : List AcceptedCall) → Shows self.old events →
             option_and_then frame_message (option_copied t.frame)
             ≡ request_in self.old.config events (Took id (take t.taken.bytes piece.now)) id) }
+        ensures changed { IfOk result (λ t. option_copied t.changed ≡ changing_frame self.old id piece.now) }
+        ensures alters { IfOk result (λ t. (events : List AcceptedCall) → Shows self.old events →
+            ChangesBy self.old.config events (Took id (take t.taken.bytes piece.now))
+            (option_and_then frame_key (option_copied t.changed))) }
         ensures refused_for { IfErr result (λ fault.
             (events : List AcceptedCall) → Shows self.old events → IsRefusedFor self.old.config events id piece.now fault) }
     {
@@ -128,6 +136,10 @@ impl Server {
         ensures request { IfOk result (λ t. (events : List AcceptedCall) → Shows self.old events →
             option_and_then frame_message (option_copied t.frame)
             ≡ request_in self.old.config events (Took _id (take t.taken.bytes piece.now)) _id) }
+        ensures changed { IfOk result (λ t. option_copied t.changed ≡ changing_frame self.old _id piece.now) }
+        ensures alters { IfOk result (λ t. (events : List AcceptedCall) → Shows self.old events →
+            ChangesBy self.old.config events (Took _id (take t.taken.bytes piece.now))
+            (option_and_then frame_key (option_copied t.changed))) }
         ensures refused_for { IfErr result (λ fault.
             (events : List AcceptedCall) → Shows self.old events → IsRefusedFor self.old.config events _id piece.now fault) }
     {
@@ -142,14 +154,14 @@ impl Server {
                     bytes: taking.count,
                     handled: what_was_handled(takes, taking.handled, stop),
                 };
-                if taking.handed && stop.is_none() {
-                    let frame = frame_of(session.split_frame(), &piece[..taking.count]);
-                    return Ok(TakenRequest {
-                        taken,
-                        frame: Some(frame),
-                    });
-                }
-                Ok(TakenRequest { taken, frame: None })
+                let frame = frame_of(session.split_frame(), &piece[..taking.count]);
+                let handed = lent_unless_stopped(taking.handed, stop, frame);
+                let changed = lent_if(taking.changed.is_some(), frame);
+                Ok(TakenRequest {
+                    taken,
+                    frame: handed,
+                    changed,
+                })
             }
         }
     }

@@ -9,7 +9,7 @@ ghost use Rattle.coap_server_engine.specs.Prelude.{session_announced, session_se
 ghost use Rattle.coap_server_engine.specs.Prelude.{settled_entry, AreSettled, UnaffectedAreSettled, AreUntouched};
 ghost use Rattle.coap_server_engine.specs.Prelude.{AreOthersSettled, settled_held, released_refusal_on, IsAnnounced};
 ghost use Rattle.coap_server_engine.specs.Prelude.{handled_so, responded_refusal_on, IsReplyOn, message_of};
-ghost use Rattle.coap_server_engine.specs.Prelude.{session_given_by, MarkedSession, KeepsSplit};
+ghost use Rattle.coap_server_engine.specs.Prelude.{session_given_by, splits_of};
 
 use super::Sessions;
 use coap_conn::{Reason, Reply};
@@ -55,6 +55,7 @@ pub(super) fn settle_touched(sessions: &mut Sessions, host: &ServerState, cause:
     ensures after { unmarked sessions.new.entries
         ≡ map (settled_entry host.entry.now) (unmarked sessions.old.entries) }
     ensures marked { AreAllMarked host.entry.now sessions.new.entries }
+    ensures splits { splits_of sessions.new.entries ≡ splits_of sessions.old.entries }
 {
     let mut from = 0;
     while let Some(at) = next_touched(sessions, from, cause, host.now) {
@@ -75,12 +76,11 @@ pub(super) fn settle_after(
     requires others { AreOthersSettled changed at host.now (unmarked sessions.old.entries) }
     requires marked { AreMarkedAfter changed host.now sessions.old.entries }
     requires own { IfSome (slice_get (values sessions.old) at) (IsMarked host.now) }
-    ensures split { changed ≡ None → (s t : MarkedSession) → slice_get (values sessions.old) at ≡ Some s →
-        slice_get (values sessions.new) at ≡ Some t → KeepsSplit s t }
     ensures after { unmarked sessions.new.entries ≡ (if is_some changed then map (settled_entry host.entry.now)
         (unmarked sessions.old.entries) else changed_at at (settled_held host.entry.now)
         (unmarked sessions.old.entries)) }
     ensures marked { AreAllMarked host.entry.now sessions.new.entries }
+    ensures splits { splits_of sessions.new.entries ≡ splits_of sessions.old.entries }
 {
     match changed {
         None => sessions[at].settle_if_pending(host),

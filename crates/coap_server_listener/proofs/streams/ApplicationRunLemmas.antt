@@ -92,16 +92,16 @@ ran_to_end a b c asks v w one ends = record {
 
 -- ---- whole turns
 
-module _ {A W : Type 0} (follows : A → Answering) (readable writable : W → Option Bool) (trace : W → WireTrace) where
+module _ {A W : Type 0} (follows : A → Answering) (idle : A → Type 0) (readable writable : W → Option Bool) (trace : W → WireTrace) where
   -- A turn whose calls of the listener are named.
   pub turn_named : (told : List (DoorCall W) → Type 0) (v answered : ServerValue) (es kept : List (ℕ × Peer W)) (after : ServerValue) (left : List (ℕ × Peer W)) (is_full : Bool) (limit next wait : Wait) (one other : A) (asked : List AcceptedCall → Type 0)
-      → AreAskedLater v 256 is_full answered asked (AnswersMore (follows one) (follows other)) → AreRecorded es kept → wait ≡ wait_within (limit_for is_full limit) next → (turn : IsTurnBy (IsTakenWith follows) readable writable trace told answered kept after left next)
-      → IsTurnFor follows readable writable trace (λ calls. asked_by answered turn.opened.handed ≡ calls) v es after left wait
-  turn_named told v answered es kept after left is_full limit next wait one other asked given recorded waits turn = record {
+      → AreAskedLater v 256 is_full answered asked (AnswersMore (follows one) (follows other)) → (is_full ≡ false → idle other) → AreRecorded es kept → wait ≡ wait_within (limit_for is_full limit) next → (turn : IsTurnBy (IsTakenWith follows) readable writable trace told answered kept after left next)
+      → IsTurnFor follows idle readable writable trace (λ calls. asked_by answered turn.opened.handed ≡ calls) v es after left wait
+  turn_named told v answered es kept after left is_full limit next wait one other asked given is_idle recorded waits turn = record {
     answered = answered;
     kept = kept;
     is_full = is_full;
-    given = record { number = given.number; events = given.events; exchanges = given.exchanges; given = given.given; within = given.within; over = given.over; shows = given.shows; tells = tt; exchanged = (one, other, given.exchanged) };
+    given = record { number = given.number; events = given.events; exchanges = given.exchanges; given = given.given; within = given.within; over = given.over; shows = given.shows; tells = tt; exchanged = (one, other, is_idle, given.exchanged) };
     recorded = recorded;
     limit = limit;
     next = next;
@@ -119,10 +119,10 @@ module _ {A W : Type 0} (follows : A → Answering) (readable writable : W → O
 
   module _ (c : ConfigValues) where
     pub made_once_more : (first before now : Option (List ℕ)) (start came asked : Option (List (DoorCall W))) (turns : ℕ) (v : ServerValue) (es : List (ℕ × Peer W)) (wait : Wait) (moment : ℕ) (called : List (DoorCall W)) (after : ServerValue) (left : List (ℕ × Peer W)) (next : Wait)
-        → HasMadeTurns follows readable writable trace c (TellsMore first before) (TellsMore start came) turns v es wait
+        → HasMadeTurns follows idle readable writable trace c (TellsMore first before) (TellsMore start came) turns v es wait
         → TellsMore before now (moment ∷ []) → TellsMore came asked (waited_behind turns wait (is_none (open_refusal v)) ++ called)
-        → IsTurnFor follows readable writable trace (λ calls. called ≡ calls) (moved_to v moment) es after left next
-        → HasMadeTurns follows readable writable trace c (TellsMore first now) (TellsMore start asked) (turns + 1) after left next
+        → IsTurnFor follows idle readable writable trace (λ calls. called ≡ calls) (moved_to v moment) es after left next
+        → HasMadeTurns follows idle readable writable trace c (TellsMore first now) (TellsMore start asked) (turns + 1) after left next
     made_once_more first before now start came asked turns v es wait moment called after left next so_far tells calls turn =
         let behind : List (DoorCall W) = waited_behind (length so_far.moments) wait (is_none (open_refusal v)) in
         record {
@@ -135,8 +135,8 @@ module _ {A W : Type 0} (follows : A → Answering) (readable writable : W → O
         }
 
     pub cut_after : (first before now : Option (List ℕ)) (start came asked : Option (List (DoorCall W))) (turns : ℕ) (v : ServerValue) (es : List (ℕ × Peer W)) (wait : Wait) (last : ServerValue) (fault : IoFault) → turns < c.turns
-        → HasMadeTurns follows readable writable trace c (TellsMore first before) (TellsMore start came) turns v es wait → IsCutTurn (TellsMore before now) (TellsMore came asked) turns wait v → IsMemory fault
-        → EndsRunFor follows readable writable trace c (TellsMore first now) (TellsMore start asked) last fault
+        → HasMadeTurns follows idle readable writable trace c (TellsMore first before) (TellsMore start came) turns v es wait → IsCutTurn (TellsMore before now) (TellsMore came asked) turns wait v → IsMemory fault
+        → EndsRunFor follows idle readable writable trace c (TellsMore first now) (TellsMore start asked) last fault
     cut_after first before now start came asked turns v es wait last Memory few so_far cut is = inr (record {
       turns = turns;
       few = omega (arith, few);

@@ -7,7 +7,7 @@ use Rattle.coap_server_listener.specs.Prelude.{AllByRecursion, IsDistinct, keys_
 use Rattle.coap_server_listener.specs.Prelude.{AcceptedCall, Released, Dropped, ShowsMore, ServerValue, AreSettled, AreNoted, IsNoted}
 use Rattle.coap_server_listener.specs.Prelude.{server_released, server_dropped, released_refusal, status_of, recorded}
 use Rattle.coap_server_listener.specs.Prelude.{silence_action, activities_after, acted, drop_one, Sweep, swept, swept_one, HasSwept, HasSweptAt}
-use Rattle.coap_server_listener.specs.Prelude.{FollowsMore, Following}
+use Rattle.coap_server_listener.specs.Prelude.{FollowsMore, Following, Answering, AnswersMore, Exchange, Gone}
 use Rattle.coap_server_listener.specs.declared.door.silence.SilenceAction.TheVariants.{Keep, Release}
 use Rattle.coap_server_engine.proofs.scripting.ShownLemmas.{shows_same, shows_then}
 use Rattle.coap_server_listener.proofs.streams.AgendaLemmas.{some_at_index, next_first, front_stays}
@@ -15,6 +15,7 @@ use Rattle.coap_server_listener.proofs.streams.NoteLemmas.{stays_noted, released
 use Rattle.coap_server_listener.proofs.streams.PeerLemmas.{set_there, before_written, beside_written}
 use Rattle.coap_server_listener.proofs.streams.RemovalLemmas.{recorded_there, all_recorded}
 use Rattle.coap_server_engine.proofs.scripting.FollowLemmas.{followed_none, followed_then}
+use Rattle.coap_server_listener.proofs.streams.ServingLemmas.{answered_none, answered_then}
 
 -- ---- the entries before and after an index
 
@@ -175,3 +176,77 @@ all_swept told s idle now u v all es i most so_far =
       },
       rw append-nil at done.entries,
     )
+
+-- ---- the exchanges with an application
+
+-- A connection was dropped, and the application received its end.
+pub dropped_told : {W : Type 0} (one other : Answering) (now id i : ℕ) (v : ServerValue) (all : List (ℕ × Activity)) (es : List (ℕ × Peer W)) → i < length es → slice_get (keys_of es) i ≡ Some id → AnswersMore one other (Gone id ∷ [])
+    → IfSome (slice_get es i) (λ e. AnswersMore one other (drop_one now v all e).exchanges)
+dropped_told one other now id i v all es within number told =
+    let at = some_at_index es i within in
+    let same : at.0.0 ≡ id = number_there es i id at.0 number at.1 in
+    rw at.1 (rw (← same) at told)
+
+-- A connection was released: the application received nothing.
+pub released_told : {W : Type 0} (one : Answering) (now id i : ℕ) (v : ServerValue) (all : List (ℕ × Activity)) (es : List (ℕ × Peer W)) → i < length es → slice_get (keys_of es) i ≡ Some id → released_refusal v id ≡ None
+    → IfSome (slice_get es i) (λ e. AnswersMore one one (acted Release (released_refusal v e.0) now v all e).exchanges)
+released_told one now id i v all es within number accepted =
+    let at = some_at_index es i within in
+    let same : at.0.0 ≡ id = number_there es i id at.0 number at.1 in
+    let accepted_so : released_refusal v at.0.0 ≡ None = rw (← same) at accepted in
+    rw (at.1, accepted_so) (answered_none one)
+
+-- `release` was refused, and the connection was dropped.
+pub refused_told : {W : Type 0} (one other : Answering) (now id i : ℕ) (v : ServerValue) (all : List (ℕ × Activity)) (es : List (ℕ × Peer W)) → i < length es → slice_get (keys_of es) i ≡ Some id → (is_there : (refusal : _) × (released_refusal v id ≡ Some refusal))
+    → IfSome (slice_get es i) (λ e. AnswersMore one other (drop_one now v all e).exchanges) → IfSome (slice_get es i) (λ e. AnswersMore one other (acted Release (released_refusal v e.0) now v all e).exchanges)
+refused_told one other now id i v all es within number is_there told =
+    let at = some_at_index es i within in
+    let same : at.0.0 ≡ id = number_there es i id at.0 number at.1 in
+    let refused_so : released_refusal v at.0.0 ≡ Some is_there.0 = rw (← same) at is_there.1 in
+    rw (at.1, refused_so) (rw at.1 at told)
+
+-- The connection stays: the application received nothing.
+pub kept_told : {W : Type 0} (one : Answering) (now i : ℕ) (v : ServerValue) (all : List (ℕ × Activity)) (es : List (ℕ × Peer W)) → i < length es → IfSome (slice_get es i) (λ e. AnswersMore one one (acted Keep (released_refusal v e.0) now v all e).exchanges)
+kept_told one now i v all es within =
+    let at = some_at_index es i within in
+    rw at.1 (answered_none one)
+
+-- The action is that of the rule.
+pub acted_told : {W : Type 0} (one other : Answering) (idle now id i : ℕ) (v : ServerValue) (all : List (ℕ × Activity)) (es : List (ℕ × Peer W)) (action : SilenceAction) → i < length es → slice_get (keys_of es) i ≡ Some id
+    → action ≡ silence_action idle now (status_of v id) (lookup (nat_eq id) all) → IfSome (slice_get es i) (λ e. AnswersMore one other (acted action (released_refusal v e.0) now v all e).exchanges)
+    → IfSome (slice_get es i) (λ e. AnswersMore one other (swept_one idle now v all e).exchanges)
+acted_told one other idle now id i v all es action within number is told =
+    let at = some_at_index es i within in
+    let same : at.0.0 ≡ id = number_there es i id at.0 number at.1 in
+    let is_so : action ≡ silence_action idle now (status_of v at.0.0) (lookup (nat_eq at.0.0) all) = rw (← same) at is in
+    rw (at.1, ← is_so) (rw at.1 at told)
+
+-- Of the exchanges `all`, the application had those before `later`.
+pub record IsToldTo (one other : Answering) (all later : List Exchange) : Type 0 where
+  pub had : List Exchange
+  pub told : AnswersMore one other had
+  pub made : had ++ later ≡ all
+
+pub none_told : (one : Answering) (all : List Exchange) → IsToldTo one one all all
+none_told one all = record { had = []; told = answered_none one; made = refl }
+
+pub one_more_told : {W : Type 0} (one other third : Answering) (so_far : List Exchange) (idle now : ℕ) (v w : ServerValue) (all later : List (ℕ × Activity)) (es left : List (ℕ × Peer W)) (i at : ℕ) (told : List AcceptedCall → Type 0) → i < length es
+    → IsToldTo one other so_far (swept idle now v all (drop i es)).exchanges → IfSome (slice_get es i) (λ e. HasSweptAt told (swept_one idle now v all e) v es i w later left at)
+    → IfSome (slice_get es i) (λ e. AnswersMore other third (swept_one idle now v all e).exchanges) → IsToldTo one third so_far (swept idle now w later (drop at left)).exchanges
+unfolding swept
+one_more_told one other third so_far idle now v w all later es left i at told within before part more =
+    let there = some_at_index es i within in
+    let swept_part = rw there.1 at part in
+    let more_told = rw there.1 at more in
+    let earlier = rw (next_first es i there.0 there.1) at before in
+    rw (swept_part.back, swept_part.has.server, swept_part.has.activities) (record {
+      had = earlier.had ++ (swept_one idle now v all there.0).exchanges;
+      told = answered_then one other third earlier.had _ earlier.told more_told;
+      made = rw append_assoc earlier.made;
+    })
+
+pub all_told : {W : Type 0} (one other : Answering) (so_far : List Exchange) (idle now : ℕ) (v : ServerValue) (all : List (ℕ × Activity)) (es : List (ℕ × Peer W)) (i : ℕ) → length es ≤ i → IsToldTo one other so_far (swept idle now v all (drop i es)).exchanges → AnswersMore one other so_far
+unfolding swept
+all_told one other so_far idle now v all es i most before =
+    let done = rw (drop_all i es most) at before in
+    rw (← done.made, append-nil) done.told

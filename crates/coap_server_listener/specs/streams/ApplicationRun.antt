@@ -1,5 +1,5 @@
 -- Defined by this project: a run over the connections of a listener with an application, as whole turns, and its history.
-use Rattle.std.specs.Prelude.{◌≡◌, ◌≤◌, ◌⊎◌, ℕ, ◌+◌, nat_le, Bool, List, [], ◌∷◌, ◌++◌, length, Option, Result, Ok, Err, is_none, if◌then◌else◌}
+use Rattle.std.specs.Prelude.{◌≡◌, ◌≤◌, ◌⊎◌, ℕ, ◌+◌, nat_le, Bool, false, List, [], ◌∷◌, ◌++◌, length, Option, Result, Ok, Err, is_none, if◌then◌else◌}
 use Rattle.coap_io.specs.declared.wire.Wait.{Wait}
 use Rattle.coap_io.specs.declared.wire.Wait.TheVariants.{No, Until, Forever}
 use Rattle.coap_io.specs.streams.DeviceTraces.{DoorCall}
@@ -57,13 +57,13 @@ wait_within Forever wait = wait
 abbrev pub limit_for : (is_full : Bool) → Wait → Wait
 limit_for is_full limit = if is_full then No else limit
 
--- One turn for an application. Later responses are given first, so the turn writes their connections. `told` states which
--- calls the listener had.
-pub record IsTurnFor {A W : Type 0} (follows : A → Answering) (readable writable : W → Option Bool) (trace : W → WireTrace) (told : List (DoorCall W) → Type 0) (v : ServerValue) (es : List (ℕ × Peer W)) (after : ServerValue) (left : List (ℕ × Peer W)) (wait : Wait) : Type 0 where
+-- One turn for an application. Later responses are given first, so the turn writes their connections. The application is
+-- asked for them until it has none (`idle`), or until it has given 256. `told` states which calls the listener had.
+pub record IsTurnFor {A W : Type 0} (follows : A → Answering) (idle : A → Type 0) (readable writable : W → Option Bool) (trace : W → WireTrace) (told : List (DoorCall W) → Type 0) (v : ServerValue) (es : List (ℕ × Peer W)) (after : ServerValue) (left : List (ℕ × Peer W)) (wait : Wait) : Type 0 where
   pub answered : ServerValue
   pub kept : List (ℕ × Peer W)
   pub is_full : Bool
-  pub given : AreAskedLater v 256 is_full answered (λ events. Unit {0}) (λ exchanges. (one other : A) × AnswersMore (follows one) (follows other) exchanges)
+  pub given : AreAskedLater v 256 is_full answered (λ events. Unit {0}) (λ exchanges. (one other : A) × (is_full ≡ false → idle other) × AnswersMore (follows one) (follows other) exchanges)
   pub recorded : AreRecorded es kept
   pub limit : Wait
   pub next : Wait
@@ -71,18 +71,18 @@ pub record IsTurnFor {A W : Type 0} (follows : A → Answering) (readable writab
   pub waits : wait ≡ wait_within (limit_for is_full limit) next
 
 -- Whole turns on a new server, as `AreTurns` defines them, for an application.
-pub data AreTurnsFor {A W : Type 0} (follows : A → Answering) (readable writable : W → Option Bool) (trace : W → WireTrace) (c : ConfigValues) : List ℕ → List (DoorCall W) → ServerValue → List (ℕ × Peer W) → Wait → Type 0 where
-  NoneMade : AreTurnsFor follows readable writable trace c [] [] (new_server c) [] No
+pub data AreTurnsFor {A W : Type 0} (follows : A → Answering) (idle : A → Type 0) (readable writable : W → Option Bool) (trace : W → WireTrace) (c : ConfigValues) : List ℕ → List (DoorCall W) → ServerValue → List (ℕ × Peer W) → Wait → Type 0 where
+  NoneMade : AreTurnsFor follows idle readable writable trace c [] [] (new_server c) [] No
   OneMade : (moments : List ℕ) (calls : List (DoorCall W)) (v : ServerValue) (es : List (ℕ × Peer W)) (wait : Wait) (moment : ℕ) (asked : List (DoorCall W)) (after : ServerValue) (left : List (ℕ × Peer W)) (next : Wait)
-      → AreTurnsFor follows readable writable trace c moments calls v es wait
-      → IsTurnFor follows readable writable trace (λ calls. asked ≡ calls) (moved_to v moment) es after left next
-      → AreTurnsFor follows readable writable trace c (moments ++ moment ∷ []) ((calls ++ waited_behind (length moments) wait (is_none (open_refusal v))) ++ asked) after left next
+      → AreTurnsFor follows idle readable writable trace c moments calls v es wait
+      → IsTurnFor follows idle readable writable trace (λ calls. asked ≡ calls) (moved_to v moment) es after left next
+      → AreTurnsFor follows idle readable writable trace c (moments ++ moment ∷ []) ((calls ++ waited_behind (length moments) wait (is_none (open_refusal v))) ++ asked) after left next
 
 -- Whole turns that match the traces of the clock and the listener.
-pub record HasMadeTurns {A W : Type 0} (follows : A → Answering) (readable writable : W → Option Bool) (trace : W → WireTrace) (c : ConfigValues) (clock : List ℕ → Type 0) (door : List (DoorCall W) → Type 0) (turns : ℕ) (v : ServerValue) (es : List (ℕ × Peer W)) (wait : Wait) : Type 0 where
+pub record HasMadeTurns {A W : Type 0} (follows : A → Answering) (idle : A → Type 0) (readable writable : W → Option Bool) (trace : W → WireTrace) (c : ConfigValues) (clock : List ℕ → Type 0) (door : List (DoorCall W) → Type 0) (turns : ℕ) (v : ServerValue) (es : List (ℕ × Peer W)) (wait : Wait) : Type 0 where
   pub moments : List ℕ
   pub calls : List (DoorCall W)
-  pub made : AreTurnsFor follows readable writable trace c moments calls v es wait
+  pub made : AreTurnsFor follows idle readable writable trace c moments calls v es wait
   pub counted : length moments ≡ turns
   pub clock_tells : clock moments
   pub door_tells : door calls
@@ -99,13 +99,13 @@ pub record IsCutTurn {W : Type 0} (clock : List ℕ → Type 0) (door : List (Do
 -- ---- a run
 
 -- A run that made every turn.
-pub record IsWholeRunFor {A W : Type 0} (follows : A → Answering) (readable writable : W → Option Bool) (trace : W → WireTrace) (c : ConfigValues) (clock : List ℕ → Type 0) (door : List (DoorCall W) → Type 0) (last : ServerValue) : Type 0 where
+pub record IsWholeRunFor {A W : Type 0} (follows : A → Answering) (idle : A → Type 0) (readable writable : W → Option Bool) (trace : W → WireTrace) (c : ConfigValues) (clock : List ℕ → Type 0) (door : List (DoorCall W) → Type 0) (last : ServerValue) : Type 0 where
   pub entries : List (ℕ × Peer W)
   pub wait : Wait
-  pub made : HasMadeTurns follows readable writable trace c clock door c.turns last entries wait
+  pub made : HasMadeTurns follows idle readable writable trace c clock door c.turns last entries wait
 
 -- A run in which an allocation failed in a turn, after some whole turns.
-pub record IsCutRunFor {A W : Type 0} (follows : A → Answering) (readable writable : W → Option Bool) (trace : W → WireTrace) (c : ConfigValues) (clock : List ℕ → Type 0) (door : List (DoorCall W) → Type 0) : Type 0 where
+pub record IsCutRunFor {A W : Type 0} (follows : A → Answering) (idle : A → Type 0) (readable writable : W → Option Bool) (trace : W → WireTrace) (c : ConfigValues) (clock : List ℕ → Type 0) (door : List (DoorCall W) → Type 0) : Type 0 where
   pub turns : ℕ
   pub few : turns + 1 ≤ c.turns
   pub server : ServerValue
@@ -113,26 +113,26 @@ pub record IsCutRunFor {A W : Type 0} (follows : A → Answering) (readable writ
   pub wait : Wait
   pub moments : List ℕ
   pub calls : List (DoorCall W)
-  pub made : AreTurnsFor follows readable writable trace c moments calls server entries wait
+  pub made : AreTurnsFor follows idle readable writable trace c moments calls server entries wait
   pub counted : length moments ≡ turns
   pub cut : IsCutTurn (λ more. clock (moments ++ more)) (λ more. door (calls ++ more)) turns wait server
 
 -- The end of a run that returned this error, with this last server. It is `Turns` if every turn was made. It is `Memory`
 -- if an allocation failed, before the first turn or in one of them.
-abbrev pub EndsRunFor : {A W : Type 0} (follows : A → Answering) (readable writable : W → Option Bool) (trace : W → WireTrace) → ConfigValues → (clock : List ℕ → Type 0) (door : List (DoorCall W) → Type 0) (last : ServerValue) → IoFault → Type 0
-EndsRunFor follows readable writable trace c clock door last Read = ⊥
-EndsRunFor follows readable writable trace c clock door last Write = ⊥
-EndsRunFor follows readable writable trace c clock door last Memory = (clock [] × door [] × (last ≡ new_server c)) ⊎ IsCutRunFor follows readable writable trace c clock door
-EndsRunFor follows readable writable trace c clock door last Turns = IsWholeRunFor follows readable writable trace c clock door last
+abbrev pub EndsRunFor : {A W : Type 0} (follows : A → Answering) (idle : A → Type 0) (readable writable : W → Option Bool) (trace : W → WireTrace) → ConfigValues → (clock : List ℕ → Type 0) (door : List (DoorCall W) → Type 0) (last : ServerValue) → IoFault → Type 0
+EndsRunFor follows idle readable writable trace c clock door last Read = ⊥
+EndsRunFor follows idle readable writable trace c clock door last Write = ⊥
+EndsRunFor follows idle readable writable trace c clock door last Memory = (clock [] × door [] × (last ≡ new_server c)) ⊎ IsCutRunFor follows idle readable writable trace c clock door
+EndsRunFor follows idle readable writable trace c clock door last Turns = IsWholeRunFor follows idle readable writable trace c clock door last
 
-abbrev pub HasRunEnd : {A T W : Type 0} (follows : A → Answering) (readable writable : W → Option Bool) (trace : W → WireTrace) → ConfigValues → (clock : List ℕ → Type 0) (door : List (DoorCall W) → Type 0) (last : ServerValue) → Result T IoFault → Type 0
-HasRunEnd follows readable writable trace c clock door last (Ok x) = ⊥
-HasRunEnd follows readable writable trace c clock door last (Err fault) = EndsRunFor follows readable writable trace c clock door last fault
+abbrev pub HasRunEnd : {A T W : Type 0} (follows : A → Answering) (idle : A → Type 0) (readable writable : W → Option Bool) (trace : W → WireTrace) → ConfigValues → (clock : List ℕ → Type 0) (door : List (DoorCall W) → Type 0) (last : ServerValue) → Result T IoFault → Type 0
+HasRunEnd follows idle readable writable trace c clock door last (Ok x) = ⊥
+HasRunEnd follows idle readable writable trace c clock door last (Err fault) = EndsRunFor follows idle readable writable trace c clock door last fault
 
 -- A run for an application. `monitor` holds of all events of the run, and `asks` of all exchanges with the application, in
 -- order. Both follow from the same steps: each request that was handed over was shown, and the responses are those of the
 -- application.
-pub record IsRunFor {A T W : Type 0} (follows : A → Answering) (readable writable : W → Option Bool) (trace : W → WireTrace) (c : ConfigValues) (clock : List ℕ → Type 0) (door : List (DoorCall W) → Type 0) (monitor : List AcceptedCall → Type 0) (asks : List Exchange → Type 0) (result : Result T IoFault) : Type 0 where
+pub record IsRunFor {A T W : Type 0} (follows : A → Answering) (idle : A → Type 0) (readable writable : W → Option Bool) (trace : W → WireTrace) (c : ConfigValues) (clock : List ℕ → Type 0) (door : List (DoorCall W) → Type 0) (monitor : List AcceptedCall → Type 0) (asks : List Exchange → Type 0) (result : Result T IoFault) : Type 0 where
   pub last : ServerValue
   pub ran : HasRun monitor asks (new_server c) last
-  pub ends : HasRunEnd follows readable writable trace c clock door last result
+  pub ends : HasRunEnd follows idle readable writable trace c clock door last result

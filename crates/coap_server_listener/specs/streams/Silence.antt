@@ -6,6 +6,7 @@ use Rattle.coap_conn.specs.Phases.{is_waiting}
 use Rattle.coap_model.specs.declared.answers.ReleaseFault.{ReleaseFault}
 use Rattle.coap_model.specs.declared.answers.Status.{Status}
 use Rattle.coap_model.specs.world.Events.{AcceptedCall, Opened, Took, Wrote, Ticked, Stored, Removed, Ended, Released, Announced, Responded, Dropped}
+use Rattle.coap_server_engine.specs.values.Exchanges.{Exchange, Gone}
 use Rattle.coap_server_engine.specs.values.InResults.{ShowsMore}
 use Rattle.coap_server_engine.specs.values.ServerAnswers.{released_refusal, status_of}
 use Rattle.coap_server_engine.specs.values.Servers.{ServerValue, server_released, server_dropped}
@@ -71,16 +72,18 @@ activities_after now all (Dropped id) = shift_remove_entry (nat_eq id) all
 
 -- ---- a sweep
 
--- The effect of a sweep: the server, the activities and the entries after it, and the calls that it made.
+-- The effect of a sweep: the server, the activities and the entries after it, and the calls that it made. If an
+-- application answers requests, `exchanges` are those with it: the end of each connection that the sweep drops.
 pub record Sweep (W : Type 0) : Type 0 where
   pub server : ServerValue
   pub activities : List (ℕ × Activity)
   pub entries : List (ℕ × Peer W)
   pub events : List AcceptedCall
+  pub exchanges : List Exchange
 
 -- A connection was dropped.
 abbrev pub drop_one : {W : Type 0} (now : ℕ) → ServerValue → List (ℕ × Activity) → ℕ × Peer W → Sweep W
-drop_one now v all e = record { server = server_dropped v e.0; activities = activities_after now all (Dropped e.0); entries = []; events = Dropped e.0 ∷ [] }
+drop_one now v all e = record { server = server_dropped v e.0; activities = activities_after now all (Dropped e.0); entries = []; events = Dropped e.0 ∷ []; exchanges = Gone e.0 ∷ [] }
 
 -- A connection was released, and its interest was recorded.
 abbrev pub release_one : {W : Type 0} (now : ℕ) → ServerValue → List (ℕ × Activity) → ℕ × Peer W → Sweep W
@@ -89,11 +92,12 @@ release_one now v all e = record {
   activities = activities_after now all (Released e.0);
   entries = (e.0, recorded (server_released v e.0) e) ∷ [];
   events = Released e.0 ∷ [];
+  exchanges = [];
 }
 
 -- The effect of an action. If `release` is refused, the connection is dropped.
 abbrev pub acted : {W : Type 0} → SilenceAction → Option ReleaseFault → (now : ℕ) → ServerValue → List (ℕ × Activity) → ℕ × Peer W → Sweep W
-acted Keep refusal now v all e = record { server = v; activities = all; entries = e ∷ []; events = [] }
+acted Keep refusal now v all e = record { server = v; activities = all; entries = e ∷ []; events = []; exchanges = [] }
 acted Release None now v all e = release_one now v all e
 acted Release (Some fault) now v all e = drop_one now v all e
 acted Drop refusal now v all e = drop_one now v all e
@@ -104,11 +108,11 @@ swept_one idle now v all e = acted (silence_action idle now (status_of v e.0) (l
 
 -- One effect after another.
 abbrev pub swept_both : {W : Type 0} → Sweep W → Sweep W → Sweep W
-swept_both s t = record { server = t.server; activities = t.activities; entries = s.entries ++ t.entries; events = s.events ++ t.events }
+swept_both s t = record { server = t.server; activities = t.activities; entries = s.entries ++ t.entries; events = s.events ++ t.events; exchanges = s.exchanges ++ t.exchanges }
 
 -- The effect of a sweep on these connections, in order.
 unfoldable pub swept : {W : Type 0} (idle now : ℕ) → ServerValue → List (ℕ × Activity) → List (ℕ × Peer W) → Sweep W
-swept idle now v all [] = record { server = v; activities = all; entries = []; events = [] }
+swept idle now v all [] = record { server = v; activities = all; entries = []; events = []; exchanges = [] }
 swept idle now v all (e ∷ es) = swept_both (swept_one idle now v all e) (swept idle now (swept_one idle now v all e).server (swept_one idle now v all e).activities es)
 
 -- The calls of a sweep were made, and they had this effect on the server and on the activities. `told` holds of them.

@@ -43,7 +43,7 @@ pub fn serve_door_for<D: Door, C: Clock, A: Application, M: Monitor<D::Wire>>(
     ensures fault { IsMemoryOrTurns result }
     // The monitor received exactly the events of the run. The application had exactly its exchanges: the requests that
     // the server handed over, in order, and the responses that it gave.
-    ensures run { IsRunFor A.follows D.Wire.readable D.Wire.writable
+    ensures run { IsRunFor A.follows A.idle D.Wire.readable D.Wire.writable
         (trace_by D.Wire.given D.Wire.written D.Wire.answers D.Wire.rooms) (config_with config (Some applications))
         (TellsMore (C.moments clock.old) (C.moments clock.new)) (TellsMore (D.calls door.old) (D.calls door.new))
         (FollowsMore (M.follows monitor.old) (M.follows monitor.new))
@@ -85,7 +85,7 @@ fn run_turn<D: Door, C: Clock, A: Application, M: Monitor<D::Wire>>(
         TellsMore (C.moments clock.old) (C.moments clock.new) (moment ∷ []) ×
         TellsMore (D.calls door.old) (D.calls door.new)
         (waited_behind turns wait (is_none (open_refusal service.old.server)) ++ asked) ×
-        IsTurnFor A.follows D.Wire.readable D.Wire.writable
+        IsTurnFor A.follows A.idle D.Wire.readable D.Wire.writable
         (trace_by D.Wire.given D.Wire.written D.Wire.answers D.Wire.rooms) (λ calls. asked ≡ calls)
         (moved_to service.old.server moment) service.old.peers.entries service.new.server service.new.peers.entries
         next) }

@@ -9,6 +9,8 @@ use super::awake::Awake;
 use super::peer::Peers;
 use super::removal::record_on;
 use super::service::Service;
+use super::silence::SilenceWatch;
+use super::sweep::sweep;
 use super::taker::{ForApplication, Taker};
 use super::turn::take_turn;
 use coap_application::Applications;
@@ -28,7 +30,7 @@ impl<W: Wire + Ready + Drop> Service<W> {
     ghost use Rattle.coap_server_engine.specs.values.Servers.{config_with};
     ghost use Rattle.std.specs.Prelude.{◌∷◌, ◌++◌, List, is_ok, nat_eq};
     ghost use Rattle.coap_server_listener.specs.Prelude.{AcceptedCall, Dropped, Gone, is_there, server_dropped};
-    ghost use Rattle.coap_server_listener.specs.Prelude.{session_of, shift_remove_entry};
+    ghost use Rattle.coap_server_listener.specs.Prelude.{HasSwept, session_of, shift_remove_entry, swept};
     ghost use Rattle.coap_server_engine.specs.declared.io_fault.IoFault.TheVariants as fault;
 
     /// Returns a server as `new` does, whose application answers the requests of these entries. A program passes the
@@ -130,6 +132,66 @@ impl<W: Wire + Ready + Drop> Service<W> {
         ensures over { self.old.is_spent ≡ true → (self.new ≡ self.old) × (result ≡ Err fault.Memory) }
     {
         self.turn_by::<D, A, ForApplication, M>(door, application, monitor)
+    }
+
+    /// Releases or drops the silent connections as `end_silent` does. `T` is the way in which the application receives the
+    /// end of each connection that is dropped.
+    pub(super) fn end_silent_by<A, T: Taker<A>, M: Monitor<W>>(
+        &mut self,
+        idle: u32,
+        now: u64,
+        application: &mut A,
+        watch: &mut SilenceWatch<M>,
+    )
+        ensures has { self.old.is_spent ≡ false → HasSwept
+            (FollowsMore (M.follows watch.old.monitor) (M.follows watch.new.monitor))
+            (swept idle now self.old.server watch.old.activities.entries self.old.peers.entries) self.old.server
+            self.new.server watch.new.activities.entries }
+        ensures gone { self.old.is_spent ≡ false →
+            AnswersMore (T.follows application.old) (T.follows application.new)
+            (swept idle now self.old.server watch.old.activities.entries self.old.peers.entries).exchanges }
+        ensures entries { self.old.is_spent ≡ false → self.new.peers.entries
+            ≡ (swept idle now self.old.server watch.old.activities.entries self.old.peers.entries).entries }
+        ensures now { self.old.is_spent ≡ false → watch.new.now ≡ now }
+        ensures over { self.old.is_spent ≡ true → (self.new ≡ self.old) × (watch.new ≡ watch.old)
+            × (application.new ≡ application.old) }
+        ensures spent { self.new.is_spent ≡ self.old.is_spent }
+    {
+        if self.is_spent {
+            return;
+        }
+        watch.now = now;
+        sweep::<W, A, T, M>(&mut self.server, &mut self.peers, idle, application, watch);
+        self.awake.wake_all();
+    }
+
+    /// Releases or drops the silent connections as `end_silent` does. The application receives the end of each connection
+    /// that is dropped, in order. A connection that is released still exists: the turn that drops it reports its end.
+    ///
+    /// After an allocation failed in a turn, nothing happens.
+    pub fn end_silent_for<A: Application, M: Monitor<W>>(
+        &mut self,
+        idle: u32,
+        now: u64,
+        application: &mut A,
+        watch: &mut SilenceWatch<M>,
+    )
+        ensures has { self.old.is_spent ≡ false → HasSwept
+            (FollowsMore (M.follows watch.old.monitor) (M.follows watch.new.monitor))
+            (swept idle now self.old.server watch.old.activities.entries self.old.peers.entries) self.old.server
+            self.new.server watch.new.activities.entries }
+        // The application receives the end of each connection that is dropped, in order, and nothing else.
+        ensures gone { self.old.is_spent ≡ false →
+            AnswersMore (A.follows application.old) (A.follows application.new)
+            (swept idle now self.old.server watch.old.activities.entries self.old.peers.entries).exchanges }
+        ensures entries { self.old.is_spent ≡ false → self.new.peers.entries
+            ≡ (swept idle now self.old.server watch.old.activities.entries self.old.peers.entries).entries }
+        ensures now { self.old.is_spent ≡ false → watch.new.now ≡ now }
+        ensures over { self.old.is_spent ≡ true → (self.new ≡ self.old) × (watch.new ≡ watch.old)
+            × (application.new ≡ application.old) }
+        ensures spent { self.new.is_spent ≡ self.old.is_spent }
+    {
+        self.end_silent_by::<A, ForApplication, M>(idle, now, application, watch);
     }
 
     /// Asks the application for later responses, until it has none or has given 256 of them, and gives each as

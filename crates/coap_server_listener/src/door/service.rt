@@ -8,7 +8,6 @@ use super::awake::Awake;
 use super::peer::Peers;
 use super::removal::record_on;
 use super::silence::SilenceWatch;
-use super::sweep::sweep;
 use super::taker::Alone;
 use coap_io::{Door, Ready, Wait, Wire};
 use coap_model::{Backwards, Config, ConnId, NoSuch, ReleaseFault, Status};
@@ -331,12 +330,7 @@ impl<W: Wire + Ready + Drop> Service<W> {
         ensures over { self.old.is_spent ≡ true → (self.new ≡ self.old) × (watch.new ≡ watch.old) }
         ensures spent { self.new.is_spent ≡ self.old.is_spent }
     {
-        if self.is_spent {
-            return;
-        }
-        watch.now = now;
-        sweep(&mut self.server, &mut self.peers, idle, watch);
-        self.awake.wake_all();
+        self.end_silent_by::<NoApplication, Alone, M>(idle, now, &mut NoApplication, watch);
     }
 
     /// Returns a wait that lasts at most until the next second of the server's time, if there is a connection.

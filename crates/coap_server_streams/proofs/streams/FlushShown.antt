@@ -104,7 +104,7 @@ module _ (c : ConfigValues) (v : ServerValue) (id : ℕ) (s : Connection) (from 
         }
 
   -- All iterations.
-  flushing : (turns : ℕ) → FlushShown c es id s turns (flush_turns turns id v).server (flush_turns turns id v).text (calls_of_flush turns id v)
+  pub flushing : (turns : ℕ) → FlushShown c es id s turns (flush_turns turns id v).server (flush_turns turns id v).text (calls_of_flush turns id v)
   unfolding flush_turns written_times calls_of_flush
   flushing zero = record {
     config = from.config;

@@ -16,19 +16,19 @@ returns-in_default g c =
     let refused = refused_at _ _ _ _ _ _ c.loop-index.invariant.replays _ here _ _ refl c.in_default.ensures.run in
     search (rules, refused, refused_shown _ _ _ _ _ _ c.loop-index.invariant.replays c.loop-index.invariant.shows _ here, c.in_default.ensures)
 
-pub returns-in_default-write_all-clause-replayed : goal.returns-in_default-write_all-clause-replayed
-returns-in_default-write_all-clause-replayed g c =
+pub returns-in_default-write_parts-clause-replayed : goal.returns-in_default-write_parts-clause-replayed
+returns-in_default-write_parts-clause-replayed g c =
     let here = stands c.args.events.now _ _ c.loop-index-test.true c.index-events-index.is in
-    cut_at _ _ _ _ _ _ c.loop-index.invariant.replays _ here _ _ _ c.in-Ok.ensures.run (rw c.as_slice.ensures at c.in_default-write_all.ensures.part)
+    cut_at _ _ _ _ _ _ c.loop-index.invariant.replays _ here _ _ _ c.in-Ok.ensures.run (rw c.parts.ensures at c.in_default-write_parts.ensures.part)
     (cut_shown _ _ _ _ _ _ c.loop-index.invariant.replays c.loop-index.invariant.shows _ here _ c.in-Ok.ensures.shows)
 
 pub loop-index-preserved : goal.loop-index-preserved
 loop-index-preserved g c =
     let here = stands c.args.events.now _ _ c.loop-index-test.true c.index-events-index.is in
     record {
-      replays = one_replayed _ _ _ _ _ _ c.loop-index.invariant.replays _ here _ _ _ c.in-Ok.ensures.run (rw c.as_slice.ensures at c.in-Ok-write_all.ensures.ok);
+      replays = one_replayed _ _ _ _ _ _ c.loop-index.invariant.replays _ here _ _ _ c.in-Ok.ensures.run (rw c.parts.ensures at c.in-Ok-write_parts.ensures.ok);
       shows = one_shown _ _ _ _ _ _ c.loop-index.invariant.replays c.loop-index.invariant.shows _ here _ c.in-Ok.ensures.shows;
-      works = c.in-Ok-write_all.ensures.failure;
+      works = c.in-Ok-write_parts.ensures.failure;
     }
 
 pub returns : goal.returns

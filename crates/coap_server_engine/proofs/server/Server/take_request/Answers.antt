@@ -19,6 +19,8 @@ returns-in_default c =
         there = tt;
         frame = tt;
         request = tt;
+        changed = tt;
+        alters = tt;
         refused_for = take_refused_for (Err taking.NoSuch) c.args.self.now c.args.self.now c.args.id c.args.piece.now (none, refl);
       },
     )

@@ -1,4 +1,4 @@
-use Rattle.std.proofs.Common.{◌≡◌, ℕ, Option, List, take, Some, None, refl, sym, ap, subst, ◌∙◌, is_some, if◌then◌else◌, map, arith, Ok, Err, Result}
+use Rattle.std.proofs.Common.{◌≡◌, ℕ, Option, List, take, IfSome, refl, sym, ap, subst, ◌∙◌, is_some, if◌then◌else◌, map, arith, Ok, Err, Result}
 use Rattle.std.proofs.lemmas.List.{length-map}
 use Rattle.coap_server_engine.specs.Prelude.{stop_of, is_there, session_takes, taking as session_taking, Taken, TakeFault}
 use Rattle.coap_server_engine.specs.Prelude.{IsMarked, IsServer, AreOthersSettled, LiesAt}
@@ -12,12 +12,12 @@ use Rattle.coap_server_engine.proofs.world.HandledLaws.{take_says}
 use Rattle.coap_server_engine.proofs.world.RefusedLaws.{take_refused_for}
 use Rattle.coap_model.specs.declared.answers.TakeFault.TheVariants as taking
 use Rattle.coap_server_engine.proofs.values.TurnLemmas.{same_session}
-use Rattle.coap_server_engine.specs.Prelude.{frame_back, handed_on, ServerState, config_with, unmarked, set_value_at}
+use Rattle.coap_server_engine.specs.Prelude.{frame_back, completed, ServerState, config_with, unmarked, set_value_at}
 use Rattle.coap_application.specs.Applications.{ApplicationsValue}
-use Rattle.coap_server_engine.proofs.values.ServerLemmas.{read_written}
-use Rattle.coap_server_engine.proofs.values.ServerTakenLemmas.{applications_stay, taken_request, handed_given, stopped_none, unhanded_none}
+use Rattle.coap_server_engine.proofs.values.ServerLemmas.{read_written, same_split}
+use Rattle.coap_server_engine.proofs.values.ServerTakenLemmas.{applications_stay, taken_request, taken_change}
+use Rattle.coap_server_engine.proofs.values.ChangedLemmas.{handed_given, changing_given, take_alters}
 use Rattle.coap_server_engine.proofs.world.RequestLaws.{take_hands_over}
-use Rattle.coap_server_engine.proofs.server.Server.take_request_at.Goals.{else-taking-via-then-taking+else-is_none, else-taking-via-else-taking}
 use Rattle.coap_server_engine.proofs.server.Server.take_request_at.Goals as goal
 
 pub take-requires : goal.take-requires
@@ -111,13 +111,14 @@ returns-in-Err c =
         there = tt;
         frame = tt;
         request = tt;
+        changed = tt;
+        alters = tt;
         refused_for = take_refused_for memory _ _ id piece (refuses, value);
       },
     )
 
--- The request was handed to the application.
-pub returns-then-is_none : goal.returns-then-is_none
-returns-then-is_none c =
+pub returns-in-Ok : goal.returns-in-Ok
+returns-in-Ok c =
     let e = c.in-Ok.ensures in
     let id = c.args._id in
     let piece = c.args.piece.now in
@@ -143,11 +144,15 @@ returns-then-is_none c =
     let stop = c.stop-stop.ensures ∙ ap stop_of c.phase.ensures in
     let asks = taken_request _ id _ _ piece c.self.invariant.server lies here _ _ _ _ e.after e.host changed entries c.stop-stop.result _ now stop in
     let written = read_written es at _ new c.index_mut.ensures.value in
-    let keeps = c.settle_after.ensures.split (e.quiet c.if-taking.true) new c.index-session.result.now written c.index-session.ensures in
-    let given = c.frame_of-frame.ensures ∙ ap (λ (split : List ℕ). frame_back split (take c.in-Ok.taking.count piece)) c.split_frame.ensures in
-    let frame = handed_given (server_value c.self.inside) piece _ c.in-Ok.taking.handed c.stop-stop.result new c.index-session.result.now (take c.in-Ok.taking.count piece) c.frame_of-frame.result.now e.handed c.if-taking.true e.frame keeps stop c.if-is_none.ensures given ∙ asks in
+    let split = same_split (set_value_at es at new) c.settle_after.new.sessions.entries at new c.index-session.result.now written c.index-session.ensures c.settle_after.ensures.splits in
+    let given : c.frame_of-frame.result.now ≡ frame_back new.split (take c.in-Ok.taking.count piece) =
+    c.frame_of-frame.ensures ∙ ap (λ (bytes : List ℕ). frame_back bytes (take c.in-Ok.taking.count piece)) (c.split_frame.ensures ∙ split) in
+    let shown = subst (λ (bytes : List ℕ). IfSome (completed c.index_mut.result.now.session piece) (λ f. bytes ≡ f)) (sym given) e.frame in
+    let frame = c.lent_unless_stopped-handed.ensures ∙ handed_given (server_value c.self.inside) piece _ _ shown c.in-Ok.taking.handed c.stop-stop.result e.handed ∙ asks in
+    let alters = c.lent_if-changed.ensures ∙ changing_given (server_value c.self.inside) piece _ _ shown _ (c.is_some.ensures ∙ changed) ∙ taken_change _ id _ _ piece c.self.invariant.server lies here _ _ _ _ e.after e.host changed entries in
+    let shows = take_shows taken _ _ id piece count there ok in
     rw (← c.self.view_is) (
-      (refl, (λ _. tt), (ok, take_shows taken _ _ id piece count there ok)),
+      (refl, (λ _. tt), (ok, shows)),
       record {
         after = tt;
         within = e.within;
@@ -157,56 +162,9 @@ returns-then-is_none c =
         says = take_says taken _ id piece count handled;
         there = there;
         frame = frame;
-        request = take_hands_over _ id piece c.in-Ok.taking.count (Some c.frame_of-frame.result.now) count frame;
-        refused_for = tt;
-      },
-    )
-
--- No request was handed to the application, or the connection has stopped.
-pub returns-else-taking : goal.returns-else-taking
-returns-else-taking c =
-    let e = c.in-Ok.ensures in
-    let id = c.args._id in
-    let piece = c.args.piece.now in
-    let lies = subst (λ v. LiesAt c.args._id c.args.at v.sessions) (sym c.self.view_is) c.requires in
-    let es = c.self.inside.sessions.entries in
-    let at = c.args.at in
-    let new = c.take.new.self in
-    let settles : Entries → Entries = λ fs. if is_some c.in-Ok.taking.changed then map (settled_entry c.take.new.host) fs else changed_at at (settled_held c.take.new.host) fs in
-    let entries = c.settle_after.ensures.after ∙ ap settles (set_unmarked es at new new.session refl) in
-    let here = unmarked_at es at _ c.index_mut.ensures.value in
-    let taken : Result Taken TakeFault = Ok (record { bytes = c.in-Ok.taking.count; handled = c.what_was_handled.result }) in
-    let takes = c.takes-takes.ensures ∙ ap session_takes (same_session _ _ _ (unmarked_at es at _ c.index.ensures) here) in
-    let changed = ap is_some e.changed ∙ hash_where_changed (session_taking c.self.inside.host c.index_mut.result.now.session piece).change in
-    let count = e.count ∙ sym (count_is _ id _ _ piece c.self.invariant.server lies here) in
-    let kept = ap (λ (h : ServerState). h.store.applications) e.host ∙ applications_stay c.self.inside.host _ in
-    let ok =
-    ap (λ (k : Option ApplicationsValue). record (server_value c.self.inside) { config = config_with c.self.inside.config k; host = c.take.new.host; sessions = unmarked c.settle_after.new.sessions.entries }) kept
-    ∙ taken_value _ _ _ _ piece c.self.invariant.server lies here _ _ _ _ e.after e.host changed entries in
-    let handled = c.what_was_handled.ensures ∙ taken_handled _ _ _ _ piece c.self.invariant.server lies here _ _ _ _ e.after e.host changed entries _ _ _ _ takes e.handled
-    (unmarked_at c.settle_after.new.sessions.entries at c.index-session.result.now c.index-session.ensures) (c.stop-stop.ensures ∙ ap stop_of c.phase.ensures) in
-    let there = ap is_there (lies.found ∙ here) in
-    let now = unmarked_at c.settle_after.new.sessions.entries at c.index-session.result.now c.index-session.ensures in
-    let stop = c.stop-stop.ensures ∙ ap stop_of c.phase.ensures in
-    let asks = taken_request _ id _ _ piece c.self.invariant.server lies here _ _ _ _ e.after e.host changed entries c.stop-stop.result _ now stop in
-    let unasked : None ≡ handed_on (server_value c.self.inside) piece (Some c.index_mut.result.now.session) c.stop-stop.result =
-    elim c.else-taking.branch [
-      | else-taking-via-then-taking+else-is_none w ↦ stopped_none (server_value c.self.inside) piece c.index_mut.result.now.session c.stop-stop.result w.if-is_none.ensures
-      | else-taking-via-else-taking w ↦ unhanded_none (server_value c.self.inside) piece c.index_mut.result.now.session c.in-Ok.taking.handed e.handed w.if-taking.false c.stop-stop.result
-    ] in
-    let frame = unasked ∙ asks in
-    rw (← c.self.view_is) (
-      (refl, (λ _. tt), (ok, take_shows taken _ _ id piece count there ok)),
-      record {
-        after = tt;
-        within = e.within;
-        count = count;
-        takes = take_takes taken _ id piece count;
-        handled = handled;
-        says = take_says taken _ id piece count handled;
-        there = there;
-        frame = frame;
-        request = take_hands_over _ id piece c.in-Ok.taking.count None count frame;
+        request = take_hands_over _ id piece c.in-Ok.taking.count _ count frame;
+        changed = alters;
+        alters = take_alters _ _ id piece c.in-Ok.taking.count _ alters ok shows;
         refused_for = tt;
       },
     )

@@ -2,7 +2,7 @@ use Rattle.std.proofs.Common.{IfSome, Option, refl, sym, ap, subst, ◌∙◌, m
 use Rattle.coap_server_engine.specs.Prelude.{MarkedSession, IsMarked, IsMarkedBut, UnaffectedAreSettled, settled_entry}
 use Rattle.coap_server_engine.specs.Prelude.{settled_held}
 use Rattle.coap_server_session.specs.declared.cause.Cause.TheVariants as cause
-use Rattle.coap_server_engine.proofs.values.ServerLemmas.{at_index, written_unmarked, set_unmarked, unmarked_at, all_written}
+use Rattle.coap_server_engine.proofs.values.ServerLemmas.{splits_written, written_unmarked, set_unmarked, unmarked_at, all_written}
 use Rattle.coap_server_session.proofs.values.CauseLemmas.{but_none}
 use Rattle.coap_server_engine.proofs.values.ServerCauseLemmas.{others_untouched, all_settle}
 use Rattle.coap_server_engine.proofs.server.sessions.settle_after.Goals as goal
@@ -16,7 +16,7 @@ returns-in-None c =
     let es = c.args.sessions.now.entries in
     let e = c.settle_if_pending.ensures in
     rw c.in-None.is (record {
-      split = λ none s t was is. at_index es c.args.at s c.index_mut.result.now t c.settle_if_pending.new.self c.index_mut.ensures.value was is e.split;
+      splits = splits_written es c.args.at c.index_mut.result.now _ c.index_mut.ensures.value e.split;
       after = written_unmarked (settled_held host) es c.args.at _ _ c.index_mut.ensures.value e.after;
       marked = all_written (IsMarked host) es c.args.at _ (rw c.in-None.is at c.requires.marked) e.marked;
     })
@@ -44,4 +44,4 @@ returns-in-Some c =
     let now = c.settle.new.self in
     let e = c.settle_touched.ensures in
     let all = all_settle host c.args.at c.in-Some.hash _ _ _ (unmarked_at es c.args.at _ c.index_mut-in-Some.ensures.value) c.settle.ensures.after in
-    rw c.in-Some.is (record { split = λ none s t was is. absurd cc; after = e.after ∙ ap (map (settled_entry host)) (set_unmarked es c.args.at now now.session refl) ∙ all; marked = e.marked })
+    rw c.in-Some.is (record { splits = e.splits ∙ splits_written es c.args.at c.index_mut-in-Some.result.now now c.index_mut-in-Some.ensures.value c.settle.ensures.split; after = e.after ∙ ap (map (settled_entry host)) (set_unmarked es c.args.at now now.session refl) ∙ all; marked = e.marked })

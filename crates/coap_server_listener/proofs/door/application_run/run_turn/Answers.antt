@@ -1,4 +1,4 @@
-use Rattle.std.proofs.Common.{ap, sym, ◌∙◌}
+use Rattle.std.proofs.Common.{ap, ◌∙◌}
 use Rattle.coap_io.proofs.streams.DeviceLemmas.{told_then}
 use Rattle.coap_io.proofs.streams.WriteLemmas.{on_any_fault}
 use Rattle.coap_server_listener.specs.Prelude.{trace_by, wait_within}
@@ -38,8 +38,8 @@ returns-clause-turn g c =
       c.now-moment.ensures,
       told_then (g.D.Door.calls c.args.door.now) (g.D.Door.calls c.wait_after_turn.new.door) (g.D.Door.calls c.turn_for.new.door) _ _ (rw c.can_open.ensures at c.wait_after_turn.ensures) turn.opened.asked,
       rw (← c.tick_with.ensures.moved, ← ap (λ peers. peers.entries) c.tick_with.ensures.peers)
-          (turn_named g.A.Application.follows g.D.Wire.Ready.readable g.D.Wire.Ready.writable trace _ c.tick_with.new.self.server c.answer_later-is_full.new.self.server c.tick_with.new.self.peers.entries c.answer_later-is_full.new.self.peers.entries
-          c.turn_for.new.self.server c.turn_for.new.self.peers.entries c.answer_later-is_full.result c.wait.result c.in_ok-next.next c.wait_within.result c.args.application.now c.answer_later-is_full.new.application _ c.answer_later-is_full.ensures.shows c.answer_later-is_full.ensures.peers (c.wait_within.ensures ∙ ap (λ limit. wait_within limit c.in_ok-next.next) c.limit_for-limit.ensures) turn),
+          (turn_named g.A.Application.follows g.A.Application.idle g.D.Wire.Ready.readable g.D.Wire.Ready.writable trace _ c.tick_with.new.self.server c.answer_later-is_full.new.self.server c.tick_with.new.self.peers.entries c.answer_later-is_full.new.self.peers.entries
+          c.turn_for.new.self.server c.turn_for.new.self.peers.entries c.answer_later-is_full.result c.wait.result c.in_ok-next.next c.wait_within.result c.args.application.now c.answer_later-is_full.new.application _ c.answer_later-is_full.ensures.shows c.answer_later-is_full.ensures.idle c.answer_later-is_full.ensures.peers (c.wait_within.ensures ∙ ap (λ limit. wait_within limit c.in_ok-next.next) c.limit_for-limit.ensures) turn),
     )
 
 pub returns-in_err-next-clause-cut : goal.returns-in_err-next-clause-cut

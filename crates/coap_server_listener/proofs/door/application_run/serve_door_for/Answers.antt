@@ -1,4 +1,4 @@
-use Rattle.std.proofs.Common.{[], Some, refl, ap, arith, inl, ◌∙◌}
+use Rattle.std.proofs.Common.{[], Some, refl, arith, inl}
 use Rattle.std.proofs.lemmas.Result.{err_from_is_err_and}
 use Rattle.coap_io.proofs.streams.DeviceLemmas.{told_none}
 use Rattle.coap_server_engine.specs.values.Servers.{config_with}
@@ -30,7 +30,7 @@ loop-turn-preserved g c =
     let turn = c.in_ok-wait.ensures.turn in record {
       ran = ran_then (g.M.Monitor.follows c.args.monitor.now) (g.M.Monitor.follows c.loop-turn.monitor) (g.M.Monitor.follows c.run_turn.new.monitor) (g.A.Application.follows c.args.application.now) (g.A.Application.follows c.loop-turn.application) (g.A.Application.follows c.run_turn.new.application)
           c.loop-turn.invariant.ran c.run_turn.ensures.ran;
-      made = made_once_more g.A.Application.follows g.D.Wire.Ready.readable g.D.Wire.Ready.writable (trace_by g.D.Wire.Wire.given g.D.Wire.Wire.written g.D.Wire.Wire.answers g.D.Wire.Wire.rooms) (config_with c.args.config (Some c.args.applications))
+      made = made_once_more g.A.Application.follows g.A.Application.idle g.D.Wire.Ready.readable g.D.Wire.Ready.writable (trace_by g.D.Wire.Wire.given g.D.Wire.Wire.written g.D.Wire.Wire.answers g.D.Wire.Wire.rooms) (config_with c.args.config (Some c.args.applications))
           (g.C.Clock.moments c.args.clock.now) (g.C.Clock.moments c.loop-turn.clock) (g.C.Clock.moments c.run_turn.new.clock) (g.D.Door.calls c.args.door.now) (g.D.Door.calls c.loop-turn.door) (g.D.Door.calls c.run_turn.new.door)
           c.loop-turn.turn c.loop-turn.service.server c.loop-turn.service.peers.entries c.loop-turn.wait turn.0 turn.1 c.run_turn.new.service.server c.run_turn.new.service.peers.entries c.in_ok-wait.wait
           c.loop-turn.invariant.made turn.2 turn.3 turn.4;
@@ -45,7 +45,7 @@ returns-in_err-wait-clause-run g c =
       ran = ran_then (g.M.Monitor.follows c.args.monitor.now) (g.M.Monitor.follows c.loop-turn.monitor) (g.M.Monitor.follows c.run_turn.new.monitor) (g.A.Application.follows c.args.application.now) (g.A.Application.follows c.loop-turn.application) (g.A.Application.follows c.run_turn.new.application)
           c.loop-turn.invariant.ran c.run_turn.ensures.ran;
       ends = rw (p.1, p.2)
-          (cut_after g.A.Application.follows g.D.Wire.Ready.readable g.D.Wire.Ready.writable (trace_by g.D.Wire.Wire.given g.D.Wire.Wire.written g.D.Wire.Wire.answers g.D.Wire.Wire.rooms) (config_with c.args.config (Some c.args.applications))
+          (cut_after g.A.Application.follows g.A.Application.idle g.D.Wire.Ready.readable g.D.Wire.Ready.writable (trace_by g.D.Wire.Wire.given g.D.Wire.Wire.written g.D.Wire.Wire.answers g.D.Wire.Wire.rooms) (config_with c.args.config (Some c.args.applications))
           (g.C.Clock.moments c.args.clock.now) (g.C.Clock.moments c.loop-turn.clock) (g.C.Clock.moments c.run_turn.new.clock) (g.D.Door.calls c.args.door.now) (g.D.Door.calls c.loop-turn.door) (g.D.Door.calls c.run_turn.new.door)
           c.loop-turn.turn c.loop-turn.service.server c.loop-turn.service.peers.entries c.loop-turn.wait c.run_turn.new.service.server c.in_err-wait.field-0.0 (omega (arith, c.loop-turn-test.true, c.turns-turn-end.ensures.value))
           c.loop-turn.invariant.made c.in_err-wait.ensures.cut c.in_err-wait.ensures.fault);

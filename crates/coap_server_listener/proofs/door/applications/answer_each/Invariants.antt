@@ -1,4 +1,4 @@
-use Rattle.std.proofs.Common.{◌≡◌, ℕ}
+use Rattle.std.proofs.Common.{◌≡◌}
 use Rattle.coap_server_listener.specs.Prelude.{All, AnswersMore, AreRecorded, FollowsMore, IsNoted}
 use Rattle.coap_server_listener.proofs.streams.LaterLemmas.{HasGivenLater}
 use Rattle.coap_server_listener.proofs.door.applications.answer_each.Given as goal
