@@ -41,7 +41,7 @@ enum {
     DACHREUP_EMPTY = 1,      /* the handle has no engine, or no entries */
     DACHREUP_MEMORY = 2,     /* an allocation failed */
     DACHREUP_OCCUPIED = 3,   /* new: the handle has an engine or entries already */
-    DACHREUP_NOT_A_PATH = 4, /* the text is not a path */
+    DACHREUP_NOT_A_PATH = 4, /* the text or the list is not a path; message_path: no text names the path */
     DACHREUP_NOT_A_CHOICE = 5, /* a value that is one of a few, such as a method, is none of them */
 
     /* Calls with the id of a connection: no connection has this id. remove, state: no such resource. */
@@ -96,6 +96,9 @@ enum {
     DACHREUP_FRAME_OPTION_NUMBER = 20,
     DACHREUP_FRAME_EMPTY_PAYLOAD = 21,
     DACHREUP_FRAME_NOT_ONE = 22, /* not exactly one frame */
+
+    /* message_path */
+    DACHREUP_PATH_NO_ROOM = 23,
 
     /* option_next */
     DACHREUP_NO_MORE = 16,
@@ -188,6 +191,17 @@ struct dachreup_message {
 /* Reads one message: `frame` is its whole encoding (RFC 8323 section 3.2). Returns 16 to 22 (DACHREUP_FRAME_..). */
 uint32_t dachreup_message_read(const uint8_t *frame, size_t length, struct dachreup_message *message);
 
+/* Bytes of the longest text that names a path. */
+#define DACHREUP_PATH_ROOM 254
+
+/*
+ * Writes the path of the request that a frame encodes to the start of `path`, which has `room` bytes, and sets
+ * *path_length. The text is the segments with slashes between them, as dachreup_server_state takes it.
+ * Returns 4 (no resource can have the path, or a segment has a slash, so that no text names it), 16 to 22
+ * (DACHREUP_FRAME_..) or 23 (DACHREUP_PATH_NO_ROOM).
+ */
+uint32_t dachreup_message_path(const uint8_t *frame, size_t length, uint8_t *path, size_t room, size_t *path_length);
+
 /*
  * Reads the next one of encoded options. *at and *number are 0 before the first call. Sets *number to the number of the
  * option, *value to its value, which lies in `options`, and moves *at to the next option.
@@ -249,6 +263,9 @@ struct dachreup_took {
     /* The request that the application answers, if the accepted bytes end with one: one encoded message, otherwise
        count 0. Lent until the next call on the handle. It may lie in the input of the take. */
     struct dachreup_span request;
+    /* The request that stored or deleted a resource, if the accepted bytes end with one, otherwise count 0. Lent as
+       `request` is. dachreup_message_path writes its path. No other resource has changed. */
+    struct dachreup_span changed;
 };
 
 /* Snapshot of a connection. */
@@ -361,6 +378,17 @@ uint32_t dachreup_server_state(struct dachreup_server *server, const uint8_t *pa
 
 /* Removes the resource at a path, and notifies its observers. Returns 1, 4 or 16. */
 uint32_t dachreup_server_remove(struct dachreup_server *server, const uint8_t *path, size_t path_length);
+
+/*
+ * put, state and remove at a path that a list of segments names. Each segment is a byte with its length, followed by its
+ * bytes: the six bytes "\1a\3b/c" are the segments "a" and "b/c". So these calls also reach the paths that no text names,
+ * because a segment has a slash. The list of no bytes is the root, as the empty text is.
+ * Each call returns the numbers of the call with a text. It returns 4 also if a segment has fewer bytes than its length.
+ */
+uint32_t dachreup_server_put_at(struct dachreup_server *server, const uint8_t *segments, size_t segments_length, uint32_t format,
+                                const uint8_t *bytes, size_t length, uint64_t *version);
+uint32_t dachreup_server_state_at(struct dachreup_server *server, const uint8_t *segments, size_t segments_length, struct dachreup_state *state);
+uint32_t dachreup_server_remove_at(struct dachreup_server *server, const uint8_t *segments, size_t segments_length);
 
 /* Records the end of the input of a connection. Returns 1 or 16. */
 uint32_t dachreup_server_ended(struct dachreup_server *server, uint64_t id);

@@ -1,5 +1,5 @@
 -- The places of the parts of a message in its frame, and of the values of options.
-use Rattle.std.proofs.Common.{◌≡◌, ℕ, ◌+◌, ◌-◌, ◌*◌, ◌≤◌, ◌<◌, List, [], ◌∷◌, ◌++◌, length, take, drop, Result, Ok, Err, Some, inl, inr, refl, sym, ap, subst, ◌∙◌, append_assoc, arith}
+use Rattle.std.proofs.Common.{◌≡◌, ℕ, ◌+◌, ◌-◌, ◌*◌, ◌≤◌, List, [], ◌∷◌, ◌++◌, length, take, drop, Result, Ok, Err, Some, inl, inr, refl, sym, ap, subst, ◌∙◌, append_assoc, arith}
 use Rattle.std.proofs.lemmas.Bool.{cases_eq}
 use Rattle.std.proofs.lemmas.Bool.Decides.{nat_tests}
 use Rattle.std.proofs.lemmas.List.{length-append, length-take, length-drop, take-append-drop, drop-drop, take_at, take_all, drop_at, drop_all}
@@ -16,7 +16,7 @@ use Rattle.coap_wire.specs.declared.layout.Outline.{Outline}
 use Rattle.coap_wire.specs.declared.layout.Outline.TheVariants.{Unknown, BadToken, Known}
 use Rattle.coap_wire.specs.Prelude.{AreBytes}
 use Rattle.coap_wire.proofs.BodySteps.{ok_is}
-use Rattle.coap_wire.proofs.HeadLaws.{head_again, head_frame}
+use Rattle.coap_wire.proofs.HeadLaws.{head_again}
 use Rattle.coap_wire.proofs.LayoutLaws.{laid_out_parts, parts_of, head_unknown, head_bad_token, head_other_size}
 use Rattle.coap_wire.proofs.NumberLaws.{AreBytes-drop}
 use Rattle.coap_wire.proofs.ReadingLaws.{message_spelled}

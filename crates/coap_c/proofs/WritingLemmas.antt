@@ -1,19 +1,18 @@
 -- The bytes of a buffer after parts are copied into it one after the other, and the numbers of refused calls.
-use Rattle.std.proofs.Common.{◌≡◌, ℕ, ◌+◌, ◌-◌, ◌≤◌, ◌<◌, List, [], ◌∷◌, ◌++◌, length, take, drop, true, Result, Ok, Err, Option, Some, None, refl, sym, ap, ◌∙◌, append_assoc, arith}
+use Rattle.std.proofs.Common.{◌≡◌, ℕ, ◌+◌, ◌≤◌, ◌<◌, List, [], ◌∷◌, ◌++◌, length, take, drop, true, Result, Ok, Err, Option, Some, None, refl, sym, ap, ◌∙◌, append_assoc, arith}
 use Rattle.std.specs.Prelude.{is_some}
 use Rattle.std.proofs.lemmas.Bool.Decides.{nat_tests}
 use Rattle.std.proofs.lemmas.List.{append-nil, length-append, length-take-le, take-append-drop, drop-drop, take_at, drop_at}
-use Rattle.std.proofs.Math.Seq.{drop-append-add}
 use Rattle.coap_wire.specs.Message.{CoapOption, Message}
 use Rattle.coap_wire.specs.declared.fault.FormatFault.{FormatFault}
 use Rattle.coap_wire.specs.declared.sizes.TheConstants.{MAX_EXTENDED_LENGTH, LARGEST_MESSAGE}
 use Rattle.coap_wire.specs.Prelude.{AreBytes}
 use Rattle.coap_wire.specs.Forms.{greatest_token}
 use Rattle.coap_wire.specs.Reading.{body_at, options_in, options_read}
-use Rattle.coap_wire.specs.Spelling.{option_spelling, options_spelling, payload_bytes, payload_marker, body_spelling, head_spelling, spelling}
+use Rattle.coap_wire.specs.Spelling.{options_spelling, payload_bytes, payload_marker, body_spelling, head_spelling, spelling}
 use Rattle.coap_wire.proofs.BodyLaws.{body_takes}
 use Rattle.coap_wire.proofs.SpellingLaws.{options_spelled_as}
-use Rattle.coap_c.specs.Messages.{append_refusal, option_bytes, coded_options, options_alone, only_options, write_refusal, write_refusal_for}
+use Rattle.coap_c.specs.Messages.{append_refusal, option_bytes, coded_options, options_alone, only_options, write_refusal}
 
 -- A part that is copied to the end of a front.
 pub put_more : (whole front bytes old new : List ℕ) (at : ℕ) → at ≡ length front → old ≡ front ++ drop at whole

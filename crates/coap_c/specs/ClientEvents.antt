@@ -1,5 +1,5 @@
 -- Defined by this project: the event that a C program reads.
-use Rattle.std.specs.Prelude.{◌≡◌, ℕ, List, [], length, Option, Some, None, nat_le, if◌then◌else◌}
+use Rattle.std.specs.Prelude.{◌≡◌, ℕ, List, length, Option, Some, None, nat_le, if◌then◌else◌}
 use denote.Ref.{Bor}
 use Rattle.coap_conn.specs.Reasons.{reason_number}
 use Rattle.coap_wire.specs.Message.{Message}

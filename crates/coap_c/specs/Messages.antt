@@ -1,5 +1,5 @@
 -- Defined by this project: the results of the calls on messages. `r` is the number that the call returns.
-use Rattle.std.specs.Prelude.{◌≡◌, ℕ, ◌+◌, ◌-◌, List, [], ◌∷◌, ◌++◌, length, take, drop, Option, Some, None, Result, Ok, Err, nat_lt, ◌==◌, if◌then◌else◌}
+use Rattle.std.specs.Prelude.{◌≡◌, ℕ, ◌+◌, List, [], ◌∷◌, ◌++◌, length, take, drop, Option, Some, None, Result, Ok, Err, nat_lt, ◌==◌, if◌then◌else◌}
 use denote.Ref.{Bor}
 use Rattle.coap_handle.specs.Spans.{span_at}
 use Rattle.coap_handle.specs.declared.span.Span.{Span}
@@ -10,7 +10,9 @@ use Rattle.coap_wire.specs.Spelling.{option_spelling, options_spelling, body_spe
 use Rattle.coap_wire.specs.declared.sizes.TheConstants.{MAX_EXTENDED_LENGTH, LARGEST_MESSAGE}
 use Rattle.coap_wire.specs.declared.fault.FormatFault.{FormatFault}
 use Rattle.coap_wire.specs.declared.fault.FormatFault.TheVariants as format
+use Rattle.coap_server_engine.specs.values.ChangedRequests.{request_key}
 use Rattle.coap_c.specs.Numbers.{format_code}
+use Rattle.coap_c.specs.PathTexts.{IsPathWritten}
 use Rattle.coap_c.specs.declared.messages.MessageSpans.{MessageSpans}
 
 -- The span is a place in the slice, and has these bytes there.
@@ -33,6 +35,13 @@ GivesMessage frame (Err f) (Err e) = f ≡ e
 abbrev pub IsRead : Bor (List ℕ) → (s s' : MessageSpans) → Result Message FormatFault → ℕ → Type 0
 IsRead frame s s' (Ok m) r = (r ≡ 0) × ShowsMessage frame s' m
 IsRead frame s s' (Err e) r = (r ≡ format_code e) × (s' ≡ s)
+
+-- ---- the path of a request
+
+-- The path of the message that a frame encodes, or the number of the first error of the frame.
+abbrev pub IsPathOf : Result Message FormatFault → (buffer buffer' : List ℕ) → (count count' : ℕ) → ℕ → Type 0
+IsPathOf (Ok m) buffer buffer' count count' r = IsPathWritten (request_key m) buffer buffer' count count' r
+IsPathOf (Err e) buffer buffer' count count' r = (r ≡ format_code e) × ((buffer' ≡ buffer) × (count' ≡ count))
 
 -- ---- read an option
 

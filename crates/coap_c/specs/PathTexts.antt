@@ -1,5 +1,5 @@
 -- Defined by this project: the path, the Content-Format and the methods that C names.
-use Rattle.std.specs.Prelude.{ℕ, zero, suc, ◌+◌, ◌/◌, ◌%◌, List, [], ◌∷◌, Option, Some, None, nat_le, ◌==◌, if◌then◌else◌}
+use Rattle.std.specs.Prelude.{◌≡◌, ◌≢◌, ℕ, zero, suc, ◌+◌, ◌/◌, ◌%◌, Bool, true, false, List, [], ◌∷◌, ◌++◌, length, take, drop, Option, Some, None, option_map, option_and_then, nat_le, nat_lt, ◌==◌, ◌⊎◌, if◌then◌else◌}
 use Rattle.coap_path.specs.Paths.{Path, is_path}
 use Rattle.coap_text.specs.Words.{parts}
 
@@ -8,9 +8,54 @@ unfoldable pub text_segments : List ℕ → Path
 text_segments [] = []
 text_segments (byte ∷ bytes) = parts 47 (byte ∷ bytes)
 
+-- The path with these segments, if a path can have them.
+abbrev pub path_with : Path → Option Path
+path_with segments = if is_path segments then Some segments else None
+
 -- The path that a text names, if a path can have its segments.
 abbrev pub text_path : List ℕ → Option Path
-text_path text = if is_path (text_segments text) then Some (text_segments text) else None
+text_path text = path_with (text_segments text)
+
+-- The segments of a list, if it has at most `turns` of them.
+unfoldable pub listed_by : (turns : ℕ) → List ℕ → Option Path
+listed_by turns [] = Some []
+listed_by zero (n ∷ rest) = None
+listed_by (suc turns) (n ∷ rest) =
+    if nat_le n (length rest) then option_map (λ segments. take n rest ∷ segments) (listed_by turns (drop n rest)) else None
+
+-- The segments of a list: each is a byte with its length, followed by that many bytes. The empty list has none. `None` if
+-- the last segment is truncated. Each segment takes at least one byte, so their number is at most that of the bytes.
+unfoldable pub listed_segments : List ℕ → Option Path
+listed_segments list = listed_by (length list) list
+
+-- The path whose segments a list has, if a path can have them.
+abbrev pub listed_path : List ℕ → Option Path
+listed_path list = option_and_then path_with (listed_segments list)
+
+-- The segments of a path, each after a slash.
+abbrev pub slashed : Path → List ℕ
+slashed [] = []
+slashed (s ∷ ss) = 47 ∷ s ++ slashed ss
+
+-- No text names a path. This is so if a segment has a slash.
+abbrev pub HasNoText : Path → Type 0
+HasNoText path = (text : List ℕ) → text_path text ≢ Some path
+
+-- The call wrote nothing, and returned this number.
+abbrev pub WritesNothing : ℕ → (buffer buffer' : List ℕ) → (count count' : ℕ) → ℕ → Type 0
+WritesNothing number buffer buffer' count count' r = (r ≡ number) × ((buffer' ≡ buffer) × (count' ≡ count))
+
+-- A text was written to the start of a buffer, whose other bytes are the same, unless the buffer is too short for it.
+abbrev pub WritesText : (short : Bool) → List ℕ → (buffer buffer' : List ℕ) → (count count' : ℕ) → ℕ → Type 0
+WritesText true text buffer buffer' count count' r = WritesNothing 23 buffer buffer' count count' r
+WritesText false text buffer buffer' count count' r = (r ≡ 0) × ((count' ≡ length text) × (buffer' ≡ text ++ drop count' buffer))
+
+-- The text that names a path was written, or 4 says that no text names it, or that there is no path.
+abbrev pub IsPathWritten : Option Path → (buffer buffer' : List ℕ) → (count count' : ℕ) → ℕ → Type 0
+IsPathWritten None buffer buffer' count count' r = WritesNothing 4 buffer buffer' count count' r
+IsPathWritten (Some path) buffer buffer' count count' r =
+    ((text : List ℕ) × (text_path text ≡ Some path) × WritesText (nat_lt (length buffer) (length text)) text buffer buffer' count count' r)
+    ⊎ (HasNoText path × WritesNothing 4 buffer buffer' count count' r)
 
 -- The Content-Format that a number names: itself if it has 16 bits, otherwise none.
 abbrev pub format_named : ℕ → Option ℕ

@@ -21,7 +21,7 @@ abbrev pub AnswersOrMemory : {V : Type 0} → Type 0 → Option ℕ → Type 0 �
 AnswersOrMemory same None done v v' r = ((r ≡ 0) × done) ⊎ ((r ≡ 2) × ((v' ≡ v) × same))
 AnswersOrMemory same (Some number) done v v' r = (r ≡ number) × ((v' ≡ v) × same)
 
--- A call at the path that a text names. It fails with 4 if the text names none.
+-- A call at the path that a text or a list of segments names. It fails with 4 if it names none.
 abbrev pub AtPath : {V : Type 0} → Type 0 → Option Path → (Path → V → V → ℕ → Type 0) → V → V → ℕ → Type 0
 AtPath same None call v v' r = (r ≡ 4) × ((v' ≡ v) × same)
 AtPath same (Some path) call v v' r = call path v v' r

@@ -1,5 +1,5 @@
 -- Defined by this project: the results of the calls on the handle of a server.
-use Rattle.std.specs.Prelude.{◌≡◌, ℕ, ◌+◌, List, [], ◌∷◌, ◌++◌, true, length, take, Option, Some, None, option_map, nat_le, if◌then◌else◌, ◌⊎◌}
+use Rattle.std.specs.Prelude.{◌≡◌, ℕ, ◌+◌, List, [], ◌∷◌, ◌++◌, true, length, take, Option, Some, None, option_map, option_and_then, nat_le, if◌then◌else◌, ◌⊎◌}
 use Rattle.coap_path.specs.Paths.{Path}
 use Rattle.coap_path.specs.ResourceKinds.{kind_of_path, is_dynamic}
 use Rattle.coap_store.specs.Refusals.{put_refusal, remove_refusal}
@@ -12,7 +12,7 @@ use Rattle.coap_server_engine.specs.values.ServerAnswers.{open_refusal, written_
 use Rattle.coap_server_engine.specs.values.Servers.{ServerValue, session_of, is_there, new_server, count_taken, server_opened, server_taken, server_written, server_ticked, server_put, server_removed, server_ended, server_released, server_announced, server_dropped, server_given}
 use Rattle.coap_server_engine.specs.world.Shows.{Shows}
 use Rattle.coap_c.specs.Numbers.{open_code, written_code, store_code, release_code, announce_code, handled_code, handled_reason, phase_code, phase_reason, response_code, reply_code}
-use Rattle.coap_c.specs.PathTexts.{text_path, format_number}
+use Rattle.coap_c.specs.PathTexts.{format_number}
 use Rattle.coap_c.specs.Results.{OnHandle, AtPath, Answers, AnswersOrMemory}
 use Rattle.coap_c.specs.Settings.{settings_config, settings_refusal}
 use Rattle.coap_c.specs.declared.settings.Settings.{Settings}
@@ -28,6 +28,7 @@ use Rattle.coap_store.specs.State.{state_of}
 use Rattle.coap_store.specs.Store.{Representation}
 use Rattle.coap_wire.specs.Reading.{message_of}
 use Rattle.coap_server_engine.specs.values.HandedRequests.{handed_frame}
+use Rattle.coap_server_engine.specs.values.ChangedRequests.{changing_frame, frame_key, ChangesBy}
 use Rattle.coap_server_engine.specs.values.ServerAnswers.{responded_refusal, IsReplyOn, response_event}
 
 -- No result besides the number.
@@ -63,7 +64,7 @@ IsOpened id id' = OnHandle (id' ≡ id) (λ v v' r. AnswersOrMemory (id' ≡ id)
 
 -- A result that reports nothing but accepted bytes.
 abbrev pub IsTookBytes : ℕ → TookResult → Type 0
-IsTookBytes bytes t = (t.bytes ≡ bytes) × ((t.handled ≡ 0) × ((t.reason ≡ 0) × (t.request.count ≡ 0)))
+IsTookBytes bytes t = (t.bytes ≡ bytes) × ((t.handled ≡ 0) × ((t.reason ≡ 0) × ((t.request.count ≡ 0) × (t.changed.count ≡ 0))))
 
 abbrev pub IsBlank : TookResult → Type 0
 IsBlank t = IsTookBytes 0 t
@@ -73,16 +74,22 @@ abbrev pub HasRequest : Span → Option (List ℕ) → Type 0
 HasRequest s None = s.count ≡ 0
 HasRequest s (Some frame) = (bytes : Bor (List ℕ)) × ((bytes.now ≡ frame) × (s ≡ span_whole bytes))
 
+-- The stores of the worlds before and after a `take` differ at the path of the request that is reported, and nowhere else.
+abbrev pub Alters : ℕ → List ℕ → ℕ → ServerValue → Type 0
+Alters id piece bytes v = (events : List AcceptedCall) → Shows v events →
+    ChangesBy v.config events (Took id (take bytes piece)) (option_and_then frame_key (changing_frame v id piece))
+
 -- A `take` that accepted bytes of `piece`, or none.
 abbrev pub HasTaken : ℕ → List ℕ → TookResult → ServerValue → ServerValue → Type 0
 HasTaken id piece t v v' = (t.bytes ≡ count_taken v id piece)
     × ((t.handled ≡ handled_code (handled_by v id piece)) × ((t.reason ≡ handled_reason (handled_by v id piece))
-    × (HasRequest t.request (handed_frame v id piece) × Does (Took id (take t.bytes piece)) (server_taken v id piece) v v')))
+    × (HasRequest t.request (handed_frame v id piece) × ((HasRequest t.changed (changing_frame v id piece) × Alters id piece t.bytes v)
+    × Does (Took id (take t.bytes piece)) (server_taken v id piece) v v'))))
 
 -- A `take` in which an allocation failed: the bytes before the last one of the message are accepted.
 abbrev pub HasTakenPart : ℕ → List ℕ → TookResult → ServerValue → ServerValue → Type 0
 HasTakenPart id piece t v v' = RefusesPieceOn v piece t.bytes (session_of id v.sessions)
-    × ((t.handled ≡ 0) × ((t.reason ≡ 0) × ((t.request.count ≡ 0)
+    × ((t.handled ≡ 0) × ((t.reason ≡ 0) × (((t.request.count ≡ 0) × (t.changed.count ≡ 0))
     × Does (Took id (take t.bytes piece)) (server_taken v id (take t.bytes piece)) v v')))
 
 -- `take` returns 0 and what it accepted and handled, 16 if there is no connection, or 2 if an allocation failed.
@@ -102,13 +109,15 @@ abbrev pub IsTicked : ℕ → Option ServerValue → Option ServerValue → ℕ 
 IsTicked now = OnHandle Nothing (λ v v' r. Answers Nothing (if nat_le v.host.now now then None else Some 16)
     (Does (Ticked now) (server_ticked v now) v v') v v' r)
 
-abbrev pub IsPut : List ℕ → Option ℕ → List ℕ → (version version' : ℕ) → Option ServerValue → Option ServerValue → ℕ → Type 0
-IsPut text format bytes version version' = OnHandle (version' ≡ version) (AtPath (version' ≡ version) (text_path text) (λ path v v' r.
+-- `put` at the path that C names, if it names one.
+abbrev pub IsPut : Option Path → Option ℕ → List ℕ → (version version' : ℕ) → Option ServerValue → Option ServerValue → ℕ → Type 0
+IsPut named format bytes version version' = OnHandle (version' ≡ version) (AtPath (version' ≡ version) named (λ path v v' r.
     AnswersOrMemory (version' ≡ version) (option_map store_code (put_refusal v.host.store path bytes))
     ((version' ≡ v.host.store.versions + 1) × Does (Stored path format bytes) (server_put v path format bytes) v v') v v' r))
 
-abbrev pub IsRemoved : List ℕ → Option ServerValue → Option ServerValue → ℕ → Type 0
-IsRemoved text = OnHandle Nothing (AtPath Nothing (text_path text) (λ path v v' r.
+-- `remove` at the path that C names, if it names one.
+abbrev pub IsRemoved : Option Path → Option ServerValue → Option ServerValue → ℕ → Type 0
+IsRemoved named = OnHandle Nothing (AtPath Nothing named (λ path v v' r.
     Answers Nothing (option_map store_code (remove_refusal v.host.store path)) (Does (Removed path) (server_removed v path) v v') v v' r))
 
 -- ---- the application
@@ -172,6 +181,7 @@ ShowsState s p = (s.version ≡ p.version) × ((s.format ≡ format_number p.for
 abbrev pub lent_state : ServerValue → Path → Option Representation
 lent_state v path = if is_dynamic (kind_of_path path) then state_of v.host.store v.host.now path else None
 
-abbrev pub HasState : List ℕ → (state state' : ResourceState) → Option ServerValue → Option ServerValue → ℕ → Type 0
-HasState text state state' = OnHandle (state' ≡ state) (AtPath (state' ≡ state) (text_path text) (λ path v v' r.
+-- `state` at the path that C names, if it names one.
+abbrev pub HasState : Option Path → (state state' : ResourceState) → Option ServerValue → Option ServerValue → ℕ → Type 0
+HasState named state state' = OnHandle (state' ≡ state) (AtPath (state' ≡ state) named (λ path v v' r.
     AsksOn (state' ≡ state) (ShowsState state') (lent_state v path) v v' r))

@@ -6,10 +6,12 @@ ghost use Rattle.coap_wire.specs.Layout.{IsLaidOut};
 ghost use Rattle.coap_wire.specs.Reading.{message_of};
 ghost use Rattle.coap_c.specs.Messages as spec;
 
-use crate::numbers::format_number;
+use crate::numbers::{NOT_A_PATH, format_number};
 use crate::option_reading::{PAYLOAD_MARKER, are_options, bytes_from, read_option};
 use crate::option_writing::{message_head, option_head, put};
+use crate::paths::write_path;
 use coap_handle::{Span, span_within};
+use coap_store::request_path;
 use coap_wire::{
     FormatFault, FrameLayout, LARGEST_MESSAGE, MAX_EXTENDED_LENGTH, MessageRef, Outline, outline,
     parse,
@@ -43,6 +45,21 @@ pub extern "C" fn dachreup_message_read(frame: &[u8], message: &mut MessageSpans
             0
         }
         Err(fault) => format_number(fault),
+    }
+}
+
+/// Writes the text that names the path of the request that a frame encodes.
+#[unsafe(no_mangle)]
+pub extern "C" fn dachreup_message_path(frame: &[u8], path: &mut [u8], length: &mut usize) -> u32
+    ensures { spec.IsPathOf (message_of frame.now) path.old path.new length.old length.new result }
+{
+    let message = match parse(frame) {
+        Ok(message) => message,
+        Err(fault) => return format_number(fault),
+    };
+    match request_path(&message) {
+        Some(key) => write_path(&key, path, length),
+        None => NOT_A_PATH,
     }
 }
 

@@ -28,6 +28,8 @@ pub(crate) const NOT_A_CHOICE: u32 = 5;
 pub(crate) const BAD_DEADLINE: u32 = 22;
 /// No room for the host of a URI.
 pub(crate) const NO_ROOM_FOR_HOST: u32 = 23;
+/// No room for the text of a path.
+pub(crate) const NO_ROOM_FOR_PATH: u32 = 23;
 /// More bytes were written than are queued.
 pub(crate) const TOO_MANY: u32 = 17;
 /// The first error of a call.

@@ -1,12 +1,13 @@
 //! The calls of a server on its resources, for C.
 
-ghost use Rattle.coap_c.specs.PathTexts.{format_named};
+ghost use Rattle.coap_c.specs.PathTexts.{text_path, listed_path, format_named};
 ghost use Rattle.coap_c.specs.ServerCalls.{IsPut, IsRemoved, HasState};
 
 use crate::numbers::{EMPTY, FIRST, NOT_A_PATH, SUCCESS, store_number};
-use crate::paths::{format_of, number_of_format, path_in};
+use crate::paths::{format_of, number_of_format, path_at, path_in};
 use crate::server_handle::ServerHandle;
 use coap_handle::{Span, span_of};
+use coap_path::PathKey;
 use coap_store::State;
 use std::alloc::Global;
 
@@ -22,23 +23,22 @@ pub struct ResourceState {
     pub format: u32,
 }
 
-/// Stores a representation at a path, and gives its version.
-#[unsafe(no_mangle)]
-pub extern "C" fn dachreup_server_put(
+/// Stores a representation at the path that the program named, if it named one, and gives its version.
+fn put_named(
     alloc: Global,
     handle: &mut ServerHandle,
-    path: &[u8],
+    path: Option<PathKey>,
     format: u32,
     bytes: &[u8],
     version: &mut u64,
 ) -> u32
-    ensures { IsPut path.now (format_named format) bytes.now version.old version.new handle.old.value
-        handle.new.value result }
+    ensures { IsPut path (format_named format) bytes.now version.old version.new handle.old.value handle.new.value
+        result }
 {
     let Some(mut server) = handle.take_server(alloc) else {
         return EMPTY;
     };
-    let Some(key) = path_in(path) else {
+    let Some(key) = path else {
         handle.put_back(server);
         return NOT_A_PATH;
     };
@@ -53,20 +53,20 @@ pub extern "C" fn dachreup_server_put(
     }
 }
 
-/// Lends the representation stored at a path, until the next call on the handle.
-#[unsafe(no_mangle)]
-pub extern "C" fn dachreup_server_state(
+/// Lends the representation stored at the path that the program named, if it named one, until the next call on the
+/// handle.
+fn state_named(
     alloc: Global,
     handle: &mut ServerHandle,
-    path: &[u8],
+    path: Option<PathKey>,
     state: &mut ResourceState,
 ) -> u32
-    ensures { HasState path.now state.old state.new handle.old.value handle.new.value result }
+    ensures { HasState path state.old state.new handle.old.value handle.new.value result }
 {
     let Some(server) = handle.take_server(alloc) else {
         return EMPTY;
     };
-    let Some(key) = path_in(path) else {
+    let Some(key) = path else {
         handle.put_back(server);
         return NOT_A_PATH;
     };
@@ -89,19 +89,14 @@ pub extern "C" fn dachreup_server_state(
     answer
 }
 
-/// Removes the resource at a path.
-#[unsafe(no_mangle)]
-pub extern "C" fn dachreup_server_remove(
-    alloc: Global,
-    handle: &mut ServerHandle,
-    path: &[u8],
-) -> u32
-    ensures { IsRemoved path.now handle.old.value handle.new.value result }
+/// Removes the resource at the path that the program named, if it named one.
+fn remove_named(alloc: Global, handle: &mut ServerHandle, path: Option<PathKey>) -> u32
+    ensures { IsRemoved path handle.old.value handle.new.value result }
 {
     let Some(mut server) = handle.take_server(alloc) else {
         return EMPTY;
     };
-    let Some(key) = path_in(path) else {
+    let Some(key) = path else {
         handle.put_back(server);
         return NOT_A_PATH;
     };
@@ -111,4 +106,86 @@ pub extern "C" fn dachreup_server_remove(
         Ok(()) => SUCCESS,
         Err(fault) => store_number(fault),
     }
+}
+
+/// Stores a representation at the path that a text names, and gives its version.
+#[unsafe(no_mangle)]
+pub extern "C" fn dachreup_server_put(
+    alloc: Global,
+    handle: &mut ServerHandle,
+    path: &[u8],
+    format: u32,
+    bytes: &[u8],
+    version: &mut u64,
+) -> u32
+    ensures { IsPut (text_path path.now) (format_named format) bytes.now version.old version.new handle.old.value
+        handle.new.value result }
+{
+    put_named(alloc, handle, path_in(path), format, bytes, version)
+}
+
+/// Stores a representation at the path that a list of segments names, and gives its version.
+#[unsafe(no_mangle)]
+pub extern "C" fn dachreup_server_put_at(
+    alloc: Global,
+    handle: &mut ServerHandle,
+    segments: &[u8],
+    format: u32,
+    bytes: &[u8],
+    version: &mut u64,
+) -> u32
+    ensures { IsPut (listed_path segments.now) (format_named format) bytes.now version.old version.new
+        handle.old.value handle.new.value result }
+{
+    put_named(alloc, handle, path_at(segments), format, bytes, version)
+}
+
+/// Lends the representation stored at the path that a text names, until the next call on the handle.
+#[unsafe(no_mangle)]
+pub extern "C" fn dachreup_server_state(
+    alloc: Global,
+    handle: &mut ServerHandle,
+    path: &[u8],
+    state: &mut ResourceState,
+) -> u32
+    ensures { HasState (text_path path.now) state.old state.new handle.old.value handle.new.value result }
+{
+    state_named(alloc, handle, path_in(path), state)
+}
+
+/// Lends the representation stored at the path that a list of segments names, until the next call on the handle.
+#[unsafe(no_mangle)]
+pub extern "C" fn dachreup_server_state_at(
+    alloc: Global,
+    handle: &mut ServerHandle,
+    segments: &[u8],
+    state: &mut ResourceState,
+) -> u32
+    ensures { HasState (listed_path segments.now) state.old state.new handle.old.value handle.new.value result }
+{
+    state_named(alloc, handle, path_at(segments), state)
+}
+
+/// Removes the resource at the path that a text names.
+#[unsafe(no_mangle)]
+pub extern "C" fn dachreup_server_remove(
+    alloc: Global,
+    handle: &mut ServerHandle,
+    path: &[u8],
+) -> u32
+    ensures { IsRemoved (text_path path.now) handle.old.value handle.new.value result }
+{
+    remove_named(alloc, handle, path_in(path))
+}
+
+/// Removes the resource at the path that a list of segments names.
+#[unsafe(no_mangle)]
+pub extern "C" fn dachreup_server_remove_at(
+    alloc: Global,
+    handle: &mut ServerHandle,
+    segments: &[u8],
+) -> u32
+    ensures { IsRemoved (listed_path segments.now) handle.old.value handle.new.value result }
+{
+    remove_named(alloc, handle, path_at(segments))
 }

@@ -28,6 +28,8 @@ pub struct Took {
     pub reason: u32,
     /// Request that the application answers, or no bytes.
     pub request: Span,
+    /// Request that stored or deleted a resource, or no bytes.
+    pub changed: Span,
 }
 
 /// Status of a connection.
@@ -125,6 +127,7 @@ pub extern "C" fn dachreup_server_take(
                 handled,
                 reason,
                 request: span_of(taken.frame.unwrap_or(&[])),
+                changed: span_of(taken.changed.unwrap_or(&[])),
             };
             SUCCESS
         }
@@ -150,6 +153,7 @@ fn took_bytes(bytes: usize) -> Took
         handled: 0,
         reason: 0,
         request: span_of(&[]),
+        changed: span_of(&[]),
     }
 }
 

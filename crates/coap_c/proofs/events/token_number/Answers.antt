@@ -1,4 +1,4 @@
-use Rattle.std.proofs.Common.{arith, ap, sym, ◌∙◌}
+use Rattle.std.proofs.Common.{arith, ap}
 use Rattle.coap_wire.specs.Uint.{uint_of}
 use Rattle.coap_c.proofs.EventLemmas.{uint_in_two, token_short}
 use Rattle.coap_c.proofs.events.token_number.Goals as goal

@@ -1,8 +1,7 @@
-use Rattle.std.proofs.Common.{◌≡◌, ℕ, ◌+◌, ◌-◌, ◌≤◌, ◌<◌, List, [], ◌++◌, length, true, arith, ap, sym, refl, ◌∙◌}
+use Rattle.std.proofs.Common.{◌≡◌, ℕ, ◌≤◌, ◌<◌, List, [], ◌++◌, length, true, arith, ap, sym, refl, ◌∙◌}
 use Rattle.std.specs.Prelude.{is_some}
-use Rattle.std.proofs.lemmas.List.{length-append}
 use Rattle.coap_wire.specs.Forms.{greatest_token}
-use Rattle.coap_wire.specs.Spelling.{options_spelling, head_spelling, body_spelling, spelling, payload_marker}
+use Rattle.coap_wire.specs.Spelling.{options_spelling, head_spelling, body_spelling, spelling}
 use Rattle.coap_wire.specs.declared.sizes.TheConstants.{LARGEST_MESSAGE}
 use Rattle.coap_c.specs.Messages.{message_with, coded_options}
 use Rattle.coap_c.proofs.WritingLemmas.{options_spelled, length-body, length-spelling, whole_spelled, write_large, write_full, write_none, holds_nothing, holds_more, holds_all}

@@ -1,4 +1,4 @@
-use Rattle.std.proofs.Common.{◌≡◌, ℕ, ◌+◌, ◌-◌, List, length, drop, Ok, Some, arith, ap, sym, refl, ◌∙◌}
+use Rattle.std.proofs.Common.{◌≡◌, ℕ, ◌-◌, length, drop, Ok, Some, arith, ap, sym, refl, ◌∙◌}
 use Rattle.coap_wire.specs.Prelude.{coap_option}
 use Rattle.coap_wire.specs.Reading.{option_at}
 use Rattle.coap_c.specs.Messages.{first_option}

@@ -1,4 +1,4 @@
-use Rattle.std.proofs.Common.{◌≡◌, ℕ, ◌+◌, ◌-◌, List, length, arith, ap, sym, ◌∙◌}
+use Rattle.std.proofs.Common.{◌≡◌, ℕ, ◌+◌, ◌-◌, List, length, arith, ap, ◌∙◌}
 use Rattle.coap_handle.specs.Spans.{span_at}
 use Rattle.coap_wire.specs.Spelling.{options_spelling, payload_marker}
 use Rattle.coap_c.proofs.MessageLemmas.{placed, parts_count, options_placed, payload_placed}
