@@ -5,6 +5,7 @@
 
 use crate::target::tell_target;
 use coap_client::{ClientPlan, Mode, ServerPlan, WordsFault, client_words, server_words};
+use coap_serve::ApplicationEntry;
 use probe_support::{RowLine, cut};
 use std::alloc::Global;
 use std::fmt;
@@ -76,8 +77,21 @@ pub(crate) fn tell_fault(fault: &WordsFault, told: &mut RowLine) {
     }
 }
 
-/// Writes the values of a plan of `coap-server` that most command lines leave out: a log, a limit of silence, start
-/// values and a record.
+/// Writes an entry of an application in hexadecimal digits: the segments of its path, its methods and its attributes.
+fn tell_entry(entry: &ApplicationEntry, told: &mut RowLine) {
+    for segment in entry.prefix().segments() {
+        told.word("segment");
+        told.hex(segment);
+    }
+    told.word("methods");
+    for method in entry.methods() {
+        told.number(u64::from(method.byte()));
+    }
+    told.hex(entry.attributes());
+}
+
+/// Writes the values of a plan of `coap-server` that most command lines leave out. These are a log, a limit of silence,
+/// start values, a record and an application.
 fn tell_rest(plan: &ServerPlan, told: &mut RowLine) {
     if plan.log.number() != 0 {
         let _ = write!(told, "log {:?} ", plan.log);
@@ -94,6 +108,13 @@ fn tell_rest(plan: &ServerPlan, told: &mut RowLine) {
     }
     if let Some(name) = &plan.record {
         let _ = write!(told, "record {name} {} ", plan.record_limit);
+    }
+    if let Some(applications) = &plan.applications {
+        told.word("application");
+        told.number(u64::from(applications.deadline()));
+        for entry in applications.entries() {
+            tell_entry(entry, told);
+        }
     }
 }
 

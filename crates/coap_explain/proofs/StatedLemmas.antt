@@ -15,7 +15,8 @@ use Rattle.coap_text.specs.Words.{parts}
 use Rattle.coap_print.specs.declared.level.LogLevel.TheVariants.{Nothing}
 use Rattle.coap_model.specs.Configs.{ConfigValues, StartValues, config_refusal}
 use Rattle.coap_command_line.specs.CommandLines.{is_used, number_within, unless_refused}
-use Rattle.coap_command_line.specs.ServerWords.{Script, excludes_mode, excludes_record, file_name, limits_said, records_to_output, server_app}
+use Rattle.coap_command_line.specs.ServerWords.{Script, excludes_application, excludes_mode, excludes_record, file_name, limits_said, records_to_output, server_app}
+use Rattle.coap_command_line.specs.ApplicationWords.{applications_said}
 use Rattle.coap_command_line.specs.ServerWords.{server_plan_in, server_plan_of, starts_a_listener, starts_in, three_in, values_said}
 use Rattle.coap_record.proofs.WordLaws.{IsWord, all_fail, both_words, number_back, number_digits, number_word, word_byte}
 use Rattle.coap_record.proofs.LineLaws.{AreWords, spaced, words_of_line}
@@ -192,8 +193,8 @@ plan_read : (d m s q p o n b : Text) (dynamic_max message sent queue pending obs
     → number_within 0 256 p ≡ Some pending → number_within 0 256 o ≡ Some observers → number_within 1 256 n ≡ Some connections
     → starts_in b ≡ Some (record { moment = starts.moment; versions = starts.versions; ids = starts.ids })
     → server_plan_in (all_rows d m s q p o n b)
-    ≡ Ok (record { mode = Script (codes "-"); limits = limits_of message sent queue pending observers 16; connections = connections; dynamic_max = dynamic_max; turns = 1_000_000_000_000; log = Nothing; idle = 0; starts = record { moment = starts.moment; versions = starts.versions; ids = starts.ids }; «record» = None; record_limit = 1_073_741_824 })
-unfolding server_plan_in values_said limits_said excludes_mode excludes_record starts_a_listener records_to_output is_used file_name
+    ≡ Ok (record { mode = Script (codes "-"); limits = limits_of message sent queue pending observers 16; connections = connections; dynamic_max = dynamic_max; turns = 1_000_000_000_000; log = Nothing; idle = 0; starts = record { moment = starts.moment; versions = starts.versions; ids = starts.ids }; «record» = None; record_limit = 1_073_741_824; applications = None })
+unfolding server_plan_in values_said limits_said excludes_mode excludes_record excludes_application applications_said starts_a_listener records_to_output is_used file_name
 plan_read d m s q p o n b dynamic_max message sent queue pending observers connections starts d_is m_is s_is q_is p_is o_is n_is b_is =
     rw (d_is, m_is, s_is, q_is, p_is, o_is, n_is, b_is) refl
 

@@ -1,6 +1,9 @@
 //! The examples of the documentation. Each test below is the code of an example under `# Examples` in a documentation
 //! comment. `quickstart.rt` and `embedding.rt` have the listings of docs/QUICKSTART.md and docs/EMBEDDING.md.
 //! `tests/tools/examples.py` compares them.
+//!
+//! A last line such as `exchanges(rt, &mut server)` continues with the body of that function. A function that owns a
+//! server drops it at each `?`, which makes its proof long. A function that borrows the server does not.
 
 mod application;
 mod embedding;
@@ -15,6 +18,7 @@ use coap_serve::{
 };
 use coap_store::{State, Store};
 use coap_wire::{Builder, Code, Token, parse, uint_bytes, uint_value};
+use std::process::Abort;
 use std::test::Fail;
 
 #[test]
@@ -125,6 +129,11 @@ fn answers_by_application(rt: HostRuntime) -> Result<(), Fail> {
 #[test]
 fn stores_a_representation(rt: HostRuntime) -> Result<(), Fail> {
     let mut store = Store::new(rt.alloc(), 16, 1_024, 0)?;
+    puts_and_looks(rt, &mut store)
+}
+
+/// Continues `stores_a_representation`.
+fn puts_and_looks(rt: impl Abort + Copy, store: &mut Store) -> Result<(), Fail> {
     let path = PathKey::from_segments(&[b"temperature"]).ok_or("no path")?;
     // Content-Format 0 is text.
     let version = store.put(&path, Some(0), b"21.5")?;
@@ -140,6 +149,11 @@ fn stores_a_representation(rt: HostRuntime) -> Result<(), Fail> {
 #[test]
 fn answers_a_request(rt: HostRuntime) -> Result<(), Fail> {
     let mut server = Server::new(rt.alloc(), Config::builder().build()?)?;
+    exchanges(rt, &mut server)
+}
+
+/// Continues `answers_a_request`.
+fn exchanges(rt: impl Abort + Copy, server: &mut Server) -> Result<(), Fail> {
     let id = server.open()?;
     // The client's CSM, and a GET of the root. A call of `take` processes one message.
     let input = b"\x00\xe1\x01\x01\x2a".as_slice();
@@ -158,6 +172,11 @@ fn answers_a_request(rt: HostRuntime) -> Result<(), Fail> {
 fn reads_a_state(rt: HostRuntime) -> Result<(), Fail> {
     let config = Config::builder().dynamic_max(1).build()?;
     let mut server = Server::new(rt.alloc(), config)?;
+    puts_and_reads(rt, &mut server)
+}
+
+/// Continues `reads_a_state`.
+fn puts_and_reads(rt: impl Abort + Copy, server: &mut Server) -> Result<(), Fail> {
     let path = PathKey::from_segments(&[b"temperature"]).ok_or("no path")?;
     let version = server.put(&path, Some(0), b"21.5")?;
     match server.state(&path) {
@@ -177,6 +196,11 @@ fn responds_by_application(rt: HostRuntime) -> Result<(), Fail> {
     applications.add(&directory, &[Code::POST], b"")?;
     let config = Config::builder().build()?;
     let mut server = Server::with_applications(rt.alloc(), config, applications)?;
+    posts_and_responds(rt, &mut server)
+}
+
+/// Continues `responds_by_application`.
+fn posts_and_responds(rt: impl Abort + Copy, server: &mut Server) -> Result<(), Fail> {
     let id = server.open()?;
     // The client's CSM, and POST /rd with the token 2a. The request waits for the application.
     let input = b"\x00\xe1\x31\x02\x2a\xb2rd".as_slice();
@@ -198,6 +222,11 @@ fn lends_a_request(rt: HostRuntime) -> Result<(), Fail> {
     applications.add(&directory, &[Code::POST], b"")?;
     let config = Config::builder().build()?;
     let mut server = Server::with_applications(rt.alloc(), config, applications)?;
+    posts_and_lends(rt, &mut server)
+}
+
+/// Continues `lends_a_request`.
+fn posts_and_lends(rt: impl Abort + Copy, server: &mut Server) -> Result<(), Fail> {
     let id = server.open()?;
     // The client's CSM, and POST /rd with the token 2a. The request waits for the application.
     let input = b"\x00\xe1\x31\x02\x2a\xb2rd".as_slice();
@@ -213,6 +242,11 @@ fn lends_a_request(rt: HostRuntime) -> Result<(), Fail> {
 #[test]
 fn replays_a_script(rt: HostRuntime) -> Result<(), Fail> {
     let mut server = Server::new(rt.alloc(), Config::builder().build()?)?;
+    replays_lines(rt, &mut server)
+}
+
+/// Continues `replays_a_script`.
+fn replays_lines(rt: impl Abort + AllocGlobal + Copy, server: &mut Server) -> Result<(), Fail> {
     let events = script(rt.alloc(), b"open\nin 1 00e1\ntick 60\n")?;
     let mut lines = Vec::new(rt.alloc());
     server.replay(&events, &mut WriteOutlet::new(&mut lines))?;
@@ -254,6 +288,11 @@ fn parses_a_command_line(rt: HostRuntime) -> Result<(), Fail> {
 #[test]
 fn sends_a_request(rt: HostRuntime) -> Result<(), Fail> {
     let mut client = Client::open(rt.alloc(), Limits::builder().build()?, 0)?;
+    sends_when_ready(rt, &mut client)
+}
+
+/// Continues `sends_a_request`.
+fn sends_when_ready(rt: impl Abort + AllocGlobal + Copy, client: &mut Client) -> Result<(), Fail> {
     // The server's CSM.
     let taken = client.take(b"\x00\xe1");
     assert!(&rt; matches!(taken.event(), Some(Event::Ready)));

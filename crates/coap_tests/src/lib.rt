@@ -1,19 +1,15 @@
 //! Tests that must themselves be proved, for properties that rows cannot test:
 //!
 //! - theorems called from another crate,
-//! - sinks at concrete types,
-//! - lines that describe messages,
-//! - the errors of an application's entries, and the limit,
 //! - the contracts of `serve_one` and `run_client` with devices that record everything,
-//! - runs of `serve_door` over a listener, connections and a clock in memory,
+//! - runs of `serve_door` over a listener, connections and a clock in memory, and runs for an application,
 //! - the examples of the documentation.
 //!
-//! All other tests are rows of text (docs/TESTING.md). The crate has no code outside its tests, and no other crate uses
-//! it. Continue with `door.rt`, which has most of the tests.
+//! `coap_part_tests` has such tests of the crates that need no server. All other tests are rows of text
+//! (docs/TESTING.md). The crate has no code outside its tests, and no other crate uses it. Continue with `door.rt`, which
+//! has most of the tests.
 #![tactic(auto)]
 
-#[cfg(test)]
-mod application;
 #[cfg(test)]
 mod client;
 #[cfg(test)]
@@ -25,12 +21,8 @@ mod examples;
 #[cfg(test)]
 mod laws;
 #[cfg(test)]
-mod print;
-#[cfg(test)]
 mod rows;
 #[cfg(test)]
 mod settings;
-#[cfg(test)]
-mod sinks;
 #[cfg(test)]
 mod told;

@@ -1,10 +1,10 @@
-//! A run for an application in memory, which answers one request at once and another one later.
+//! Runs for an application in memory, which answers one request at once and another one later.
 
 use super::devices::{CallLog, Moments, ScriptedDoor};
-use crate::settings::{configured, set_all};
+use crate::settings::{configured, set_all, usual};
 use coap_serve::{
-    Application, Applications, ConnId, IoFault, NoMonitor, PathKey, Reply, ResponseFault,
-    serve_door_for,
+    Application, Applications, ConnId, IoFault, NoMonitor, PathKey, ReadSource, Reason, Reply,
+    Report, ResponseFault, WriteOutlet, serve_door_for, serve_one_for,
 };
 use coap_wire::{Code, MessageRef};
 use std::test::Fail;
@@ -94,5 +94,48 @@ fn an_application_answers(rt: HostRuntime) -> Result<(), Fail> {
     assert!(&rt; board.requests == 2 && board.accepted == 1 && board.ends == 1);
     let told = book.told()?;
     assert!(&rt; told.as_str() == TOLD);
+    Ok(())
+}
+
+#[test]
+fn an_application_answers_over_an_input(rt: HostRuntime) -> Result<(), Fail> {
+    // The client's CSM, PUT /rd and GET /rd. The later response follows the messages of the read.
+    let mut source = ReadSource::new(b"\x00\xe1\x31\x03\x2a\xb2rd\x31\x01\x2b\xb2rd".as_slice());
+    let mut written = Vec::new(rt.alloc());
+    let mut outlet = WriteOutlet::new(&mut written);
+    let config = configured(&rt, &usual());
+    let mut applications = Applications::new(rt.alloc(), 60)?;
+    let prefix = PathKey::from_segments(&[b"rd"]).ok_or("no path")?;
+    applications.add(&prefix, &[Code::GET, Code::PUT], b"")?;
+    let mut board = Board {
+        later: None,
+        requests: 0,
+        accepted: 0,
+        ends: 0,
+    };
+    assert!(&rt; config.starts().ids < u64::MAX);
+    let result = serve_one_for(
+        rt.alloc(),
+        &mut source,
+        &mut outlet,
+        &config,
+        applications,
+        &mut board,
+        &mut NoMonitor,
+    );
+    assert!(&rt;
+        matches!(
+            result,
+            Ok(Report {
+                read: 14,
+                messages: 3,
+                reason: Reason::Ended
+            })
+        )
+    );
+    assert!(&rt; board.requests == 2 && board.accepted == 1 && board.ends == 1);
+    assert!(&rt;
+        written.as_slice() == b"\x60\xe1\x23\x01\x00\x00\x41\x40\x01\x44\x2a\x01\x45\x2b".as_slice()
+    );
     Ok(())
 }

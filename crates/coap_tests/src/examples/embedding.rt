@@ -5,6 +5,7 @@ ghost use Rattle.std.specs.Prelude.{◌≤◌, length};
 use coap_client::{Client, Event, Extras, Limits, Method, Reason, Target};
 use coap_serve::{Config, Server};
 use std::alloc::Global;
+use std::process::Abort;
 use std::test::Fail;
 
 /// Transport that keeps the bytes sent in memory.
@@ -67,6 +68,18 @@ fn observe(
     let limits = Limits::builder().build()?;
     // The client's CSM is queued. Tokens count from 1.
     let mut client = Client::open(alloc, limits, 0)?;
+    exchange(&mut client, transport, input, target, extras, payload)
+}
+
+/// Continues `observe`.
+fn exchange(
+    client: &mut Client,
+    transport: &mut Transport,
+    input: &[u8],
+    target: Target,
+    extras: Extras,
+    payload: &mut Vec<u8>,
+) -> Result<Option<Reason>, Fail> {
     let count = transport.write(client.front());
     client.written(count);
 
@@ -100,12 +113,17 @@ fn observe(
 #[test]
 fn serves_a_client(rt: HostRuntime) -> Result<(), Fail> {
     let mut server = Server::new(rt.alloc(), Config::builder().build()?)?;
+    serves(&rt, &mut server)
+}
+
+/// Continues `serves_a_client`.
+fn serves(rt: &(impl Abort + AllocGlobal), server: &mut Server) -> Result<(), Fail> {
     let mut transport = Transport {
         sent: Vec::new(rt.alloc()),
     };
-    let rest = serve(&mut server, &mut transport, 7, b"\x00\xe1\x01\x01\x2a")?;
-    assert!(&rt; rest == b"\x01\x01\x2a".as_slice());
-    assert!(&rt; transport.sent.as_slice() == b"\x60\xe1\x23\x01\x00\x00\x41\x40".as_slice());
+    let rest = serve(server, &mut transport, 7, b"\x00\xe1\x01\x01\x2a")?;
+    assert!(rt; rest == b"\x01\x01\x2a".as_slice());
+    assert!(rt; transport.sent.as_slice() == b"\x60\xe1\x23\x01\x00\x00\x41\x40".as_slice());
     Ok(())
 }
 
