@@ -3,6 +3,7 @@
 #include <errno.h>
 #include <mosquitto.h>
 #include <mqtt_protocol.h>
+#include <netdb.h>
 #include <stdarg.h>
 #include <stdio.h>
 #include <stdlib.h>
@@ -13,6 +14,7 @@
 #include "guard.h"
 #include "log.h"
 #include "properties.h"
+#include "resolver.h"
 
 /* Seconds of silence after which libmosquitto sends a PINGREQ, and milliseconds between two connections. */
 enum { KEEPALIVE = 12, PAUSE = 1000 };
@@ -72,11 +74,15 @@ static void on_subscribe(struct mosquitto *client, void *owner, int message, int
 
 static void on_publish(struct mosquitto *client, void *owner, int publication, int reason, const mosquitto_property *properties) {
     struct broker *broker = owner;
+    bool is_marker = publication == broker->marker;
     (void)client;
     (void)properties;
+    /* A later publication can have this number again. */
+    if (is_marker)
+        broker->marker = -1;
     if (reason < 0x80)
         return;
-    if (publication == broker->marker)
+    if (is_marker)
         broker_fail(broker, "refused the marker: %s", mosquitto_reason_string(reason));
     else
         broker->events.refused(broker->events.owner, publication, reason);
@@ -149,6 +155,7 @@ static void on_message(struct mosquitto *client, void *owner, const struct mosqu
                        const mosquitto_property *properties) {
     struct broker *broker = owner;
     (void)client;
+    broker->messages++;
     if (broker->fault[0])
         return;
     if (!strncmp(message->topic, broker->control, strlen(broker->control))) {
@@ -181,8 +188,6 @@ bool broker_open(struct broker *broker, const struct options *options, const str
     snprintf(broker->control, sizeof broker->control, "%s/%%gateway-", topic);
     snprintf(broker->marker_topic, sizeof broker->marker_topic, "%s%u/marker", broker->control, (unsigned)options->id);
     snprintf(broker->owner_topic, sizeof broker->owner_topic, "%s%u/owner", broker->control, (unsigned)options->id);
-    /* getaddrinfo blocks. A name server that does not answer must not hold up the peers for its usual ten seconds. */
-    setenv("RES_OPTIONS", "timeout:1 attempts:1", 0);
     clock_gettime(CLOCK_REALTIME, &now);
     broker->began = (uint64_t)now.tv_sec * 1000 + (uint64_t)now.tv_nsec / 1000000;
     return mosquitto_lib_init() == MOSQ_ERR_SUCCESS;
@@ -202,6 +207,8 @@ static void lose(struct broker *broker, uint64_t now) {
     log_line(LOG_WARNINGS, "broker: %s", broker->fault);
     mosquitto_destroy(broker->client);
     broker->client = NULL;
+    /* An address that was good is tried again, otherwise the next one. */
+    broker->address += !broker->is_usable;
     broker->is_usable = false;
     broker->marker = -1;
     broker->owner = (struct origin){0};
@@ -233,7 +240,9 @@ static int set_up(struct broker *broker) {
     return result;
 }
 
-static void begin(struct broker *broker, uint64_t now) {
+/* Connects to one of the known addresses. */
+static void connect_to_broker(struct broker *broker, uint64_t now) {
+    resolver_select(broker->address);
     enter(broker, BROKER_CONNECTING, now);
     broker->client = mosquitto_new(broker->client_id, true, broker);
     if (!broker->client) {
@@ -244,6 +253,19 @@ static void begin(struct broker *broker, uint64_t now) {
     result = result ? result : mosquitto_connect_async(broker->client, broker->options->broker_host, broker->options->broker_port, KEEPALIVE);
     if (result)
         broker_fail(broker, "cannot connect: %s", result == MOSQ_ERR_ERRNO ? strerror(errno) : mosquitto_strerror(result));
+}
+
+/* Connects if the name of the broker has been resolved. */
+static void check_name(struct broker *broker, uint64_t now) {
+    int error = resolver_check();
+    if (error == EAI_INPROGRESS)
+        return;
+    if (!error) {
+        connect_to_broker(broker, now);
+        return;
+    }
+    log_line(LOG_WARNINGS, "broker: cannot resolve its name: %s", gai_strerror(error));
+    enter(broker, BROKER_AWAY, now + PAUSE);
 }
 
 int broker_socket(const struct broker *broker) {
@@ -264,14 +286,15 @@ static void check(struct broker *broker, int result, int error) {
         broker_fail(broker, "connection ended");
 }
 
-/* A deadline counts from the last step of the connection, and callbacks have no time. */
-static void note_step(struct broker *broker, enum broker_state before, uint64_t now) {
-    if (broker->state != before)
+/* A deadline counts from the last step of the connection, that of the marker from the last message. Callbacks have no time. */
+static void note_step(struct broker *broker, enum broker_state state, uint64_t messages, uint64_t now) {
+    if (broker->state != state || (state == BROKER_READING && broker->messages != messages))
         broker->since = now;
 }
 
 void broker_ready(struct broker *broker, bool may_read, bool may_write, uint64_t now) {
-    enum broker_state before = broker->state;
+    enum broker_state state = broker->state;
+    uint64_t messages = broker->messages;
     if (!broker->client || broker->fault[0])
         return;
     if (may_write)
@@ -287,12 +310,12 @@ void broker_ready(struct broker *broker, bool may_read, bool may_write, uint64_t
     /* The acknowledgements of what was read need no turn of their own. */
     if (may_read && !broker->fault[0] && broker_wants_write(broker))
         check(broker, mosquitto_loop_write(broker->client, 1), errno);
-    note_step(broker, before, now);
+    note_step(broker, state, messages, now);
 }
 
 /* Checks the deadline of a step, and the keep-alive. */
 static void check_time(struct broker *broker, uint64_t now) {
-    static const char *const steps[] = {"", "no connection", "no answer to the subscription", "the marker did not come"};
+    static const char *const steps[] = {"", "", "no connection", "no answer to the subscription", "the marker did not come"};
     bool is_step = broker->state != BROKER_READY;
     if (is_step && now - broker->since > BROKER_PATIENCE)
         broker_fail(broker, "%s within %d seconds", steps[broker->state], BROKER_PATIENCE / 1000);
@@ -301,8 +324,12 @@ static void check_time(struct broker *broker, uint64_t now) {
 }
 
 void broker_tick(struct broker *broker, uint64_t now) {
-    if (broker->state == BROKER_AWAY && now >= broker->since)
-        begin(broker, now);
+    if (broker->state == BROKER_AWAY && now >= broker->since) {
+        enter(broker, BROKER_RESOLVING, now);
+        resolver_begin(broker->options->broker_host);
+    }
+    if (broker->state == BROKER_RESOLVING)
+        check_name(broker, now);
     if (broker->client && !broker->fault[0])
         check_time(broker, now);
     if (broker->client && broker->fault[0])

@@ -1,6 +1,5 @@
 /*
- * The connection to the broker: MQTT 5 over libmosquitto, in one thread. No call blocks, except for the name of the broker
- * (getaddrinfo); an address needs no such call.
+ * The connection to the broker: MQTT 5 over libmosquitto, in one thread. No call blocks: resolver.h has the addresses.
  *
  * Each connection is a new session and a new client object, so nothing is sent again by itself. After the subscription
  * the gateway publishes a marker. The broker sends everything on one connection in one order, so all retained messages
@@ -20,7 +19,7 @@
 /* The broker does not know Content-Formats above this number. */
 #define BROKER_NO_FORMAT UINT32_C(65536)
 
-/* Milliseconds for a connection, a subscription, a marker or an echo. */
+/* Milliseconds for a connection, a subscription, an echo, or a marker after the last message. */
 enum { BROKER_PATIENCE = 10000 };
 
 /* Origin of a publication: the run of a gateway, and its number in this run. A run is never 0. */
@@ -51,7 +50,7 @@ struct broker_events {
 
 struct mosquitto;
 
-enum broker_state { BROKER_AWAY, BROKER_CONNECTING, BROKER_SUBSCRIBING, BROKER_READING, BROKER_READY };
+enum broker_state { BROKER_AWAY, BROKER_RESOLVING, BROKER_CONNECTING, BROKER_SUBSCRIBING, BROKER_READING, BROKER_READY };
 
 struct broker {
     const struct options *options;
@@ -63,8 +62,10 @@ struct broker {
     uint64_t since;    /* when the state began, in milliseconds; while away, when the next connection begins */
     uint64_t run;      /* random number of this run */
     uint64_t markers;  /* markers published in this run */
-    int marker;        /* last publication of the gateway for itself */
+    int marker;        /* last publication of the gateway for itself, or -1 after its acknowledgement */
+    size_t address;    /* place of the address in the list of the resolver */
     uint64_t losses;   /* connections that ended */
+    uint64_t messages; /* messages that came in this run */
     uint64_t began;    /* milliseconds since 1970 when this run began */
     bool owns;         /* this run has owned its id */
     struct origin owner; /* another run that owns the id, by this connection: its run, and when it began */

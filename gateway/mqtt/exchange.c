@@ -23,7 +23,6 @@ static void respond(struct gateway *gateway, uint64_t peer, const struct request
 /* Returns the code that refuses a request, or 0. */
 static uint32_t refusal_of(struct gateway *gateway, const struct request *request) {
     struct dachreup_state state = {{0}, 0, 0};
-    uint8_t text[PATH_BYTES];
     if (request->message.code == METHOD_REFUSED)
         return gateway->peers.refuses_reads ? CODE_UNAVAILABLE : CODE_NOT_ALLOWED;
     if (!gateway->broker.is_usable || gateway->broker.fault[0])
@@ -31,7 +30,7 @@ static uint32_t refusal_of(struct gateway *gateway, const struct request *reques
     bool is_stored = request->has_path && mirror_state(&gateway->mirror, &request->path, &state);
     if (!request_conditions_hold(request, is_stored ? &state : NULL))
         return CODE_PRECONDITION_FAILED;
-    if (!request->has_path || path_text(&request->path, text) == 0)
+    if (!request->has_path)
         return CODE_BAD_REQUEST;
     if (request->message.code == METHOD_DELETE)
         return 0;

@@ -13,6 +13,7 @@
 enum {
     EVENTS_A_TURN = 64,
     STALLED = 5000,          /* milliseconds of a turn after which the broker may have dropped messages */
+    LOOK_FOR_NAME = 20,      /* milliseconds of a turn while the name of the broker is being resolved */
     PAUSE_OF_READINGS = 1000 /* least time between two readings of all retained messages on one connection */
 };
 
@@ -23,16 +24,18 @@ static void on_signal(int number) {
     stops = 1;
 }
 
-static uint64_t milliseconds(void) {
-    struct timespec time;
-    clock_gettime(CLOCK_MONOTONIC, &time);
+static uint64_t milliseconds_of(clockid_t clock) {
+    struct timespec time = {0};
+    clock_gettime(clock, &time);
     return (uint64_t)time.tv_sec * 1000 + (uint64_t)time.tv_nsec / 1000000;
 }
 
-static struct timespec real_time(void) {
-    struct timespec time;
-    clock_gettime(CLOCK_REALTIME, &time);
-    return time;
+static uint64_t milliseconds(void) {
+    return milliseconds_of(CLOCK_MONOTONIC);
+}
+
+static uint64_t real_milliseconds(void) {
+    return milliseconds_of(CLOCK_REALTIME);
 }
 
 /* ---- readings of the retained messages ---- */
@@ -54,9 +57,20 @@ static void on_complete(void *owner) {
 
 /* ---- the loop ---- */
 
+/*
+ * Returns the time of the server in milliseconds. If the system's clock is set back, the time continues by the monotonic
+ * clock, as in coap-server: otherwise requests would wait for their deadlines until the clock is there again.
+ */
+static uint64_t server_time(struct gateway *gateway) {
+    int64_t monotonic = (int64_t)milliseconds(), ahead = (int64_t)real_milliseconds() - monotonic;
+    if (ahead > gateway->ahead)
+        gateway->ahead = ahead;
+    return (uint64_t)(monotonic + gateway->ahead);
+}
+
 /* Sets the time of the server. Returns true if a new second has begun. */
 static bool tick(struct gateway *gateway) {
-    uint64_t second = (uint64_t)real_time().tv_sec;
+    uint64_t second = server_time(gateway) / 1000;
     if (second == gateway->second)
         return false;
     gateway->second = second;
@@ -120,8 +134,12 @@ static void handle(struct gateway *gateway, const struct epoll_event *event) {
 }
 
 /* Returns the milliseconds until the next second, in which time counts for the server and for the broker. */
-static int wait_of(void) {
-    return 1001 - (int)(real_time().tv_nsec / 1000000);
+static int wait_of(struct gateway *gateway) {
+    if (gateway->broker.fault[0])
+        return 0;
+    if (gateway->broker.state == BROKER_RESOLVING)
+        return LOOK_FOR_NAME;
+    return 1001 - (int)(server_time(gateway) % 1000);
 }
 
 /* One turn. Returns false if the gateway must end. */
@@ -142,7 +160,7 @@ static bool turn(struct gateway *gateway, const sigset_t *signals) {
         exchange_check(gateway, false);
     }
     watch_broker(gateway);
-    int found = epoll_pwait(gateway->poll, ready, EVENTS_A_TURN, gateway->broker.fault[0] ? 0 : wait_of(), signals);
+    int found = epoll_pwait(gateway->poll, ready, EVENTS_A_TURN, wait_of(gateway), signals);
     for (int at = 0; at < found; at++)
         handle(gateway, &ready[at]);
     return true;
@@ -153,7 +171,7 @@ static bool open_server(struct gateway *gateway) {
     struct dachreup_settings settings = DACHREUP_SETTINGS(options->resources);
     const char *prefix = options->prefix_text;
     uint32_t methods = 1u << METHOD_POST | 1u << METHOD_PUT | 1u << METHOD_DELETE | 1u << METHOD_REFUSED;
-    gateway->started = (uint64_t)real_time().tv_sec;
+    gateway->started = server_time(gateway) / 1000;
     settings.max_message = options->max_message;
     settings.max_sent = options->max_sent;
     settings.queue = options->queue;
@@ -202,7 +220,6 @@ static void take_signals(sigset_t *during) {
     sigdelset(during, SIGINT);
     sigaction(SIGTERM, &action, NULL);
     sigaction(SIGINT, &action, NULL);
-    signal(SIGPIPE, SIG_IGN);
 }
 
 static void close_all(struct gateway *gateway) {
@@ -216,7 +233,7 @@ static void close_all(struct gateway *gateway) {
 }
 
 int gateway_run(const struct options *options) {
-    struct gateway gateway = {.options = options, .watched = -1, .poll = -1, .peers.listener = -1};
+    struct gateway gateway = {.options = options, .watched = -1, .poll = -1, .peers.listener = -1, .ahead = INT64_MIN};
     sigset_t signals;
     bool runs = open_all(&gateway);
     take_signals(&signals);

@@ -33,7 +33,8 @@ struct gateway {
     uint64_t losses;        /* connections to the broker that had ended when it was added */
     uint64_t started;       /* second of the first version */
     uint64_t second;        /* second of the last tick */
-    uint64_t now, reading;  /* milliseconds: now, and when the last reading ended */
+    uint64_t now, reading;  /* milliseconds of the monotonic clock: now, and when the last reading ended */
+    int64_t ahead;          /* milliseconds by which the time of the server is ahead of the monotonic clock */
     bool is_complete;       /* the mirror was complete once */
     bool has_output;        /* the store changed, so any peer can have output */
 };

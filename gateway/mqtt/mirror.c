@@ -20,29 +20,28 @@ void mirror_close(struct mirror *mirror) {
 /* ---- the table of stored paths ---- */
 
 /* FNV-1a. A publisher that finds equal values only makes searches among at most `limit` entries longer. */
-static size_t home_of(const struct mirror *mirror, const uint8_t *text, size_t length) {
+static size_t home_of(const struct mirror *mirror, const struct path *path) {
     uint64_t hash = UINT64_C(14695981039346656037);
-    for (size_t at = 0; at < length; at++)
-        hash = (hash ^ text[at]) * UINT64_C(1099511628211);
+    for (size_t at = 0; at < path->size; at++)
+        hash = (hash ^ path->bytes[at]) * UINT64_C(1099511628211);
     return (size_t)(hash ^ hash >> 32) & (mirror->places - 1);
 }
 
 /* Returns the entry of a path, or the free place where it belongs. The table is at most half full. */
-static struct mirrored *place_of(const struct mirror *mirror, const uint8_t *text, size_t length) {
-    size_t at = home_of(mirror, text, length);
+static struct mirrored *place_of(const struct mirror *mirror, const struct path *path) {
+    size_t at = home_of(mirror, path);
     for (struct mirrored *entry;; at = (at + 1) & (mirror->places - 1)) {
         entry = &mirror->entries[at];
-        if (!entry->reading || (entry->length == length && !memcmp(entry->text, text, length)))
+        if (!entry->reading || path_equals(&entry->path, path))
             return entry;
     }
 }
 
 /* Records that this reading has a path. */
-static void note(struct mirror *mirror, const uint8_t *text, size_t length) {
-    struct mirrored *entry = place_of(mirror, text, length);
+static void note(struct mirror *mirror, const struct path *path) {
+    struct mirrored *entry = place_of(mirror, path);
     if (!entry->reading) {
-        entry->length = length;
-        memcpy(entry->text, text, length);
+        entry->path = *path;
         mirror->count++;
     }
     entry->reading = mirror->reading;
@@ -55,7 +54,7 @@ static void forget(struct mirror *mirror, struct mirrored *entry) {
     mirror->entries[gap].reading = 0;
     for (size_t at = (gap + 1) & mask; mirror->entries[at].reading; at = (at + 1) & mask) {
         struct mirrored *later = &mirror->entries[at];
-        size_t home = home_of(mirror, later->text, later->length);
+        size_t home = home_of(mirror, &later->path);
         if (((at - home) & mask) < ((at - gap) & mask))
             continue;
         mirror->entries[gap] = *later;
@@ -67,11 +66,11 @@ static void forget(struct mirror *mirror, struct mirrored *entry) {
 /* ---- changes ---- */
 
 /* Removes a stored resource, and notifies its observers. */
-static enum mirror_change take_away(struct mirror *mirror, const uint8_t *text, size_t length) {
-    struct mirrored *entry = place_of(mirror, text, length);
+static enum mirror_change take_away(struct mirror *mirror, const struct path *path) {
+    struct mirrored *entry = place_of(mirror, path);
     if (!entry->reading)
         return MIRROR_UNCHANGED;
-    dachreup_server_remove(mirror->server, text, length);
+    dachreup_server_remove_at(mirror->server, path->bytes, path->size);
     forget(mirror, entry);
     mirror->has_room_again = true;
     return MIRROR_REMOVED;
@@ -84,29 +83,30 @@ static bool is_equal(const struct dachreup_state *state, const struct broker_mes
 }
 
 /* A message that has no place leaves none to the state before it: a reader gets 4.04, not old bytes. */
-static enum mirror_change leave_out(struct mirror *mirror, const uint8_t *text, size_t length, const char *reason) {
+static enum mirror_change leave_out(struct mirror *mirror, const struct path *path, const struct broker_message *message, const char *reason) {
     char printed[PRINTED_ROOM];
     mirror->left_out++;
-    log_line(LOG_WARNINGS, "left out: %s: %s (%llu left out)", printed_name(printed, text, length), reason, (unsigned long long)mirror->left_out);
-    take_away(mirror, text, length);
+    log_line(LOG_WARNINGS, "left out: %s: %s (%llu left out)", printed_name(printed, message->topic, strlen(message->topic)), reason,
+             (unsigned long long)mirror->left_out);
+    take_away(mirror, path);
     return MIRROR_LEFT_OUT;
 }
 
 /* Stores a message. One that equals the stored state changes nothing, so that nobody is notified twice. */
-static enum mirror_change store(struct mirror *mirror, const uint8_t *text, size_t length, const struct broker_message *message) {
+static enum mirror_change store(struct mirror *mirror, const struct path *path, const struct broker_message *message) {
     struct dachreup_state state = {{0}, 0, 0};
     uint64_t version = 0;
-    bool is_stored = dachreup_server_state(mirror->server, text, length, &state) == DACHREUP_OK;
+    bool is_stored = dachreup_server_state_at(mirror->server, path->bytes, path->size, &state) == DACHREUP_OK;
     if (is_stored && is_equal(&state, message)) {
-        note(mirror, text, length);
+        note(mirror, path);
         return MIRROR_UNCHANGED;
     }
-    switch (dachreup_server_put(mirror->server, text, length, message->format, message->bytes, message->length, &version)) {
-    case DACHREUP_OK: note(mirror, text, length); return is_stored ? MIRROR_CHANGED : MIRROR_CREATED;
-    case DACHREUP_TOO_LARGE: return leave_out(mirror, text, length, "payload above the size limit");
-    case DACHREUP_LIMIT: mirror->lacks_room = true; return leave_out(mirror, text, length, "no place for another resource");
-    case DACHREUP_MEMORY: mirror->is_out_of_memory = true; return leave_out(mirror, text, length, "no memory");
-    case DACHREUP_VERSIONS_SPENT: return leave_out(mirror, text, length, "no version is left");
+    switch (dachreup_server_put_at(mirror->server, path->bytes, path->size, message->format, message->bytes, message->length, &version)) {
+    case DACHREUP_OK: note(mirror, path); return is_stored ? MIRROR_CHANGED : MIRROR_CREATED;
+    case DACHREUP_TOO_LARGE: return leave_out(mirror, path, message, "payload above the size limit");
+    case DACHREUP_LIMIT: mirror->lacks_room = true; return leave_out(mirror, path, message, "no place for another resource");
+    case DACHREUP_MEMORY: mirror->is_out_of_memory = true; return leave_out(mirror, path, message, "no memory");
+    case DACHREUP_VERSIONS_SPENT: return leave_out(mirror, path, message, "no version is left");
     default: return MIRROR_IGNORED;
     }
 }
@@ -119,15 +119,11 @@ static enum mirror_change ignore(const struct broker_message *message, const cha
 
 enum mirror_change mirror_apply(struct mirror *mirror, const struct broker_message *message) {
     struct path path;
-    uint8_t text[PATH_BYTES];
-    size_t length = 0;
     if (!message->is_retained)
         return ignore(message, "a message that is not retained");
     if (!path_of_topic(&path, message->topic) || !path_begins(&path, &mirror->prefix))
         return ignore(message, "the topic of no path");
-    if ((length = path_text(&path, text)) == 0)
-        return ignore(message, "a segment with a slash");
-    enum mirror_change change = message->is_removal ? take_away(mirror, text, length) : store(mirror, text, length, message);
+    enum mirror_change change = message->is_removal ? take_away(mirror, &path) : store(mirror, &path, message);
     return change == MIRROR_IGNORED ? ignore(message, "the path of a built-in resource") : change;
 }
 
@@ -148,7 +144,7 @@ size_t mirror_end(struct mirror *mirror) {
             at++;
             continue;
         }
-        dachreup_server_remove(mirror->server, entry->text, entry->length);
+        dachreup_server_remove_at(mirror->server, entry->path.bytes, entry->path.size);
         forget(mirror, entry);
         mirror->has_room_again = true;
         removed++;
@@ -161,9 +157,7 @@ bool mirror_wants_reading(const struct mirror *mirror) {
 }
 
 bool mirror_state(const struct mirror *mirror, const struct path *path, struct dachreup_state *state) {
-    uint8_t text[PATH_BYTES];
-    size_t length = path_text(path, text);
-    return length && dachreup_server_state(mirror->server, text, length, state) == DACHREUP_OK;
+    return dachreup_server_state_at(mirror->server, path->bytes, path->size, state) == DACHREUP_OK;
 }
 
 bool mirror_is_full(const struct mirror *mirror) {

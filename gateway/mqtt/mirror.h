@@ -14,11 +14,10 @@
 #include "broker.h"
 #include "names.h"
 
-/* A stored path: its name in the C library, and the reading that had it last. */
+/* A stored path, and the reading that had it last. */
 struct mirrored {
     uint64_t reading; /* 0: the entry is free */
-    size_t length;
-    uint8_t text[PATH_BYTES];
+    struct path path;
 };
 
 struct mirror {

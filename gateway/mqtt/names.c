@@ -29,27 +29,16 @@ bool path_begins(const struct path *path, const struct path *prefix) {
     return path->size >= prefix->size && memcmp(path->bytes, prefix->bytes, prefix->size) == 0;
 }
 
+bool path_equals(const struct path *path, const struct path *other) {
+    return path->size == other->size && path_begins(path, other);
+}
+
 bool path_read(struct path *path, const char *text) {
     *path = (struct path){0};
     for (const char *slash; (slash = strchr(text, '/')); text = slash + 1)
         if (!path_add(path, (const uint8_t *)text, (size_t)(slash - text)))
             return false;
     return path_add(path, (const uint8_t *)text, strlen(text)) && path_is_resource(path);
-}
-
-size_t path_text(const struct path *path, uint8_t *text) {
-    size_t length = 0;
-    for (size_t at = 0; at < path->size; at += 1u + path->bytes[at]) {
-        const uint8_t *segment = path->bytes + at + 1;
-        size_t count = path->bytes[at];
-        if (memchr(segment, '/', count))
-            return 0;
-        if (at)
-            text[length++] = '/';
-        memcpy(text + length, segment, count);
-        length += count;
-    }
-    return length;
 }
 
 /* Returns the number of bytes of a character that begins with this byte, or 0 if none does. */

@@ -13,7 +13,7 @@ enum {
     PRINTED_ROOM = 256  /* room for a name in a message */
 };
 
-/* A path: its segments in order, each after a byte with its length. */
+/* A path: its segments in order, each after a byte with its length. The C library reads these bytes as a list of segments. */
 struct path {
     size_t count;
     size_t size;
@@ -29,14 +29,11 @@ bool path_is_resource(const struct path *path);
 /* Returns true if the first segments of `path` are those of `prefix`. */
 bool path_begins(const struct path *path, const struct path *prefix);
 
-/* Reads a path as the C library writes it: segments with slashes between them, not escaped. */
-bool path_read(struct path *path, const char *text);
+/* Returns true if two paths have the same segments. */
+bool path_equals(const struct path *path, const struct path *other);
 
-/*
- * Writes a path as the C library reads it to `text`, which has room for PATH_BYTES bytes. Returns its length, or 0 if a
- * segment has a slash: the C library has no name for such a path.
- */
-size_t path_text(const struct path *path, uint8_t *text);
+/* Reads a path from a text: segments with slashes between them, not escaped. */
+bool path_read(struct path *path, const char *text);
 
 /*
  * Writes the topic of a path, and a zero byte, to `topic`, which has TOPIC_ROOM bytes. Returns its length.

@@ -127,8 +127,12 @@ static bool read_address(struct options *options, const char *text) {
 
 /* The topic of the prefix is a level of its own, so a broker must deliver it to `prefix/#`: not so with a leading dollar. */
 static bool read_prefix(struct options *options, const char *text) {
+    static const char *const built_in[] = {"time", "async", ".well-known/core"};
     options->prefix_text = text;
-    return path_read(&options->prefix, text) && text[0] != '$' && strcmp(text, "time") != 0 && strcmp(text, "async") != 0;
+    for (size_t at = 0; at < sizeof built_in / sizeof *built_in; at++)
+        if (strcmp(text, built_in[at]) == 0)
+            return false;
+    return path_read(&options->prefix, text) && text[0] != '$';
 }
 
 static bool read_stale(struct options *options, const char *text) {

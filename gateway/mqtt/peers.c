@@ -143,8 +143,11 @@ static size_t offer(struct peers *peers, struct peer *peer, bool *failed) {
     if (!peer->is_raw)
         screen(frame, size, &peers->options->prefix, peers->refuses_reads);
     *failed = dachreup_server_take(peers->server, peer->id, frame, size, &took) != DACHREUP_OK;
-    if (took.request.count)
-        peers->request(peers->owner, peer->id, &took.request);
+    /* A request is the whole frame. Its span would be lent only until the next call on the server. */
+    if (took.request.count) {
+        struct dachreup_span request = {frame, size};
+        peers->request(peers->owner, peer->id, &request);
+    }
     /* The code, which is among these bytes, is screened anew when the message is offered again. */
     if (took.bytes == 0)
         memcpy(frame, first, head);
@@ -242,7 +245,7 @@ static void set_socket(int client) {
     setsockopt(client, IPPROTO_TCP, TCP_KEEPCNT, &probes, sizeof probes);
 }
 
-/* Gives a client a free place. Returns false if there is no memory. */
+/* Gives a client a free place. Returns false if there is no memory for it. */
 static bool admit(struct peers *peers, int client, const char *address) {
     size_t at = 0;
     while (peers->all[at].socket >= 0)
@@ -250,15 +253,20 @@ static bool admit(struct peers *peers, int client, const char *address) {
     struct peer *peer = &peers->all[at];
     struct epoll_event event = {.events = EPOLLIN, .data.u64 = at};
     peer->bytes = malloc(peers->room);
-    if (!peer->bytes || dachreup_server_open(peers->server, &peer->id)) {
+    if (!peer->bytes || dachreup_server_open(peers->server, &peer->id) != DACHREUP_OK) {
         free(peer->bytes);
-        peer->bytes = NULL;
+        *peer = (struct peer){.socket = -1};
+        return false;
+    }
+    if (epoll_ctl(peers->poll, EPOLL_CTL_ADD, client, &event) < 0) {
+        dachreup_server_drop(peers->server, peer->id);
+        free(peer->bytes);
+        *peer = (struct peer){.socket = -1};
         return false;
     }
     peer->socket = client;
     peer->interest = EPOLLIN;
     peers->open++;
-    epoll_ctl(peers->poll, EPOLL_CTL_ADD, client, &event);
     log_line(LOG_CONNECTIONS, "connection %llu opened by %s", (unsigned long long)peer->id, address);
     serve(peers, peer);
     return true;

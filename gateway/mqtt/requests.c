@@ -18,6 +18,7 @@ bool request_read(struct request *request, const struct dachreup_span *bytes) {
     struct dachreup_span value = {0};
     size_t at = 0;
     uint32_t number = 0;
+    bool has_format = false;
     *request = (struct request){.has_path = true, .format = DACHREUP_NO_FORMAT};
     if (dachreup_message_read(bytes->at, bytes->count, &request->message) != DACHREUP_OK)
         return false;
@@ -26,8 +27,9 @@ bool request_read(struct request *request, const struct dachreup_span *bytes) {
         if (number == URI_PATH)
             request->has_path = path_add(&request->path, value.at, value.count) && request->has_path;
         /* A later one is not recognised, and Content-Format is not critical (RFC 7252 section 5.4.5). */
-        if (number == CONTENT_FORMAT && request->format == DACHREUP_NO_FORMAT)
+        if (number == CONTENT_FORMAT && !has_format)
             request->format = read_format(&value);
+        has_format = has_format || number == CONTENT_FORMAT;
     }
     request->has_path = request->has_path && path_is_resource(&request->path);
     return true;

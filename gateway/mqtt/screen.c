@@ -17,8 +17,8 @@ static struct extension extension_of(unsigned nibble) {
     return nibble < 13 ? (struct extension){0, nibble} : extensions[nibble - 13];
 }
 
-static size_t read_big_endian(const uint8_t *bytes, size_t count) {
-    size_t number = 0;
+static uint64_t read_big_endian(const uint8_t *bytes, size_t count) {
+    uint64_t number = 0;
     while (count--)
         number = number << 8 | *bytes++;
     return number;
@@ -33,7 +33,9 @@ size_t frame_size(const uint8_t *bytes, size_t count) {
         return FRAME_BAD;
     if (count < start)
         return 0;
-    return start + token.least + read_big_endian(bytes + start - token.bytes, token.bytes) + length.least + read_big_endian(bytes + 1, length.bytes);
+    uint64_t size = start + token.least + read_big_endian(bytes + start - token.bytes, token.bytes);
+    size += length.least + read_big_endian(bytes + 1, length.bytes);
+    return size < FRAME_BAD ? (size_t)size : FRAME_BAD;
 }
 
 /* Returns true if the path of a request begins with the prefix, whose segments each follow a byte with their length. */
