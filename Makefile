@@ -67,12 +67,12 @@ faults: bin/coap-server
 	tests/tools/fail_alloc.py
 
 # Measures the server and libcoap's, then the server with a record, behind HAProxy, and with observers that do not read. Then counts instructions,
-# copies and memory. Measures changes through two gateways to MQTT, beside mosquitto. Draws the new figures in docs/pictures. Fails if a target is
+# copies and memory, and the instructions of the resource directory. Measures changes through two gateways to MQTT, beside mosquitto. Draws the new figures in docs/pictures. Fails if a target is
 # missed.
-bench: bin/coap-server bin/libcoap_proved.a bin/coap-mqtt
+bench: bin/coap-server bin/coap-directory bin/libcoap_proved.a bin/coap-mqtt
 	tests/build coap_probe
 	bench/throughput; missed=$$?; bench/record || missed=1; bench/front || missed=1; bench/gateway || missed=1; tests/system/flood.py bin/coap-server observers || missed=1; \
-	bench/asymptotics || missed=1; bench/instructions && exit $$missed
+	bench/asymptotics || missed=1; bench/directory || missed=1; bench/instructions && exit $$missed
 
 # UNPROVED: runs the source on the recorded streams before any proof, in up to a minute, for work in progress.
 try:

@@ -2,6 +2,8 @@
 
        c_library stdio MAX_MESSAGE MAX_SENT QUEUE DYNAMIC PIECE     reads pieces of this size; a call that reports 2 is made once more
        c_library application                                        entries, requests of the application and its responses; prints each check that fails
+       c_library changes                                            requests that change resources or do not, each split at each place; prints each check that fails
+       c_library lists                                              paths as lists of segments, beside texts; prints each check that fails
        c_library wrong                                              prints each check that fails */
 #include "c_checks.h"
 #include <coap_proved.h>
@@ -60,7 +62,7 @@ static int serve(struct dachreup_settings *settings, size_t size) {
 }
 
 static void empty(uint64_t id) {
-    struct dachreup_took took = {9, 9, 9, {0}};
+    struct dachreup_took took = {9, 9, 9, {0}, {0}};
     struct dachreup_parts parts = {{0}, {0}};
     struct dachreup_status status = {0};
     struct dachreup_state state = {{0}, 7, 0};
@@ -69,7 +71,7 @@ static void empty(uint64_t id) {
     uint32_t reply = 9;
     check("empty open", dachreup_server_open(&server, &number), DACHREUP_EMPTY);
     check("empty take", dachreup_server_take(&server, id, text, 3, &took), DACHREUP_EMPTY);
-    check("took", (uint32_t)(took.bytes + took.request.count) + took.handled + took.reason, 0);
+    check("took", (uint32_t)(took.bytes + took.request.count + took.changed.count) + took.handled + took.reason, 0);
     check("empty parts", dachreup_server_parts(&server, id, &parts), DACHREUP_EMPTY);
     check("empty written", dachreup_server_written(&server, id, 0), DACHREUP_EMPTY);
     check("empty tick", dachreup_server_tick(&server, 1), DACHREUP_EMPTY);
@@ -78,6 +80,9 @@ static void empty(uint64_t id) {
     check("empty state", dachreup_server_state(&server, text, 3, &state), DACHREUP_EMPTY);
     check("reply and state", reply + (uint32_t)state.version, 16);
     check("empty remove", dachreup_server_remove(&server, text, 3), DACHREUP_EMPTY);
+    check("empty put at", dachreup_server_put_at(&server, text, 3, 0, text, 3, &number), DACHREUP_EMPTY);
+    check("empty state at", dachreup_server_state_at(&server, text, 3, &state), DACHREUP_EMPTY);
+    check("empty remove at", dachreup_server_remove_at(&server, text, 3), DACHREUP_EMPTY);
     check("empty ended", dachreup_server_ended(&server, id), DACHREUP_EMPTY);
     check("empty release", dachreup_server_release(&server, id), DACHREUP_EMPTY);
     check("empty drop", dachreup_server_drop(&server, id), DACHREUP_EMPTY);
@@ -267,7 +272,251 @@ static int application(void) {
     return failed;
 }
 
+/* A request with these codes: at most two segments, and a payload. */
+struct change {
+    uint8_t code;
+    const char *segments[2], *payload, *path; /* the path that is reported, or none */
+    uint32_t named;                           /* result of dachreup_message_path */
+    uint64_t version;                         /* of the resource afterwards, or 0 */
+};
+
+static const struct change steps[] = {
+    {3, {"a", NULL}, "xyz", "a", 0, 1},      {3, {"a", NULL}, "xyz", "a", 0, 2},     {1, {"a", NULL}, "", NULL, 0, 2},
+    {3, {"a", NULL}, "12345", NULL, 0, 2},   {3, {"b", "c"}, "x", "b/c", 0, 3},      {3, {"d", NULL}, "x", NULL, 0, 0},
+    {2, {"b", "c"}, "y", "b/c", 0, 4},       {4, {"b", "c"}, "", "b/c", 0, 0},       {4, {"b", "c"}, "", NULL, 0, 0},
+    {3, {"time", NULL}, "x", NULL, 0, 0},    {4, {"time", NULL}, "", NULL, 0, 0},    {1, {"time", NULL}, "", NULL, 0, 0},
+    {3, {"x/y", NULL}, "x", "", 4, 0},       {4, {"x/y", NULL}, "", "", 4, 0},       {3, {"", "e"}, "x", "/e", 0, 6},
+    {4, {"", "e"}, "", "/e", 0, 0},          {4, {"a", NULL}, "", "a", 0, 0},
+};
+
+static size_t request_of(const struct change *step, uint8_t *to) {
+    size_t at = 3, size;
+    to[1] = step->code;
+    to[2] = 7;
+    for (int number = 0; number < 2 && step->segments[number]; number++, at += size) {
+        size = strlen(step->segments[number]);
+        to[at++] = (uint8_t)((number ? 0 : 0xb0) + size);
+        memcpy(to + at, step->segments[number], size);
+    }
+    size = strlen(step->payload);
+    if (size)
+        to[at++] = 0xff;
+    memcpy(to + at, step->payload, size);
+    at += size;
+    to[0] = (uint8_t)((at - 3) << 4 | 1);
+    return at;
+}
+
+/* Takes a request in two pieces, and checks what is reported, and the resource. */
+static void report(const struct change *step, uint64_t id, const uint8_t *bytes, size_t length, size_t split) {
+    uint8_t first[32], second[32], path[DACHREUP_PATH_ROOM] = {0};
+    struct dachreup_took took = {0};
+    struct dachreup_state state = {{0}, 0, 0};
+    size_t count = 99, left = split < length ? length - split : length;
+    memcpy(first, bytes, length);
+    memcpy(second, bytes + length - left, left);
+    if (split < length)
+        check("first piece", dachreup_server_take(&server, id, first, split, &took), 0);
+    check("nothing yet", (uint32_t)took.changed.count, 0);
+    check("take", dachreup_server_take(&server, id, second, left, &took), 0);
+    check("no request of the application", (uint32_t)took.request.count, 0);
+    check(step->path ? "reported" : "not reported", (uint32_t)took.changed.count, step->path ? (uint32_t)length : 0);
+    if (took.changed.count) {
+        check("reported bytes", (uint32_t)memcmp(took.changed.at, bytes, length), 0);
+        check("named", dachreup_message_path(took.changed.at, took.changed.count, path, sizeof path, &count), step->named);
+        if (step->named == 0) {
+            check("path", count == strlen(step->path) && !memcmp(path, step->path, count), 1);
+            check("state", dachreup_server_state(&server, path, count, &state), step->version ? 0 : DACHREUP_NO_SUCH);
+            check("version", (uint32_t)state.version, (uint32_t)step->version);
+        } else
+            check("kept length", (uint32_t)count, 99);
+    }
+}
+
+static void named(void) {
+    static const uint8_t put[8] = {0x51, 0x03, 0x07, 0xb1, 'a', 0x02, 'b', 'c'}, root[3] = {0x01, 0x01, 0x07}, dots[6] = {0x31, 0x01, 0x07, 0xb2, '.', '.'};
+    uint8_t path[4] = "????";
+    size_t count = 9;
+    check("no message", dachreup_message_path(put, 7, path, sizeof path, &count), DACHREUP_FRAME_NOT_ONE);
+    check("dots", dachreup_message_path(dots, sizeof dots, path, sizeof path, &count), DACHREUP_NOT_A_PATH);
+    check("no room", dachreup_message_path(put, sizeof put, path, 3, &count), DACHREUP_PATH_NO_ROOM);
+    check("nothing written", count == 9 && !memcmp(path, "????", 4), 1);
+    check("room", dachreup_message_path(put, sizeof put, path, 4, &count), 0);
+    check("a/bc", count == 4 && !memcmp(path, "a/bc", 4), 1);
+    check("root", dachreup_message_path(root, sizeof root, path, 0, &count), 0);
+    check("empty text", (uint32_t)count, 0);
+}
+
+/* A program that follows the resources that clients change. */
+static int changes(void) {
+    static const uint8_t csm[2] = {0x00, 0xe1}, small[4] = {0x20, 0xe1, 0x21, 0x02};
+    const size_t all = sizeof steps / sizeof *steps;
+    struct dachreup_took took = {0};
+    uint8_t bytes[32];
+    /* Each request is split after each number of bytes; from its length on, it comes whole. */
+    for (size_t split = 1; split < 12; split++) {
+        struct dachreup_settings settings = DACHREUP_SETTINGS(2);
+        uint64_t id = 0;
+        settings.rep_max = 4;
+        check("new", dachreup_server_new(&server, &settings), 0);
+        check("open", dachreup_server_open(&server, &id), 0);
+        check("CSM", dachreup_server_take(&server, id, csm, 2, &took), 0);
+        for (const struct change *step = steps; step < steps + all; step++)
+            report(step, id, bytes, request_of(step, bytes), split);
+        /* The peer accepts two bytes, so the response stops the connection. */
+        check("open again", dachreup_server_open(&server, &id), 0);
+        check("small CSM", dachreup_server_take(&server, id, small, 4, &took), 0);
+        report(&(struct change){3, {"a", NULL}, "xyz", "a", 0, 7}, id, bytes, request_of(steps, bytes), split);
+        check("stopped", dachreup_server_take(&server, id, csm, 2, &took), 0);
+        check("nothing after it", (uint32_t)(took.bytes + took.changed.count), 0);
+        dachreup_server_free(&server);
+    }
+    named();
+    return failed;
+}
+
+/* ---- paths as lists of segments ---- */
+
+/* Texts, each of which is also written as a list. */
+static const char *const texts[] = {"", "a", "a/b", "/", "//", "a/", "/a", "a//b", ".", "..", "a/..", "...", "time", "async", "time/a", ".well-known/core",
+                                    "1/2/3/4/5/6/7/8/9/10/11/12/13/14/15/16", "1/2/3/4/5/6/7/8/9/10/11/12/13/14/15/16/17", "///////////////", "////////////////"};
+
+/* Writes the list of the segments of a text, and returns its length. */
+static size_t list_of(const char *text, uint8_t *to) {
+    size_t at = 0;
+    if (!*text)
+        return 0;
+    for (const char *end;; text = end + 1) {
+        end = text + strcspn(text, "/");
+        to[at++] = (uint8_t)(end - text);
+        memcpy(to + at, text, (size_t)(end - text));
+        at += (size_t)(end - text);
+        if (!*end)
+            return at;
+    }
+}
+
+/* Compares the calls with a list with those with a text, in both orders. The list is exactly as long as its memory. */
+static void compare(const char *text) {
+    const uint8_t *bytes = (const uint8_t *)text, one[1] = {'x'};
+    size_t count = strlen(text);
+    uint8_t *list = malloc(count + 2);
+    size_t length = list_of(text, list);
+    struct dachreup_state first = {{0}, 0, 0}, second = {{0}, 0, 0};
+    uint64_t version = 0, after = 0;
+    list = realloc(list, length ? length : 1);
+    check("state before", dachreup_server_state_at(&server, list, length, &first), dachreup_server_state(&server, bytes, count, &first));
+    uint32_t put = dachreup_server_put(&server, bytes, count, 40, one, 1, &version);
+    check("put at", dachreup_server_put_at(&server, list, length, 50, one, 0, &after), put);
+    check("one version more", (uint32_t)(after - version), put ? 0 : 1);
+    check("state at", dachreup_server_state_at(&server, list, length, &first), dachreup_server_state(&server, bytes, count, &second));
+    check("the same state", first.version == second.version && first.bytes.count == second.bytes.count && first.format == second.format, 1);
+    check("that of the second put", put || (first.version == after && first.bytes.count == 0 && first.format == 50), 1);
+    uint32_t removed = dachreup_server_remove_at(&server, list, length);
+    check("remove at", removed == 0, put == 0);
+    check("remove again", dachreup_server_remove(&server, bytes, count), put ? removed : DACHREUP_NO_SUCH);
+    check("remove at again", dachreup_server_remove_at(&server, list, length), put ? removed : DACHREUP_NO_SUCH);
+    free(list);
+}
+
+/* A list that is no path: nothing changes. */
+static void no_list(const char *what, const uint8_t *list, size_t length) {
+    struct dachreup_state state = {{0}, 7, 7};
+    uint64_t version = 7;
+    uint8_t *exact = malloc(length ? length : 1);
+    memcpy(exact, list, length);
+    check(what, dachreup_server_put_at(&server, exact, length, 0, list, 0, &version), DACHREUP_NOT_A_PATH);
+    check(what, dachreup_server_state_at(&server, exact, length, &state), DACHREUP_NOT_A_PATH);
+    check(what, dachreup_server_remove_at(&server, exact, length), DACHREUP_NOT_A_PATH);
+    check(what, (uint32_t)(version * 100 + state.version * 10 + state.format), 777);
+    free(exact);
+}
+
+static void refused_lists(void) {
+    uint8_t many[34], large[300] = {0};
+    memset(large, 'a', sizeof large);
+    for (size_t at = 0; at < sizeof many; at++)
+        many[at] = at % 2 ? 'a' : 1;
+    no_list("no byte of the segment", (const uint8_t *)"\1", 1);
+    no_list("a truncated segment", (const uint8_t *)"\3ab", 3);
+    no_list("a truncated second segment", (const uint8_t *)"\1a\2b", 4);
+    no_list("17 segments", many, 34);
+    no_list("17 segments, the last one truncated", many, 33);
+    no_list("17 empty segments", (const uint8_t[17]){0}, 17);
+    no_list("an empty segment alone", (const uint8_t *)"", 1);
+    no_list("a dot", (const uint8_t *)"\1.", 2);
+    no_list("two dots", (const uint8_t *)"\1a\2..", 5);
+    large[0] = 255;
+    no_list("256 bytes", large, 256);
+    no_list("255 bytes, truncated", large, 255);
+    large[0] = 127;
+    large[128] = 127;
+    no_list("256 bytes in two segments", large, 256);
+}
+
+/* The longest paths. */
+static void longest_lists(void) {
+    uint8_t many[32], large[255];
+    uint64_t version = 0;
+    memset(large, 'a', sizeof large);
+    large[0] = 254;
+    for (size_t at = 0; at < sizeof many; at++)
+        many[at] = at % 2 ? '/' : 1;
+    check("16 segments", dachreup_server_put_at(&server, many, 32, 0, large, 1, &version), 0);
+    check("16 segments again", dachreup_server_remove_at(&server, many, 32), 0);
+    check("255 bytes", dachreup_server_put_at(&server, large, 255, 0, large, 1, &version), 0);
+    check("255 bytes as a text", dachreup_server_remove(&server, large + 1, 254), 0);
+}
+
+/* The path whose only segment is "a/b" is not the path of the text "a/b". */
+static void slashes(uint64_t id) {
+    static const uint8_t list[4] = {3, 'a', '/', 'b'}, two[4] = {1, 'a', 1, 'b'}, get[7] = {0x41, 0x01, 0x07, 0xb3, 'a', '/', 'b'};
+    const uint8_t *text = list + 1;
+    struct dachreup_state state = {{0}, 0, 0};
+    struct dachreup_parts parts = {{0}, {0}};
+    struct dachreup_took took = {0};
+    uint64_t version = 0;
+    check("put at a/b", dachreup_server_put_at(&server, list, 4, DACHREUP_NO_FORMAT, text, 1, &version), 0);
+    check("absent text", dachreup_server_state(&server, text, 3, &state), DACHREUP_NO_SUCH);
+    check("put a/b", dachreup_server_put(&server, text, 3, 0, text, 3, &version), 0);
+    check("state at a/b", dachreup_server_state_at(&server, list, 4, &state), 0);
+    check("one byte", (uint32_t)state.bytes.count + state.format, 1 + DACHREUP_NO_FORMAT);
+    check("state at a, b", dachreup_server_state_at(&server, two, 4, &state), 0);
+    check("three bytes", (uint32_t)state.bytes.count, 3);
+    check("GET", dachreup_server_take(&server, id, get, sizeof get, &took), 0);
+    check("parts", dachreup_server_parts(&server, id, &parts), 0);
+    check("2.05", parts.first.count > 2 && parts.first.at[1] == 0x45, 1);
+    check("its payload", parts.first.at[parts.first.count - 1] == 'a' && parts.first.at[parts.first.count - 2] == 0xff, 1);
+    check("remove at a/b", dachreup_server_remove_at(&server, list, 4), 0);
+    check("no more a/b", dachreup_server_state_at(&server, list, 4, &state), DACHREUP_NO_SUCH);
+    check("a, b stays", dachreup_server_remove(&server, text, 3), 0);
+}
+
+static int lists(void) {
+    static const uint8_t csm[2] = {0x00, 0xe1};
+    struct dachreup_settings settings = DACHREUP_SETTINGS(2);
+    struct dachreup_parts parts = {{0}, {0}};
+    struct dachreup_took took = {0};
+    uint64_t id = 0;
+    check("new", dachreup_server_new(&server, &settings), 0);
+    check("open", dachreup_server_open(&server, &id), 0);
+    check("CSM", dachreup_server_take(&server, id, csm, 2, &took), 0);
+    check("parts", dachreup_server_parts(&server, id, &parts), 0);
+    check("written", dachreup_server_written(&server, id, parts.first.count + parts.second.count), 0);
+    for (size_t at = 0; at < sizeof texts / sizeof *texts; at++)
+        compare(texts[at]);
+    refused_lists();
+    longest_lists();
+    slashes(id);
+    dachreup_server_free(&server);
+    return failed;
+}
+
 int main(int count, char **words) {
+    if (count == 2 && !strcmp(words[1], "lists"))
+        return lists();
+    if (count == 2 && !strcmp(words[1], "changes"))
+        return changes();
     if (count == 7 && !strcmp(words[1], "stdio")) {
         struct dachreup_settings settings = DACHREUP_SETTINGS(strtoull(words[5], NULL, 10));
         settings.max_message = strtoull(words[2], NULL, 10);

@@ -7,6 +7,7 @@ import select
 import socket
 import subprocess
 import tempfile
+import threading
 import time
 
 import messages
@@ -17,17 +18,19 @@ from workspace import ROOT
 CONFIGURATION = os.path.join(ROOT, "install", "mosquitto.conf")
 
 # Seconds that a step may take, and within which a change reaches the other gateway.
-LIMIT, SOON = 20, 1
+LIMIT, SOON = 30, 1
 
 GET, POST, PUT, DELETE = 1, 2, 3, 4
 CREATED, DELETED, VALID, CHANGED, CONTENT = 0x41, 0x42, 0x43, 0x44, 0x45
 BAD_REQUEST, BAD_OPTION, NOT_FOUND, NOT_ALLOWED, NOT_ACCEPTABLE, PRECONDITION, TOO_LARGE = 0x80, 0x82, 0x84, 0x85, 0x86, 0x8C, 0x8D
-UNAVAILABLE, TIMEOUT = 0xA3, 0xA4
+INTERNAL, UNAVAILABLE, TIMEOUT = 0xA0, 0xA3, 0xA4
 
 IF_MATCH, ETAG, IF_NONE_MATCH, OBSERVE, LOCATION_PATH, URI_PATH, FORMAT, SIZE1 = 1, 4, 5, 6, 8, 11, 12, 60
 
 USER, PASSWORD, PREFIX = "gateways", "a password", "shared"
 
+# The broker refuses publications on the first topic. The second one is not shared.
+DENIED, END = f"{PREFIX}/denied", "end"
 
 def number(value):
     return value.to_bytes((value.bit_length() + 7) // 8, "big")
@@ -134,7 +137,7 @@ class Broker:
         os.makedirs(f"{folder}/kept", exist_ok=True)
         subprocess.run(["mosquitto_passwd", "-b", "-c", f"{folder}/passwd", USER, PASSWORD], check=True, capture_output=True, timeout=LIMIT)
         with open(f"{folder}/acl", "w", encoding="ascii") as file:
-            file.write(f"user {USER}\ntopic readwrite {PREFIX}/#\n")
+            file.write(f"user {USER}\ntopic deny {DENIED}\ntopic readwrite {PREFIX}/#\ntopic readwrite {END}\n")
         with open(f"{folder}/password", "w", encoding="ascii") as file:
             file.write(f"{PASSWORD}\n")
 
@@ -166,10 +169,14 @@ class Broker:
         while time.monotonic() < ends:
             with contextlib.suppress(OSError):
                 socket.create_connection((LOCAL, self.port), 1).close()
-                return
+                if self.process.poll() is None:
+                    return
             time.sleep(0.02)
+        raise OSError("the broker does not listen: %s" % self.log())
+
+    def log(self):
         with open(f"{self.folder}/mosquitto.log", encoding="utf-8", errors="replace") as log:
-            raise OSError("the broker does not listen: %s" % log.read())
+            return log.read()
 
     def kill(self):
         self.process.kill()
@@ -184,22 +191,51 @@ class Broker:
         line += ["-n"] if payload == b"" else ["-s"]
         return subprocess.run(line, input=payload, capture_output=True, timeout=LIMIT).returncode
 
+    def saved(self, payload):
+        """Waits until the broker has saved a message with these bytes, and returns true if it has."""
+        return soon(lambda: payload in read_file(f"{self.folder}/kept/mosquitto.db"), True)
+
     def retained(self):
-        """Returns the payload of each retained message, by topic."""
-        line = ["mosquitto_sub", *self.words(), "-q", "1", "-t", f"{PREFIX}/#", "-F", "%t %x", "--retained-only", "-W", "2"]
-        done = subprocess.run(line, stdin=subprocess.DEVNULL, capture_output=True, timeout=LIMIT)
-        pairs = (line.rpartition(b" ") for line in done.stdout.splitlines())
-        return {topic.decode(): bytes.fromhex(payload.decode()) for topic, _, payload in pairs if b"/%gateway-" not in topic}
+        """Returns the payload of each retained message of a resource, by topic."""
+        # The broker sends the retained messages of the second topic after those of the first one.
+        self.publish(END, b"end")
+        line = ["mosquitto_sub", *self.words(), "-q", "1", "-t", f"{PREFIX}/#", "-t", END, "-F", "%t %x", "-W", str(LIMIT)]
+        found = {}
+        with subprocess.Popen(line, stdin=subprocess.DEVNULL, stdout=subprocess.PIPE, stderr=subprocess.DEVNULL) as reader:
+            for topic, _, payload in (it.rstrip(b"\n").rpartition(b" ") for it in reader.stdout):
+                if topic == END.encode():
+                    reader.kill()
+                    return {topic: bytes.fromhex(payload) for topic, payload in found.items() if payload and "/%gateway-" not in topic}
+                found[topic.decode()] = payload.decode()
+        raise OSError("the broker does not send its retained messages")
 
 
-# Gateways that did not end with status 0, with the ends of their logs.
-FAULTS = []
+def read_file(name):
+    """Returns the bytes of a file. A missing one has none."""
+    with contextlib.suppress(FileNotFoundError), open(name, "rb") as file:
+        return file.read()
+    return b""
+
+
+class Faults(threading.local):
+    """Gateways of this thread that did not end with status 0, with the ends of their logs."""
+
+    def __init__(self):
+        self.found = []
+
+
+FAULTS = Faults()
+
+
+class BrokerEnded(OSError):
+    """The broker ended by itself, which says nothing about a gateway."""
 
 
 class Gateway:
     """A gateway. Its log is in a file."""
 
     def __init__(self, program, broker, folder, gateway=0, words=(), before=()):
+        self.broker = broker
         self.line = [*before, program, "-A", LOCAL, "--broker-port", str(broker.port), "--username", USER, "--password-file", f"{broker.folder}/password"]
         self.gateway, self.words, self.folder, self.port = gateway, list(words), folder, free_port()
         self.name, self.process = f"{folder}/gateway-{gateway}.log", None
@@ -211,7 +247,7 @@ class Gateway:
     def __exit__(self, *_):
         """Ends the gateway, if it runs. Sanitizers and valgrind report by its status."""
         if self.process.poll() is None and self.stop() != 0:
-            FAULTS.append((self.process.returncode, self.log()[-3000:]))
+            FAULTS.found.append((self.process.returncode, self.log()[-3000:]))
 
     def start(self, waits=True):
         open(self.name, "wb").close()
@@ -219,7 +255,15 @@ class Gateway:
         with open(self.name, "ab") as log:
             self.process = subprocess.Popen(words, stdin=subprocess.DEVNULL, stdout=subprocess.DEVNULL, stderr=log)
         if waits and not self.says("listening on"):
-            raise OSError("the gateway does not listen: %s" % self.log())
+            self.kill()
+            raise self.trouble("the gateway does not listen: %s" % self.log())
+
+    def trouble(self, text):
+        """Returns the exception for a gateway that does not listen."""
+        process = getattr(self.broker, "process", None)
+        if process and process.poll() is not None:
+            return BrokerEnded("%s, with status %d of the broker: %s" % (text, process.returncode, self.broker.log()))
+        return OSError(text)
 
     def log(self):
         with open(self.name, encoding="utf-8", errors="replace") as file:
@@ -274,8 +318,8 @@ class Setting:
         return [self.stack.enter_context(it.peer()) for it in self.gateways]
 
 
-def soon(look, wanted, seconds=SOON):
-    """Returns the last result of a look, which is repeated until it is the wanted one."""
+def soon(look, wanted, seconds=LIMIT):
+    """Returns the last result of a look, which is repeated until it is the wanted one, for at most these seconds."""
     ends = time.monotonic() + seconds
     while (found := look()) != wanted and time.monotonic() < ends:
         time.sleep(0.01)

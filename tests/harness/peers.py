@@ -24,10 +24,21 @@ def authority(host, port):
     return ("[%s]:%d" if ":" in host else "%s:%d") % (host, port)
 
 
+# Sockets that hold the free ports until this process ends.
+HELD = []
+
+
 def free_port(host=LOCAL):
-    """Returns a port at which no program listens."""
-    with socket.create_server((host, 0), family=family_of(host)) as it:
-        return it.getsockname()[1]
+    """Returns a port at which no program listens. The system gives it to nothing else while this process runs.
+
+    The socket that holds it never listens, so that a program that sets SO_REUSEADDR can. A listening socket that is closed at once would not do: a
+    process that another thread is starting has a copy until it runs its program.
+    """
+    it = socket.socket(family_of(host))
+    it.setsockopt(socket.SOL_SOCKET, socket.SO_REUSEADDR, 1)
+    it.bind((host, 0))
+    HELD.append(it)
+    return it.getsockname()[1]
 
 
 def line_of(stream):

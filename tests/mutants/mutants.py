@@ -24,8 +24,8 @@ parts has four lines:
 
 In every mode, two checks are made of all edits. First, the first line must quote a clause of the function that it names (tests/mutants/quotes.py
 has the forms). That function must be one that the edit changes, or one that names a constant that the edit changes. Second, every edit must be
-well typed. For this check, all edits of a crate are put into a few copies of the crate. Each copy also gets one type error, so that the compiler
-reports all type errors and proves nothing.
+well typed. For this check, all edits of a crate are put into one copy of the crate, or a few. A function that several edits change has an edited
+copy for each. The copy of the crate also gets one type error, so that the compiler reports all type errors and proves nothing.
 
 An edit of the layer `rows` is detected if a row of the file that it names has another result. The probe is built unproved with the edit
 (`rt try`). --all tries these too, each in its own build; --rows tries them alone.
@@ -69,7 +69,7 @@ import subprocess
 import sys
 import tempfile
 from concurrent.futures import FIRST_COMPLETED, ThreadPoolExecutor, wait
-from dataclasses import dataclass, field
+from dataclasses import dataclass, field, replace
 
 sys.path.insert(0, os.path.join(os.path.dirname(os.path.abspath(__file__)), "..", "harness"))
 import quotes  # noqa: E402
@@ -132,19 +132,30 @@ def block_name(line):
     return words_of(of, names) + words_of(trait, names) if is_for else words_of(text, names)
 
 
-def body_of(text, name):
-    """Returns the offsets of the beginning and the end of the body of a function, in a text formatted by `rt fmt`."""
+@dataclass
+class Place:
+    """Offsets of a function or a constant in a text: of its first line, and of the beginning and the end of its body."""
+
+    head: int
+    begin: int
+    end: int
+    # Whether a function beside it in the same block, with another name, is well formed: not in a trait or in an impl of one.
+    may_have_copy: bool
+
+
+def place_of(text, name):
+    """Returns the place of a function or a constant, in a text formatted by `rt fmt`."""
     if name.startswith("const "):
         begin = text.index(f"{name}:")
-        return begin, text.index(";", begin)
-    found, block, at = [], "", 0
+        return Place(begin, begin, text.index(";", begin), False)
+    found, block, is_free, at = [], "", True, 0
     lines = text.splitlines(keepends=True)
     for number, line in enumerate(lines):
         at += len(line)
         if re.match(r"(pub )?(impl|trait)\b", line):
-            block = block_name(line.rstrip()) + "::"
+            block, is_free = block_name(line.rstrip()) + "::", line.startswith("impl") and " for " not in line
         elif line.startswith("}"):
-            block = ""
+            block, is_free = "", True
         head = FUNCTION.match(line)
         if not head or f"{block if head[1] else ''}{head[2]}" != name:
             continue
@@ -155,10 +166,16 @@ def body_of(text, name):
             if later.rstrip() == head[1] + "}":
                 end = text.index("\n" + later, begin - 1) + 1
                 break
-        found.append((begin, end))
-    if len(found) != 1 or found[0][1] is None:
+        found.append(Place(at - len(line), begin, end, is_free and "extern " not in head[0]))
+    if len(found) != 1 or found[0].end is None:
         raise BadEdit(f"{len(found)} functions {name}")
     return found[0]
+
+
+def body_of(text, name):
+    """Returns the offsets of the beginning and the end of the body of a function or a constant."""
+    place = place_of(text, name)
+    return place.begin, place.end
 
 
 def told(path):
@@ -224,10 +241,7 @@ class Edit:
         """Returns the texts of the files of the crate with this edit. Files that are not in `texts` are read."""
         texts = dict(texts)
         for part in self.parts:
-            if part.file not in texts:
-                with open(f"{ROOT}/crates/{self.crate}/{part.file}", encoding="utf-8") as it:
-                    texts[part.file] = it.read()
-            texts[part.file] = part.applied(texts[part.file])
+            texts[part.file] = part.applied(texts.get(part.file) or source(self.crate, part.file))
         return texts
 
 
@@ -330,27 +344,69 @@ def check_texts(name, texts, more):
     return ran.stdout.splitlines()
 
 
+def source(crate, file):
+    with open(f"{ROOT}/crates/{crate}/{file}", encoding="utf-8") as it:
+        return it.read()
+
+
+def only_in_place(edit):
+    """Returns the functions and constants of an edit that can have no edited copy beside them."""
+    try:
+        return {it.path() for it in edit.parts if not place_of(source(edit.crate, it.file), it.function).may_have_copy}
+    except (BadEdit, ValueError, OSError):
+        # The edit cannot be applied, which the check of its types reports.
+        return edit.functions()
+
+
 def typed_rounds(edits):
-    """Groups the edits of one crate so that no two of a group change one function or constant."""
+    """Groups the edits of one crate, so that one copy of the crate can have all edits of a group. Only edits of a constant or of a trait's function
+    exclude one another."""
     rounds = []
     for edit in edits:
-        one = next((it for it in rounds if not any(other.functions() & edit.functions() for other in it)), None)
+        fixed = only_in_place(edit)
+        one = next((it for it in rounds if not any(other & fixed for _, other in it)), None)
         if one is None:
-            rounds.append([edit])
+            rounds.append([(edit, fixed)])
         else:
-            one.append(edit)
-    return rounds
+            one.append((edit, fixed))
+    return [[edit for edit, _ in one] for one in rounds]
+
+
+def with_copy(text, original, function, parts, suffix):
+    """Returns the text with an edited copy of a function of the original text after that function. The suffix is added to its name."""
+    place, now = place_of(original, function), place_of(text, function)
+    head, _, rest = original[place.head : original.index("\n", place.end) + 1].partition("\n")
+    head = re.sub(r"\bfn (\w+)", rf"fn \1{suffix}", head, count=1)
+    after = text.index("\n", now.end) + 1
+    text = f"{text[:after]}{head}\n{rest}{text[after:]}"
+    for part in parts:
+        text = replace(part, function=f"{function}{suffix}").applied(text)
+    return text
+
+
+def typed_texts(edits):
+    """Returns the texts of the files of a crate with all these edits. A function that several edits change has an edited copy for each after the
+    first one."""
+    texts, changed = {}, set()
+    for number, edit in enumerate(edits):
+        for file, function in dict.fromkeys((it.file, it.function) for it in edit.parts):
+            parts = [it for it in edit.parts if (it.file, it.function) == (file, function)]
+            text = texts.get(file) or source(edit.crate, file)
+            if (file, function) in changed:
+                texts[file] = with_copy(text, source(edit.crate, file), function, parts, f"_edit{number}")
+                continue
+            changed.add((file, function))
+            for part in parts:
+                text = part.applied(text)
+            texts[file] = text
+    return texts
 
 
 def type_errors(name, edits):
     """Returns the compiler's errors in a crate with these edits, without the one that is added so that nothing is proved."""
-    texts = {}
-    for edit in edits:
-        texts = edit.applied(texts)
+    texts = typed_texts(edits)
     root = "src/main.rt" if is_program(name) else "src/lib.rt"
-    if root not in texts:
-        with open(f"{ROOT}/crates/{name}/{root}", encoding="utf-8") as it:
-            texts[root] = it.read()
+    texts.setdefault(root, source(name, root))
     own = f"{root}:{texts[root].count(chr(10)) + 3}:"
     texts[root] += "\nfn no_type() -> u8 {\n    true\n}\n"
     lines = check_texts(name, texts, [])

@@ -5,8 +5,8 @@
 
 Without an archive, bin/libcoap_proved.a is built from crates/coap_c over the libraries that the proofs left in out/rlib. The programs are compiled with -Wall -Wextra
 -Werror, and run with AddressSanitizer and UndefinedBehaviorSanitizer, and under valgrind. Recorded streams through the library give the bytes of
-`coap-server --stdio`. A client and a server of the library exchange messages. Frames are written as they were read. Each allocation fails in turn.
-Wrong uses are reported by their numbers. The examples talk to each other, to the programs and to libcoap's. A program with libcoap's library too gets
+`coap-server --stdio`, and scripts with several connections the lines of `coap-server --script`. A client and a server of the library exchange messages. Frames are written as they were read. Each allocation fails in turn.
+Wrong uses are reported by their numbers. Lists of segments name the paths of texts, and others. The examples talk to each other, to the programs and to libcoap's. A program with libcoap's library too gets
 the same bytes. The last line is 'N passed, M failed', and the status is 0 if M is 0.
 
 The script needs Debian's packages g++, gcc, libcoap3-bin, libcoap3-dev, pkg-config and valgrind, and installs the missing ones.
@@ -26,7 +26,7 @@ import messages  # noqa: E402
 import packages  # noqa: E402
 import rows  # noqa: E402
 from checks import CSM, GREETING, Checks  # noqa: E402
-from layers import stdio  # noqa: E402
+from layers import serve, stdio  # noqa: E402
 from peers import free_port  # noqa: E402
 from workspace import KIT, ROOT, rattle_words  # noqa: E402
 
@@ -91,6 +91,64 @@ def check_streams(checks, program, server):
         for piece in PIECES:
             got = run([program, "stdio", *limits, piece], sent)
             checks.same(f"stream {number} by {piece}", (got.returncode, got.stderr, got.stdout), (0, b"", wanted.stdout))
+
+
+# The settings of scripts in the order of c_script.c, with their options of the program and their defaults.
+SETTINGS = {"max": ("--max-message", 65536), "sent": ("--max-sent", 65536), "queue": ("--queue", 131072), "pending": ("--pending", 16),
+            "observers": ("--observers", 16), "connections": ("--connections", 16), "dynamic": ("-d", 0)}
+
+# Random scripts, each with this many events.
+SCRIPTS, EVENTS_EACH = 150, 120
+
+
+def recorded_scripts():
+    """Returns the scripts of the rows of servers, each with its settings. Settings that the program lacks, and escaped slashes, are left out."""
+    for path in sorted(rows.ROWS.glob("serve/*.rows")):
+        for opening, section in rows.read(path).values:
+            said = serve.said_of(opening)
+            script = [event for events, _ in serve.lines_of(section) for event in events.split("|")]
+            if not said.keys() - SETTINGS.keys() and not any("%2f" in line.lower() for line in script):
+                yield said, script
+
+
+def random_scripts():
+    """Returns scripts of up to six connections, with observers, changes, delayed responses, times, releases, ends and drops."""
+    chance, paths = random.Random(7), ("a", "b", "c/d", "time", "e")
+    for _ in range(SCRIPTS):
+        script, number = ["open", "in 1 00e1"], 1
+        for _ in range(EVENTS_EACH):
+            one, token, path = chance.randint(1, number + 1), f"{chance.randrange(8):02x}", chance.choice(paths)
+            options = "".join(f"{(0xb0 if first else 0) + len(it):02x}{it.encode().hex()}" for first, it in zip((True, False), path.split("/")))
+            body = {"GET": options, "OBSERVE": "60" + options.replace("b", "5", 1), "PUT": f"{options}ff{chance.randrange(256):02x}", "POST": f"{options}ff{'79' * chance.randrange(1, 4)}",
+                    "DELETE": options, "ASYNC": "b56173796e634132"}
+            method = chance.choice([*body, "OBSERVE", "PUT"])
+            code = {"GET": 1, "OBSERVE": 1, "ASYNC": 1, "POST": 2, "PUT": 3, "DELETE": 4}[method]
+            count = len(body[method]) // 2
+            frame = f"{count << 4 | 1:02x}{code:02x}{token}{body[method]}" if count < 13 else f"d1{count - 13:02x}{code:02x}{token}{body[method]}"
+            cut = 2 * chance.randrange(1, len(frame) // 2)
+            kinds = {"request": [f"in {one} {frame}"], "halves": [f"in {one} {frame[:cut]}", f"in {one} {frame[cut:]}"], "ping": [f"in {one} 01e2{token}"],
+                     "put": [f"put /{path} {chance.choice('-0')} {token}"], "remove": [f"remove /{path}"], "tick": [f"tick {chance.randrange(4) + len(script) // 8}"],
+                     "drain": [f"drain {one}"], "part": [f"drain {one} {chance.randrange(9)}"], "status": [f"status {one}"], "open": ["open", f"in {number + 1} {chance.choice(('00e1', '20e12104', '00e100e5'))}"],
+                     "end": [f"end {one}"], "drop": [f"drop {one}"], "release": [f"release {one}"], "respond": [f"respond {one} 0144{token}"]}
+            kind = chance.choice([*kinds, *("request", "halves", "put", "drain") * 5])
+            number += kind == "open" and number < 6
+            script += kinds[kind] if kind != "open" or number <= 6 else []
+        yield {"dynamic": str(chance.choice((1, 2, 8))), "pending": str(chance.choice((1, 16))), "observers": str(chance.choice((0, 1, 16)))}, script + [f"drain {it}" for it in range(1, 8)]
+
+
+def check_scripts(checks, programs, server):
+    """Compares the lines of scripts with several connections, and so the bytes of each connection, with those of the program. The library's program
+    also follows the resources, by what each take reports."""
+    scripts = [*recorded_scripts(), *random_scripts()]
+    for number, (said, script) in enumerate(scripts):
+        values = {name: str(said.get(name, usual)) for name, (_, usual) in SETTINGS.items()}
+        given = "".join(f"{line}\n" for line in script).encode()
+        wanted = run([server, "--script", "-", *(word for name, (option, _) in SETTINGS.items() for word in (option, values[name]))], given)
+        checks.same(f"script {number} is run: {wanted.stderr!r}", wanted.returncode, 0)
+        for words in programs if number % 20 == 0 else programs[:1]:
+            got = run([*words, *values.values()], given)
+            checks.same(f"script {number} {words[0]}", (got.returncode, got.stderr, got.stdout), (0, b"", wanted.stdout))
+    checks.same(f"{len(scripts)} scripts and {len(streams())} streams", len(scripts) + len(streams()) >= 300, True)
 
 
 # A CSM, a GET of the root, PUTs of /a with 3 and with 300 bytes, GETs of /a, and a PUT of another resource.
@@ -233,7 +291,8 @@ def main(server, client, archive=None):
         sanitized = compiled(checks, driver, [archive], f"{room}/driver-sanitized", SANITIZED)
         both = f"{ROOT}/tests/harness/c_client.c"
         pair, pair_sanitized = compiled(checks, both, [archive], f"{room}/pair"), compiled(checks, both, [archive], f"{room}/pair-sanitized", SANITIZED)
-        for words in ([sanitized, "application"], [*VALGRIND, plain, "application"], [sanitized, "wrong"], [*VALGRIND, plain, "wrong"], [pair_sanitized, "wrong"], [*VALGRIND, pair, "wrong"]):
+        for words in ([sanitized, "application"], [*VALGRIND, plain, "application"], [sanitized, "changes"], [*VALGRIND, plain, "changes"], [sanitized, "lists"], [*VALGRIND, plain, "lists"],
+                      [sanitized, "wrong"], [*VALGRIND, plain, "wrong"], [pair_sanitized, "wrong"], [*VALGRIND, pair, "wrong"]):
             ran = run(words)
             checks.same(f"{words[-1]} {words[0]}", (ran.returncode, ran.stdout, ran.stderr), (0, b"", b""))
         ran = run([*VALGRIND, plain, "stdio", "65536", "65536", "131072", "16", "5"], CHANGES)
@@ -243,6 +302,8 @@ def main(server, client, archive=None):
             checks.same(f"a client and a server {words[0]}", (ran.returncode, ran.stdout.decode(), ran.stderr), (0, EVENTS, b""))
         check_messages(checks, ([pair_sanitized], [*VALGRIND, pair]))
         check_streams(checks, sanitized, server)
+        script = f"{ROOT}/tests/harness/c_script.c"
+        check_scripts(checks, ([compiled(checks, script, [archive], f"{room}/script-sanitized", SANITIZED)], [*VALGRIND, compiled(checks, script, [archive], f"{room}/script")]), server)
         check_allocations(checks, [plain, "stdio", "65536", "65536", "131072", "16", "65536"], CHANGES, room)
         check_allocations(checks, [plain, "application"], b"", room)
         check_allocations(checks, [pair, "pair", "9"], b"", room)

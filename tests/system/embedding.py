@@ -1,7 +1,8 @@
 #!/usr/bin/env python3
-"""Runs the example of a program that embeds the server, and reads its values with coap-client.
+"""Runs the example of a program that embeds the server, and reads its values with coap-client. Then runs the example of a program that embeds the
+client against it, against coap-server and against libcoap's server.
 
-    tests/system/embedding.py bin/example-gateway bin/coap-client
+    tests/system/embedding.py bin/example-gateway bin/coap-client bin/example-observer bin/coap-server
 
 The sensor is a file of this script. Each wait has a timeout.
 """
@@ -10,10 +11,12 @@ import os
 import subprocess
 import sys
 import tempfile
+import time
 
 sys.path.insert(0, os.path.join(os.path.dirname(os.path.abspath(__file__)), "..", "harness"))
+import packages  # noqa: E402
 from checks import Checks  # noqa: E402
-from peers import LIMIT, LOCAL, line_of  # noqa: E402
+from peers import LIMIT, LOCAL, free_port, line_of  # noqa: E402
 from sockets import client  # noqa: E402
 
 
@@ -46,6 +49,38 @@ def check_gateway(checks, program, uri, sensor):
     checks.same("an absent path", client(program, [uri + "/else"]), (2, b"", b"4.04\n"))
 
 
+def observe(program, words):
+    """Runs the example of a client, and returns its status, the starts of its lines, and what it says on standard error."""
+    ran = subprocess.run([program, *words], stdin=subprocess.DEVNULL, capture_output=True, timeout=LIMIT)
+    return ran.returncode, ran.stdout.decode().splitlines(), ran.stderr.decode()
+
+
+def check_observer(checks, program, server):
+    """Observes the time of a server for three seconds, with the cancellation; then fails in each way."""
+    for name, words in (("coap-server", [server]), ("libcoap", ["coap-server-notls"])):
+        port = free_port("127.0.0.1")
+        running = subprocess.Popen([*words, "-A", "127.0.0.1", "-p", str(port)], stdout=subprocess.DEVNULL, stderr=subprocess.DEVNULL)
+        try:
+            time.sleep(1)
+            uri = f"coap+tcp://127.0.0.1:{port}"
+            status, lines, said = observe(program, [f"{uri}/time", "3"])
+            checks.same(f"observes the time of {name}", (status, [it[:5] for it in lines], len(set(lines)), said), (0, ["2.05 "] * 3, 3, ""))
+            status, lines, said = observe(program, [f"{uri}/absent", "3"])
+            checks.same(f"an absent resource of {name}", (status, [it[:5] for it in lines], "ended the observation" in said), (1, ["4.04 "], True))
+            lasting = subprocess.Popen([program, f"{uri}/time"], stdin=subprocess.DEVNULL, stdout=subprocess.PIPE, stderr=subprocess.PIPE)
+            first = line_of(lasting.stdout)
+        finally:
+            running.terminate()
+            running.wait(LIMIT)
+        _, said = lasting.communicate(timeout=LIMIT)
+        # libcoap's server ends each observation with 4.04 before it closes the connection.
+        ends = any(it in said for it in (b"ended the connection", b"ended the observation", b"the connection stopped"))
+        checks.same(f"the end of {name}", (first[:5], lasting.returncode, ends), (b"2.05 ", 1, True))
+    for words in (["x"], ["coap://127.0.0.1/a"], [f"coap+tcp://127.0.0.1:{free_port('127.0.0.1')}/a"], ["coap+tcp://127.0.0.1/a", "x"]):
+        status, lines, said = observe(program, words)
+        checks.same(f"fails: {words}", (status, lines, bool(said)), (1, [], True))
+
+
 def check_end(checks, gateway, sensor):
     """Checks that the gateway ends if the sensor cannot be read."""
     os.remove(sensor.name)
@@ -53,8 +88,10 @@ def check_end(checks, gateway, sensor):
     checks.same("the gateway says why it ends", "cannot open the sensor's file" in gateway.stderr.read().decode(), True)
 
 
-def main(program, client_program):
+def main(program, client_program, observer, server):
     checks = Checks()
+    checks.same("packages can be installed", packages.install({"coap-server-notls": "libcoap3-bin"}), True)
+    check_observer(checks, observer, server)
     with tempfile.TemporaryDirectory(prefix="embedding-") as folder:
         sensor = Sensor(folder)
         sensor.tell("20.5")

@@ -111,6 +111,7 @@ FILES = {NAME: {
 }, GATEWAY: {
     "/usr/bin/coap-mqtt": (0o755, None),
     "/usr/share/man/man1/coap-mqtt.1.gz": (0o644, None),
+    "/usr/share/bash-completion/completions/coap-mqtt": (0o644, "install/completions/coap-mqtt"),
     "/usr/lib/systemd/system/coap-mqtt@.service": (0o644, None),
     "/usr/share/doc/dachreup-mqtt/changelog.gz": (0o644, None),
     "/usr/share/doc/dachreup-mqtt/copyright": (0o644, "install/debian/copyright"),

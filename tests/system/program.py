@@ -138,6 +138,7 @@ SERVER_WORDS = [
     (["x", "--help"], 1, None), (["--help=x"], 1, None), (["-x", "-V"], 1, None), (["--log", "1", "--log", "1"], 1, None), (["--idle"], 1, None),
     (["--starts"], 1, None), (["--starts", "1,2,3", "--starts", "1,2,3", "--stdio"], 1, None), (["--stdio", "--starts", "-1,2,3"], 1, None),
     (["--record"], 1, None), (["--record", "r", "--record", "r"], 1, None), (["--record", "r", "--record-limit", "-1"], 1, None),
+    (["--script", "-", "--application"], 1, None),
     # Addresses for documentation, which no machine has.
     (["-A", "192.0.2.1"], 3, cannot_listen("192.0.2.1")), (["-A", "2001:db8::1", "-p", "0005683"], 3, cannot_listen("2001:db8::1")),
     (["-A", "192.0.2.1", "-p", "1", "--turns", "1"], 3, cannot_listen("192.0.2.1")),
@@ -148,6 +149,7 @@ ADDRESS, PORT = "a numeric IPv4 or IPv6 address", "a port from 1 to 65535"
 QUEUE = "65536 (--max-sent) to 4194304 bytes"
 LEVEL = "a level from 0 to 3"
 NAME, SIZE = "the name of a file", "1 to 18446744073709551615 bytes"
+ENTRY = "PATH;METHODS;ATTRIBUTES of an entry (at most 16, with different paths)"
 STARTS = "three numbers MOMENT,VERSIONS,IDS from 0 to 18446744073709551615 (IDS to 18446744073709551614)"
 SERVER_VALUES = [
     (["-A", "localhost", "--stdio"], "-A", ADDRESS, "localhost"), (["-A", "1.2.3", "--stdio"], "-A", ADDRESS, "1.2.3"),
@@ -178,6 +180,12 @@ SERVER_VALUES = [
     )),
     (["--record-limit", "0"], "--record-limit", SIZE, "0"), (["--record-limit", "0", "--record="], "--record", NAME, "an empty text"),
     (["--record=", "--starts", "x"], "--starts", STARTS, "x"),
+    *((["--script", "-", f"--application={it}"], "--application", ENTRY, it or "an empty text") for it in (
+        "", "/a", "/a;", "a;get", "/;get", "/time", "/a;GET", "/a;get,get", "/a;0.32", "/a;get;x=", "/..;get",
+    )),
+    (["--script", "-", "--application", "/a;get", "--application", "/a;post"], "--application", ENTRY, "/a;post"),
+    (["--script=-", *(f"--application=/{it};get" for it in range(17))], "--application", ENTRY, "/16;get"),
+    (["--application", "x", "--record-limit", "0"], "--record-limit", SIZE, "0"), (["--stdio", "--application", "x"], "--application", ENTRY, "x"),
     # The first bad value in the order of the usage line, also if options exclude each other.
     (["--turns", "0", "-p", "0", "--script", "-", "--stdio"], "-p", PORT, "0"), (["--idle", "x", "--log", "x"], "--log", LEVEL, "x"),
     (["--log", "x", "--turns", "x"], "--turns", "1 to 1000000000000 turns", "x"), (["--script", "-", "--log", "4"], "--log", LEVEL, "4"),
@@ -205,6 +213,9 @@ SERVER_CLASHES = [
     (["--record", "-", "--stdio", "--idle", "5"], "--stdio and --idle cannot be used together"),
     (["--record", "r", "--script", "-", "--idle", "5"], "--script and --idle cannot be used together"),
     (["--record", "r", "--starts", "1,2,3"], "--starts can be used only with --stdio or --script"),
+    *((["--application", "/a;get", *mode], "--application can be used only with --script") for mode in ([], ["--stdio"])),
+    (["--application", "/a;get", "--record-limit", "1"], "--record-limit can be used only with --record"),
+    (["--application", "/a;get", "--starts", "1,2,3"], "--starts can be used only with --stdio or --script"),
 ]
 
 def hindrance_v6():
@@ -297,7 +308,7 @@ SERVER_HELP = (
     b"A CoAP server over TCP (RFC 8323)\n\nUsage: coap-server [OPTIONS]\n\nOptions:\n",
     ["-A <ADDRESS>", "-p <PORT>", "-d <MAX>", "--stdio", "--script <FILE>", "--max-message <N>", "--max-sent <N>", "--queue <N>", "--pending <N>"]
     + ["--observers <N>", "--connections <N>", "--turns <N>", "--log <LEVEL>", "--idle <SECONDS>", "--starts <N,N,N>"]
-    + ["--record <FILE>", "--record-limit <N>"]
+    + ["--record <FILE>", "--record-limit <N>", "--application <ENTRY>"]
     + ["-h, --help", "-V, --version"],
 )
 

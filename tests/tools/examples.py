@@ -7,6 +7,9 @@
   last line `Ok(())`. Each of these tests must have such a block.
 - Each block marked `rust` in README.md and docs/*.md must consist of consecutive lines of one of the files in SOURCES.
 
+A last line such as `send(rt, &mut client)` stands for the body of the function `send` of the same file, if `rt` and
+`client` are its parameters.
+
 Indentation does not count. The last line is 'N passed, M failed'; each block and each test counts once.
 """
 
@@ -23,6 +26,10 @@ TESTS = "crates/coap_tests/src/examples.rt"
 SOURCES = [TESTS, "crates/coap_tests/src/examples/*.rt", "crates/example_gateway/src/*.rt"]
 
 TEST = re.compile(r"#\[test\]\nfn (\w+)\(.*?\{\n(.*?)^\}", re.S | re.M)
+# A function with its name, its parameters and its body.
+FUNCTION = re.compile(r"^fn (\w+)(?:<[^>]*>)?\(([^{}]*?)\n?\)(?: -> [^\n]*)? \{\n(.*?)^\}", re.S | re.M)
+# A call that is the last line of a function.
+CALL = re.compile(r"^    (\w+)\(([^()]*)\)\n(?=\})", re.M)
 FENCED = re.compile(r"^``` ?(\w*)\n(.*?)^```$", re.S | re.M)
 
 
@@ -30,6 +37,13 @@ def read(path):
     """Returns the text of a file of the repository."""
     with open(f"{ROOT}/{path}", encoding="utf-8") as file:
         return file.read()
+
+
+def continued(path):
+    """Returns the text of a source in which the last line of a function that continues in another one is the body of that one."""
+    text = read(path)
+    bodies = {(name, *re.findall(r"(?:^|,)\s*(\w+):", parameters)): body for name, parameters, body in FUNCTION.findall(text)}
+    return CALL.sub(lambda it: bodies.get((it[1], *re.findall(r"(?:^|,)\s*(?:&(?:mut )?)?(\w+)", it[2])), it[0]), text)
 
 
 def files(*patterns):
@@ -42,9 +56,14 @@ def plain(code):
     return textwrap.dedent(code).strip("\n")
 
 
+def unindented(code):
+    """Returns the lines of code without indentation."""
+    return "\n" + "\n".join(line.strip() for line in code.splitlines()) + "\n"
+
+
 def tests():
     """Returns the body of each test, by the name of the test."""
-    found = TEST.findall(read(TESTS))
+    found = TEST.findall(continued(TESTS))
     return {name: re.sub(r"\n*\s*Ok\(\(\)\)\s*$", "", plain(body)) for name, body in found}
 
 
@@ -81,10 +100,9 @@ def main():
         passed, failed = passed + (name not in unused), failed + (name in unused)
         if name in unused:
             print(f"{TESTS}: no documentation comment shows {name}")
-    sources = ["\n" + "\n".join(line.strip() for line in read(path).splitlines()) + "\n" for path in files(*SOURCES)]
+    sources = [unindented(continued(path)) for path in files(*SOURCES)]
     for path, code in document_blocks():
-        wanted = "\n" + "\n".join(line.strip() for line in code.splitlines()) + "\n"
-        if any(wanted in source for source in sources):
+        if any(unindented(code) in source for source in sources):
             passed += 1
         else:
             failed += 1

@@ -4,7 +4,7 @@
     tests/vectors/segmentation.py [FILE..]
 
 A file is tests/vectors/rows/serve/NAME.rows or tests/vectors/rows/calls/NAME.rows. Every line must be as in the file, except those of the two
-parts. For these, the sum of their counts and the stop of the last one must be as in the file. All splits of an `in` are made in one run of the probe. A file
+parts. For these, the sum of their counts, the stop of the last one and the lines of requests must be as in the file. All splits of an `in` are made in one run of the probe. A file
 with a line `cuts:` is left out for the reason in that line. Events that share a row with others are left out too. The last line is 'N passed, M
 failed' for the replays, and the status is 0 if M is 0.
 """
@@ -32,8 +32,10 @@ def wrong_of(steps, at, found):
     """Returns the differences in the lines of a replay whose event at this index was split."""
     first, second = found[at : at + 2]
     wrong = rows.differences(found[:at] + found[at + 2 :], steps[:at] + steps[at + 1 :])
-    (count, _), (more, stop) = serve.count_of(first), serve.count_of(second)
-    if (count + more, stop) != serve.count_of(steps[at].wanted):
+    # Each line of an `in` may be followed by those of requests for the application.
+    (first_in, *requests), (second_in, *others), (wanted, *all_of_them) = (it.split("|") for it in (first, second, steps[at].wanted))
+    (count, _), (more, stop) = serve.count_of(first_in), serve.count_of(second_in)
+    if (count + more, stop) != serve.count_of(wanted) or requests + others != all_of_them:
         wrong.append(f"{steps[at].event}\n    wanted {steps[at].wanted}\n    found  {first}, {second}")
     return wrong
 

@@ -3,7 +3,7 @@
 `deadline=10 answers=/rd:POST+DELETE,/lamp:PUT` creates one with an application, which answers these methods at the paths that begin so, within 10
 seconds.
 
-Several events can be in one row with `|` between them, and are then replayed in one call. `each 1..256 ROW` is a row for each of these numbers,
+Several events can be in one row with `|` between them, and are then replayed in one call. A line `request ..` follows that of its `in` after `|`. `each 1..256 ROW` is a row for each of these numbers,
 with `{n}` for the number, and `{token}` for the number as a token of two bytes. `meanwhile ROW` is played only if an allocation failed in the
 row before it, before that row is repeated.
 """
@@ -37,15 +37,18 @@ def said_of(opening):
     return said
 
 
-def entry_of(text):
-    """Returns an entry of an application with the codes of its methods, and the attributes of its link, in hex digits.
-
-    A count and `*` before a character repeat it.
-    """
+def parts_of(text):
+    """Returns the path, the methods and the attributes of an entry of an application. A count and `*` before a character repeat it."""
     text = re.sub(r"(\d+)\*(.)", lambda it: int(it[1]) * it[2], text)
     path, _, text = text.partition(":")
     methods, _, attributes = text.partition(";")
-    return f"{path}:{''.join(f'{CODES[method]:02x}' for method in methods.split('+'))}:{attributes.encode().hex()}"
+    return path, methods.split("+"), attributes
+
+
+def entry_of(text):
+    """Returns an entry of an application with the codes of its methods, and the attributes of its link, in hex digits."""
+    path, methods, attributes = parts_of(text)
+    return f"{path}:{''.join(f'{CODES[method]:02x}' for method in methods)}:{attributes.encode().hex()}"
 
 
 def opened(said):
@@ -103,11 +106,31 @@ def ends_of(data):
             yield at, size
 
 
+def pending_in(line):
+    """Returns the number of pending entries that a line of `status` reports."""
+    found = re.search(r"pending (\d+)", line)
+    return int(found[1]) if found else 0
+
+
+def handed_end(data, handed):
+    """Returns the end of the request with which this number of entries is pending: requests of the application, and Pings with Custody."""
+    start = 0
+    for end, _ in ends_of(data):
+        frame, start = data[start:end], end
+        form = frame[0] >> 4
+        code = frame[1 + (0 if form < 13 else form - 12 if form < 15 else 4)]
+        handed -= 0 < code < 32 or (code == 0xE2 and form > 0)
+        if handed == 0:
+            return end
+    return len(data)
+
+
 def again(play, events, index, found):
     """Returns the event to repeat after an allocation failure.
 
     If the row has several events, these are the failed one and those after it. Of an `in`, the bytes that were not taken are repeated. All
-    bytes of the failed message but its last one are kept, and `status` reports their number.
+    bytes of the failed message but its last one are kept, and `status` reports their number. If the line of a request failed, all bytes up to
+    the end of the request were taken, and one entry more is pending.
     """
     before = found[index].rpartition(" memory ")[2].strip()
     parts = events[index].split("|")
@@ -116,12 +139,22 @@ def again(play, events, index, found):
     if len(parts) > 1 or not events[index].startswith("in ") or not before.isdigit():
         return events[index]
     connection, digits = events[index].split(" ")[1:3]
-    kept = re.search(r"kept (\d+)", play(events[: index + 1] + [f"status {connection}"])[-1])
-    data = bytes.fromhex(digits)
+    look = f"status {connection}"
+    kept, data = re.search(r"kept (\d+)", play(events[: index + 1] + [look])[-1]), bytes.fromhex(digits)
+    handed = pending_in(play(events[: index + 1] + [look])[-1]) - pending_in(play(events[:index] + [look])[-1])
+    if handed > 0:
+        left = data[handed_end(data, handed) :]
+        return f"in {connection} {left.hex()}" if left else look
     for end, size in ends_of(data):
         if kept and size - 1 == int(kept[1]):
             return f"in {connection} {data[end - 1:].hex()}"
     return events[index]
+
+
+def is_after_message(event, again):
+    """Returns `true` if a part of an `in` that is repeated begins after a whole message."""
+    whole, rest = (bytes.fromhex(it.split(" ")[2]) for it in (event, again))
+    return len(whole) - len(rest) in [end for end, _ in ends_of(whole)]
 
 
 def count_of(line):
@@ -138,10 +171,14 @@ def struck(step, line, again, line_again):
     if "|" in step.event:
         told = line.rpartition(" memory ")[0] + line_again if "memory" != line.strip() else line_again
         return [] if told == step.wanted else [f"{step.event}: {told}"]
+    if step.event.startswith("in ") and again.startswith("status "):
+        return [] if line_again.startswith(again) else [f"{again}: {line_again}"]
     if step.event.startswith("in ") and again != step.event:
         left = (len(step.event.split(" ")[2]) - len(again.split(" ")[2])) // 2
-        (count, stop), wanted = count_of(line_again), count_of(step.wanted)
-        return [] if (count + left, stop) == wanted else [f"{again}: {line_again}"]
+        # The lines of requests before the failure are lost.
+        (first, *requests), (wanted, *others) = line_again.strip().split("|"), step.wanted.split("|")
+        (count, stop), right = count_of(first), others[len(others) - len(requests) :] == requests
+        return [] if right and (count + left, stop) == count_of(wanted) else [f"{again}: {line_again}"]
     return [] if line_again.strip() == step.wanted else [f"{again}: {line_again}"]
 
 
@@ -158,6 +195,8 @@ def refused(event, line, again):
     word = event.split(" ")[0]
     if "|" in event:
         return "`Server::replay` of several events", "what the events before it did, and their lines"
+    if word == "in" and (again.startswith("status ") or is_after_message(event, again)):
+        return "`Server::replay` of an `in`, for the line of a request", "the bytes up to the end of the request, which is pending"
     if word == "in" and again != event:
         return "`Server::replay` of an `in` that stores", BUT_THE_LAST
     return f"`Server::replay` of {f'`{word}`' if word in ('open', 'put') else 'another event, for its line'}", AS_BEFORE

@@ -7,7 +7,9 @@ line for the user. Numbers of errors are compared if a row has them. The result 
 The plan of a server has its mode, its six limits, and the limits on connections, resources and turns. The plan of a client has its method, its
 target (layers/target.py), and then the other fields, each after its name. The level of a log follows as `log LEVEL` and the time after which
 silent connections are closed as `idle SECONDS`, unless they are Nothing and 0. Start values follow as `starts MOMENT VERSIONS IDS`, unless all are 0,
-and a record as `record NAME LIMIT`, if there is one.
+and a record as `record NAME LIMIT`, if there is one. An application is `application DEADLINE`, followed by its entries. An entry has each
+segment of its path after the word `segment`, the numbers of its methods after `methods`, and its attributes. Segments and attributes are in
+hexadecimal digits.
 """
 
 import re
