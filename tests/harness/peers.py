@@ -31,8 +31,8 @@ HELD = []
 def free_port(host=LOCAL):
     """Returns a port at which no program listens. The system gives it to nothing else while this process runs.
 
-    The socket that holds it never listens, so that a program that sets SO_REUSEADDR can. A listening socket that is closed at once would not do: a
-    process that another thread is starting has a copy until it runs its program.
+    The socket that holds it never listens, so that a program that sets SO_REUSEADDR can. A listening socket that is closed at once would not do. A
+    process that another thread is starting has a copy of it until it runs its program.
     """
     it = socket.socket(family_of(host))
     it.setsockopt(socket.SOL_SOCKET, socket.SO_REUSEADDR, 1)
