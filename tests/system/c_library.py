@@ -2,8 +2,10 @@
 """Builds programs in C over the C library, and runs them.
 
     tests/system/c_library.py bin/coap-server bin/coap-client [bin/libcoap_proved.a]
+    tests/system/c_library.py --archive     only builds the archive
 
-Without an archive, bin/libcoap_proved.a is built from crates/coap_c over the libraries that the proofs left in out/rlib. The programs are compiled with -Wall -Wextra
+Without an archive, bin/libcoap_proved.a is built from crates/coap_c over the libraries that the proofs left in out/rlib. The data of this
+proof of coap_c go to out/incremental, if that is missing, so that its mutants need not prove the crate again. The programs are compiled with -Wall -Wextra
 -Werror, and run with AddressSanitizer and UndefinedBehaviorSanitizer, and under valgrind. Recorded streams through the library give the bytes of
 `coap-server --stdio`, and scripts with several connections the lines of `coap-server --script`. A client and a server of the library exchange messages. Frames are written as they were read. Each allocation fails in turn.
 Wrong uses are reported by their numbers. Lists of segments name the paths of texts, and others. The examples talk to each other, to the programs and to libcoap's. A program with libcoap's library too gets
@@ -56,12 +58,17 @@ def run(words, given=b"", **environment):
 def build_archive():
     """Builds the archive from the crate, and returns its path. `rt lib` would prove all libraries below anew after `rt ci`, and remove them meanwhile,
     while the mutants need them."""
-    with tempfile.TemporaryDirectory(prefix="c-library-") as room:
-        words = [*rattle_words("build", "coap_c"), "--toolchain", f"{KIT}/toolchain", "--backend", "llvm", "-o", f"{room}/libcoap_c.a"]
+    kept = f"{ROOT}/crates/coap_c/out/incremental"
+    os.makedirs(os.path.dirname(kept), exist_ok=True)
+    # In the same folder, so that the data appear there at once.
+    with tempfile.TemporaryDirectory(prefix="archive-", dir=os.path.dirname(kept)) as room:
+        words = [*rattle_words("build", "coap_c"), "--incremental", f"{room}/kept", "--toolchain", f"{KIT}/toolchain", "--backend", "llvm", "-o", f"{room}/libcoap_c.a"]
         built = subprocess.run(words, cwd=f"{ROOT}/crates/coap_c", stdout=subprocess.PIPE, stderr=subprocess.STDOUT, text=True, errors="replace")
         if built.returncode:
             sys.exit(f"{built.stdout}coap_c is not built\n0 passed, 1 failed")
         subprocess.run([f"{ROOT}/install/library/build", f"{room}/libcoap_c.a", f"{ROOT}/bin"], check=True, stdout=subprocess.DEVNULL)
+        if not os.path.isdir(kept):
+            os.rename(f"{room}/kept", kept)
     return f"{ROOT}/bin/libcoap_proved.a"
 
 
@@ -276,7 +283,10 @@ def check_libcoap(checks, archive, driver, room):
         checks.same(f"with libcoap, {name}", (ran.returncode, ran.stdout, ran.stderr), (0, alone.stdout, b""))
 
 
-def main(server, client, archive=None):
+def main(server, client=None, archive=None):
+    if server == "--archive":
+        print(build_archive())
+        return 0
     checks = Checks()
     checks.same("packages can be installed", packages.install(PACKAGES), True)
     with tempfile.TemporaryDirectory(prefix="c-library-") as room:
