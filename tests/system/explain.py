@@ -1,10 +1,10 @@
 #!/usr/bin/env python3
 """Checks the lines that coap-explain prints for records and scripts, its errors, and its memory.
 
-    tests/system/explain.py bin/coap-server bin/coap-explain [--megabytes N] [--scripts N]
+    tests/system/explain.py bin/coap-server bin/coap-explain [--megabytes N] [--messages N] [--scripts N]
 
 The messages of N random scripts (60 by default) are compared with those that the server sends for the same scripts. A record of N megabytes
-(50) is explained in constant memory.
+(50) is explained in constant memory. N random messages (100,000) have escapes, zero bytes and invalid UTF-8 in every option and in their payloads.
 """
 
 import contextlib
@@ -40,6 +40,22 @@ MOST_GROWTH, MOST_MEMORY = 256, 8_192
 
 OPTIONS = ("# options: -d 2 --max-message 1152 --max-sent 1152 --queue 4608 --pending 16 --observers 16 --connections 3"
            " --starts 1795460853,5,0")
+
+
+# Bytes of random values, and a table that makes them of random bytes: zero bytes, escapes, parts of invalid UTF-8, quotation marks, letters.
+SPECIAL = b"\x00\x1b[\n\r\x7f\xff\xc3aZ%\"\\"
+SPOILED = bytes(SPECIAL[it % len(SPECIAL)] for it in range(256))
+
+# Numbers of the options in random messages: all that coap_print names, and others. Those of signalling messages are below 8.
+NUMBERS = [1, 2, 3, 4, 5, 6, 7, 8, 9, 11, 12, 14, 15, 16, 17, 19, 20, 21, 23, 27, 28, 31, 35, 39, 60, 252, 255, 258, 292, 65_001]
+SIGNALLING = range(1, 8)
+
+# Codes of random messages.
+METHODS_AND_RESPONSES = [0x01, 0x02, 0x03, 0x04, 0x05, 0x06, 0x07, 0x1F, 0x41, 0x44, 0x45, 0x5F, 0x84, 0x9F, 0xA0, 0xBF]
+SIGNALS = [0xE1, 0xE2, 0xE3, 0xE4, 0xE5, 0xE6]
+
+# Number of random messages of one run, and minimum number of options of each name in all runs.
+MESSAGES_OF_RUN, FEWEST = 10_000, 100
 
 
 def number_after(name, default):
@@ -293,6 +309,51 @@ def check_random_bytes(checks):
         checks.same("printable lines of %r" % record, (status in (0, 1), is_printable(said), is_printable(error)), (True, True, True))
 
 
+def random_value(chance, most):
+    """Returns a value of at most this length: special bytes, or random ones."""
+    value = chance.randbytes(chance.randrange(most + 1))
+    return value.translate(SPOILED) if chance.random() < 0.8 else value
+
+
+def random_message(chance):
+    """Returns the code of a random message, and the message."""
+    code = chance.choice(SIGNALS if chance.random() < 0.2 else METHODS_AND_RESPONSES)
+    numbers = sorted(chance.choices(SIGNALLING if code in SIGNALS else NUMBERS, k=chance.randrange(5)))
+    return code, message(code, chance.randbytes(chance.randrange(9)), [(it, random_value(chance, 12)) for it in numbers], random_value(chance, 70))
+
+
+def message_script(chance, count):
+    """Returns a script with this number of random messages, each signal on a connection that ends after it, and the codes of all its messages."""
+    lines, codes, opened, is_open = ["# options: -d 1000"], [], 0, False
+    for _ in range(count):
+        if not is_open:
+            opened, is_open = opened + 1, True
+            lines += ["open", "in %d %s" % (opened, SETTINGS.hex())]
+            codes.append(SETTINGS[-1])
+        code, sent = random_message(chance)
+        lines += ["in %d %s" % (opened, sent.hex()), "drain %d" % opened]
+        codes.append(code)
+        if code in SIGNALS:
+            lines.append("drop %d" % opened)
+            is_open = False
+    return lines, ["%d.%02d" % (code >> 5, code & 31) for code in codes]
+
+
+def check_random_messages(checks, count):
+    """Whatever is in options and payloads, each line is printable ASCII, and no message and no kind of option is missing."""
+    with open(os.path.join(ROOT, "crates/coap_print/src/tables.rt"), encoding="utf-8") as file:
+        named = dict.fromkeys(re.findall(r'"([\w-]+)",\s+Format::', file.read()), 0)
+    checks.same("number of named options", len(named), 33)
+    chance = random.Random(8)
+    for _ in range(count // MESSAGES_OF_RUN):
+        lines, codes = message_script(chance, MESSAGES_OF_RUN)
+        status, said, error = explain(lines)
+        checks.same("random messages: status, and printable lines", (status, is_printable(said), error), (0, True, ""))
+        checks.same("random messages: their codes", re.findall(r"(?m)^ *\d+  <-  (\d\.\d\d)", said) == codes, True)
+        named = {name: number + said.count(" " + name) for name, number in named.items()}
+    checks.same("random messages: missing options", [name for name, number in named.items() if number < FEWEST], [])
+
+
 def random_script(chance):
     """Returns a script with requests on two connections, and its events in order."""
     lines, opened = ["open", "open", "in 1 00e1", "in 2 00e1"], 2
@@ -453,6 +514,7 @@ def main():
     check_long_lines(checks)
     check_files(checks)
     check_random_bytes(checks)
+    check_random_messages(checks, number_after("--messages", 100_000))
     check_messages(checks, number_after("--scripts", 60))
     check_failed_allocations(checks)
     check_live(checks)
