@@ -4,6 +4,8 @@
                       clocks of the program are advanced by the rest. A wait of hours then ends at once, and the program finds that hours have
                       passed.
    SENDS_WITHOUT_ROOM number of calls of send, from the first, that fail with EAGAIN
+   WAITS_FAILING      number of waits for events, from the first, that fail with EINVAL
+   ACCEPTS_ABORTED    number of calls of accept, from the first, that fail with ECONNABORTED
    WAITS_TOLD         descriptor to which each call is written as a line, `MILLISECONDS CALL RESULT`
 
    The milliseconds are the time since the program began, by its own clock. The calls are `wait`, `send`, `accept`, `nodelay`, `keepalive`,
@@ -24,8 +26,8 @@
 #define MILLION 1000000L
 #define BILLION 1000000000L
 
-/* Nanoseconds by which the clocks are advanced, start time of the program, and number of calls of send. */
-static long ahead, begun, sendings;
+/* Nanoseconds by which the clocks are advanced, start time of the program, and numbers of calls. */
+static long ahead, begun, sendings, waitings, acceptances;
 
 static long set(const char *name) {
     const char *value = getenv(name);
@@ -64,6 +66,10 @@ static long tell(const char *call, long result) {
 int epoll_wait(int file, struct epoll_event *events, int room, int limit) {
     long most = set("WAIT_AT_MOST");
     int is_cut = most >= 0 && limit > most;
+    if (waitings++ < set("WAITS_FAILING")) {
+        errno = EINVAL;
+        return tell("wait", -1);
+    }
     int count = syscall(SYS_epoll_wait, file, events, room, is_cut ? (int)most : limit);
     if (is_cut && !count)
         ahead += (limit - most) * MILLION;
@@ -79,7 +85,8 @@ ssize_t send(int socket, const void *bytes, size_t size, int flags) {
 }
 
 int accept4(int socket, struct sockaddr *address, socklen_t *size, int flags) {
-    return tell("accept", syscall(SYS_accept4, socket, address, size, flags));
+    errno = ECONNABORTED;
+    return tell("accept", acceptances++ < set("ACCEPTS_ABORTED") ? -1 : syscall(SYS_accept4, socket, address, size, flags));
 }
 
 int setsockopt(int socket, int level, int name, const void *value, socklen_t size) {

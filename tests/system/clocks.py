@@ -3,8 +3,8 @@
 
     tests/system/clocks.py bin/coap-server bin/coap-client [NAME ..]
 
-A NAME selects a check, such as `back` for check_back; without a NAME all checks run. The client has only a monotonic clock, and only serves to
-show that its timeout does not depend on the system clock.
+A NAME selects a check, such as `back` for check_back; without a NAME all checks run, side by side. The client has only a monotonic clock, and only
+serves to show that its timeout does not depend on the system clock.
 """
 
 import contextlib
@@ -15,6 +15,7 @@ import subprocess
 import sys
 import tempfile
 import time
+from concurrent.futures import ThreadPoolExecutor
 
 sys.path.insert(0, os.path.join(os.path.dirname(os.path.abspath(__file__)), "..", "harness"))
 import messages  # noqa: E402
@@ -23,6 +24,9 @@ from peers import LIMIT, LOCAL, Server, authority, read_bytes  # noqa: E402
 from rows import HARNESS  # noqa: E402
 
 HOUR = 3600
+
+# Seconds of --idle, and maximum seconds by which a connection is released later.
+IDLE, LATE = 3, 2
 
 # The number for a system clock that cannot be read.
 UNREADABLE = -(1 << 63)
@@ -87,6 +91,9 @@ class Peer:
     def __exit__(self, *_):
         self.socket.close()
 
+
+# The message Release.
+RELEASE = bytes.fromhex("00e4")
 
 # The options of requests: Observe and Uri-Path `time`, the same without Observe, and Uri-Path `async` with a query.
 OBSERVE, READ = b"\x60\x54time", b"\xb4time"
@@ -189,6 +196,18 @@ def check_client(checks, programs):
             checks.same("a client whose clock is set by %d s, after %.2f s" % (seconds, passed), (status, said, 2 <= passed < 3), (4, b"coap-client: the server sent no CSM within 2 seconds\n", True))
 
 
+def check_idle(checks, programs):
+    """Checks that a silent connection is released in time, and not early, although the clock is set forward or back."""
+    with SystemClock() as clock, Server(programs.server, ["--idle", str(IDLE)], **clock.how()) as server:
+        for seconds in (2 * HOUR, -HOUR):
+            with Peer(server) as peer:
+                began = time.monotonic()
+                clock.ahead(seconds)
+                sent, passed = read_bytes(peer.socket, len(RELEASE)), time.monotonic() - began
+                checks.same("a silent connection after a step of %d s, after %.2f s" % (seconds, passed),
+                            (sent, IDLE <= passed < IDLE + LATE + SOON), (RELEASE, True))
+
+
 class Programs:
     """The two programs under test."""
 
@@ -196,21 +215,29 @@ class Programs:
         self.server, self.client = os.path.abspath(server), os.path.abspath(client_program)
 
 
-CHECKS = [check_back, check_unreadable, check_forward, check_delayed, check_client]
+CHECKS = [check_back, check_unreadable, check_forward, check_delayed, check_idle, check_client]
+
+
+def run(check, programs):
+    """Runs a check, and returns its counts and its duration in seconds."""
+    checks, began = Checks(), time.monotonic()
+    try:
+        check(checks, programs)
+    except (OSError, ValueError, IndexError, subprocess.SubprocessError) as trouble:
+        checks.same(check.__name__, repr(trouble), "no trouble")
+    return checks, time.monotonic() - began
 
 
 def main(words):
-    checks = Checks()
     programs = Programs(*words[:2])
-    for check in [it for it in CHECKS if not words[2:] or it.__name__.removeprefix("check_") in words[2:]]:
-        began = time.monotonic()
-        try:
-            check(checks, programs)
-        except (OSError, ValueError, IndexError, subprocess.SubprocessError) as trouble:
-            checks.same(check.__name__, repr(trouble), "no trouble")
-        print("%s: %.1f s" % (check.__name__.removeprefix("check_"), time.monotonic() - began), flush=True)
-    print("clocks: %d passed, %d failed" % (checks.passed, checks.failed))
-    return 1 if checks.failed else 0
+    chosen = [it for it in CHECKS if not words[2:] or it.__name__.removeprefix("check_") in words[2:]]
+    passed = failed = 0
+    with ThreadPoolExecutor(len(CHECKS)) as pool:
+        for check, (checks, seconds) in zip(chosen, pool.map(lambda it: run(it, programs), chosen)):
+            passed, failed = passed + checks.passed, failed + checks.failed
+            print("%s: %.1f s" % (check.__name__.removeprefix("check_"), seconds), flush=True)
+    print("clocks: %d passed, %d failed" % (passed, failed))
+    return 1 if failed else 0
 
 
 if __name__ == "__main__":

@@ -5,9 +5,10 @@
 
 Four servers run side by side for 16 seconds:
 
-- `--idle 5`: 255 silent peers, of which every second one sends a CSM, beside a peer that makes a request every second. All silent peers must be
-    gone, and those that sent a CSM must have a Release. The server has room for 256 connections.
-- `--idle 5`: an observer and a peer that sends a Ping every 3 seconds must stay. A peer that requests much and never reads must be gone.
+- `--idle 5`: 256 silent peers, of which every second one sends a CSM, beside a peer that makes a request every second. All silent peers must be
+    gone, and those that sent a CSM must have a Release. The server has room for 256 connections, so the last silent peer waits for a place.
+- `--idle 5`: an observer, a peer that waits for a delayed response, and a peer that sends a Ping every 3 seconds must stay. A peer that requests
+    much and never reads must be gone.
 - `--idle 60`: a peer that sends no CSM must be gone after 10 to 13 seconds, and a silent peer with a CSM must stay.
 - No `--idle`: silent peers must stay.
 """
@@ -22,7 +23,7 @@ sys.path.insert(0, os.path.join(os.path.dirname(os.path.abspath(__file__)), ".."
 import messages  # noqa: E402
 from checks import CSM, GREETING, Checks  # noqa: E402
 from message_syntax import encoded, uint  # noqa: E402
-from peers import Server  # noqa: E402
+from peers import Server, is_silent  # noqa: E402
 
 # Seconds after which all silent peers must be gone, between two Pings, and between two requests of the good peer.
 WINDOW, PING_EVERY, ASK_EVERY = 16, 3, 1
@@ -30,11 +31,20 @@ WINDOW, PING_EVERY, ASK_EVERY = 16, 3, 1
 # Seconds until the good peer must have its response.
 SOON = 1
 
+# Seconds until the last silent peer but one must have its place. They are fewer than 5, so that no other peer is gone.
+ROOM = 4
+
+# Seconds until the delayed response, which are more than the whole run.
+DELAY = 30
+
 SETTINGS, RELEASE, PING, PONG = (bytes.fromhex(it) for it in ("00e1", "00e4", "00e2", "00e3"))
 OWN = bytes.fromhex(CSM)
 
+# A CSM with a Max-Message-Size of 65,536 bytes, so that the large representation is sent.
+LARGE_SETTINGS = bytes.fromhex("40e1" "23010000")
+
 # Codes and options.
-GET, PUT, OBSERVE, URI_PATH = 0x01, 0x03, 6, 11
+GET, PUT, OBSERVE, URI_PATH, URI_QUERY = 0x01, 0x03, 6, 11, 15
 
 # Bytes of the representation that the peer requests which never reads.
 BIG = 60_000
@@ -43,14 +53,13 @@ BIG = 60_000
 class Peer:
     """A connection to a server, which keeps the bytes that it received."""
 
-    def __init__(self, server, greets=True, room=None):
+    def __init__(self, server, settings=SETTINGS, room=None):
         self.socket, self.stream, self.ended = socket.socket(), b"", None
         if room:
             self.socket.setsockopt(socket.SOL_SOCKET, socket.SO_RCVBUF, room)
         self.socket.settimeout(20)
         self.socket.connect((server.host, server.port))
-        if greets:
-            self.socket.sendall(SETTINGS)
+        self.socket.sendall(settings)
 
     def ask(self, code, token, path, options=(), payload=b""):
         named = [(URI_PATH, it.encode()) for it in path.split("/")[1:] if it]
@@ -108,19 +117,23 @@ def check(checks, program):
     many = ["--idle", "5", "--connections", "256"]
     with Server(program, many) as crowded, Server(program, ["--idle", "5", "-d", "4"]) as mixed, Server(program, ["--idle", "60"]) as patient, \
             Server(program) as plain:
-        good, pings, observer = Peer(crowded), Peer(mixed), Peer(mixed)
-        silent = [Peer(crowded, greets=at % 2 == 0) for at in range(255)]
-        writer = Peer(mixed)
+        good = Peer(crowded)
+        silent = [Peer(crowded, SETTINGS if at % 2 else b"") for at in range(256)]
+        waits = [is_silent(silent[-2].socket, ROOM), is_silent(silent[-1].socket)]
+        checks.same("the last silent peer, and no other, waits for a place", waits, [False, True])
+        writer, observer = Peer(mixed), Peer(mixed)
         writer.ask(PUT, 1, "/big", payload=bytes(BIG))
         checks.same("the representation is stored", writer.next()[1], 0x41)
         writer.ask(PUT, 2, "/x", payload=b"1")
         checks.same("another representation is stored", writer.next()[1], 0x41)
         observer.ask(GET, 3, "/x", [(OBSERVE, uint(0))])
         checks.same("the observer is registered", observer.next()[1], 0x45)
-        deaf = Peer(mixed, room=4_096)
+        deaf = Peer(mixed, LARGE_SETTINGS, room=4_096)
         fill(deaf)
-        mute, mild = Peer(patient, greets=False), Peer(patient)
-        stays = [Peer(plain, greets=greets) for greets in (False, True)]
+        pings, delayed = Peer(mixed), Peer(mixed)
+        delayed.ask(GET, 5, "/async", [(URI_QUERY, b"%d" % DELAY)])
+        mute, mild = Peer(patient, b""), Peer(patient)
+        stays = [Peer(plain, it) for it in (b"", SETTINGS)]
         began, asked, pinged, slow = time.monotonic(), 0, 0, 0
         while (passed := time.monotonic() - began) < WINDOW:
             if passed >= asked * ASK_EVERY:
@@ -139,10 +152,11 @@ def check(checks, program):
         gone = [peer.look().ended is not None for peer in silent]
         checks.same("all silent peers are gone", gone.count(False), 0)
         checks.same("the server has closed their sockets", sockets_of(crowded), 2)
-        checks.same("silent peers with a CSM have a Release", {peer.stream for peer in silent[::2]}, {OWN + RELEASE})
-        checks.same("silent peers without a CSM have none", {peer.stream for peer in silent[1::2]}, {OWN})
+        checks.same("silent peers with a CSM have a Release", {peer.stream for peer in silent[1::2]}, {OWN + RELEASE})
+        checks.same("silent peers without a CSM have none", {peer.stream for peer in silent[::2]}, {OWN})
         checks.same("a peer that writes is released too", writer.look().ended is not None, True)
-        checks.same("a peer that never reads is gone", sockets_of(mixed), 3)
+        checks.same("a peer that never reads is gone", sockets_of(mixed), 4)
+        checks.same("a peer with a pending response stays", (delayed.look().ended, delayed.stream), (None, OWN))
         again = Peer(mixed)
         again.ask(PUT, 4, "/x", payload=b"2")
         checks.same("the representation is changed", again.next()[1], 0x44)

@@ -33,7 +33,8 @@ LINE = re.compile(rb"(\d{4}-\d\d-\d\dT\d\d:\d\d:\d\d)\.\d{3}Z (coap-server|coap-
 # Maximum number of lines of one second, and of bytes of one line without its newline.
 MOST_LINES, MOST_BYTES = 100, 1_024
 
-SETTINGS = bytes.fromhex(CSM)
+# The server's own CSM, and CSMs with a Max-Message-Size of 10 bytes and of 65,536 bytes.
+SETTINGS, SMALL, LARGE = (bytes.fromhex(it) for it in (CSM, "20e1210a", "40e123010000"))
 GET_ROOT, RELEASE = bytes.fromhex("0001"), bytes.fromhex("00e4")
 GREETING = bytes.fromhex("c0ff636f61702b746370")
 
@@ -142,24 +143,29 @@ def check_lines(checks):
 
 def check_warnings(checks):
     """A limit that refused something is a warning."""
-    with logging("--log", "1", "-d", "1", "--connections", "2") as (_, port, name):
+    with logging("--log", "1", "-d", "1", "--connections", "2", "--pending", "0") as (_, port, name):
         wait_until_silent(name)
         put = [encoded(3, bytes([i]), [(11, b"a%d" % i)], b"x") for i in range(2)]
         ask(port, *put, GET_ROOT)
         lines = settled(name, 1)
         checks.same("a full store is a warning", [it for it in lines if "out: 4.06 Not Acceptable" in it and it.startswith("connection ")] != [], True)
+        # A representation that is too long, a full pending list, and a response that is too large for the peer.
+        ask(port, encoded(3, b"\x01", [(11, b"a0")], bytes(65_001)), encoded(1, b"\x02", [(11, b"async")], b""), SMALL, encoded(1, b"\x03", [], b""), LARGE, GET_ROOT)
+        lines = settled(name, 4)
+        refusals = [" out: 4.13 Request Entity Too Large token 01 Size1=65000", " out: 5.03 Service Unavailable token 02", " out: 5.00 Internal Server Error token 03"]
+        checks.same("refusals are warnings", [it.partition("connection 3")[2] for it in lines[1:]], refusals)
         with socket.create_connection((LOCAL, port), LIMIT), socket.create_connection((LOCAL, port), LIMIT):
-            lines = settled(name, 2)
+            lines = settled(name, 5)
         checks.same("number of connections", [it for it in lines if "maximum number of connections" in it] != [], True)
         with socket.create_connection((LOCAL, port), LIMIT) as peer:
             peer.sendall(SETTINGS + bytes.fromhex("f0ffffff0003"))
             time.sleep(0.3)
-        checks.same("too large", [it for it in settled(name, 3) if "message above the maximum size" in it] != [], True)
+        checks.same("too large", [it for it in settled(name, 6) if "message above the maximum size" in it] != [], True)
         peer = socket.create_connection((LOCAL, port), LIMIT)
         peer.sendall(SETTINGS)
         time.sleep(0.2)
         reset(peer)
-        checks.same("failed connection", [it for it in settled(name, 4) if it.endswith(" failed")] != [], True)
+        checks.same("failed connection", [it for it in settled(name, 7) if it.endswith(" failed")] != [], True)
 
 
 def check_idle(checks):

@@ -17,9 +17,9 @@ import tempfile
 import textwrap
 
 sys.path.insert(0, os.path.join(os.path.dirname(os.path.abspath(__file__)), "..", "harness"))
-from checks import Checks  # noqa: E402
+from checks import CSM, Checks  # noqa: E402
 from packages import install  # noqa: E402
-from peers import Server  # noqa: E402
+from peers import Server, read_bytes, read_to_end  # noqa: E402
 from workspace import ROOT  # noqa: E402
 
 PACKAGES = {"mandoc": "mandoc"}
@@ -47,6 +47,36 @@ SOURCES = {
     "coap-explain": ["coap_explain/src/*.rt"] + LIBRARIES,
     "coap-directory": ["coap_directory/src/*.rt", "coap_server_common/src/listening.rt", "coap_server_listener/src/*.rt", "coap_server_engine/src/io_fault.rt"] + LIBRARIES,
 }
+
+# Files with error texts that a program prints as lines, beside the texts in its calls of `print_fault`.
+ARGUMENTS, LISTENS = "coap_command_line/src/arguments.rt", ["coap_sockets/src/door.rt", "coap_server_engine/src/io_fault.rt"]
+ERRORS = {
+    "coap-server": [*LISTENS, ARGUMENTS],
+    "coap-client": ["coap_sockets/src/client_wire.rt", "coap_client_engine/src/run/state.rt", ARGUMENTS],
+    "coap-explain": [ARGUMENTS],
+    "coap-directory": [*LISTENS, ARGUMENTS],
+}
+
+# Values other than texts that programs give to `print_fault`. Their texts are those of ERRORS, and the second lines of which other checks know.
+VALUES = {"fault", "hindrance", "line.as_str()", "reason.as_str()", "text"}
+
+# Error texts that a program does not print, and the text that stands for that of clap.
+UNPRINTED = {"coap-server": {"bad target {}"}, "coap-client": set()}
+UNPRINTED.update({name: {"bad target {}", "options exclude each other", "cannot read"} for name in ("coap-explain", "coap-directory")})
+USAGE_TEXT = "{}"
+
+# Lines whose entries in a manual have a list of all second lines that `print_fault` prints after them.
+SECOND_LINES = ["bad script line {}", "cannot listen", "cannot open {}"]
+
+# Sentences of a manual, as they are rendered.
+SENTENCES = {"coap-server": ["A signal ends it at once, without Release to its clients.", "Without --idle there is no timeout: a silent client keeps its connection."]}
+
+# Words of the client's limitations: what is not supported, and the way around it in the same section or paragraph.
+WAYS_AROUND = [
+    ('The scheme "coaps+tcp" is not supported.', "Run a proxy such as HAProxy"),
+    ("in an IPv6 address is not supported.", "Use an address of the host that needs no zone"),
+    ("There is no block-wise transfer", "Split a larger content into several resources, or use a client with block-wise transfer"),
+]
 
 # An address of no machine (RFC 5737). The directory ends at once, because it cannot listen there.
 FOREIGN = "203.0.113.1"
@@ -177,6 +207,50 @@ class Manual:
         return status, re.sub(r".\x08", "", text)
 
 
+def plain(words):
+    """Returns the text of the words after `.It`: an argument is `{}`, and an option its name."""
+    text, macro, is_joined = "", "No", True
+    for word in words:
+        if word == "Ns":
+            is_joined = True
+        elif word in ("Ar", "Fl", "No"):
+            macro = word
+        elif word in (",", ";", ":", ")"):
+            text += word
+        else:
+            text += ("" if is_joined else " ") + {"Ar": "{}", "Fl": "-" + word}.get(macro, word.replace("\\-", "-"))
+            is_joined = False
+    return text
+
+
+def nested_items(lines):
+    """Returns the items of the lists in the lines of an item: the text after `.It`, and the text of the item."""
+    found, is_inside = [], False
+    for line in lines:
+        is_inside = line.startswith(".Bl") or is_inside and not line.startswith(".El")
+        if line.startswith(".It "):
+            found.append((plain(line.split()[1:]), []))
+        elif is_inside and found:
+            found[-1][1].append(line.removeprefix(".Ar ").replace("\\-", "-"))
+    return [(name, " ".join(it for it in text if not it.startswith("."))) for name, text in found]
+
+
+def code_of(patterns):
+    """Returns the text of these source files of crates, without comments."""
+    return re.sub(r"(?m)^\s*//.*", "", source_of(patterns))
+
+
+def shape(text):
+    """Returns a format string with each of its values as `{}`. The name of an option in the line for a bad value is one too."""
+    return re.sub(r"^bad value for -.*", "bad value for {}", re.sub(r"\{[^}]*\}", "{}", text))
+
+
+def printed(name):
+    """Returns the texts that a program gives to `print_fault`, with `{}` for their values, and the values that are no texts."""
+    words = re.findall(r'print_fault\(\s*rt,\s*(?:format_args!\(\s*)?("[^"]*"|[\w.()]+)', code_of(SOURCES[name]))
+    return {shape(it[1:-1]) for it in words if it[0] == '"'}, {it for it in words if it[0] != '"'}
+
+
 def source_of(patterns):
     """Returns the text of these source files of crates."""
     files = sorted(name for pattern in patterns for name in glob.glob(os.path.join(ROOT, "crates", pattern)))
@@ -283,10 +357,96 @@ def check_statuses(checks, manual, source):
 def check_lines(checks, manual, source):
     """Checks that the source has each line of the manual, and the manual each line of the source."""
     said = {front_of(text.removeprefix(manual.name + ": ")) for text in re.findall(r'b?"([^"\n]+?)(?:\\n)?"', source)}
-    told = set(re.findall(r'tell\(rt, "([^"]+)"', source)) | set(re.findall(r'"%s: ([^"{]+)' % manual.name, source))
+    told = set(re.findall(r'"%s: ([^"{]+)' % manual.name, source))
     listed = {front_of(line) for line in manual.lines_told()}
     checks.same("%s: lines missing in the source" % manual.name, sorted(listed - said), [])
     checks.same("%s: lines missing in the manual" % manual.name, sorted({front_of(it) for it in told} - UNREACHED - listed), [])
+
+
+def check_printed(checks, manual):
+    """Checks that the manual has each text that the program prints for an error, and that its lists of second lines have no other. Each entry has at
+    least two sentences: the cause and a remedy."""
+    texts, values = printed(manual.name)
+    errors = {shape(it) for it in re.findall(r'#\[error\("([^"]+)"', code_of(ERRORS[manual.name]))} - UNPRINTED[manual.name]
+    entries = {plain(words): lines for words, lines in manual.items("DIAGNOSTICS")}
+    nested = {name: [it for it, _ in nested_items(lines)] for name, lines in entries.items()}
+    checks.same("%s: texts are found" % manual.name, (len(texts) > 3, len(errors) > 1), (True, True))
+    checks.same("%s: unknown values that are printed" % manual.name, sorted(values - VALUES), [])
+    listed = {*entries, *(it for lines in nested.values() for it in lines), USAGE_TEXT, *UNREACHED}
+    values_of_file = {it for it in texts if it.startswith("-f takes ")}
+    checks.same("%s: printed texts missing in the manual" % manual.name, sorted((texts | errors) - listed - values_of_file), [])
+    extra = {name: sorted(set(nested[name]) - texts) for name in SECOND_LINES if name in nested}
+    checks.same("%s: second lines that are not printed" % manual.name, {name: it for name, it in extra.items() if it}, {})
+    ends = {name: sum(line.endswith((".", ":")) for line in lines) for name, lines in entries.items()}
+    checks.same("%s: entries without a remedy" % manual.name, [it for it, count in ends.items() if count < 2 and it != "listening on {}"], [])
+
+
+def value_texts(name):
+    """Returns the options of a program with the values that each takes, as in its error lines."""
+    tables, reasons = code_of(["coap_command_line/src/arguments/reasons/tables.rt"]), code_of(["coap_command_line/src/arguments/reasons.rt"])
+    named = dict(re.findall(r'const (\w+): &str =\s*"([^"]+)";', tables))
+    table = re.search(r"(?s)pub const %s_VALUES: .*?\];" % name.removeprefix("coap-").upper(), tables)[0]
+    rows = {option: text.strip('"') for option, text in re.findall(r'\(\s*"(-[^"]+)",\s*("[^"]*"|[A-Z]+),?\s*\)', table)}
+    rows = {option: named.get(text, text) for option, text in rows.items()}
+    if name == "coap-server":
+        rows.update({"--queue": "n" + re.search(r'"--queue", least, "([^"]+)"', reasons)[1], "--application": named["ENTRY"]})
+    if name == "coap-client":
+        rows["-f"] = re.search(r'"-f takes ([^"]+)"', code_of(["coap_client_main/src/main.rt"]))[1]
+    return rows
+
+
+def check_values(checks, manual, program, more):
+    """Checks that the manual has the values of each option as the second line for a bad value has them. The program prints them for an empty value."""
+    lines = next(lines for words, lines in manual.items("DIAGNOSTICS") if plain(words) == "bad value for {}")
+    listed = dict(nested_items(lines))
+    checks.same("%s: values of options" % manual.name, listed, value_texts(manual.name))
+    for option, text in listed.items():
+        if option != "-f":
+            error = run([program, option, ""] + more)[2].splitlines()
+            wanted = "%s: %s takes %s, not an empty text" % (manual.name, option, text.replace("n (", "65536 (", 1))
+            checks.same("%s: second line for %s" % (manual.name, option), error[1:], [wanted])
+
+
+def parts_of(texts):
+    """Returns the parts of texts around their values."""
+    return {part.strip() for text in texts for part in text.split("{}") if part.strip()}
+
+
+def check_clashes(checks, manual, beginning):
+    """Checks the second lines for options that exclude each other. Those of this program, or their last parts, match `beginning`."""
+    texts = re.findall(r'"([^"\n]+)"', code_of(["coap_command_line/src/arguments/reasons.rt"]))
+    wanted = {it.strip() for it in texts if re.search(r" be used|only with ", it) and re.match(beginning, it)}
+    lines = next(lines for words, lines in manual.items("DIAGNOSTICS") if plain(words) == "options exclude each other")
+    checks.same("%s: options that exclude each other" % manual.name, parts_of(it for it, _ in nested_items(lines)), wanted)
+
+
+def check_targets(checks, manual):
+    """Checks the second lines for URIs that are no targets."""
+    texts = re.findall(r'(?<!b)"([^"\n]+)"', code_of(["coap_command_line/src/arguments/reasons/targets.rt"]))
+    lines = next(lines for words, lines in manual.items("DIAGNOSTICS") if plain(words) == "bad target {}")
+    listed = parts_of(it for it, _ in nested_items(lines) if not it.isdigit())
+    checks.same("%s: second lines of bad targets" % manual.name, listed, {it.strip() for it in texts})
+
+
+def check_sentences(checks, manual):
+    """Checks sentences of a manual, and the ways around the limitations of the client."""
+    text = manual.rendered()[1]
+    for sentence in SENTENCES.get(manual.name, []):
+        checks.same("%s: %r" % (manual.name, sentence), sentence in " ".join(text.split()), True)
+    limits = [" ".join(it.split()) for it in text.partition("\nLIMITATIONS\n")[2].split("\n\n")]
+    for feature, way in WAYS_AROUND if manual.name == "coap-client" else []:
+        checks.same("%s: the way around %r" % (manual.name, feature), [way in it for it in limits if feature in it], [True])
+
+
+def check_signal(checks, program):
+    """Checks that a signal ends the server at once, and that its clients receive no Release."""
+    with Server(program) as server, server.connect() as peer:
+        peer.sendall(bytes.fromhex("00e1"))
+        checks.same("the CSM of the server", read_bytes(peer, len(CSM) // 2).hex(), CSM)
+        server.process.terminate()
+        checks.same("bytes after a signal", (read_to_end(peer), server.process.wait(LIMIT)), ((b"", "the end"), -signal.SIGTERM))
+        # The server has ended as it should, so the block need not report that.
+        server.process.poll = lambda: None
 
 
 def check_hindrances(checks, manual):
@@ -406,10 +566,17 @@ def check(server, client, explain, directory):
             check_defaults(checks, manual, source_of(["coap_command_line/src/arguments/%s.rt" % name.removeprefix("coap-")]))
             check_statuses(checks, manual, source)
             check_lines(checks, manual, source)
+            check_printed(checks, manual)
+            check_values(checks, manual, program, more)
+            check_sentences(checks, manual)
             check_faults(checks, manual, program, faults)
             check_examples(checks, manual, programs)
         check_formats(checks, Manual("coap-client"), client, [URI % port])
         check_hindrances(checks, Manual("coap-client"))
+        check_clashes(checks, Manual("coap-client"), r"-\w|, only")
+        check_clashes(checks, Manual("coap-server"), r"--")
+        check_targets(checks, Manual("coap-client"))
+        check_signal(checks, server)
         check_causes(checks, Manual("coap-client"))
         check_log(checks, Manual("coap-server"))
         check_log(checks, Manual("coap-client"))

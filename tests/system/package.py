@@ -5,9 +5,9 @@
 The script needs Debian's packages dpkg-dev, gcc, libc6-dev, libcoap3-bin, libmosquitto-dev, lintian and pkg-config, and installs the missing ones.
 `make deb` runs on a copy of its inputs, and builds the gateway to MQTT there.
 
-The installation needs root. The script installs no package if any of their files already exists, and prints the first of these. It starts the server
-by the command of the installed unit, because systemd may not run. It compiles the installed example of the C library, and runs it. In the end it
-purges the packages, also after a failure.
+The installation needs root. The script installs no package if any of their files already exists: it then fails, and names the first of these. It starts
+the server by the command of the installed unit, because systemd may not run. It compiles the installed example of the C library, and runs it. In the
+end it purges the packages, also after a failure.
 """
 
 import contextlib
@@ -230,11 +230,13 @@ def version():
 
 
 def check_versions(checks, programs):
-    """Checks that the programs and both changelogs have the version of the file VERSION."""
+    """Checks that the programs, both changelogs, the comparison and the manual's record have the version of the file VERSION."""
     for name, program in zip(PROGRAMS, programs):
         checks.same("%s: version" % name, run([program, "--version"]), (0, "%s %s\n" % (name, version())))
     checks.same("version in CHANGELOG.md", re.findall(r"report version (\S+)", read(ROOT, "CHANGELOG.md")), [version()])
     checks.same("version in Debian's changelog", re.match(r"dachreup \((\S+)\) ", read(ROOT, "install/debian/changelog"))[1], version())
+    checks.same("version in docs/COMPARISON.md", re.findall(r"\| Dachreup (\S+) \|", read(ROOT, "docs/COMPARISON.md")), [version()])
+    checks.same("version in the record of the manual", re.findall(r"(?m)^# Record of coap\\-server (\S+),", read(ROOT, "man/coap-server.1")), [version()])
 
 
 def completions(script, words, folder):
@@ -582,9 +584,9 @@ def check(programs, archive):
     check_scripts(checks)
     with tempfile.TemporaryDirectory() as folder:
         built, library, gateway = check_packages(checks, folder, programs, archive)
-        if reason := hindrance():
-            print("%s: no package was installed" % reason)
-        else:
+        reason = hindrance()
+        checks.same("obstacle to the installation of the packages", reason, "")
+        if not reason:
             before = files_in_places()
             try:
                 check_library_life(checks, *library, programs[1])

@@ -12,6 +12,7 @@ import errno
 import itertools
 import os
 import random
+import re
 import resource
 import select
 import signal
@@ -363,8 +364,9 @@ def check_address(checks, programs):
 
 def check_files(checks, programs):
     """Checks a server with a low limit on open files. Without a free descriptor it accepts no connection, tries again after a second, whatever else
-    arrives, and uses no processor time. After a connection closes, it accepts again."""
-    with Waits() as waits, Server(programs.server, files=16, **waits.how()) as server, contextlib.ExitStack() as stack:
+    arrives, and uses no processor time. After a connection closes, it accepts again. The log has each kind of failed call."""
+    failing = {"WAITS_FAILING": 1, "ACCEPTS_ABORTED": 2}
+    with Waits(**failing) as waits, Server(programs.server, ["--log", "1"], files=16, **waits.how()) as server, contextlib.ExitStack() as stack:
         peers = []
         while len(peers) < 16:
             peer = stack.enter_context(server.connect())
@@ -387,6 +389,12 @@ def check_files(checks, programs):
         accepts = waits.calls("accept")
         pauses = [later - at for (at, result), (later, _) in zip(accepts, accepts[1:]) if result == -errno.EMFILE]
         checks.same("the server tries again after a second", (len(pauses) > 1, [it for it in pauses if not 0.99 < it < 1.9]), (True, []))
+        os.set_blocking(server.process.stderr.fileno(), False)
+        texts = re.findall(r"Z coap-server: (.*): (\d+) so far\n", (server.process.stderr.read() or b"").decode())
+        told = {text: [int(number) for it, number in texts if it == text] for text, _ in texts}
+        starved = told.pop("connections not accepted for lack of descriptors or memory", [])
+        checks.same("failed calls in the log", told, {"failed waits": [1], "connections not accepted": [1, 2]})
+        checks.same("calls without a descriptor in the log", (len(starved) > 1, starved), (True, list(range(1, len(starved) + 1))))
 
 
 def check_close(checks, programs):
