@@ -1,3 +1,4 @@
 pub mod RecordEnds
 pub mod Comments
 pub mod Refusals
+pub mod ConnectionEnds
