@@ -1,3 +1,2 @@
 pub mod RecordEnds
-pub mod Comments
 pub mod Refusals
