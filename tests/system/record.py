@@ -333,6 +333,10 @@ def check_header(checks, server):
         subprocess.run([server, "--stdio", "--record", name], input=b"", stdout=subprocess.DEVNULL, timeout=LIMIT)
         usual = "-d 0 --max-message 65536 --max-sent 65536 --queue 131072 --pending 16 --observers 16 --connections 16 --starts 0,0,0".split()
         checks.same("default options, and a name with slashes", (record_in(name).options(), record_in(name).command()), (usual, ["--script", name, *usual]))
+        name = f"{folder}/turns"
+        done = subprocess.run([server, "--stdio", "--turns", "1", "--record", name], input=PEER_SETTINGS + GET_ROOT * 2_000, capture_output=True, timeout=LIMIT)
+        checks.same("a record that the limit of turns ends", (done.returncode, len(done.stdout) > 4_096, record_in(name).options()), (3, True, usual))
+        checks.same("its replay with another limit of turns", replay(server, record_in(name).command()), (0, {1: done.stdout}, b""))
         began = int(time.time())
         with Server(server, ["--record", f"{folder}/listening"]):
             until(lambda: os.path.getsize(f"{folder}/listening") > 0)
