@@ -9,6 +9,7 @@ use Rattle.coap_wire.proofs.StreamSteps.{whole_parts}
 use Rattle.coap_frame.specs.Framing.{FrameEventValue, Nothing, AFrame, AFault, Framing, framing, framing_at}
 use Rattle.coap_frame.proofs.FrontLaws.{frame_first}
 use Rattle.coap_conn.specs.declared.reason.Reason.{Reason}
+use Rattle.coap_store.specs.Answer.{Change}
 use Rattle.coap_store.specs.Changes.{changes}
 use Rattle.coap_server_session.specs.declared.server_state.ServerState.{ServerState}
 use Rattle.coap_server_session.specs.values.Sessions.{SessionValue, session_takes, session_max, taking, taking_read, taking_found}
@@ -84,11 +85,11 @@ module _ (host : ServerState) (v : SessionValue) (piece : List ℕ) (f : Framing
     takes_frame false = tt
 
 handed_in : (host : ServerState) (v : SessionValue) (piece : List ℕ) → IsInPiece piece (taking host v piece).count (handed host v piece)
-unfolding taking, handed
+unfolding taking handed
 handed_in host v piece = takes_handed host v piece (framing (session_max v) v.frame piece) (found_alone (session_max v) v.frame piece) (session_takes v)
 
 completed_in : (host : ServerState) (v : SessionValue) (piece : List ℕ) → IsInPiece piece (taking host v piece).count (completed v piece)
-unfolding taking, completed
+unfolding taking completed
 completed_in host v piece = takes_frame host v piece (framing (session_max v) v.frame piece) (found_alone (session_max v) v.frame piece) (session_takes v)
 
 -- ---- the server
@@ -105,11 +106,11 @@ changing_on_in v piece None = tt
 changing_on_in v piece (Some s) = keeps_in piece (taking v.host s piece).count (changes (taking v.host s piece).change) (completed s piece) (completed_in v.host s piece)
 
 handed_frame_in : (v : ServerValue) (id : ℕ) (piece : List ℕ) → IsInPiece piece (count_taken v id piece) (handed_frame v id piece)
-unfolding count_taken, handed_frame
+unfolding count_taken handed_frame
 handed_frame_in v id piece = handed_on_in v piece (session_of id v.sessions) (stop_on (session_of id (server_taken v id piece).sessions))
 
 changing_frame_in : (v : ServerValue) (id : ℕ) (piece : List ℕ) → IsInPiece piece (count_taken v id piece) (changing_frame v id piece)
-unfolding count_taken, changing_frame
+unfolding count_taken changing_frame
 changing_frame_in v id piece = changing_on_in v piece (session_of id v.sessions)
 
 -- The frames that a `take` lends.
