@@ -25,6 +25,7 @@ import subprocess
 import sys
 import tempfile
 import time
+from concurrent.futures import ThreadPoolExecutor
 
 sys.path.insert(0, os.path.join(os.path.dirname(os.path.abspath(__file__)), "..", "harness"))
 import messages  # noqa: E402
@@ -299,33 +300,38 @@ def check_client(checks, clients, server, example):
 LIBCOAP = ["coap-client-notls", "-B", "9"]
 
 
-def check_example(checks, servers, client):
-    """Runs the server of examples/c in each of these ways, at the same time. Observes a value, also by libcoap's client, and changes another."""
-    running = []
-    for words in servers:
-        port = free_port("127.0.0.1")
-        running.append((words[0], f"coap+tcp://127.0.0.1:{port}", subprocess.Popen([*words, str(port), "9"], stdout=subprocess.PIPE, stderr=subprocess.STDOUT)))
+def use_example(words, client):
+    """Runs the server of examples/c in this way. Observes values, also by libcoap's client, and changes another one. Returns the checks."""
+    port = free_port("127.0.0.1")
+    address = f"coap+tcp://127.0.0.1:{port}"
+    running = subprocess.Popen([*words, str(port), "9"], stdout=subprocess.PIPE, stderr=subprocess.STDOUT)
     time.sleep(2)
-    observers = {(way, name): subprocess.Popen([*words, f"{address}/{name}"], stdout=subprocess.PIPE, stderr=subprocess.STDOUT)
-                 for way, address, _ in running for name, words in (("inside", [client, "-w", "-s", "3"]), ("outside", [client, "-w", "-s", "3"]), ("inside?libcoap", [*LIBCOAP, "-w", "-s", "3"]))}
-    for (way, name), one in observers.items():
+    observers = [subprocess.Popen([*one, "-w", "-s", "3", f"{address}/{path}"], stdout=subprocess.PIPE, stderr=subprocess.STDOUT)
+                 for one, path in (([client], "inside"), ([client], "outside"), (LIBCOAP, "inside"))]
+    for one in observers:
         text = one.communicate(timeout=LIMIT)[0].decode()
-        values = re.findall(r"\d+", text)
-        checks.same(f"{way}: observes /{name}: {text!r}", (len(set(values)) >= 3, values == sorted(values, key=int), one.returncode in (0, 3)), (True, True, True))
-    for way, address, process in running:
-        # The first state has more bytes than the server reads at once, so its request comes in pieces.
-        for state, code in (("x" * 5000, b"4.13"), ("open", b""), ("shut", b""), ("shut now", b"4.13")):
-            changed = run([client, "-m", "put", "-e", state, f"{address}/valve"])
-            checks.same(f"{way}: valve {state[:9]}: {changed}", (changed.returncode == 0, changed.stdout, changed.stderr[:4]), (not code, b"", code))
-        checks.same(f"{way}: valve", run([client, f"{address}/valve"]).stdout.strip(), b"shut")
-        changed = run([*LIBCOAP, "-m", "put", "-e", "open", f"{address}/valve"])
-        checks.same(f"{way}: libcoap changes the valve", (changed.returncode, changed.stdout, changed.stderr), (0, b"", b""))
-        checks.same(f"{way}: libcoap reads the valve", run([*LIBCOAP, f"{address}/valve"]).stdout.strip(), b"open")
-        missing = run([client, f"{address}/none"])
-        checks.same(f"{way}: no such resource", b"4.04" in missing.stdout + missing.stderr, True)
-    for way, _, process in running:
-        said = process.communicate(timeout=LIMIT)[0]
-        checks.same(f"{way}: example server", (process.returncode, said), (0, b""))
+        values = [int(it) for it in re.findall(r"\d+", text)]
+        yield f"{one.args}: {text!r}", (len(set(values)) >= 3, values == sorted(values), one.returncode in (0, 3)), (True, True, True)
+    # The first state has more bytes than the server reads at once, so its request comes in pieces.
+    for state, code in (("x" * 5000, b"4.13"), ("open", b""), ("shut", b""), ("shut now", b"4.13")):
+        changed = run([client, "-m", "put", "-e", state, f"{address}/valve"])
+        yield f"valve {state[:9]}: {changed.stderr}", (changed.returncode == 0, changed.stdout, changed.stderr[:4]), (not code, b"", code)
+    yield "valve", run([client, f"{address}/valve"]).stdout.strip(), b"shut"
+    changed = run([*LIBCOAP, "-m", "put", "-e", "open", f"{address}/valve"])
+    yield "libcoap changes the valve", (changed.returncode, changed.stdout, changed.stderr), (0, b"", b"")
+    yield "libcoap reads the valve", run([*LIBCOAP, f"{address}/valve"]).stdout.strip(), b"open"
+    missing = run([client, f"{address}/none"])
+    yield "no such resource", b"4.04" in missing.stdout + missing.stderr, True
+    said = running.communicate(timeout=LIMIT)[0]
+    yield "example server", (running.returncode, said), (0, b"")
+
+
+def check_example(checks, servers, client):
+    """Uses the server of examples/c in each of these ways, at the same time."""
+    with ThreadPoolExecutor() as pool:
+        for words, found in zip(servers, pool.map(lambda it: list(use_example(it, client)), servers)):
+            for name, got, wanted in found:
+                checks.same(f"{words[0]}: {name}", got, wanted)
 
 
 def check_libcoap(checks, archive, driver, room):
