@@ -113,14 +113,24 @@ def fill(peer):
             peer.ask(GET, token % 256, "/big")
 
 
+def serve(checks, peer):
+    """Makes a request of the good peer, and returns the seconds until its response."""
+    began = time.monotonic()
+    peer.ask(GET, 7, "/")
+    checks.same("the good peer is served", peer.next().hex().endswith(GREETING), True)
+    return time.monotonic() - began
+
+
 def check(checks, program):
     many = ["--idle", "5", "--connections", "256"]
     with Server(program, many) as crowded, Server(program, ["--idle", "5", "-d", "4"]) as mixed, Server(program, ["--idle", "60"]) as patient, \
             Server(program) as plain:
         good = Peer(crowded)
         silent = [Peer(crowded, SETTINGS if at % 2 else b"") for at in range(256)]
+        serve(checks, good)
         waits = [is_silent(silent[-2].socket, ROOM), is_silent(silent[-1].socket)]
         checks.same("the last silent peer, and no other, waits for a place", waits, [False, True])
+        serve(checks, good)
         writer, observer = Peer(mixed), Peer(mixed)
         writer.ask(PUT, 1, "/big", payload=bytes(BIG))
         checks.same("the representation is stored", writer.next()[1], 0x41)
@@ -138,10 +148,7 @@ def check(checks, program):
         while (passed := time.monotonic() - began) < WINDOW:
             if passed >= asked * ASK_EVERY:
                 asked += 1
-                before = time.monotonic()
-                good.ask(GET, 7, "/")
-                checks.same("the good peer is served", good.next().hex().endswith(GREETING), True)
-                slow += time.monotonic() - before > SOON
+                slow += serve(checks, good) > SOON
             if passed >= pinged * PING_EVERY:
                 pinged += 1
                 pings.socket.sendall(PING)
