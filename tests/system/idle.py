@@ -50,6 +50,11 @@ GET, PUT, OBSERVE, URI_PATH, URI_QUERY = 0x01, 0x03, 6, 11, 15
 BIG = 60_000
 
 
+def request(code, token, path, options=(), payload=b""):
+    named = [(URI_PATH, it.encode()) for it in path.split("/")[1:] if it]
+    return encoded(code, bytes([token]), sorted([*options, *named], key=lambda it: it[0]), payload)
+
+
 class Peer:
     """A connection to a server, which keeps the bytes that it received."""
 
@@ -61,9 +66,8 @@ class Peer:
         self.socket.connect((server.host, server.port))
         self.socket.sendall(settings)
 
-    def ask(self, code, token, path, options=(), payload=b""):
-        named = [(URI_PATH, it.encode()) for it in path.split("/")[1:] if it]
-        self.socket.sendall(encoded(code, bytes([token]), sorted([*options, *named], key=lambda it: it[0]), payload))
+    def ask(self, *words, **more):
+        self.socket.sendall(request(*words, **more))
 
     def look(self):
         """Reads what has arrived, and notes the end of the connection with its time."""
@@ -108,9 +112,10 @@ def sockets_of(server):
 def fill(peer):
     """Requests the large representation until the server accepts no more."""
     peer.socket.settimeout(1)
+    requests = b"".join(request(GET, token, "/big") for token in range(256))
     with contextlib.suppress(TimeoutError):
-        for token in range(100_000):
-            peer.ask(GET, token % 256, "/big")
+        for _ in range(400):
+            peer.socket.sendall(requests)
 
 
 def serve(checks, peer):
