@@ -50,6 +50,11 @@ GET, PUT, OBSERVE, URI_PATH, URI_QUERY = 0x01, 0x03, 6, 11, 15
 BIG = 60_000
 
 
+def request(code, token, path, options=(), payload=b""):
+    named = [(URI_PATH, it.encode()) for it in path.split("/")[1:] if it]
+    return encoded(code, bytes([token]), sorted([*options, *named], key=lambda it: it[0]), payload)
+
+
 class Peer:
     """A connection to a server, which keeps the bytes that it received."""
 
@@ -61,9 +66,8 @@ class Peer:
         self.socket.connect((server.host, server.port))
         self.socket.sendall(settings)
 
-    def ask(self, code, token, path, options=(), payload=b""):
-        named = [(URI_PATH, it.encode()) for it in path.split("/")[1:] if it]
-        self.socket.sendall(encoded(code, bytes([token]), sorted([*options, *named], key=lambda it: it[0]), payload))
+    def ask(self, *words, **more):
+        self.socket.sendall(request(*words, **more))
 
     def look(self):
         """Reads what has arrived, and notes the end of the connection with its time."""
@@ -108,9 +112,18 @@ def sockets_of(server):
 def fill(peer):
     """Requests the large representation until the server accepts no more."""
     peer.socket.settimeout(1)
+    requests = b"".join(request(GET, token, "/big") for token in range(256))
     with contextlib.suppress(TimeoutError):
-        for token in range(100_000):
-            peer.ask(GET, token % 256, "/big")
+        for _ in range(400):
+            peer.socket.sendall(requests)
+
+
+def serve(checks, peer):
+    """Makes a request of the good peer, and returns the seconds until its response."""
+    began = time.monotonic()
+    peer.ask(GET, 7, "/")
+    checks.same("the good peer is served", peer.next().hex().endswith(GREETING), True)
+    return time.monotonic() - began
 
 
 def check(checks, program):
@@ -119,8 +132,10 @@ def check(checks, program):
             Server(program) as plain:
         good = Peer(crowded)
         silent = [Peer(crowded, SETTINGS if at % 2 else b"") for at in range(256)]
+        serve(checks, good)
         waits = [is_silent(silent[-2].socket, ROOM), is_silent(silent[-1].socket)]
         checks.same("the last silent peer, and no other, waits for a place", waits, [False, True])
+        serve(checks, good)
         writer, observer = Peer(mixed), Peer(mixed)
         writer.ask(PUT, 1, "/big", payload=bytes(BIG))
         checks.same("the representation is stored", writer.next()[1], 0x41)
@@ -138,10 +153,7 @@ def check(checks, program):
         while (passed := time.monotonic() - began) < WINDOW:
             if passed >= asked * ASK_EVERY:
                 asked += 1
-                before = time.monotonic()
-                good.ask(GET, 7, "/")
-                checks.same("the good peer is served", good.next().hex().endswith(GREETING), True)
-                slow += time.monotonic() - before > SOON
+                slow += serve(checks, good) > SOON
             if passed >= pinged * PING_EVERY:
                 pinged += 1
                 pings.socket.sendall(PING)
