@@ -68,9 +68,9 @@ impl Application for Board {
 /// The client's CSM, PUT /rd and GET /rd after two waits, and the end of the input after five.
 const WIRES: &str = "all 00e1 @2 31032ab2726431012bb27264 @5 end";
 
-/// Without the application, the server would wait until something is ready: all but the first wait are bounded by the
-/// application, from time 0 until 7, and from there until 14. Both requests come in the third turn. The response at once
-/// is written in that turn, and the later one in the next turn, without a wait before it.
+/// All but the first wait are bounded by the application: from time 0 until 7, and from there until 14. Without it, they
+/// would last until something is ready. Both requests come in the third turn. The response at once is written in that
+/// turn, and the later one in the next turn, without a wait before it.
 const TOLD: &str = "+1 1<2 1>8 ~no +- ~7 +- 1<12 1>3 ~no +- 1>3 ~14 +- ~21 +- 1<end
 1 60e123010000414001442a01452b";
 
