@@ -21,6 +21,7 @@ import os
 import pathlib
 import random
 import re
+import socket
 import subprocess
 import sys
 import tempfile
@@ -304,8 +305,11 @@ def use_example(words, client):
     """Runs the server of examples/c in this way. Observes values, also by libcoap's client, and changes another one. Returns the checks."""
     port = free_port("127.0.0.1")
     address = f"coap+tcp://127.0.0.1:{port}"
-    running = subprocess.Popen([*words, str(port), "9"], stdout=subprocess.PIPE, stderr=subprocess.STDOUT)
-    time.sleep(2)
+    running = subprocess.Popen([*words, str(port), "10"], stdout=subprocess.PIPE, stderr=subprocess.STDOUT)
+    for _ in range(100):
+        with contextlib.suppress(OSError), socket.create_connection(("127.0.0.1", port)):
+            break
+        time.sleep(0.1)
     observers = [subprocess.Popen([*one, "-w", "-s", "3", f"{address}/{path}"], stdout=subprocess.PIPE, stderr=subprocess.STDOUT)
                  for one, path in (([client], "inside"), ([client], "outside"), (LIBCOAP, "inside"))]
     for one in observers:

@@ -153,7 +153,7 @@ pub extern "C" fn dachreup_server_take(
 fn frame_span(piece: &[u8], bytes: usize, frame: Option<&[u8]>) -> Span
     requires within { bytes ≤ length piece.now }
     requires lies { IsInPiece piece.now bytes (option_copied frame) }
-    ensures { LendsFrame piece.entry bytes result (option_copied frame) }
+    ensures { LendsFrame piece.entry bytes result (option_copied frame.entry) }
 {
     match frame {
         None => span_of(&[]),
