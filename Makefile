@@ -52,11 +52,11 @@ run:
 	    wait $$tried && exit $$built; exit 1; }
 	@python3 tests/vectors/demo.py bin/coap-server
 
-# Runs the gate: all proofs and programs from scratch, all rows and tests, and a third of the mutants.
+# Runs the gate: all proofs and programs from scratch, all rows and tests, and a quarter of the mutants.
 test:
 	tests/gate
 
-# Tries all mutants, of which the gate tries a third, or those of some crates: make mutants CRATES="coap_conn coap_wire".
+# Tries all mutants, of which the gate tries a quarter, or those of some crates: make mutants CRATES="coap_conn coap_wire".
 mutants:
 	tests/mutants/mutants.py --all $(CRATES)
 

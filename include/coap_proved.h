@@ -13,9 +13,10 @@
  *   child of a process with threads.
  * - No pointer is null, also not with a length of 0. Each points to memory of its type that is aligned, initialised and
  *   overlaps neither the memory behind another argument of the call nor a handle.
- * - Bytes that a call lends (dachreup_span) are read only before the next call on the same handle. They are not
- *   written, and are not an argument of a call on that handle. Spans of the calls without a handle lie in the bytes
- *   that were read, and hold as long as these. So may the spans of a take, which are lent no longer than its input.
+ * - Bytes that a call lends (dachreup_span) are read only before the next call on the same handle, if the call says
+ *   nothing else. They are not written, and are not an argument of a call on that handle. Spans of the calls without a
+ *   handle lie in the bytes that were read, and hold as long as these. So may the spans of a take, which are lent no
+ *   longer than its input.
  * - malloc, realloc and free come from one allocator, and align as C requires.
  *
  * A text or an input is a pointer and a length. It is borrowed during the call alone: the library keeps a copy of what
@@ -142,7 +143,8 @@ enum {
     DACHREUP_ANNOUNCE_PEER_TOO_SMALL = 22
 };
 
-/* Bytes that the library lends until the next call on the same handle. With count 0, `at` is not null. */
+/* Bytes that the library lends until the next call on the same handle, if the call says nothing else. With count 0, `at`
+   is not null. */
 struct dachreup_span {
     const uint8_t *at;
     size_t count;
@@ -261,7 +263,8 @@ struct dachreup_took {
     uint32_t handled; /* DACHREUP_NOTHING, DACHREUP_MESSAGE, or DACHREUP_STOPPED: no more messages are accepted */
     uint32_t reason;  /* reason of a stop, 1 to 13 (enum dachreup_reason), otherwise 0 */
     /* The request that the application answers, if the accepted bytes end with one: one encoded message, otherwise
-       count 0. Lent until the next call on the handle. It may lie in the input of the take. */
+       count 0. Lent until the next dachreup_server_take, _announce, _drop or _free on the handle; other calls may come
+       first. If no earlier take accepted bytes of it, it is the accepted bytes, and lent no longer than the input. */
     struct dachreup_span request;
     /* The request that stored or deleted a resource, if the accepted bytes end with one, otherwise count 0. Lent as
        `request` is. dachreup_message_path writes its path. No other resource has changed. */
@@ -502,8 +505,8 @@ struct dachreup_event {
     uint32_t option;  /* REJECTED: the number of the option */
     uint32_t custody; /* PONG: 1 if it has Custody */
     uint64_t token;   /* RESPONSE, NOTIFICATION, REJECTED, PONG: the number of the token */
-    /* RESPONSE, NOTIFICATION: the message. The spans are lent until the next call on the handle, and no longer than the
-       input of the take. */
+    /* RESPONSE, NOTIFICATION: the message. The spans are lent until the next dachreup_client_take, _ended or _free on the
+       handle, and no longer than the input of the take. */
     struct dachreup_message message;
 };
 

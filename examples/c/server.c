@@ -1,31 +1,30 @@
-/* A server over poll: /inside and /outside count up each second, and the program itself answers PUT /valve. Clients may
-   observe all three. Build: cc -std=c11 server.c $(pkg-config --cflags --libs coap_proved)
-   Run: a.out [PORT [SECONDS]] */
+/* A server over epoll: /inside and /outside count up each second, and the program itself answers PUT /valve. Clients may observe
+   all three. Build: cc -std=c11 server.c $(pkg-config --cflags --libs coap_proved)    Run: a.out [PORT [SECONDS]] */
 #define _POSIX_C_SOURCE 200809L
 #include <arpa/inet.h>
 #include <coap_proved.h>
-#include <poll.h>
 #include <stdio.h>
 #include <stdlib.h>
 #include <string.h>
-#include <sys/socket.h>
-#include <sys/uio.h>
+#include <sys/epoll.h>
 #include <time.h>
 #include <unistd.h>
 
 #define TEXT(text) (const uint8_t *)(text), strlen(text)
 enum { CONNECTIONS = 16, ROOM = 4096 };
 
-/* A connection: its socket (0: none), its id in the server, and the bytes that the server has not accepted yet. */
+/* A connection, with the bytes that the server has not accepted yet. */
 struct connection {
-    int socket;
-    uint64_t id;
+    uint64_t id; /* 0: none */
+    int socket, has_ended;
+    uint32_t events;
     size_t kept;
     uint8_t bytes[ROOM];
 };
 
 static struct dachreup_server server;
 static struct connection connections[CONNECTIONS];
+static int epoll;
 
 static uint64_t now(void) {
     struct timespec time;
@@ -50,73 +49,75 @@ static size_t flush(struct connection *one) {
     return count > 0 && !dachreup_server_written(&server, one->id, (size_t)count) ? (size_t)count : 0;
 }
 
-/* Answers PUT /valve: 2.04 (Changed) if the state was stored, otherwise 4.13 (Request Entity Too Large). */
+/* Answers PUT /valve. The request is lent until the next take, also after the put. A put takes no lent bytes, so the state is copied. */
 static void answer(uint64_t id, struct dachreup_span request) {
     struct dachreup_message asked;
-    uint8_t copy[256], response[80];
+    uint8_t state[4], response[80];
     size_t length = 0;
     uint64_t version;
     uint32_t reply, code = DACHREUP_CODE(4, 13);
-    /* The request is lent until the next call on the server. Without a response, the engine sends 5.04 later. */
-    if (request.count > sizeof copy || dachreup_message_read(memcpy(copy, request.at, request.count), request.count, &asked))
+    if (dachreup_message_read(request.at, request.count, &asked))
         return;
-    if (asked.payload.count <= 4 && !dachreup_server_put(&server, TEXT("valve"), 0, asked.payload.at, asked.payload.count, &version))
+    if (asked.payload.count <= sizeof state &&
+        !dachreup_server_put(&server, TEXT("valve"), 0, memcpy(state, asked.payload.at, asked.payload.count), asked.payload.count, &version))
         code = DACHREUP_CODE(2, 4);
     if (!dachreup_message_write(code, asked.token.at, asked.token.count, TEXT(""), TEXT(""), response, sizeof response, &length))
         dachreup_server_respond(&server, id, response, length, &reply);
 }
 
-/* Offers the kept bytes, and writes what they cause, until nothing moves. */
+/* Offers the kept bytes and writes the queued ones, until nothing moves. Then waits for what can move next. */
 static void serve(struct connection *one) {
     struct dachreup_took took;
     struct dachreup_status status = {0};
-    for (size_t moved = 1; moved;) {
-        if (dachreup_server_take(&server, one->id, one->bytes, one->kept, &took)) {
-            end(one);
-            return;
-        }
+    do {
+        dachreup_server_take(&server, one->id, one->bytes, one->kept, &took); /* without memory, again in the next turn */
         if (took.request.count)
             answer(one->id, took.request);
         one->kept -= took.bytes;
         memmove(one->bytes, one->bytes + took.bytes, one->kept);
-        moved = took.bytes + flush(one);
-    }
-    if (!dachreup_server_status(&server, one->id, &status) && status.finished)
+    } while (took.bytes + flush(one));
+    dachreup_server_status(&server, one->id, &status);
+    struct epoll_event wanted = {(one->has_ended || one->kept == ROOM ? 0 : EPOLLIN) | (status.waiting ? EPOLLOUT : 0), {.ptr = one}};
+    if (status.finished)
         end(one);
+    else if (wanted.events != one->events && !epoll_ctl(epoll, EPOLL_CTL_MOD, one->socket, &wanted))
+        one->events = wanted.events;
 }
 
 static void receive(struct connection *one) {
-    ssize_t count = one->kept < ROOM ? recv(one->socket, one->bytes + one->kept, ROOM - one->kept, MSG_DONTWAIT) : -1;
+    ssize_t count = recv(one->socket, one->bytes + one->kept, ROOM - one->kept, MSG_DONTWAIT);
     if (count > 0)
         one->kept += (size_t)count;
-    else if (count == 0)
-        dachreup_server_ended(&server, one->id);
-    serve(one);
+    else if (count < 0 || one->has_ended)
+        end(one);
+    else
+        one->has_ended = !dachreup_server_ended(&server, one->id);
 }
 
 /* Accepts a client, if the server has room for it. */
 static void accept_from(int listener) {
     struct connection *one = connections;
     int client = accept(listener, NULL, NULL);
-    while (one < connections + CONNECTIONS - 1 && one->socket)
+    while (one < connections + CONNECTIONS - 1 && one->id)
         one++;
-    if (client < 0 || one->socket || dachreup_server_open(&server, &one->id))
+    struct epoll_event wanted = {.events = EPOLLIN, .data = {.ptr = one}};
+    if (client < 0 || one->id || epoll_ctl(epoll, EPOLL_CTL_ADD, client, &wanted) || dachreup_server_open(&server, &one->id))
         close(client);
     else
         one->socket = client;
 }
 
-/* Serves all connections, and waits for input. */
+/* Waits for events, and then serves all connections: a change of a resource may have queued bytes on any of them. */
 static void turn(int listener) {
-    struct pollfd ready[CONNECTIONS + 1] = {{.fd = listener, .events = POLLIN}};
-    for (int at = 0; at < CONNECTIONS; at++) {
-        if (connections[at].socket)
-            receive(&connections[at]);
-        ready[at + 1] = (struct pollfd){.fd = connections[at].socket ? connections[at].socket : -1, .events = POLLIN};
-    }
-    poll(ready, CONNECTIONS + 1, 200);
-    if (ready[0].revents)
-        accept_from(listener);
+    struct epoll_event ready[CONNECTIONS + 1];
+    for (int at = 0, count = epoll_wait(epoll, ready, CONNECTIONS + 1, 200); at < count; at++)
+        if (!ready[at].data.ptr)
+            accept_from(listener);
+        else if (ready[at].events & ~EPOLLOUT)
+            receive(ready[at].data.ptr);
+    for (struct connection *one = connections; one < connections + CONNECTIONS; one++)
+        if (one->id)
+            serve(one);
 }
 
 /* Stores a measured value, and notifies its observers. Without memory, the last one stays. */
@@ -131,19 +132,17 @@ int main(int count, char **words) {
     struct dachreup_settings settings = DACHREUP_SETTINGS(3);
     struct dachreup_applications entries = {0};
     struct sockaddr_in address = {.sin_family = AF_INET, .sin_port = htons((uint16_t)(count > 1 ? atoi(words[1]) : 5683)), .sin_addr = {htonl(INADDR_LOOPBACK)}};
-    int listener = socket(AF_INET, SOCK_STREAM, 0), yes = 1;
+    int listener = socket(AF_INET, SOCK_STREAM | SOCK_NONBLOCK, 0), yes = 1;
     long seconds = count > 2 ? atol(words[2]) : -1;
-    settings.moment = now();
-    setsockopt(listener, SOL_SOCKET, SO_REUSEADDR, &yes, sizeof yes);
-    if (dachreup_applications_new(&entries, 10) || dachreup_applications_add(&entries, TEXT("valve"), 1 << 3, TEXT("")) ||
-        dachreup_server_new_for(&server, &settings, &entries) || bind(listener, (struct sockaddr *)&address, sizeof address) || listen(listener, 16))
+    if (dachreup_applications_new(&entries, 10) || dachreup_applications_add(&entries, TEXT("valve"), 1 << 3, TEXT("")) || dachreup_server_new_for(&server, &settings, &entries) ||
+        setsockopt(listener, SOL_SOCKET, SO_REUSEADDR, &yes, sizeof yes) || bind(listener, (struct sockaddr *)&address, sizeof address) || listen(listener, 16) ||
+        (epoll = epoll_create1(0)) < 0 || epoll_ctl(epoll, EPOLL_CTL_ADD, listener, &(struct epoll_event){.events = EPOLLIN}))
         return 1;
-    for (uint64_t start = now(), measured = 0; seconds < 0 || now() - start < (uint64_t)seconds; turn(listener))
-        if (now() > measured) {
-            measured = now();
-            dachreup_server_tick(&server, measured);
-            measure("inside", measured - start);
-            measure("outside", 2 * (measured - start));
+    for (uint64_t start = now(), second = 0; seconds < 0 || now() - start < (uint64_t)seconds; turn(listener))
+        if (now() - start >= second) {
+            dachreup_server_tick(&server, now());
+            measure("inside", second);
+            measure("outside", 2 * second++);
         }
     dachreup_server_free(&server);
     return close(listener);

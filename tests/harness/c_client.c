@@ -165,6 +165,7 @@ static void empty(void) {
     check("empty take", dachreup_client_take(&client, TEXT("abc"), &event), DACHREUP_EMPTY);
     check("event", (uint32_t)(event.bytes + event.kind + event.reason + event.option + event.custody + event.token) + event.message.code, 0);
     check("spans", (uint32_t)(event.message.token.count + event.message.options.count + event.message.payload.count), 0);
+    check("addresses", event.message.token.at && event.message.options.at && event.message.payload.at, 1);
     check("empty parts", dachreup_client_parts(&client, &parts), DACHREUP_EMPTY);
     check("empty written", dachreup_client_written(&client, 0), DACHREUP_EMPTY);
     check("empty ended", dachreup_client_ended(&client), DACHREUP_EMPTY);
@@ -243,6 +244,50 @@ static void requests(void) {
     dachreup_client_free(&client);
 }
 
+/* The message of an event stays until the next take, ended or free, whole or in two pieces. */
+static void loans(size_t split) {
+    static const uint8_t response[5] = {0x21, 0x45, 0x01, 0xff, 'x'};
+    struct dachreup_limits limits = DACHREUP_LIMITS;
+    struct dachreup_request get = DACHREUP_REQUEST_GET;
+    struct dachreup_client_status status;
+    struct dachreup_parts parts;
+    struct dachreup_event event;
+    uint64_t token = 0;
+    check("new", dachreup_client_new(&client, &limits, 0), 0);
+    check("CSM", dachreup_client_take(&client, TEXT("\x00\xe1"), &event), 0);
+    check("send", dachreup_client_send(&client, &get, TEXT("coap+tcp://a"), TEXT(""), &token), 0);
+    if (split)
+        check("first piece", dachreup_client_take(&client, response, split, &event), 0);
+    check("response", dachreup_client_take(&client, response + split, sizeof response - split, &event), 0);
+    check("kind", event.kind, DACHREUP_EVENT_RESPONSE);
+    check("in the input", event.message.payload.at == response + 4, split == 0);
+    check("send again", dachreup_client_send(&client, &get, TEXT("coap+tcp://a"), TEXT("x"), &token), 0);
+    check("cancel", dachreup_client_cancel(&client, &get, TEXT("coap+tcp://a"), 9), DACHREUP_REQUEST_NO_SUCH_TOKEN);
+    check("ping", dachreup_client_ping(&client, 0, &token), 0);
+    check("parts", dachreup_client_parts(&client, &parts), 0);
+    check("written", dachreup_client_written(&client, parts.first.count + parts.second.count), 0);
+    check("status", dachreup_client_status(&client, &status), 0);
+    check("token", event.message.token.count == 1 && *event.message.token.at == 1, 1);
+    check("no options", event.message.options.count == 0 && event.message.options.at != NULL, 1);
+    check("payload", event.message.payload.count == 1 && *event.message.payload.at == 'x', 1);
+    dachreup_client_free(&client);
+}
+
+static void reading(void) {
+    static const uint8_t options[3] = {0x00, 0xb1, 'a'};
+    struct dachreup_span value = {options, 9};
+    size_t at = 0;
+    uint32_t number = 0;
+    check("an empty value", dachreup_option_next(options, 3, &at, &number, &value), 0);
+    check("where", (uint32_t)at * 100 + number * 10 + (uint32_t)value.count, 100);
+    check("in the options", value.at == options + 1, 1);
+    check("truncated", dachreup_option_next(options, 2, &at, &number, &value), DACHREUP_MALFORMED);
+    check("unchanged", (uint32_t)at * 100 + number * 10 + (uint32_t)value.count, 100);
+    check("option", dachreup_option_next(options, 3, &at, &number, &value), 0);
+    check("end", dachreup_option_next(options, 3, &at, &number, &value), DACHREUP_NO_MORE);
+    check("last", (uint32_t)at * 1000 + number * 10 + (uint32_t)value.count, 3111);
+}
+
 static void writing(void) {
     static uint8_t large[1 << 21];
     uint8_t bytes[8] = {0};
@@ -276,6 +321,9 @@ int main(int count, char **words) {
     ranges();
     targets();
     requests();
+    for (size_t split = 0; split < 5; split++)
+        loans(split);
+    reading();
     writing();
     empty();
     return failed;

@@ -2,7 +2,7 @@
 
        c_library stdio MAX_MESSAGE MAX_SENT QUEUE DYNAMIC PIECE     reads pieces of this size; a call that reports 2 is made once more
        c_library application                                        entries, requests of the application and its responses; prints each check that fails
-       c_library changes                                            requests that change resources or do not, each split at each place; prints each check that fails
+       c_library changes                                            requests that change resources or do not, each split at each place, and how long they are lent; prints each check that fails
        c_library lists                                              paths as lists of segments, beside texts; prints each check that fails
        c_library wrong                                              prints each check that fails */
 #include "c_checks.h"
@@ -72,6 +72,7 @@ static void empty(uint64_t id) {
     check("empty open", dachreup_server_open(&server, &number), DACHREUP_EMPTY);
     check("empty take", dachreup_server_take(&server, id, text, 3, &took), DACHREUP_EMPTY);
     check("took", (uint32_t)(took.bytes + took.request.count + took.changed.count) + took.handled + took.reason, 0);
+    check("addresses", took.request.at && took.changed.at, 1);
     check("empty parts", dachreup_server_parts(&server, id, &parts), DACHREUP_EMPTY);
     check("empty written", dachreup_server_written(&server, id, 0), DACHREUP_EMPTY);
     check("empty tick", dachreup_server_tick(&server, 1), DACHREUP_EMPTY);
@@ -249,8 +250,10 @@ static int application(void) {
             dachreup_server_new_for(&server, &settings, &applications))
             return 3;
     }
-    if (AGAIN(dachreup_server_open(&server, &id)) || AGAIN(dachreup_server_take(&server, id, csm, 2, &took)))
+    if (AGAIN(dachreup_server_open(&server, &id)) || AGAIN(dachreup_server_take(&server, id, csm, 2, &took)) ||
+        AGAIN(dachreup_server_announce(&server, id, 131072)))
         return 4;
+    queued("announced", id, "\x40\xe1\x23\x02\x00\x00", 6);
     check("no request before", dachreup_server_respond(&server, id, changed, 3, &reply), DACHREUP_NO_SUCH_REQUEST);
     take("POST", id, post, 5, 5);
     check("another token", dachreup_server_respond(&server, id, other, 3, &reply), DACHREUP_NO_SUCH_REQUEST);
@@ -347,6 +350,75 @@ static void named(void) {
     check("empty text", (uint32_t)count, 0);
 }
 
+/* Makes each call of a server but take, announce, drop and free, on this connection. */
+static void other_calls(uint64_t id, uint64_t now) {
+    static const uint8_t response[3] = {0x01, 0x44, 0x0b}, list[2] = {1, 'z'};
+    struct dachreup_settings settings = DACHREUP_SETTINGS(1);
+    struct dachreup_parts parts = {{0}, {0}};
+    struct dachreup_status status = {0};
+    struct dachreup_state state = {{0}, 0, 0};
+    uint64_t number = 0;
+    uint32_t reply = 0;
+    check("new", dachreup_server_new(&server, &settings), DACHREUP_OCCUPIED);
+    check("open", dachreup_server_open(&server, &number), 0);
+    check("parts", dachreup_server_parts(&server, id, &parts), 0);
+    check("written", dachreup_server_written(&server, id, parts.first.count + parts.second.count), 0);
+    check("respond", dachreup_server_respond(&server, id, response, 3, &reply), DACHREUP_NO_SUCH_REQUEST);
+    check("tick", dachreup_server_tick(&server, now), 0);
+    check("put", dachreup_server_put(&server, list + 1, 1, 0, list, 2, &number), 0);
+    check("state", dachreup_server_state(&server, list + 1, 1, &state), 0);
+    check("remove", dachreup_server_remove(&server, list + 1, 1), 0);
+    check("put at", dachreup_server_put_at(&server, list, 2, 0, list, 2, &number), 0);
+    check("state at", dachreup_server_state_at(&server, list, 2, &state), 0);
+    check("remove at", dachreup_server_remove_at(&server, list, 2), 0);
+    check("status", dachreup_server_status(&server, id, &status), 0);
+}
+
+/* Takes one message in two pieces, and returns the request that is lent. Checks that it is the accepted bytes if it comes whole. */
+static struct dachreup_span lent(uint64_t id, uint8_t *bytes, size_t length, size_t split) {
+    struct dachreup_took took = {0};
+    if (split < length)
+        check("first piece", dachreup_server_take(&server, id, bytes, split, &took), 0);
+    size_t at = took.bytes;
+    check("take", dachreup_server_take(&server, id, bytes + at, length - at, &took), 0);
+    check("one request", (took.request.count == 0) != (took.changed.count == 0), 1);
+    check("spans at an address", took.request.at && took.changed.at, 1);
+    struct dachreup_span request = took.request.count ? took.request : took.changed;
+    check("in the input", request.at == bytes, at == 0);
+    return request;
+}
+
+/* The bytes of a request stay until the next take, announce, drop or free, whole or in two pieces. The last call before that stops the connection. */
+static void loans(size_t split) {
+    static uint8_t csm[2] = {0x00, 0xe1}, put[7] = {0x41, 0x03, 0x07, 0xb1, 'a', 0xff, 'x'}, post[5] = {0x21, 0x02, 0x09, 0xb1, 'b'};
+    static const uint8_t created[3] = {0x01, 0x41, 0x09};
+    struct dachreup_settings settings = DACHREUP_SETTINGS(3);
+    struct dachreup_message asked;
+    struct dachreup_took took;
+    check("entries", dachreup_applications_new(&applications, 5), 0);
+    check("entry", add("b", 1 << 2, ""), 0);
+    check("server", dachreup_server_new_for(&server, &settings, &applications), 0);
+    for (uint64_t turn = 1; turn <= 3; turn++) {
+        uint64_t id = 0;
+        uint32_t reply = 9;
+        check("open", dachreup_server_open(&server, &id), 0);
+        check("CSM", dachreup_server_take(&server, id, csm, 2, &took), 0);
+        struct dachreup_span changed = lent(id, put, sizeof put, split);
+        other_calls(id, turn);
+        check("changed", changed.count == sizeof put && !memcmp(changed.at, put, sizeof put), 1);
+        struct dachreup_span request = lent(id, post, sizeof post, split);
+        other_calls(id, turn);
+        check("read", dachreup_message_read(request.at, request.count, &asked), 0);
+        if (turn == 1)
+            check("respond", dachreup_server_respond(&server, id, created, 3, &reply), 0);
+        else
+            check("stop", turn == 2 ? dachreup_server_ended(&server, id) : dachreup_server_release(&server, id), 0);
+        check("request", request.count == sizeof post && !memcmp(request.at, post, sizeof post), 1);
+        check("token", asked.token.count == 1 && *asked.token.at == 9, 1);
+    }
+    dachreup_server_free(&server);
+}
+
 /* A program that follows the resources that clients change. */
 static int changes(void) {
     static const uint8_t csm[2] = {0x00, 0xe1}, small[4] = {0x20, 0xe1, 0x21, 0x02};
@@ -370,6 +442,7 @@ static int changes(void) {
         check("stopped", dachreup_server_take(&server, id, csm, 2, &took), 0);
         check("nothing after it", (uint32_t)(took.bytes + took.changed.count), 0);
         dachreup_server_free(&server);
+        loans(split);
     }
     named();
     return failed;

@@ -227,10 +227,6 @@ class Faults(threading.local):
 FAULTS = Faults()
 
 
-class BrokerEnded(OSError):
-    """The broker ended by itself, which says nothing about a gateway."""
-
-
 class Gateway:
     """A gateway. Its log is in a file."""
 
@@ -256,14 +252,7 @@ class Gateway:
             self.process = subprocess.Popen(words, stdin=subprocess.DEVNULL, stdout=subprocess.DEVNULL, stderr=log)
         if waits and not self.says("listening on"):
             self.kill()
-            raise self.trouble("the gateway does not listen: %s" % self.log())
-
-    def trouble(self, text):
-        """Returns the exception for a gateway that does not listen."""
-        process = getattr(self.broker, "process", None)
-        if process and process.poll() is not None:
-            return BrokerEnded("%s, with status %d of the broker: %s" % (text, process.returncode, self.broker.log()))
-        return OSError(text)
+            raise OSError("the gateway does not listen: %s" % self.log())
 
     def log(self):
         with open(self.name, encoding="utf-8", errors="replace") as file:

@@ -74,7 +74,7 @@ from dataclasses import dataclass, field, replace
 sys.path.insert(0, os.path.join(os.path.dirname(os.path.abspath(__file__)), "..", "harness"))
 import quotes  # noqa: E402
 import rows  # noqa: E402
-from workspace import PARTS, ROOT, crates, furnish, is_program, rattle_words, rlib  # noqa: E402
+from workspace import PARTS, ROOT, crates, furnish, is_program, is_static, rattle_words, rlib  # noqa: E402
 from unproved import Unproved  # noqa: E402
 
 # Number of rounds of a crate without incremental data that run in turn on its folder. After two, nearly every function was proved once.
@@ -540,23 +540,23 @@ class Work:
     """The rounds of a crate that are still to be tried, and the incremental data for them."""
 
     crate: str
-    kept: str
     rounds: list
+    kept: str = ""
     # Number of further rounds that run in turn on the folder itself.
-    in_turn: int
+    in_turn: int = 0
     is_busy: bool = False
+
+    def begin(self, room):
+        """Chooses the incremental data before the first round: those of the crate's own check, or a new folder."""
+        if self.kept:
+            return
+        self.kept = f"{ROOT}/crates/{self.crate}/out/incremental"
+        if not os.path.isdir(self.kept) or not os.listdir(self.kept):
+            self.kept, self.in_turn = f"{room}/{self.crate}", IN_TURN
+            os.mkdir(self.kept)
 
     def may_start(self):
         return self.rounds and not (self.in_turn and self.is_busy)
-
-
-def work_on(crate, edits, room):
-    """Returns the rounds of a crate, on top of the incremental data of its own check or of a new folder."""
-    kept = f"{ROOT}/crates/{crate}/out/incremental"
-    if os.path.isdir(kept) and os.listdir(kept):
-        return Work(crate, kept, rounds_of(edits), 0)
-    os.mkdir(f"{room}/{crate}")
-    return Work(crate, f"{room}/{crate}", rounds_of(edits), IN_TURN)
 
 
 def size_of(crate):
@@ -578,11 +578,13 @@ def judge(edits):
     """Tries all edits, with rounds in parallel, and returns for each whether it was rejected."""
     verdicts, running, lanes = {}, {}, len(os.sched_getaffinity(0))
     with tempfile.TemporaryDirectory(prefix="edits-", ignore_cleanup_errors=True) as room, ThreadPoolExecutor(lanes) as pool:
-        names = sorted(dict.fromkeys(it.crate for it in edits), key=size_of, reverse=True)
-        works = [work_on(it, [edit for edit in edits if edit.crate == it], room) for it in names]
+        # A static library comes last, because a build of its archive may run beside and keep what it proves.
+        names = sorted(dict.fromkeys(it.crate for it in edits), key=lambda it: (is_static(it), -size_of(it)))
+        works = [Work(it, rounds_of([edit for edit in edits if edit.crate == it])) for it in names]
         while running or any(it.rounds for it in works):
             for work in works:
                 while len(running) < lanes and work.may_start():
+                    work.begin(room)
                     one, is_own = work.rounds.pop(0), work.in_turn > 0
                     work.is_busy = is_own
                     running[pool.submit(try_round, work.crate, work.kept, is_own, one)] = work, one, is_own

@@ -2,12 +2,16 @@
 """Builds programs in C over the C library, and runs them.
 
     tests/system/c_library.py bin/coap-server bin/coap-client [bin/libcoap_proved.a]
+    tests/system/c_library.py --archive     only builds the archive
 
-Without an archive, bin/libcoap_proved.a is built from crates/coap_c over the libraries that the proofs left in out/rlib. The programs are compiled with -Wall -Wextra
--Werror, and run with AddressSanitizer and UndefinedBehaviorSanitizer, and under valgrind. Recorded streams through the library give the bytes of
-`coap-server --stdio`, and scripts with several connections the lines of `coap-server --script`. A client and a server of the library exchange messages. Frames are written as they were read. Each allocation fails in turn.
-Wrong uses are reported by their numbers. Lists of segments name the paths of texts, and others. The examples talk to each other, to the programs and to libcoap's. A program with libcoap's library too gets
-the same bytes. The last line is 'N passed, M failed', and the status is 0 if M is 0.
+Without an archive, bin/libcoap_proved.a is built from crates/coap_c over the libraries that the proofs left in out/rlib. The data of this proof of
+coap_c go to out/incremental, if that is missing, so that its mutants need not prove it again. The programs are compiled as strict C11 without
+warnings, and run with AddressSanitizer and UndefinedBehaviorSanitizer, and under valgrind. The sanitizers see each allocation and each leak of the
+library, but not its own loads and stores; valgrind sees those too. The constants of the header are those of the specs. Recorded streams through the
+library give the bytes of `coap-server --stdio`, and scripts with several connections the lines of `coap-server --script`. A client and a server of the
+library exchange messages. Frames are written as they were read. Each allocation fails in turn, and nothing is lost then. Wrong uses are reported by
+their numbers. Lists of segments name the paths of texts, and others. The examples have less than 150 lines, and talk to each other, to the programs
+and to libcoap's. A program with libcoap's library too gets the same bytes. The last line is 'N passed, M failed', and the status is 0 if M is 0.
 
 The script needs Debian's packages g++, gcc, libcoap3-bin, libcoap3-dev, pkg-config and valgrind, and installs the missing ones.
 """
@@ -16,10 +20,13 @@ import contextlib
 import os
 import pathlib
 import random
+import re
+import socket
 import subprocess
 import sys
 import tempfile
 import time
+from concurrent.futures import ThreadPoolExecutor
 
 sys.path.insert(0, os.path.join(os.path.dirname(os.path.abspath(__file__)), "..", "harness"))
 import messages  # noqa: E402
@@ -32,13 +39,19 @@ from workspace import KIT, ROOT, rattle_words  # noqa: E402
 
 LIMIT = 60
 
-PACKAGES = {"coap-server-notls": "libcoap3-bin", "g++": "g++", "gcc": "gcc", "/usr/include/coap3/coap.h": "libcoap3-dev", "pkg-config": "pkg-config", "valgrind": "valgrind"}
+PACKAGES = {"coap-client-notls": "libcoap3-bin", "coap-server-notls": "libcoap3-bin", "g++": "g++", "gcc": "gcc", "/usr/include/coap3/coap.h": "libcoap3-dev", "pkg-config": "pkg-config", "valgrind": "valgrind"}
 
 PREFIX = "dachreup_"
 
-WARNINGS = ["-std=c11", "-D_POSIX_C_SOURCE=200809L", "-Wall", "-Wextra", "-Werror", "-g", f"-I{ROOT}/include"]
+STRICT = ["-pedantic-errors", "-Wall", "-Wextra", "-Werror"]
+
+WARNINGS = ["-std=c11", "-D_POSIX_C_SOURCE=200809L", *STRICT, "-g", f"-I{ROOT}/include"]
 
 SANITIZED = ["-fsanitize=address,undefined", "-fno-sanitize-recover=all"]
+
+# The program and the library call malloc and realloc of fail_malloc.c, and these the allocator of AddressSanitizer.
+FAILING = [*(f"-D{name}={'__wrap_' + name}" for name in ("malloc", "realloc")), *(f"-D__libc_{name}=__real_{name}" for name in ("malloc", "realloc")),
+           "-Wl,--wrap=malloc,--wrap=realloc"]
 
 VALGRIND = ["valgrind", "--quiet", "--leak-check=full", "--show-leak-kinds=all", "--error-exitcode=9"]
 
@@ -56,12 +69,17 @@ def run(words, given=b"", **environment):
 def build_archive():
     """Builds the archive from the crate, and returns its path. `rt lib` would prove all libraries below anew after `rt ci`, and remove them meanwhile,
     while the mutants need them."""
-    with tempfile.TemporaryDirectory(prefix="c-library-") as room:
-        words = [*rattle_words("build", "coap_c"), "--toolchain", f"{KIT}/toolchain", "--backend", "llvm", "-o", f"{room}/libcoap_c.a"]
+    kept = f"{ROOT}/crates/coap_c/out/incremental"
+    os.makedirs(os.path.dirname(kept), exist_ok=True)
+    # In the same folder, so that the data appear there at once.
+    with tempfile.TemporaryDirectory(prefix="archive-", dir=os.path.dirname(kept)) as room:
+        words = [*rattle_words("build", "coap_c"), "--incremental", f"{room}/kept", "--toolchain", f"{KIT}/toolchain", "--backend", "llvm", "-o", f"{room}/libcoap_c.a"]
         built = subprocess.run(words, cwd=f"{ROOT}/crates/coap_c", stdout=subprocess.PIPE, stderr=subprocess.STDOUT, text=True, errors="replace")
         if built.returncode:
             sys.exit(f"{built.stdout}coap_c is not built\n0 passed, 1 failed")
         subprocess.run([f"{ROOT}/install/library/build", f"{room}/libcoap_c.a", f"{ROOT}/bin"], check=True, stdout=subprocess.DEVNULL)
+        if not os.path.isdir(kept):
+            os.rename(f"{room}/kept", kept)
     return f"{ROOT}/bin/libcoap_proved.a"
 
 
@@ -155,19 +173,57 @@ def check_scripts(checks, programs, server):
 CHANGES = bytes.fromhex("00e1" "010101" "410302b161ff787878") + bytes.fromhex("e100260302b161ff") + b"y" * 300 + bytes.fromhex("210103b161" "410304b162ff78" "210105b161")
 
 
-def check_allocations(checks, words, given, room):
-    """Makes each allocation of a run fail in turn. The failed call is made once more, so the output stays the same."""
-    shim, name = f"{room}/fail_malloc.so", os.path.basename(words[0])
-    subprocess.run(["gcc", "-O2", "-shared", "-fPIC", "-o", shim, f"{rows.HARNESS}/fail_malloc.c"], check=True)
+def check_allocations(checks, words, given):
+    """Makes each allocation of a run fail in turn. The failed call is made once more, so the output stays the same. The sanitizer reports a leak."""
+    name = f"{os.path.basename(words[0])} {words[1]}"
     wanted, number = run(words, given), 0
-    checks.same(f"{name} without a failure", wanted.returncode, 0)
-    while True:
+    checks.same(f"{name} without a failure", (wanted.returncode, wanted.stderr), (0, b""))
+    while b"refused" in (ran := run(words, given, REFUSE_ALLOCATION=str(number + 1))).stderr:
         number += 1
-        ran = run(words, given, LD_PRELOAD=shim, REFUSE_ALLOCATION=str(number))
-        if b"refused" not in ran.stderr:
-            break
-        checks.same(f"{name}: allocation {number} fails", (ran.returncode, ran.stdout), (0, wanted.stdout))
+        checks.same(f"{name}: allocation {number} fails", (ran.returncode, ran.stdout, ran.stderr), (0, wanted.stdout, b"refused\n"))
     checks.same(f"{name} allocates", number > 5, True)
+
+
+# The definitions of the specs that number the constants of the header: the beginning of their names there.
+PREFIXES = {"limit": "", "config": "", "open": "", "written": "", "store": "", "release": "RELEASE_", "announce": "ANNOUNCE_", "handled": "", "phase": "PHASE_",
+            "request": "REQUEST_", "format": "FRAME_", "target": "URI_", "response": "RESPOND_", "reply": "REPLY_", "entry": "APPLICATION_"}
+
+# Variants with another name in the header.
+RENAMED = {"config.Dynamic": "DYNAMIC_MAX", "config.Representation": "REP_MAX", "format.NotOneFrame": "FRAME_NOT_ONE", "reason.Format": "BAD_MESSAGE",
+           "reason.TooLarge": "MESSAGE_TOO_LARGE", "reason.TokenLength": "BAD_TOKEN_LENGTH"}
+
+# Constants that no definition numbers by a variant, and whose number no program of these tests compares with that of a call.
+OTHERS = {"OK": 0, "EVENT_NONE": 0, "NO_FORMAT": 65536, "PATH_ROOM": 254}
+
+
+def spec_numbers():
+    """Returns the numbers of the specs, each with the definition, the variant and the names that the header may have for it."""
+    def snake(variant):
+        return re.sub(r"(?<=.)(?=[A-Z])", "_", variant).upper()
+    def text(file):
+        return pathlib.Path(f"{ROOT}/crates/{file}").read_text(encoding="utf-8")
+    found = [(f"{name}.{variant}", int(number), (f"{PREFIXES[name]}{snake(variant)}", snake(variant)))
+             for name, variant, number in re.findall(r"^(\w+)_code \(?\w+\.(\w+)[^=\n]*= (\d+)$", text("coap_c/specs/Numbers.antt"), re.M)]
+    found += [(f"reason.{variant}", int(number), (snake(variant),))
+              for variant, number in re.findall(r"^reason_number \(?(\w+)[^=\n]*= (\d+)$", text("coap_conn/specs/Reasons.antt"), re.M)]
+    found += [(f"event.{variant}", int(number), (f"EVENT_{snake(variant)}",))
+              for variant, number in re.findall(r"^ShowsEvent \(Some \(?event\.(\w+).*? = Is\w+ (\d) ", text("coap_c/specs/ClientEvents.antt"), re.M)]
+    found += [(f"method.{variant}", int(number), (snake(variant),)) for number, variant in re.findall(r"n == (\d) then Some method\.(\w+)", text("coap_c/specs/RequestTexts.antt"))]
+    return found
+
+
+def check_numbers(checks, header):
+    """Compares the constants of the header with the specs. Those without a variant there are compared by a program of these tests, or listed."""
+    named = {name: int(number) for name, number in re.findall(r"\bDACHREUP_(\w+)(?: = | UINT32_C\(| )(\d+)\b", header)}
+    compared, numbers = set(), spec_numbers()
+    for variant, number, names in numbers:
+        name = next((it for it in (RENAMED.get(variant), *names) if it in named), variant)
+        checks.same(f"{name} is {variant}", named.get(name), number)
+        compared.add(name)
+    checks.same("variants of the specs", len(numbers) > 90, True)
+    programs = "".join(it.read_text(encoding="utf-8") for it in sorted(rows.HARNESS.glob("c_*.c")))
+    checks.same("constants that nothing compares", [it for it in named if it not in compared and it not in OTHERS and not re.search(rf"\), DACHREUP_{it}\b|{{.*DACHREUP_{it}}}", programs)], [])
+    checks.same("other constants", {it: named.get(it) for it in OTHERS}, OTHERS)
 
 
 # Events of the client in the mode `pair` of c_client.c.
@@ -241,24 +297,45 @@ def check_client(checks, clients, server, example):
             checks.same(f"{client[0]} fails at {uri}", run([*client, uri]).returncode, 2)
 
 
-def check_example(checks, server, client):
-    """Runs the server of examples/c, and observes a value."""
+# libcoap's client, which ends after these seconds without a response.
+LIBCOAP = ["coap-client-notls", "-B", "9"]
+
+
+def use_example(words, client):
+    """Runs the server of examples/c in this way. Observes values, also by libcoap's client, and changes another one. Returns the checks."""
     port = free_port("127.0.0.1")
-    running = subprocess.Popen([server, str(port), "6"], stdout=subprocess.PIPE, stderr=subprocess.STDOUT)
-    time.sleep(1)
     address = f"coap+tcp://127.0.0.1:{port}"
-    both = [subprocess.Popen([client, "-w", "-s", "3", f"{address}/{name}"], stdout=subprocess.PIPE, stderr=subprocess.STDOUT) for name in ("inside", "outside")]
-    told = [one.communicate(timeout=LIMIT)[0].decode() for one in both]
-    for name, text, one in zip(("inside", "outside"), told, both):
-        checks.same(f"observes /{name}: {text!r}", len(set(text.split() or [text])) + len(text) > 3 and text[:1].isdigit() and one.returncode in (0, 3), True)
-    for state, code in (("open", b""), ("shut", b""), ("shut now", b"4.13")):
+    running = subprocess.Popen([*words, str(port), "10"], stdout=subprocess.PIPE, stderr=subprocess.STDOUT)
+    for _ in range(100):
+        with contextlib.suppress(OSError), socket.create_connection(("127.0.0.1", port)):
+            break
+        time.sleep(0.1)
+    observers = [subprocess.Popen([*one, "-w", "-s", "3", f"{address}/{path}"], stdout=subprocess.PIPE, stderr=subprocess.STDOUT)
+                 for one, path in (([client], "inside"), ([client], "outside"), (LIBCOAP, "inside"))]
+    for one in observers:
+        text = one.communicate(timeout=LIMIT)[0].decode()
+        values = [int(it) for it in re.findall(r"\d+", text)]
+        yield f"{one.args}: {text!r}", (len(set(values)) >= 3, values == sorted(values), one.returncode in (0, 3)), (True, True, True)
+    # The first state has more bytes than the server reads at once, so its request comes in pieces.
+    for state, code in (("x" * 5000, b"4.13"), ("open", b""), ("shut", b""), ("shut now", b"4.13")):
         changed = run([client, "-m", "put", "-e", state, f"{address}/valve"])
-        checks.same(f"valve {state}: {changed}", (changed.returncode == 0, changed.stdout, changed.stderr[:4]), (not code, b"", code))
-    checks.same("valve", run([client, f"{address}/valve"]).stdout.strip(), b"shut")
+        yield f"valve {state[:9]}: {changed.stderr}", (changed.returncode == 0, changed.stdout, changed.stderr[:4]), (not code, b"", code)
+    yield "valve", run([client, f"{address}/valve"]).stdout.strip(), b"shut"
+    changed = run([*LIBCOAP, "-m", "put", "-e", "open", f"{address}/valve"])
+    yield "libcoap changes the valve", (changed.returncode, changed.stdout, changed.stderr), (0, b"", b"")
+    yield "libcoap reads the valve", run([*LIBCOAP, f"{address}/valve"]).stdout.strip(), b"open"
     missing = run([client, f"{address}/none"])
-    checks.same("no such resource", b"4.04" in missing.stdout + missing.stderr, True)
+    yield "no such resource", b"4.04" in missing.stdout + missing.stderr, True
     said = running.communicate(timeout=LIMIT)[0]
-    checks.same("example server", (running.returncode, said), (0, b""))
+    yield "example server", (running.returncode, said), (0, b"")
+
+
+def check_example(checks, servers, client):
+    """Uses the server of examples/c in each of these ways, at the same time."""
+    with ThreadPoolExecutor() as pool:
+        for words, found in zip(servers, pool.map(lambda it: list(use_example(it, client)), servers)):
+            for name, got, wanted in found:
+                checks.same(f"{words[0]}: {name}", got, wanted)
 
 
 def check_libcoap(checks, archive, driver, room):
@@ -276,7 +353,10 @@ def check_libcoap(checks, archive, driver, room):
         checks.same(f"with libcoap, {name}", (ran.returncode, ran.stdout, ran.stderr), (0, alone.stdout, b""))
 
 
-def main(server, client, archive=None):
+def main(server, client=None, archive=None):
+    if server == "--archive":
+        print(build_archive())
+        return 0
     checks = Checks()
     checks.same("packages can be installed", packages.install(PACKAGES), True)
     with tempfile.TemporaryDirectory(prefix="c-library-") as room:
@@ -285,7 +365,10 @@ def main(server, client, archive=None):
         checks.same("exported names", [it[2] for it in names if not it[2].startswith(PREFIX)], [])
         header = pathlib.Path(f"{ROOT}/include/coap_proved.h").read_text(encoding="utf-8")
         checks.same("names in the header", [it[2] for it in names if f"{it[2]}(" not in header], [])
-        checks.same("header in C++", run(["g++", "-fsyntax-only", "-Wall", "-Wextra", "-Werror", "-x", "c++", f"{ROOT}/include/coap_proved.h"]).returncode, 0)
+        checks.same("header in C++", run(["g++", "-fsyntax-only", *STRICT, "-x", "c++", f"{ROOT}/include/coap_proved.h"]).returncode, 0)
+        check_numbers(checks, header)
+        for path in sorted(pathlib.Path(f"{ROOT}/examples/c").glob("*.c")):
+            checks.same(f"{path.name} has less than 150 lines", path.read_text(encoding="utf-8").count("\n") < 150, True)
         driver, example = f"{ROOT}/tests/harness/c_library.c", f"{ROOT}/examples/c/server.c"
         plain = compiled(checks, driver, [archive], f"{room}/driver")
         sanitized = compiled(checks, driver, [archive], f"{room}/driver-sanitized", SANITIZED)
@@ -304,11 +387,13 @@ def main(server, client, archive=None):
         check_streams(checks, sanitized, server)
         script = f"{ROOT}/tests/harness/c_script.c"
         check_scripts(checks, ([compiled(checks, script, [archive], f"{room}/script-sanitized", SANITIZED)], [*VALGRIND, compiled(checks, script, [archive], f"{room}/script")]), server)
-        check_allocations(checks, [plain, "stdio", "65536", "65536", "131072", "16", "65536"], CHANGES, room)
-        check_allocations(checks, [plain, "application"], b"", room)
-        check_allocations(checks, [pair, "pair", "9"], b"", room)
-        served = compiled(checks, example, [archive], f"{room}/server", SANITIZED)
-        check_example(checks, served, client)
+        failing = [f"{rows.HARNESS}/fail_malloc.c", archive]
+        refused = compiled(checks, driver, failing, f"{room}/driver-failing", [*SANITIZED, *FAILING])
+        check_allocations(checks, [refused, "stdio", "65536", "65536", "131072", "16", "65536"], CHANGES)
+        check_allocations(checks, [refused, "application"], b"")
+        check_allocations(checks, [compiled(checks, both, failing, f"{room}/pair-failing", [*SANITIZED, *FAILING]), "pair", "9"], b"")
+        served = compiled(checks, example, [archive], f"{room}/server-sanitized", SANITIZED)
+        check_example(checks, [[served], [*VALGRIND, compiled(checks, example, [archive], f"{room}/server")]], client)
         observer = f"{ROOT}/examples/c/client.c"
         observers = [[compiled(checks, observer, [archive], f"{room}/client-sanitized", SANITIZED)], [*VALGRIND, compiled(checks, observer, [archive], f"{room}/client")]]
         check_client(checks, observers, server, served)

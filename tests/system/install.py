@@ -159,17 +159,42 @@ def check_unbuilt(checks, tree):
             checks.same("%s is missing" % name, (status != 0, "make all" in said, files_below(destination)), (True, True, {}))
 
 
+def check_analyzed(checks, name, unit):
+    """Checks a unit with systemd-analyze: its remarks and the exposure."""
+    folder = os.path.dirname(unit)
+    status, said = run(["systemd-analyze", "verify", "--man=no", unit], folder)
+    checks.same("remarks of systemd-analyze on %s" % name, (status, [line for line in said.splitlines() if "coap-server" in line]), (0, []))
+    status, said = run(["systemd-analyze", "security", "--offline=true", "--no-pager", unit], folder)
+    exposure = re.search(r"Overall exposure level for coap-server\.service: ([\d.]+)", said)
+    checks.same("exposure of %s of at most %s" % (name, EXPOSURE), (status, bool(exposure) and float(exposure[1]) <= EXPOSURE), (0, True))
+
+
 def check_unit(checks, tree):
     """Checks the installed unit with systemd-analyze."""
     with tempfile.TemporaryDirectory() as prefix:
         make(tree, "install", prefix, "")
-        unit = os.path.join(prefix, UNIT)
-        status, said = run(["systemd-analyze", "verify", "--man=no", unit], prefix)
-        remarks = [line for line in said.splitlines() if "coap-server" in line]
-        checks.same("remarks of systemd-analyze", (status, remarks), (0, []))
-        status, said = run(["systemd-analyze", "security", "--offline=true", "--no-pager", unit], prefix)
-        exposure = re.search(r"Overall exposure level for coap-server\.service: ([\d.]+)", said)
-        checks.same("the unit's exposure of at most %s" % EXPOSURE, (status, bool(exposure) and float(exposure[1]) <= EXPOSURE), (0, True))
+        check_analyzed(checks, "the unit", os.path.join(prefix, UNIT))
+
+
+def check_recording_unit(checks, tree, is_analyzed):
+    """Checks the unit with its example of a record, whose lines are comments. The shell replaces variables in its command as systemd does."""
+    with tempfile.TemporaryDirectory() as prefix:
+        make(tree, "install", prefix, "")
+        unit, logs = os.path.join(prefix, UNIT), os.path.join(prefix, "logs")
+        text = re.sub(r"(?m)^#(?=\w+=)", "", read(unit).decode())
+        said = [it.split("=", 1) for it in text.splitlines() if re.match("LogsDirectory|ExecStart=", it)]
+        plain = "%s/bin/coap-server $COAP_SERVER_OPTIONS" % prefix
+        records = "%s/bin/coap-server --record ${LOGS_DIRECTORY}/${INVOCATION_ID}.record $COAP_SERVER_OPTIONS" % prefix
+        wanted = [["ExecStart", plain], ["LogsDirectory", "coap-server"], ["LogsDirectoryMode", "0700"], ["ExecStart", ""], ["ExecStart", records]]
+        checks.same("the unit with a record", said, wanted)
+        os.mkdir(logs)
+        how = dict(os.environ, LOGS_DIRECTORY=logs, INVOCATION_ID="0123456789abcdef", COAP_SERVER_OPTIONS="--stdio -d 1")
+        checks.same("the command of the unit with a record", run(["sh", "-c", said[-1][1]], prefix, env=how)[0], 0)
+        checks.same("its record", (files_below(logs), read(logs, "0123456789abcdef.record")[:24]), ({"0123456789abcdef.record": 0o600}, b"# Record of coap-server "))
+        if is_analyzed:
+            with open(unit, "w", encoding="utf-8") as file:
+                file.write(text)
+            check_analyzed(checks, "the unit with a record", unit)
 
 
 def check_numbered_unit(checks, tree):
@@ -204,11 +229,13 @@ def check(programs, archive):
             check_prefix(checks, tree, prefix, True)
         check_without_library(checks, tree)
         check_unbuilt(checks, tree)
-        if shutil.which("systemd-analyze"):
+        is_analyzed = bool(shutil.which("systemd-analyze"))
+        check_recording_unit(checks, tree, is_analyzed)
+        if is_analyzed:
             check_unit(checks, tree)
             check_numbered_unit(checks, tree)
         else:
-            print("systemd-analyze does not exist: the unit was not checked")
+            print("systemd-analyze does not exist: the units were not checked with it")
     print("install: %d passed, %d failed" % (checks.passed, checks.failed))
     return 1 if checks.failed else 0
 

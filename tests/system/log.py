@@ -21,6 +21,7 @@ import time
 
 sys.path.insert(0, os.path.join(os.path.dirname(os.path.abspath(__file__)), "..", "harness"))
 from checks import CSM, Checks  # noqa: E402
+from clocks import HOUR, SystemClock  # noqa: E402
 from message_syntax import encoded  # noqa: E402
 from peers import LIMIT, LOCAL, Server, free_port, read_bytes, reset  # noqa: E402
 
@@ -34,7 +35,7 @@ MOST_LINES, MOST_BYTES = 100, 1_024
 
 # The server's own CSM, and CSMs with a Max-Message-Size of 10 bytes and of 65,536 bytes.
 SETTINGS, SMALL, LARGE = (bytes.fromhex(it) for it in (CSM, "20e1210a", "40e123010000"))
-GET_ROOT, EMPTY, PING = bytes.fromhex("0001"), bytes.fromhex("0000"), bytes.fromhex("00e2")
+GET_ROOT, RELEASE = bytes.fromhex("0001"), bytes.fromhex("00e4")
 GREETING = bytes.fromhex("c0ff636f61702b746370")
 
 
@@ -75,9 +76,14 @@ def lines_in(name):
         return log.read().splitlines(keepends=True)[1:]
 
 
-def texts_in(name):
+def texts_of(error):
     """Returns the texts of the lines of a log, without the time and the name of the program."""
-    return [found[3].decode() for it in lines_in(name) if (found := LINE.fullmatch(it))]
+    return [found[3].decode() for it in error.splitlines(keepends=True) if (found := LINE.fullmatch(it))]
+
+
+def texts_in(name):
+    """Returns the texts of the lines of a log after the line that says where the server listens."""
+    return texts_of(b"".join(lines_in(name)))
 
 
 def ask(port, *messages):
@@ -161,6 +167,55 @@ def check_warnings(checks):
         time.sleep(0.2)
         reset(peer)
         checks.same("failed connection", "connection 7 failed" in settled(name, 7), True)
+
+
+def check_idle(checks):
+    """With `--idle`, each connection has its own reason, and one that failed is a warning, whatever its time."""
+    seconds = 2
+    with logging("--log", "2", "--idle", str(seconds)) as (_, port, name):
+        wait_until_silent(name)
+        before = len(lines_in(name))
+        mute, mild, tiny, waiting, hasty = (socket.create_connection((LOCAL, port), LIMIT) for _ in range(5))
+        for peer in (mild, waiting, hasty):
+            peer.sendall(SETTINGS)
+        # A Max-Message-Size of 1 byte, which is too small for a Release.
+        tiny.sendall(bytes.fromhex("20e12101"))
+        waiting.sendall(encoded(1, b"\x01", [(11, b"async"), (15, b"60")], b""))
+        time.sleep(0.3)
+        reset(hasty)
+        # The delayed response keeps this peer, although it is silent.
+        time.sleep(seconds + 2)
+        reset(waiting)
+        lines = settled(name, before + 12)[before:]
+        reasons = {int(it.split()[1]): it.partition(" ended: ")[2].partition(";")[0] for it in lines if " ended: " in it}
+        wanted = {2: "no CSM in time", 3: "Release by the server", 4: "silent connection that could not be released", 5: "failed connection", 6: "failed connection"}
+        checks.same("reasons with --idle", reasons, wanted)
+        checks.same("failed connections with --idle", [it for it in lines if it.endswith(" failed")], ["connection 6 failed", "connection 5 failed"])
+        for peer in (mute, mild, tiny):
+            peer.close()
+    with logging("--log", "1", "--idle", "60") as (_, port, name):
+        wait_until_silent(name)
+        peer = socket.create_connection((LOCAL, port), LIMIT)
+        peer.sendall(SETTINGS)
+        time.sleep(0.2)
+        reset(peer)
+        checks.same("a reset with --idle is a warning", settled(name, 1), ["connection 2 failed"])
+
+
+def check_step_back(checks):
+    """If the clock is set back, the limit begins anew, so that lines are written and those left out are reported."""
+    with SystemClock() as clock, logging("--log", "2", "--connections", "256", **clock.how()) as (_, port, name):
+        for _ in range(200):
+            socket.create_connection((LOCAL, port), LIMIT).close()
+        clock.ahead(-HOUR)
+        before = time.strftime("%Y-%m-%dT%H:%M:%S", time.gmtime(time.time() - HOUR / 2)).encode()
+        time.sleep(1.2)
+        for _ in range(3):
+            socket.create_connection((LOCAL, port), LIMIT).close()
+            time.sleep(1.1)
+        after = [it for it in lines_in(name) if LINE.fullmatch(it)[1] < before]
+        checks.same("lines after a step back", sum(b" opened by " in it for it in after) >= 3, True)
+        checks.same("a report after a step back", any(b"lines left out: " in it for it in after), True)
 
 
 def check_rate(checks, count):
@@ -248,7 +303,7 @@ def check_stdio(checks):
     for level in ("0", "2", "3"):
         ran = subprocess.run([SERVER, "--stdio", "--log", level], input=SETTINGS + GET_ROOT, capture_output=True, timeout=LIMIT)
         said[level] = ran.stdout
-        texts = [found[3].decode() for it in ran.stderr.splitlines(keepends=True) if (found := LINE.fullmatch(it))]
+        texts = texts_of(ran.stderr)
         checks.same(f"stdio at level {level}: only lines of a log", len(texts), len(ran.stderr.splitlines()))
         checks.same(f"stdio at level {level}: first line", texts[:1] == ["connection 1 opened by standard input"], level != "0")
         checks.same(f"stdio at level {level}: last line", any(it.startswith("connection 1 ended: end of input; 2 messages, ") for it in texts[-1:]), level != "0")
@@ -256,16 +311,91 @@ def check_stdio(checks):
     checks.same("stdio: the same output", said["3"] == said["2"] == said["0"] != b"", True)
 
 
+def check_last_lines(checks):
+    """The last line of a log is written although the limit is reached, and the number of lines left out before it."""
+    count = 1_000
+    ran = subprocess.run([SERVER, "--stdio", "--log", "3"], input=SETTINGS + count * GET_ROOT, capture_output=True, timeout=LIMIT)
+    check_sum(checks, "stdio", ran.stderr, 2 * (count + 1) + 2)
+    texts = texts_of(ran.stderr)
+    checks.same("stdio: the count of messages", texts[-1].partition(";")[0], "connection 1 ended: end of input")
+    checks.same("stdio: the count comes before the last line", texts[-2].startswith("lines left out: "), True)
+    put = b"".join(encoded(3, b"\x01", [(11, b"a%d" % at)], b"x") for at in range(count))
+    ran = subprocess.run([SERVER, "--stdio", "--log", "1", "-d", "1"], input=SETTINGS + put, capture_output=True, timeout=LIMIT)
+    # The first resource is created, and the others are refused.
+    check_sum(checks, "stdio at level 1", ran.stderr, count - 1)
+    notifications = b"".join(encoded(0x45, b"\x01", [(6, b"%c" % (at % 200 + 1))], b"%d" % at) for at in range(count))
+    ran = ask_of(["--log", "3", "-s", "60"], SETTINGS, notifications + RELEASE)
+    # The CSMs, the request, the notifications, and the Release are messages.
+    check_sum(checks, "client", ran.stderr, count + 4 + 2)
+    last = [it for it in texts_of(ran.stderr) if " ended: " in it or "lines left out: " in it][-2:]
+    checks.same("client: the last lines", [re.sub(r"\d+$|;.*", "", it) for it in last], ["lines left out: ", "connection 1 ended: the server sent Release"])
+
+
+def check_sum(checks, name, error, count):
+    """Checks that the lines written and those left out are `count` lines, and that a second has at most 100 of them."""
+    texts = texts_of(error)
+    left_out = sum(int(it.rpartition(" ")[2]) for it in texts if it.startswith("lines left out: "))
+    written = sum(not it.startswith("lines left out: ") for it in texts)
+    checks.same(f"{name}: lines written and left out", written + left_out, count)
+    seconds = collections.Counter(found[1] for it in error.splitlines(keepends=True) if (found := LINE.fullmatch(it)))
+    checks.same(f"{name}: lines of a second", max(seconds.values()) <= MOST_LINES, True)
+
+
 def check_client(checks):
     """The log of a client has its connection and its messages, and leaves its output as it is."""
     with Server(SERVER) as server:
         for level in ("0", "1", "2", "3"):
             ran = subprocess.run([CLIENT, "--log", level, "-w", server.uri()], stdin=subprocess.DEVNULL, capture_output=True, timeout=LIMIT)
-            texts = [found[3].decode() for it in ran.stderr.splitlines(keepends=True) if (found := LINE.fullmatch(it))]
+            texts = texts_of(ran.stderr)
             checks.same(f"client at level {level}", (ran.returncode, ran.stdout), (0, b"coap+tcp\n"))
             checks.same(f"client at level {level}: only lines of a log", len(texts), len(ran.stderr.splitlines()))
-            checks.same(f"client at level {level}: connections", any("connected to" in it for it in texts), level in "23")
-            checks.same(f"client at level {level}: messages", any("out " in it and "GET" in it for it in texts) and any("2.05 Content" in it for it in texts), level == "3")
+            first, last = rf"connection 1 opened to {LOCAL}:{server.port}", r"connection 1 ended: last response; 2 messages, \d+ bytes in; 2 messages, \d+ bytes out"
+            checks.same(f"client at level {level}: first line", any(re.fullmatch(first, it) for it in texts[:1]), level in "23")
+            checks.same(f"client at level {level}: last line", any(re.fullmatch(last, it) for it in texts[-1:]), level in "23")
+            sent, received = (any(it.startswith(f"connection 1 {front}") for it in texts) for front in ("out: 0.01 GET", "in: 2.05 Content"))
+            checks.same(f"client at level {level}: messages", sent and received, level == "3")
+
+
+def ask_of(words, *answers, ends=socket.socket.close):
+    """Runs a client with these arguments against a peer that sends the answers: the first one at once, the others after the request. At last `ends`
+    ends the connection. Without an answer it stays open until the client ends."""
+    with socket.create_server((LOCAL, 0)) as listener, subprocess.Popen(
+            [CLIENT, *words, f"coap+tcp://{LOCAL}:{listener.getsockname()[1]}/"], stdin=subprocess.DEVNULL, stdout=subprocess.PIPE, stderr=subprocess.PIPE) as process:
+        peer = listener.accept()[0]
+        for at, answer in enumerate(answers):
+            peer.sendall(answer)
+            time.sleep(0.2)
+            # The client's CSM and its request are read, so that the end is no reset unless `ends` is one.
+            if at == 0:
+                peer.recv(65536)
+        if answers:
+            ends(peer)
+        output, error = process.communicate(timeout=LIMIT)
+        peer.close()
+        return subprocess.CompletedProcess(words, process.returncode, output, error)
+
+
+def check_client_ends(checks):
+    """Each line for the end of a client's connection has the reason, and a failure or a limit is a warning."""
+    too_large, abort, settings = bytes.fromhex("f0ffffff0045"), bytes.fromhex("00e5"), bytes.fromhex("00e1")
+    put = ["-m", "put", "-e", "x" * 2_000]
+    refused, large = "the request has 2006 bytes; the peer accepts 1152", "the server sent a message of more than 65536 bytes"
+    ends = [
+        # The arguments, what the peer sends, how it ends the connection, the reason, and the text of the warning.
+        ([], [SETTINGS], reset, "the connection ended before the last response", " failed"),
+        ([], [SETTINGS], socket.socket.close, "the connection ended before the last response", None),
+        ([], [SETTINGS, abort], socket.socket.close, "the server sent Abort", None),
+        ([], [SETTINGS, too_large], socket.socket.close, large, ": " + large),
+        (put, [settings], socket.socket.close, refused, ": " + refused),
+        (["-B", "1"], [], None, "the server sent no CSM within 1 second", None),
+    ]
+    for words, answers, how, reason, warning in ends:
+        warnings = [f"connection 1{warning}"] if warning else []
+        for level in ("1", "2"):
+            texts = texts_of(ask_of([*words, "--log", level], *answers, ends=how).stderr)
+            ended = texts.pop() if level == "2" and texts else ""
+            checks.same(f"client: warnings of {reason!r} at level {level}", texts[int(level) - 1:], warnings)
+            checks.same(f"client: reason at level {level}", ended.startswith(f"connection 1 ended: {reason}; "), level == "2")
 
 
 def main():
@@ -273,9 +403,13 @@ def main():
     check_levels(checks)
     check_lines(checks)
     check_warnings(checks)
+    check_idle(checks)
+    check_step_back(checks)
     check_standard_error(checks)
     check_stdio(checks)
+    check_last_lines(checks)
     check_client(checks)
+    check_client_ends(checks)
     check_rate(checks, number_after("--connections", 100_000))
     check_printable(checks, number_after("--messages", 100_000))
     print("%d passed, %d failed" % (checks.passed, checks.failed))

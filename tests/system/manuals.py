@@ -466,15 +466,23 @@ def check_causes(checks, manual):
         checks.same("%s: %r" % (manual.name, words), words.strip() in text, words not in UNREACHED)
 
 
+# Files with the texts of a log, patterns that find these texts, and their number at least.
+LOGS = {
+    "coap-server": (["coap_server/src/log.rt", "coap_server_common/src/reasons.rt"], 23,
+                    [r'Reason::\w+(?:\(_\))? => "([^"]+)"', r'warn\(id, "([^"]+)"', r'"(connections not accepted[^"]*|failed waits)"', r'(?m)^ +(?:return )?"([^"]+)";?$']),
+    "coap-client": (["coap_client_main/src/logged.rt", "coap_log/src/log*.rt"], 10,
+                    [r'line\.text\("([^"]+)"', r'connection_line\(number, "([^"]+)"', r'text_line\((?:self\.)?number, "([^"]+)"']),
+}
+
+
 def check_log(checks, manual):
-    """Checks that the manual has each text of the server's log."""
-    text = " ".join(manual.rendered()[1].split())
-    source = source_of(["coap_server/src/log.rt", "coap_server_common/src/reasons.rt"])
-    texts = re.findall(r'Reason::\w+(?:\(_\))? => "([^"]+)"', source) + re.findall(r'warn\(id, "([^"]+)"', source)
-    texts += re.findall(r'"(connections not accepted[^"]*|failed waits)"', source) + re.findall(r'line\.text\("([^"]*connection)"', source)
-    checks.same("%s: number of texts of the log" % manual.name, len(texts) >= 22, True)
+    """Checks that the section on the log has each text of the log."""
+    section = manual.rendered()[1].partition("\nLOG\n")[2].partition("\nSEE ALSO\n")[0]
+    files, fewest, patterns = LOGS[manual.name]
+    texts = [text for pattern in patterns for text in re.findall(pattern, source_of(files))]
+    checks.same("%s: number of texts of the log" % manual.name, len(texts) >= fewest, True)
     for words in texts:
-        checks.same("%s: %r" % (manual.name, words), words.strip(" :") in text, True)
+        checks.same("%s: log: %r" % (manual.name, words), words.strip(" :;") in " ".join(section.split()), True)
 
 
 def check_faults(checks, manual, program, faults):
@@ -572,6 +580,7 @@ def check(server, client, explain, directory):
         check_signal(checks, server)
         check_causes(checks, Manual("coap-client"))
         check_log(checks, Manual("coap-server"))
+        check_log(checks, Manual("coap-client"))
         check_answered(checks, Manual("coap-client"), server, programs)
     print("manuals: %d passed, %d failed" % (checks.passed, checks.failed))
     return 1 if checks.failed else 0

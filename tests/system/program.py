@@ -120,14 +120,14 @@ BAD_SCRIPTS = [
 ]
 
 
-def cannot_listen(host):
-    """Returns the texts after the program's name for an address that this machine does not have, at the standard port."""
-    why = "address %s is not an address of this machine; choose another with -A" % host
+def cannot_listen(host, port=5683):
+    """Returns the texts after the program's name for an address that this machine does not have."""
+    why = "address %s port %d is not available on this machine; choose another address with -A" % (host, port)
     if ":" in host:
         try:
             socket.socket(socket.AF_INET6).close()
         except OSError as trouble:
-            why = "address %s port 5683: %s (os error %d)" % (host, os.strerror(trouble.errno), trouble.errno)
+            why = "address %s port %d: %s (os error %d)" % (host, port, os.strerror(trouble.errno), trouble.errno)
     return "cannot listen\ncoap-server: %s" % why
 
 
@@ -141,7 +141,7 @@ SERVER_WORDS = [
     (["--script", "-", "--application"], 1, None),
     # Addresses for documentation, which no machine has.
     (["-A", "192.0.2.1"], 3, cannot_listen("192.0.2.1")), (["-A", "2001:db8::1", "-p", "0005683"], 3, cannot_listen("2001:db8::1")),
-    (["-A", "192.0.2.1", "-p", "1", "--turns", "1"], 3, cannot_listen("192.0.2.1")),
+    (["-A", "192.0.2.1", "-p", "1", "--turns", "1"], 3, cannot_listen("192.0.2.1", 1)),
 ]
 
 # The arguments of coap-server, the name of the bad option, the values that it takes, and the one that was given.

@@ -4,7 +4,7 @@
     tests/system/record.py bin/coap-server bin/coap-client [NAME ..] [--messages N]
 
 A NAME selects a check, such as `limit` for check_limit; without a NAME all checks run. The largest check has 64 peers at one server at the same time:
-well-behaved ones, observers, slow readers, hostile ones, and some that break off. They send N messages (100,000 by default).
+well-behaved ones, observers, slow readers, hostile ones, and some that break off. The server accepts at least N messages (100,000 by default).
 """
 
 import contextlib
@@ -27,6 +27,7 @@ sys.path.insert(0, os.path.join(os.path.dirname(os.path.abspath(__file__)), ".."
 import rows  # noqa: E402
 from checks import CSM, GREETING, Checks  # noqa: E402
 from message_syntax import encoded, uint  # noqa: E402
+from messages import Malformed, length_of  # noqa: E402
 from peers import LIMIT, LOCAL, Server, free_port, line_of, read_bytes, read_to_end, reset  # noqa: E402
 
 # Codes and options.
@@ -42,11 +43,17 @@ GREETED = bytes.fromhex(CSM + "a14501" + GREETING)
 PEERS, RESOURCES, QUEUE = 64, 16, 4_608
 WORDS = ["--connections", str(PEERS), "-d", str(RESOURCES), "--max-message", "2048", "--max-sent", "1152", "--queue", str(QUEUE)]
 
+# Numbers of peers by their kind. The others are hostile or observe.
+GOOD, SLOW, BROKEN_OFF = 34, 4, 8
+
 # Bytes of the socket buffer of a slow reader, of its packets, and of one read.
 NARROW, PACKET, SIP = 4_096, 1_460, 512
 
 # Growth of resident memory that passes, in kB. The kernel counts the pages of a process in batches.
 GROWTH = 256
+
+# Maximum number of bytes of a message before its token.
+HEAD = 8
 
 # A line of a record after its header.
 LINE = re.compile(rb"open|in \d+ (?:[0-9a-f]{2})+|drain \d+ \d+|tick \d+|(?:end|release|drop) \d+")
@@ -183,13 +190,13 @@ class Peer:
 
 
 def crowd(server, count, seed):
-    """Opens the connections of 64 peers of all kinds, which together send about this number of messages."""
-    chance, each = random.Random(seed), count // 46
+    """Opens the connections of 64 peers of all kinds. Those that send all their messages, and no bad one, send at least this number together."""
+    chance, each = random.Random(seed), -(-count // (GOOD + SLOW))
     pool = [some_message(chance) for _ in range(2_000)]
-    kinds = [{"stream": messages(chance, pool, each)} for _ in range(34)]
-    kinds += [{"stream": messages(chance, pool, each), "breaks_at": chance.randrange(1, 8 * each)} for _ in range(8)]
-    kinds += [{"stream": listings(each), "sip": SIP} for _ in range(4)]
-    kinds += [{"stream": observations(chance, 60), "stays": True} for _ in range(PEERS - 46 - len(HOSTILE))]
+    kinds = [{"stream": messages(chance, pool, each)} for _ in range(GOOD)]
+    kinds += [{"stream": messages(chance, pool, each), "breaks_at": chance.randrange(1, 8 * each)} for _ in range(BROKEN_OFF)]
+    kinds += [{"stream": listings(each), "sip": SIP} for _ in range(SLOW)]
+    kinds += [{"stream": observations(chance, 60), "stays": True} for _ in range(PEERS - GOOD - SLOW - BROKEN_OFF - len(HOSTILE))]
     kinds += [{"stream": it} for it in HOSTILE]
     chance.shuffle(kinds)
     return [Peer(server, number, **kind) for number, kind in enumerate(kinds, 1)]
@@ -265,6 +272,15 @@ def joined(lines, word):
     return {number: bytes.fromhex(b"".join(pieces).decode()) for number, pieces in found.items()}
 
 
+def frames_in(stream):
+    """Returns the number of messages that are whole in a stream, up to a malformed one."""
+    at, number = 0, 0
+    with contextlib.suppress(Malformed):
+        while (size := length_of(stream[at : at + HEAD])) is not None and at + size <= len(stream):
+            at, number = at + size, number + 1
+    return number
+
+
 def replay(server, words, text=b""):
     """Runs a server with these words and this input. Returns its status, the output of each connection by its number, and its error output."""
     done = subprocess.run([server, *words], input=text, capture_output=True, timeout=8 * LIMIT)
@@ -317,6 +333,10 @@ def check_header(checks, server):
         subprocess.run([server, "--stdio", "--record", name], input=b"", stdout=subprocess.DEVNULL, timeout=LIMIT)
         usual = "-d 0 --max-message 65536 --max-sent 65536 --queue 131072 --pending 16 --observers 16 --connections 16 --starts 0,0,0".split()
         checks.same("default options, and a name with slashes", (record_in(name).options(), record_in(name).command()), (usual, ["--script", name, *usual]))
+        name = f"{folder}/turns"
+        done = subprocess.run([server, "--stdio", "--turns", "1", "--record", name], input=PEER_SETTINGS + GET_ROOT * 2_000, capture_output=True, timeout=LIMIT)
+        checks.same("a record that the limit of turns ends", (done.returncode, len(done.stdout) > 4_096, record_in(name).options()), (3, True, usual))
+        checks.same("its replay with another limit of turns", replay(server, record_in(name).command()), (0, {1: done.stdout}, b""))
         began = int(time.time())
         with Server(server, ["--record", f"{folder}/listening"]):
             until(lambda: os.path.getsize(f"{folder}/listening") > 0)
@@ -361,6 +381,8 @@ def check_peers(checks, server, count=100_000):
         status, outputs, said = replay(server, record.command())
         checks.same("the replay", (status, said), (0, b""))
     accepted, ends = joined(record.lines, b"in "), {}
+    number = sum(frames_in(it) for it in accepted.values())
+    checks.same(f"at least {count} messages: {number}", number >= count, True)
     for peer in peers:
         ends[peer.end] = ends.get(peer.end, 0) + 1
         got, wanted, taken = bytes(peer.got), outputs.get(peer.number, b""), accepted.get(peer.number, b"")
@@ -575,6 +597,27 @@ def check_streams(checks, server):
             checks.same(f"{title}: the accepted bytes", (sent.startswith(taken), len(taken)), (True, len(sent) if name != "malformed" else 6))
 
 
+def check_waiting(checks, server):
+    """Checks that a server over standard input and output writes its record before each wait: for the first byte, and for more."""
+    with tempfile.TemporaryDirectory() as folder:
+        for level in ("0", "3"):
+            name, title = f"{folder}/record{level}", f"standard input, level {level}"
+            words = ["--stdio", "--record", name, "--log", level]
+            with subprocess.Popen([server, *words], stdin=subprocess.PIPE, stdout=subprocess.PIPE, stderr=subprocess.PIPE) as process:
+                greeting = bytes.fromhex(CSM)
+                checks.same(f"{title}: the CSM", process.stdout.read(len(greeting)), greeting)
+                begun = [b"open", b"drain 1 %d" % len(greeting)]
+                until(lambda: record_in(name).lines == begun)
+                checks.same(f"{title}: the record before the first byte", (record_in(name).lines, record_in(name).torn), (begun, b""))
+                process.stdin.write(PEER_SETTINGS)
+                process.stdin.flush()
+                begun.append(b"in 1 " + PEER_SETTINGS.hex().encode())
+                until(lambda: record_in(name).lines == begun)
+                checks.same(f"{title}: the record before more bytes", (record_in(name).lines, record_in(name).torn), (begun, b""))
+                process.communicate(timeout=LIMIT)
+            checks.same(f"{title}: the record at the end", (process.returncode, record_in(name).lines), (0, [*begun, b"end 1"]))
+
+
 def check_modes(checks, server):
     """Checks a record with a log, with connections that are ended because they are silent, and at the limit of turns."""
     with tempfile.TemporaryDirectory() as folder:
@@ -646,7 +689,7 @@ def over_socket(server, words, stream, environment):
 
 
 CHECKS = [
-    check_header, check_peers, check_killed, check_file, check_output, check_limit, check_full, check_blocked, check_streams, check_modes, check_memory,
+    check_header, check_peers, check_killed, check_file, check_output, check_limit, check_full, check_blocked, check_streams, check_waiting, check_modes, check_memory,
 ]
 
 

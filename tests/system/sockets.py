@@ -337,7 +337,7 @@ def check_reserved(checks, programs):
     if port > 0:
         program, *more = [*words, programs.server, "-A", LOCAL, "-p", str(port)]
         done = client(program, more)
-        why = "permission denied for port %d; choose a port from 1024 on with -p" % port
+        why = "permission denied for address %s port %d; choose a port from 1024 on with -p" % (LOCAL, port)
         checks.same("a reserved port", done, (3, b"", cannot_listen(why)))
     # The standard streams and the set of events use all descriptors.
     done = client(programs.server, ["-A", LOCAL, "-p", "5683"], preexec_fn=lambda: resource.setrlimit(resource.RLIMIT_NOFILE, (4, 4)))
@@ -352,8 +352,9 @@ def check_address(checks, programs):
             checks.same("IPv6", client(programs.client, [server.uri()]), (0, b"coap+tcp", b""))
     with Server(programs.server) as server:
         in_use = "address %s port %d is already in use; choose another port with -p" % (LOCAL, server.port)
-        foreign = "address 192.0.2.1 is not an address of this machine; choose another with -A"
-        for host, port, why in [(LOCAL, server.port, in_use), ("192.0.2.1", free_port(), foreign)]:
+        port = free_port()
+        foreign = "address 192.0.2.1 port %d is not available on this machine; choose another address with -A" % port
+        for host, port, why in [(LOCAL, server.port, in_use), ("192.0.2.1", port, foreign)]:
             done = client(programs.server, ["-A", host, "-p", str(port)])
             checks.same("an address that is not available", done, (3, b"", cannot_listen(why)))
     port = free_port()

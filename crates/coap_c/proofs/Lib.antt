@@ -1,5 +1,6 @@
 pub mod ServerSlots
 pub mod ServerLemmas
+pub mod LoanLemmas
 pub mod PathLemmas
 pub mod ListedLemmas
 pub mod ClientSlots

@@ -6,6 +6,7 @@ use Rattle.coap_wire.specs.Message.{Message}
 use Rattle.coap_wire.specs.Uint.{uint_of}
 use Rattle.coap_client_engine.specs.ClientValues.{ClientEventValue}
 use Rattle.coap_client_engine.specs.ClientValues as event
+use Rattle.coap_c.specs.Loans.{HasCount}
 use Rattle.coap_c.specs.Messages.{ShowsMessage}
 use Rattle.coap_c.specs.declared.events.ClientEvent.{ClientEvent}
 use Rattle.coap_c.specs.declared.messages.MessageSpans.{MessageSpans}
@@ -16,7 +17,7 @@ token_number token = if nat_le (length token) 8 then uint_of token else 0
 
 -- A message without bytes.
 abbrev pub IsNoMessage : MessageSpans → Type 0
-IsNoMessage m = (m.code ≡ 0) × ((m.token.count ≡ 0) × ((m.options.count ≡ 0) × (m.payload.count ≡ 0)))
+IsNoMessage m = (m.code ≡ 0) × (HasCount 0 m.token × (HasCount 0 m.options × HasCount 0 m.payload))
 
 -- An event of this kind, without anything else.
 abbrev pub IsKind : ℕ → ClientEvent → Type 0
@@ -29,7 +30,7 @@ IsPlain bytes kind e = (e.bytes ≡ bytes) × ((e.reason ≡ 0) × ((e.option �
 abbrev pub HasParts : (reason option custody token : ℕ) → ClientEvent → Type 0
 HasParts reason option custody token e = (e.reason ≡ reason) × ((e.option ≡ option) × ((e.custody ≡ custody) × (e.token ≡ token)))
 
--- A response, whose message lies in one slice of memory.
+-- A response, whose message is in one slice of memory. The contract does not say which slice.
 abbrev pub IsMessageEvent : ℕ → Message → ClientEvent → Type 0
 IsMessageEvent kind m e = (e.kind ≡ kind) × (HasParts 0 0 0 (token_number m.token) e × ((frame : Bor (List ℕ)) × ShowsMessage frame e.message m))
 

@@ -5,6 +5,7 @@ pub mod Numbers
 pub mod Settings
 pub mod PathTexts
 pub mod Results
+pub mod Loans
 pub mod ServerCalls
 pub mod ApplicationCalls
 pub mod Messages

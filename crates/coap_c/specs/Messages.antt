@@ -1,5 +1,5 @@
 -- Defined by this project: the results of the calls on messages. `r` is the number that the call returns.
-use Rattle.std.specs.Prelude.{◌≡◌, ℕ, ◌+◌, List, [], ◌∷◌, ◌++◌, length, take, drop, Option, Some, None, Result, Ok, Err, nat_lt, ◌==◌, if◌then◌else◌}
+use Rattle.std.specs.Prelude.{◌≡◌, ℕ, ◌+◌, ◌≤◌, List, [], ◌∷◌, ◌++◌, length, take, drop, Option, Some, None, Result, Ok, Err, nat_lt, ◌==◌, if◌then◌else◌}
 use denote.Ref.{Bor}
 use Rattle.coap_handle.specs.Spans.{span_at}
 use Rattle.coap_handle.specs.declared.span.Span.{Span}
@@ -15,9 +15,10 @@ use Rattle.coap_c.specs.Numbers.{format_code}
 use Rattle.coap_c.specs.PathTexts.{IsPathWritten}
 use Rattle.coap_c.specs.declared.messages.MessageSpans.{MessageSpans}
 
--- The span is a place in the slice, and has these bytes there.
+-- The span is a place in the slice, also if it has no bytes, and has these bytes there.
 abbrev pub IsPart : Bor (List ℕ) → Span → List ℕ → Type 0
-IsPart whole s part = (at : ℕ) × ((s ≡ span_at whole at (length part)) × (take (length part) (drop at whole.now) ≡ part))
+IsPart whole s part = (at : ℕ) × ((at + length part ≤ length whole.now)
+    × ((s ≡ span_at whole at (length part)) × (take (length part) (drop at whole.now) ≡ part)))
 
 -- ---- read a message
 

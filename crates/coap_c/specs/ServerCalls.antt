@@ -12,15 +12,14 @@ use Rattle.coap_server_engine.specs.values.ServerAnswers.{open_refusal, written_
 use Rattle.coap_server_engine.specs.values.Servers.{ServerValue, session_of, is_there, new_server, count_taken, server_opened, server_taken, server_written, server_ticked, server_put, server_removed, server_ended, server_released, server_announced, server_dropped, server_given}
 use Rattle.coap_server_engine.specs.world.Shows.{Shows}
 use Rattle.coap_c.specs.Numbers.{open_code, written_code, store_code, release_code, announce_code, handled_code, handled_reason, phase_code, phase_reason, response_code, reply_code}
+use Rattle.coap_c.specs.Loans.{HasCount, LendsFrame}
 use Rattle.coap_c.specs.PathTexts.{format_number}
 use Rattle.coap_c.specs.Results.{OnHandle, AtPath, Answers, AnswersOrMemory}
 use Rattle.coap_c.specs.Settings.{settings_config, settings_refusal}
 use Rattle.coap_c.specs.declared.settings.Settings.{Settings}
 use Rattle.coap_c.specs.declared.server.Took.{Took as TookResult}
 use Rattle.coap_c.specs.declared.server.ConnectionStatus.{ConnectionStatus}
-use Rattle.coap_handle.specs.Spans.{span_whole}
 use Rattle.coap_handle.specs.declared.span.Parts.{Parts}
-use Rattle.coap_handle.specs.declared.span.Span.{Span}
 use Rattle.coap_c.specs.declared.resources.ResourceState.{ResourceState}
 use denote.Ref.{Bor}
 use Rattle.coap_conn.specs.declared.phase.Reply.{Reply}
@@ -64,15 +63,10 @@ IsOpened id id' = OnHandle (id' ≡ id) (λ v v' r. AnswersOrMemory (id' ≡ id)
 
 -- A result that reports nothing but accepted bytes.
 abbrev pub IsTookBytes : ℕ → TookResult → Type 0
-IsTookBytes bytes t = (t.bytes ≡ bytes) × ((t.handled ≡ 0) × ((t.reason ≡ 0) × ((t.request.count ≡ 0) × (t.changed.count ≡ 0))))
+IsTookBytes bytes t = (t.bytes ≡ bytes) × ((t.handled ≡ 0) × ((t.reason ≡ 0) × (HasCount 0 t.request × HasCount 0 t.changed)))
 
 abbrev pub IsBlank : TookResult → Type 0
 IsBlank t = IsTookBytes 0 t
-
--- The span has the bytes of a request, or none.
-abbrev pub HasRequest : Span → Option (List ℕ) → Type 0
-HasRequest s None = s.count ≡ 0
-HasRequest s (Some frame) = (bytes : Bor (List ℕ)) × ((bytes.now ≡ frame) × (s ≡ span_whole bytes))
 
 -- The stores of the worlds before and after a `take` differ at the path of the request that is reported, and nowhere else.
 abbrev pub Alters : ℕ → List ℕ → ℕ → ServerValue → Type 0
@@ -80,24 +74,25 @@ Alters id piece bytes v = (events : List AcceptedCall) → Shows v events →
     ChangesBy v.config events (Took id (take bytes piece)) (option_and_then frame_key (changing_frame v id piece))
 
 -- A `take` that accepted bytes of `piece`, or none.
-abbrev pub HasTaken : ℕ → List ℕ → TookResult → ServerValue → ServerValue → Type 0
-HasTaken id piece t v v' = (t.bytes ≡ count_taken v id piece)
-    × ((t.handled ≡ handled_code (handled_by v id piece)) × ((t.reason ≡ handled_reason (handled_by v id piece))
-    × (HasRequest t.request (handed_frame v id piece) × ((HasRequest t.changed (changing_frame v id piece) × Alters id piece t.bytes v)
-    × Does (Took id (take t.bytes piece)) (server_taken v id piece) v v'))))
+abbrev pub HasTaken : ℕ → Bor (List ℕ) → TookResult → ServerValue → ServerValue → Type 0
+HasTaken id piece t v v' = (t.bytes ≡ count_taken v id piece.now)
+    × ((t.handled ≡ handled_code (handled_by v id piece.now)) × ((t.reason ≡ handled_reason (handled_by v id piece.now))
+    × (LendsFrame piece t.bytes t.request (handed_frame v id piece.now)
+    × ((LendsFrame piece t.bytes t.changed (changing_frame v id piece.now) × Alters id piece.now t.bytes v)
+    × Does (Took id (take t.bytes piece.now)) (server_taken v id piece.now) v v'))))
 
 -- A `take` in which an allocation failed: the bytes before the last one of the message are accepted.
 abbrev pub HasTakenPart : ℕ → List ℕ → TookResult → ServerValue → ServerValue → Type 0
 HasTakenPart id piece t v v' = RefusesPieceOn v piece t.bytes (session_of id v.sessions)
-    × ((t.handled ≡ 0) × ((t.reason ≡ 0) × (((t.request.count ≡ 0) × (t.changed.count ≡ 0))
+    × ((t.handled ≡ 0) × ((t.reason ≡ 0) × ((HasCount 0 t.request × HasCount 0 t.changed)
     × Does (Took id (take t.bytes piece)) (server_taken v id (take t.bytes piece)) v v')))
 
 -- `take` returns 0 and what it accepted and handled, 16 if there is no connection, or 2 if an allocation failed.
-abbrev pub IsTaken : ℕ → List ℕ → TookResult → Option ServerValue → Option ServerValue → ℕ → Type 0
+abbrev pub IsTaken : ℕ → Bor (List ℕ) → TookResult → Option ServerValue → Option ServerValue → ℕ → Type 0
 IsTaken id piece t = OnHandle (IsBlank t) (λ v v' r.
     ((r ≡ 0) × ((is_there (session_of id v.sessions) ≡ true) × HasTaken id piece t v v'))
     ⊎ (((r ≡ 16) × ((session_of id v.sessions ≡ None) × ((v' ≡ v) × IsBlank t)))
-    ⊎ ((r ≡ 2) × HasTakenPart id piece t v v')))
+    ⊎ ((r ≡ 2) × HasTakenPart id piece.now t v v')))
 
 abbrev pub IsWritten : (id count : ℕ) → Option ServerValue → Option ServerValue → ℕ → Type 0
 IsWritten id count = OnHandle Nothing (λ v v' r. Answers Nothing (option_map written_code (written_refusal v id count))
@@ -173,9 +168,9 @@ ShowsStatus c s = (c.phase ≡ phase_code s.phase) × ((c.reason ≡ phase_reaso
 abbrev pub HasStatus : ℕ → (status status' : ConnectionStatus) → Option ServerValue → Option ServerValue → ℕ → Type 0
 HasStatus id status status' = OnHandle (status' ≡ status) (λ v v' r. AsksOn (status' ≡ status) (ShowsStatus status') (status_of v id) v v' r)
 
--- The fields of the state of a resource. Its bytes are those of the representation.
+-- The fields of the state of a resource. Of its bytes, only their number is specified.
 abbrev pub ShowsState : ResourceState → Representation → Type 0
-ShowsState s p = (s.version ≡ p.version) × ((s.format ≡ format_number p.format) × ((bytes : Bor (List ℕ)) × ((bytes.now ≡ p.bytes) × (s.bytes ≡ span_whole bytes))))
+ShowsState s p = (s.version ≡ p.version) × ((s.format ≡ format_number p.format) × HasCount (length p.bytes) s.bytes)
 
 -- The representation stored at a path, if there is one. A built-in resource has none.
 abbrev pub lent_state : ServerValue → Path → Option Representation

@@ -1,6 +1,7 @@
 //! The calls of a server, for C. Each takes the server out of the handle, makes one call and puts the server back.
 
-ghost use Rattle.std.specs.Prelude.{◌≡◌, None};
+ghost use Rattle.std.specs.Prelude.{◌≡◌, ◌≤◌, None, length, option_copied};
+ghost use Rattle.coap_c.specs.Loans.{IsInPiece, LendsFrame};
 ghost use Rattle.coap_c.specs.ServerCalls.{IsMade, IsOpened, IsTaken, IsTookBytes, IsResponded, IsWritten, IsTicked};
 ghost use Rattle.coap_c.specs.ServerCalls.{IsEnded, IsReleased, IsDropped, IsAnnouncedTo, HasParts, HasStatus};
 ghost use Rattle.coap_c.specs.ServerCalls.{ShowsStatus};
@@ -11,7 +12,7 @@ use crate::numbers::{
 };
 use crate::server_handle::ServerHandle;
 use crate::settings::{Settings, configured};
-use coap_handle::{Parts, Span, span_of};
+use coap_handle::{Parts, Span, span_of, span_within};
 use coap_model::{Status, TakeFault};
 use coap_server_engine::Server;
 use std::alloc::Global;
@@ -106,6 +107,7 @@ pub extern "C" fn dachreup_server_open(
 
 /// Accepts the first bytes of those that a connection received.
 #[unsafe(no_mangle)]
+#[tactic(auto, using(crate::proofs::LoanLemmas::handed_lies, crate::proofs::LoanLemmas::changing_lies))]
 pub extern "C" fn dachreup_server_take(
     alloc: Global,
     handle: &mut ServerHandle,
@@ -113,7 +115,7 @@ pub extern "C" fn dachreup_server_take(
     piece: &[u8],
     took: &mut Took,
 ) -> u32
-    ensures { IsTaken id piece.now took.new handle.old.value handle.new.value result }
+    ensures { IsTaken id piece.entry took.new handle.old.value handle.new.value result }
 {
     let Some(mut server) = handle.take_server(alloc) else {
         *took = took_bytes(0);
@@ -122,12 +124,13 @@ pub extern "C" fn dachreup_server_take(
     let answer = match server.take_request(id, piece) {
         Ok(taken) => {
             let (handled, reason) = handled_numbers(taken.taken.handled);
+            let count = taken.taken.bytes;
             *took = Took {
-                bytes: taken.taken.bytes,
+                bytes: count,
                 handled,
                 reason,
-                request: span_of(taken.frame.unwrap_or(&[])),
-                changed: span_of(taken.changed.unwrap_or(&[])),
+                request: frame_span(piece, count, taken.frame),
+                changed: frame_span(piece, count, taken.changed),
             };
             SUCCESS
         }
@@ -142,6 +145,26 @@ pub extern "C" fn dachreup_server_take(
     };
     handle.put_back(server);
     answer
+}
+
+/// Returns the place of a frame that the first `bytes` bytes of `piece` end, or of no bytes if there is none. A frame that
+/// has no other bytes is in the piece.
+#[tactic(auto, unfolding(crate::specs::Loans::IsInPiece))]
+fn frame_span(piece: &[u8], bytes: usize, frame: Option<&[u8]>) -> Span
+    requires within { bytes ≤ length piece.now }
+    requires lies { IsInPiece piece.now bytes (option_copied frame) }
+    ensures { LendsFrame piece.entry bytes result (option_copied frame.entry) }
+{
+    match frame {
+        None => span_of(&[]),
+        Some(frame) => {
+            if frame.len() == bytes {
+                span_within(piece, 0, bytes)
+            } else {
+                span_of(frame)
+            }
+        }
+    }
 }
 
 /// Returns the result of a `take` that accepted bytes and handled nothing.

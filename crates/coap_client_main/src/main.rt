@@ -5,13 +5,14 @@
 //! its end, a last line on standard error gives it in words.
 #![tactic(auto)]
 
-ghost use Rattle.std.specs.Prelude.{◌≡◌, ◌≤◌, IfSome, IfNone};
+ghost use Rattle.std.specs.Prelude.{◌≡◌, ◌≤◌, IfOk, IfSome, IfNone};
 ghost use Rattle.std.specs.Str.{IsUtf8};
+ghost use Rattle.coap_client_engine.specs.Prelude.{IsStatus};
 
 mod logged;
 
 use coap_client::{
-    ClientPlan, Line, RunEnd, Target, client_reason, client_words, explain, run_to_end,
+    ClientFault, ClientPlan, Line, RunEnd, Target, client_reason, client_words, explain, run_to_end,
 };
 use coap_io::{Wire, WriteOutlet};
 use coap_print::LogLevel;
@@ -98,7 +99,18 @@ fn print_cause(rt: &impl Eprint, end: &RunEnd) -> u8
     PROGRAM.print_fault(rt, line.as_str(), end.status)
 }
 
-/// Runs a client over a wire, with writers for payloads and for reports, and returns the exit status.
+/// Writes the cause of the end of a run in words, if it has one, or the error of the run. Returns the exit status.
+pub(crate) fn print_end(rt: &impl Eprint, end: &Result<RunEnd, ClientFault>) -> u8
+    requires { IfOk end.now (λ e. IsStatus e.status) }
+    ensures { result ≤ 4 }
+{
+    match end {
+        Ok(end) => print_cause(rt, end),
+        Err(fault) => PROGRAM.print_fault(rt, fault, FAULT),
+    }
+}
+
+/// Runs a client over a wire, with writers for payloads and for reports, and returns the end of the run.
 pub(crate) fn run_over<R: Eprint + time::Clock + AllocGlobal>(
     rt: &R,
     wire: &mut impl Wire,
@@ -106,15 +118,12 @@ pub(crate) fn run_over<R: Eprint + time::Clock + AllocGlobal>(
     out: impl Write + Drop,
     err: impl Write + Drop,
     plan: &ClientPlan,
-) -> u8
-    ensures { result ≤ 4 }
+) -> Result<RunEnd, ClientFault>
+    ensures { IfOk result (λ end. IsStatus end.status) }
 {
     let mut out = WriteOutlet::new(out);
     let mut err = WriteOutlet::new(err);
-    match run_to_end(rt.alloc(), wire, &mut clock, &mut out, &mut err, plan) {
-        Ok(end) => print_cause(rt, &end),
-        Err(fault) => PROGRAM.print_fault(rt, fault, FAULT),
-    }
+    run_to_end(rt.alloc(), wire, &mut clock, &mut out, &mut err, plan)
 }
 
 /// Runs a client over a connection, with or without a log, and returns the exit status.
@@ -129,7 +138,8 @@ fn run_on_connection<R: Eprint + Net + time::Clock + AllocGlobal>(
 {
     let clock = wire.clock();
     if plan.log == LogLevel::Nothing {
-        return run_over(rt, &mut wire, clock, out, err, plan);
+        let end = run_over(rt, &mut wire, clock, out, err, plan);
+        return print_end(rt, &end);
     }
     run_logged(rt, wire, clock, out, err, plan)
 }

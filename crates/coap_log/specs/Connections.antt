@@ -1,11 +1,13 @@
 -- Defined by this project: the lines of a connection.
 use Rattle.std.specs.Prelude.{◌≡◌, ℕ, zero, suc, Bool, true, false, List, [], ◌∷◌, ◌++◌, length, take, drop, ◌==◌, codes, decimal, if◌then◌else◌}
+use Rattle.coap_io.specs.declared.wire.Got.{Got}
+use Rattle.coap_io.specs.declared.wire.Got.TheVariants.{Bytes, Later, End, Failed}
 use Rattle.coap_print.specs.Lines.{appended}
 use Rattle.coap_print.specs.declared.line.TheConstants.{LINE_LENGTH}
 use Rattle.coap_print.specs.declared.level.LogLevel.{LogLevel}
-use Rattle.coap_print.specs.declared.level.LogLevel.TheVariants.{Messages}
+use Rattle.coap_print.specs.declared.level.LogLevel.TheVariants.{Warnings, Connections, Messages}
 use Rattle.coap_log.specs.Glimpses.{head_text}
-use Rattle.coap_log.specs.Logs.{LogTrace, LogsLine}
+use Rattle.coap_log.specs.Logs.{LogTrace, LogsLine, LogsEnd}
 use Rattle.coap_log.specs.Taps.{TapValue, taken, tap_after}
 use Rattle.coap_log.specs.declared.tap.TheConstants.{DESCRIBED}
 
@@ -25,13 +27,25 @@ passed_text tap = count_text tap.messages (codes "message") ++ codes ", " ++ cou
 abbrev pub counts_text : TapValue → TapValue → List ℕ
 counts_text incoming outgoing = passed_text incoming ++ codes " in; " ++ passed_text outgoing ++ codes " out"
 
--- The last line of a connection, after other text.
-abbrev pub end_line : List ℕ → TapValue → TapValue → List ℕ
-end_line text incoming outgoing = appended LINE_LENGTH [] (text ++ codes ": " ++ counts_text incoming outgoing)
+-- The first words of the lines of a connection.
+abbrev pub number_text : ℕ → List ℕ
+number_text number = codes "connection " ++ decimal number
+
+-- A line of a connection: its first words, followed by a text.
+abbrev pub connection_line : ℕ → List ℕ → List ℕ
+connection_line number text = appended LINE_LENGTH [] (number_text number ++ text)
+
+-- The last line of a connection, as in connection 1 ended: last response; 12 messages, 345 bytes in; 1 message, 45 bytes out.
+abbrev pub end_line : ℕ → List ℕ → TapValue → TapValue → List ℕ
+end_line number reason incoming outgoing = connection_line number (codes " ended: " ++ reason ++ codes "; " ++ counts_text incoming outgoing)
 
 -- A text is logged as a line of a level, at some time.
 abbrev pub LogsAtATime : LogLevel → List ℕ → LogTrace → LogTrace → Type 0
 LogsAtATime level text before after = (nanos : ℕ) × LogsLine level nanos text before after
+
+-- The end of a log begins at some time, and a text is its last line.
+abbrev pub LogsLast : List ℕ → LogTrace → LogTrace → Type 0
+LogsLast text before after = (nanos : ℕ) × (middle : LogTrace) × LogsEnd nanos before middle × LogsLine Connections nanos text middle after
 
 -- ---- messages
 
@@ -69,6 +83,11 @@ LogsBytes (suc turns) nanos front (b ∷ bytes) tap end before after =
 abbrev pub LogsPassed : List ℕ → List ℕ → TapValue → TapValue → LogTrace → LogTrace → Type 0
 LogsPassed front bytes tap end before after = (nanos : ℕ) × LogsBytes (length bytes) nanos front bytes tap end before after
 
--- The front of the lines of a wire, for a direction.
-abbrev pub front : List ℕ → List ℕ
-front direction = appended LINE_LENGTH [] direction
+-- The result of a read or a write on a connection is logged. A failure is a warning. Otherwise each message is logged that
+-- ends with the bytes passed on. The direction is the text between the number of the connection and the message.
+abbrev pub LogsResult : ℕ → List ℕ → Got → List ℕ → TapValue → TapValue → LogTrace → LogTrace → Type 0
+LogsResult number direction (Bytes n) bytes tap end before after = LogsPassed (connection_line number direction) (take n bytes) tap end before after
+LogsResult number direction Later bytes tap end before after = (end ≡ tap) × (after ≡ before)
+LogsResult number direction End bytes tap end before after = (end ≡ tap) × (after ≡ before)
+LogsResult number direction Failed bytes tap end before after =
+    (end ≡ tap) × LogsAtATime Warnings (connection_line number (codes " failed")) before after

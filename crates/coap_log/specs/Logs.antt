@@ -4,7 +4,7 @@ use Rattle.coap_print.specs.Lines.{appended}
 use Rattle.coap_print.specs.declared.line.TheConstants.{LINE_LENGTH}
 use Rattle.coap_print.specs.Levels.{level_number}
 use Rattle.coap_print.specs.declared.level.LogLevel.{LogLevel}
-use Rattle.coap_log.specs.Limits.{missed, admission, after_admission}
+use Rattle.coap_log.specs.Limits.{missed, admission, after_admission, last_report, after_end}
 use Rattle.coap_log.specs.Times.{IsTimeText}
 use Rattle.coap_log.specs.Writers.{Offer, AddsOffers}
 use Rattle.coap_log.specs.declared.limit.LineLimit.{LineLimit}
@@ -69,6 +69,13 @@ pub record LogsLine (line_level : LogLevel) (nanos : ℕ) (text : List ℕ) (bef
   pub off : nat_le (level_number line_level) (level_number before.level) ≡ false → after ≡ before
   pub on : nat_le (level_number line_level) (level_number before.level) ≡ true
       → (offers : List Offer) × IsOffered before.program nanos text (admission before.limit (nanos / 1_000_000_000)) (after_admission before.limit (nanos / 1_000_000_000)) after.limit offers
+      × AddsOffers before.offers after.offers before.accepted after.accepted offers
+  pub level : after.level ≡ before.level
+  pub program : after.program ≡ before.program
+
+-- The end of a log begins at a time in nanoseconds: the lines left out are reported.
+pub record LogsEnd (nanos : ℕ) (before after : LogTrace) : Type 0 where
+  pub reported : (offers : List Offer) × IsReported before.program nanos (last_report before.limit (nanos / 1_000_000_000)) (after_end before.limit (nanos / 1_000_000_000)) after.limit offers
       × AddsOffers before.offers after.offers before.accepted after.accepted offers
   pub level : after.level ≡ before.level
   pub program : after.program ≡ before.program

@@ -1,16 +1,29 @@
 //! Theorems on logs. Each is the contract of a function that does nothing.
 
-ghost use Rattle.std.specs.Prelude.{◌≡◌, ◌+◌, ◌<◌, ◌≤◌, ◌^◌, ℕ, List, map, length};
+ghost use Rattle.std.specs.Prelude.{◌≡◌, ◌+◌, ◌<◌, ◌≤◌, ◌^◌, ℕ, List, map, length, true};
+ghost use Rattle.std.specs.List.{list_all};
 ghost use Rattle.coap_wire.specs.Frames.{constant_size, sized_frames};
 ghost use Rattle.coap_wire.specs.declared.sizes.TheConstants.{LARGEST_MESSAGE};
-ghost use Rattle.coap_log.specs.Limits.{LimitCall, lines_in, lost, reported, after_calls};
+ghost use Rattle.coap_log.specs.Limits.{LimitCall, lines_of, lines_in, lost, reported, after_calls, fresh, after_end};
+ghost use Rattle.coap_log.specs.Limits.{AreAt, GoesForward, is_before_end, admission};
 ghost use Rattle.coap_log.specs.Taps.{new_tap, glimpse, output_of, after_pieces, taken};
 ghost use Rattle.coap_log.specs.declared.limit.LineLimit.{LineLimit as Limit};
+ghost use Rattle.coap_log.specs.declared.limit.Admission.TheVariants.{Line};
 
-/// States that in each second of the clock at most 100 lines are written, whatever the calls before and in between.
-/// The reports of lines left out are lines too.
+/// States that at most 100 lines are written while the clock shows one second, whatever the calls before. If the clock
+/// does not go back, these are all lines of that second, whatever the calls in between. The reports of lines left out are
+/// lines too.
 pub fn lines_of_a_second_are_limited()
-    ensures { (second : ℕ) (l : Limit) (calls : List LimitCall) → lines_in second l calls ≤ 100 }
+    ensures during { (second : ℕ) (l : Limit) (calls : List LimitCall) → AreAt second calls → lines_of l calls ≤ 100 }
+    ensures forward { (second : ℕ) (l : Limit) (calls : List LimitCall) → GoesForward l calls →
+        lines_in second l calls ≤ 100 }
+{}
+
+/// States that the last line of a log is written, whatever lines the log had before, and that no line left out is then
+/// unreported.
+pub fn last_line_is_written()
+    ensures { (calls : List LimitCall) (end now : ℕ) → list_all is_before_end calls ≡ true →
+        let l = after_end (after_calls fresh calls) end in (l.left_out ≡ 0) × (admission l now ≡ Line) }
 {}
 
 /// States that each line that was left out is reported once. The lines reported and those still to be reported are the

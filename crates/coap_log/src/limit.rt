@@ -6,6 +6,9 @@ ghost use Rattle.coap_log.specs.Limits as spec;
 /// Maximum number of lines that are written in one second of the clock.
 pub const LINES_A_SECOND: u64 = 100;
 
+/// Number of these lines that only the end of a log has: the report of lines left out, and the last line.
+const LAST_LINES: u64 = 2;
+
 /// Decision on a line.
 #[derive(Clone, Copy, Debug, PartialEq, Eq)]
 pub enum Admission {
@@ -19,17 +22,19 @@ pub enum Admission {
 
 /// Limit on the number of lines a second, and count of the lines left out.
 ///
-/// In one second of the clock, at most 100 lines are written. If lines were left out, the first line of the next second
-/// reports their number, and that line counts as one of the 100. A time that is not after the present second belongs
-/// to the present second, so a clock that goes back makes no new second.
+/// In one second of the clock, at most 100 lines are written, two of them only at the end of the log. If lines were left
+/// out, the first line of the next second reports their number, and that line counts as one of the 100. A clock that goes
+/// back begins a new second too.
 #[derive(Clone, Copy, Debug, PartialEq, Eq)]
 pub struct LineLimit {
-    /// Present second: the latest one so far.
+    /// Present second: that of the last call.
     pub second: u64,
     /// Number of lines written in the present second.
     pub written: u64,
     /// Number of lines left out that no line has reported. It saturates at the maximum of `u64`.
     pub left_out: u64,
+    /// `true` at the end of the log.
+    pub is_ending: bool,
 }
 
 impl LineLimit {
@@ -41,6 +46,7 @@ impl LineLimit {
             second: 0,
             written: 0,
             left_out: 0,
+            is_ending: false,
         }
     }
 
@@ -51,7 +57,7 @@ impl LineLimit {
         ensures after { self.new ≡ spec.after_admission self.old second }
     {
         let report = self.report(second);
-        if self.written >= LINES_A_SECOND {
+        if self.written >= self.most() {
             self.miss(1);
             return Admission::LeftOut;
         }
@@ -79,6 +85,25 @@ impl LineLimit {
         Some(count)
     }
 
+    /// Begins the end of the log at a time, in seconds since 1970. Returns the number of lines left out, if there are any:
+    /// the line that reports it is due at once. The report counts as a line, and its lines as reported. A line is admitted
+    /// after it, even if the second had no more lines.
+    #[tactic(auto, unfolding(crate::specs::Limits::last_report, crate::specs::Limits::after_end))]
+    pub fn end(&mut self, second: u64) -> Option<u64>
+        ensures answer { result ≡ spec.last_report self.old second }
+        ensures after { self.new ≡ spec.after_end self.old second }
+    {
+        self.begin(second);
+        self.is_ending = true;
+        if self.left_out == 0 || self.written >= LINES_A_SECOND {
+            return None;
+        }
+        let count = self.left_out;
+        self.written += 1;
+        self.left_out = 0;
+        Some(count)
+    }
+
     /// Counts lines that were admitted, but could not be written. They are part of the next report.
     #[tactic(auto, unfolding(crate::specs::Limits::missed))]
     pub fn miss(&mut self, count: u64)
@@ -87,11 +112,22 @@ impl LineLimit {
         self.left_out = self.left_out.saturating_add(count);
     }
 
-    /// Begins a second, if it is after the present one.
+    /// Returns the maximum number of lines of the present second.
+    fn most(&self) -> u64
+        ensures { result ≡ spec.most_in self.now }
+    {
+        if self.is_ending {
+            LINES_A_SECOND
+        } else {
+            LINES_A_SECOND - LAST_LINES
+        }
+    }
+
+    /// Begins a second, if it is not the present one.
     fn begin(&mut self, second: u64)
         ensures { self.new ≡ spec.begun self.old second }
     {
-        if second > self.second {
+        if second != self.second {
             self.second = second;
             self.written = 0;
         }

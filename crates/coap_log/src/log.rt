@@ -5,7 +5,8 @@ ghost use Rattle.std.specs.Duration.{as_nanos};
 ghost use Rattle.coap_print.specs.Lines.{appended};
 ghost use Rattle.coap_print.specs.Levels.{level_number};
 ghost use Rattle.coap_print.specs.declared.line.TheConstants.{LINE_LENGTH};
-ghost use Rattle.coap_log.specs.Limits.{fresh, admission, after_admission, report, after_report};
+ghost use Rattle.coap_log.specs.Limits.{fresh, admission, after_admission, report, after_report, last_report};
+ghost use Rattle.coap_log.specs.Limits.{after_end};
 ghost use Rattle.coap_log.specs.Writers.{Offer, AddsOffers};
 ghost use Rattle.coap_log.specs.Logs.{IsDated, IsOffered, IsReported, report_text, limit_after};
 
@@ -18,8 +19,8 @@ use std::time::Duration;
 /// Log of a program: lines up to a level, each with the time and the name of the program, as in
 /// `2026-11-27T05:18:31.042Z coap-server: connection 3 opened by 127.0.0.1:50022`.
 ///
-/// At most 100 lines a second are offered to the writer. If lines were left out by this limit or not accepted by the
-/// writer, the first line of a later second reports their number.
+/// At most 100 lines a second are offered to the writer. Lines can be left out by this limit, or not accepted by the
+/// writer. The first line of a later second reports their number, or `end` does.
 #[derive(Drop)]
 pub struct Log<W> {
     /// Level of the log: lines of higher levels are ignored.
@@ -88,6 +89,23 @@ impl<W: LogWriter> Log<W> {
     {
         self.writer.flush();
         if let Some(count) = self.limit.report(now.as_secs()) {
+            self.offer_report(now, count);
+        }
+    }
+
+    /// Begins the end of the log: writes what was accepted and is not written yet, and the report of lines left out. The
+    /// next line is offered too, even if the second had no more lines, so that a caller can write a last one.
+    pub fn end(&mut self, now: Duration)
+        ensures reported { (offers : List Offer) × IsReported self.old.program (as_nanos now)
+            (last_report self.old.limit (as_nanos now / 1_000_000_000))
+            (after_end self.old.limit (as_nanos now / 1_000_000_000)) self.new.limit offers
+            × AddsOffers (W.offers self.old.writer) (W.offers self.new.writer)
+            (W.accepted self.old.writer) (W.accepted self.new.writer) offers }
+        ensures level { self.new.level ≡ self.old.level }
+        ensures program { self.new.program ≡ self.old.program }
+    {
+        self.writer.flush();
+        if let Some(count) = self.limit.end(now.as_secs()) {
             self.offer_report(now, count);
         }
     }

@@ -42,3 +42,5 @@ pub mod FateAlone
 pub mod FateOnly
 pub mod FateGiven
 pub mod FateTimes
+pub mod FateGone
+pub mod FateHanded

@@ -116,9 +116,11 @@ unfoldable pub use Rattle.coap_model.specs.world.Events.{IsAccepted, sizes_on, s
 pub use Rattle.coap_model.specs.world.Fates.{Fate, Unanswered, Answered, ApplicationRequest, is_for_application, asks_with}
 pub use Rattle.coap_model.specs.world.Fates.{awaits, is_unanswered, messages_of, entry_of, is_of_application}
 pub use Rattle.coap_model.specs.world.Fates.{has_stopped, fate_of, fate_by, is_unanswered_with, refusal_of, new_request}
-pub use Rattle.coap_model.specs.world.Fates.{requests_due, if_there, IsReduced, MayAnswer, IsAnswer, HasFate}
+pub use Rattle.coap_model.specs.world.Fates.{requests_due, if_there, limit_after, IsReduced, MayAnswer, IsAnswer, HasFate}
 pub use Rattle.coap_model.specs.world.Fates.{HaveOtherPlaces, HaveOwnAnswers, HasOnlyAnswer, given_in, response_of}
 pub use Rattle.coap_model.specs.world.Fates.{AreAnswers, AreQueuedInOrder, IsTimely, first_fate}
+pub use Rattle.coap_model.specs.world.Fates.{handed_requests, handed_in, handed_between, is_by_application}
+pub use Rattle.coap_model.specs.world.Fates.{IsGone, WasDropped}
 unfoldable pub use Rattle.coap_model.specs.world.Fates.{given_on, responses_to}
 unfoldable pub use Rattle.coap_model.specs.world.Fates.{with_fate, requests_after, requests_responded, requests_once}
 unfoldable pub use Rattle.coap_model.specs.world.Fates.{requests_within, requests_settled, requests_acted, requests_then}

@@ -22,6 +22,7 @@ ghost use Rattle.coap_model.specs.Prelude.{path_of, says, only, filter, map, sli
 ghost use Rattle.coap_model.specs.Prelude.{ApplicationRequest, is_for_application, is_unanswered, entry_of};
 ghost use Rattle.coap_model.specs.Prelude.{is_of_application, has_stopped, HasFate, HaveOwnAnswers, HasOnlyAnswer};
 ghost use Rattle.coap_model.specs.Prelude.{requests_on, AreAnswers, given_on, responses_to, IsTimely, has_room};
+ghost use Rattle.coap_model.specs.Prelude.{IsGone, IsAccepted, handed_requests, handed_between};
 ghost use Rattle.coap_conn.specs.Calls as call;
 ghost use Rattle.coap_wire.specs.Codes as code;
 ghost use Rattle.coap_model.specs.world.World.{Opened};
@@ -245,15 +246,23 @@ pub fn application_answers_its_requests()
 
 /// States that each request that the application answers has one fate, after any events.
 ///
-/// `requests_on` computes these requests of a connection from the events, with the fate of each. A request is
-/// unanswered, or it has an answer: the response of the application, or 5.03 or 5.04.
+/// `requests_on` computes these requests of a connection from the events, with the fate of each. A request that got a
+/// place in the pending list was handed to the application (`handed`). Such a request is pending, was answered once, or was
+/// given up by a stop or drop of its connection. Its answer is a response of the application or 5.04. The other requests
+/// are answered with 5.03 at once, unless the connection stopped.
 ///
 /// - `requests`: they are exactly the requests for the application among the messages handled, in order.
+/// - `handed`: an accepted event adds to those handed to the application the messages that it handled and that became
+///   pending entries of the application (`handed_in`). It adds no other.
 /// - `pending`: unless the connection has stopped, the unanswered ones are exactly the pending requests. They have the same
 ///   order, tokens and deadlines.
+/// - `unanswered`: unless the connection has stopped, each unanswered one was handed to the application.
 /// - `given_up`: a connection that has stopped has no pending entry. So its unanswered requests are given up.
-/// - `answered`: the answer to each other request is queued at a place after the request was handled. It is reduced to fit
-///   the peer's limit, and has the request's token.
+/// - `gone`: after accepted events, a connection that does not exist was dropped, or it never existed and has no requests.
+///   If it was dropped, its requests with their fates are those before the drop. So the unanswered ones are given up.
+/// - `answered`: the answer to each other request is queued at a place after the request was handled, and has the request's
+///   token. It is reduced to fit the limit at that time: the smaller of the local one and the one that the peer announced
+///   last.
 /// - `own`: no two requests share an answer.
 /// - `given`: after accepted events, the responses that the application gave are exactly its answers, each to one request.
 ///   They are queued in the order in which they were given. One more may have been given: a response that did not fit, not
@@ -262,15 +271,25 @@ pub fn application_requests_have_one_fate()
     ensures requests { (c : ConfigValues) (events : List AcceptedCall) (id : ℕ) (s : Connection) →
         side_of id (world_after c events).sides ≡ Some s →
         map (λ r. r.request) (requests_on c id events) ≡ filter (is_for_application c.applications) s.history.handled }
+    ensures handed { (c : ConfigValues) (events : List AcceptedCall) (e : AcceptedCall) (id : ℕ) (s t : Connection) →
+        AreAccepted c events → IsAccepted c events e → side_of id (world_after c events).sides ≡ Some s →
+        side_of id (world_after c (events ++ e ∷ [])).sides ≡ Some t →
+        handed_requests (requests_on c id (events ++ e ∷ []))
+        ≡ handed_requests (requests_on c id events) ++ handed_between (world_after c events) s t }
     ensures pending { (c : ConfigValues) (events : List AcceptedCall) (id : ℕ) (s : Connection) →
         side_of id (world_after c events).sides ≡ Some s → has_stopped s.history.phase ≡ false →
         map entry_of (filter (λ r. is_unanswered r.fate) (requests_on c id events))
         ≡ filter is_of_application s.history.held }
+    ensures unanswered { (c : ConfigValues) (events : List AcceptedCall) (id : ℕ) (s : Connection) →
+        side_of id (world_after c events).sides ≡ Some s → has_stopped s.history.phase ≡ false →
+        AllByRecursion (λ r. is_unanswered r.fate ≡ true → r.handed ≡ true) (requests_on c id events) }
     ensures given_up { (c : ConfigValues) (events : List AcceptedCall) (id : ℕ) (s : Connection) →
         side_of id (world_after c events).sides ≡ Some s → has_stopped s.history.phase ≡ true → s.history.held ≡ [] }
+    ensures gone { (c : ConfigValues) (events : List AcceptedCall) (id : ℕ) → AreAccepted c events →
+        side_of id (world_after c events).sides ≡ None → IsGone c id events }
     ensures answered { (c : ConfigValues) (events : List AcceptedCall) (id : ℕ) (s : Connection) →
         side_of id (world_after c events).sides ≡ Some s →
-        AllByRecursion (λ r. HasFate s.history.queued r r.fate) (requests_on c id events) }
+        AllByRecursion (λ r. HasFate s.history r r.fate) (requests_on c id events) }
     ensures own { (c : ConfigValues) (events : List AcceptedCall) (id : ℕ) (s : Connection) →
         side_of id (world_after c events).sides ≡ Some s → HaveOwnAnswers (requests_on c id events) }
     ensures given { (c : ConfigValues) (events : List AcceptedCall) (id : ℕ) (s : Connection) → AreAccepted c events →

@@ -1,7 +1,9 @@
 mod WorkedLines
+mod WorkedRecords
 pub mod EscapeLemmas
 pub mod WordLaws
 pub mod LineLaws
 pub mod WriteLemmas
 pub mod RecordLemmas
+pub mod PartLaws
 pub mod ReplayLaws

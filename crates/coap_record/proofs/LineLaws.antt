@@ -49,10 +49,10 @@ of_word b passes = grind (arith, nat_tests)
 is_ascii : (b : ℕ) → line_byte b ≡ true → nat_lt b 128 ≡ true
 is_ascii b passes = (and_parts (nat_le 32 b) (nat_lt b 128) passes).1
 
-no_newline : (b : ℕ) → line_byte b ≡ true → (b == newline) ≡ false
+pub no_newline : (b : ℕ) → line_byte b ≡ true → (b == newline) ≡ false
 no_newline b passes = grind (arith, nat_tests)
 
-bytes_of_line : (word : List ℕ) (others : List (List ℕ)) → IsWord word → AreWords others → list_all line_byte (spaced word others) ≡ true
+pub bytes_of_line : (word : List ℕ) (others : List (List ℕ)) → IsWord word → AreWords others → list_all line_byte (spaced word others) ≡ true
 unfolding spaced
 bytes_of_line word [] is are = all_pass word_byte line_byte of_word word is
 bytes_of_line word (next ∷ others) is are =
@@ -183,6 +183,12 @@ pub line_read_back : (c : AcceptedCall) → IsInRange c → script_of (line_of c
 unfolding said_by_parts
 line_read_back c is =
     ap script_of (sym (append-nil (line_of c))) ∙ call_said c is [] [] refl ∙ ap (λ all. Ok all) (append-nil (events_said c))
+
+-- The lines of calls alone.
+pub lines_read_back : (cs : List AcceptedCall) → All IsInRange cs → script_of (lines_of cs) ≡ Ok (all_events_said cs)
+unfolding said_by_parts
+lines_read_back cs are =
+    ap script_of (sym (append-nil (lines_of cs))) ∙ calls_said cs are [] [] refl ∙ ap (λ all. Ok all) (append-nil (all_events_said cs))
 
 -- A comment of printable text, and the text after it.
 pub comment_read_back : (text more : List ℕ) (es : List ScriptEventValue) → list_all is_printable text ≡ true → script_of more ≡ Ok es → script_of (35 ∷ (text ++ newline ∷ more)) ≡ Ok es

@@ -1,8 +1,8 @@
 -- A replay of the events of a record leaves the server that accepted the calls.
-use Rattle.std.proofs.Common.{◌≡◌, ℕ, ◌+◌, ◌<◌, ◌≤◌, false, List, [], ◌∷◌, ◌++◌, length, take, take_all, Option, Some, None, Ok, refl, sym, ap, ◌∙◌, append_assoc, append-nil, arith, All, lt-ltb}
+use Rattle.std.proofs.Common.{◌≡◌, ℕ, ◌+◌, ◌<◌, ◌≤◌, Bool, true, false, List, [], ◌∷◌, ◌++◌, length, subst, take, take_all, Option, Some, None, Ok, refl, sym, ap, ◌∙◌, append_assoc, append-nil, arith, All, lt-ltb}
 use Rattle.std.proofs.lemmas.Bool.Decides.{nat_tests}
-use Rattle.std.proofs.lemmas.List.{length-map, length-take-le}
-use Rattle.std.proofs.lemmas.List.Elements.{All-head, All-tail}
+use Rattle.std.proofs.lemmas.List.{append_cancel_left, length-map, length-take-le, map-append}
+use Rattle.std.proofs.lemmas.List.Elements.{All-cons, All-head, All-nil, All-tail}
 use Rattle.coap_wire.specs.Stream.{Stream}
 use Rattle.coap_wire.specs.Message.{Message}
 use Rattle.coap_wire.specs.Reading.{message_of}
@@ -11,7 +11,7 @@ use Rattle.coap_conn.specs.Release.{release_refusal}
 use Rattle.coap_conn.specs.Responses.{response_refusal}
 use Rattle.coap_conn.specs.History.{link_of}
 use Rattle.coap_store.specs.Refusals.{put_refusal, remove_refusal}
-use Rattle.coap_script.specs.script.Events.{Drain}
+use Rattle.coap_script.specs.script.Events.{ScriptEventValue, Drain}
 use Rattle.coap_script.specs.script.Lines.{out_line}
 use Rattle.coap_model.specs.Configs.{ConfigValues}
 use Rattle.coap_model.specs.streams.Output.{waiting_of}
@@ -34,7 +34,12 @@ use Rattle.coap_server_engine.proofs.world.CallLaws.{new_shows}
 use Rattle.coap_server_engine.proofs.values.ServerLemmas.{opens}
 use Rattle.coap_server_engine.proofs.scripting.ShownLemmas.{config_stays}
 use Rattle.coap_server_engine.proofs.scripting.ReplayLemmas.{all_turns_made, replayed_on}
-use Rattle.coap_record.specs.Prelude.{events_said, all_events_said, CanReplay}
+use Rattle.coap_record.specs.Prelude.{lines_of, events_said, all_events_said, IsInRange, CanReplay, HasLines, IsRecordOf, AreWholeLines}
+use Rattle.coap_record.specs.Prelude.{SaysNoEvent, script_of}
+use Rattle.coap_record.specs.Prelude.{with_turns, server_with_turns, write_in, writes_of, lines_of_writes, drain_of, drains_of, ReplaysTo}
+use Rattle.coap_record.proofs.LineLaws.{lines_read_back}
+use Rattle.coap_record.proofs.RecordLemmas.{any_part}
+use Rattle.coap_record.proofs.PartLaws.{whole_lines}
 
 -- ---- accepted bytes
 
@@ -184,14 +189,6 @@ calls_replay v es (e ∷ cs) shows accepted can =
 first_shows : (c : ConfigValues) → c.starts.moment ≤ 18446744073709551615 → Shows (new_server c) []
 first_shows c small = new_shows {F = Unit {0}} (Ok (new_server c)) c (omega (arith, small)) refl
 
--- The server after the events of all calls is the one that accepted them.
-pub record_replays : (v : ServerValue) (cs : List AcceptedCall) → Shows v cs → All CanReplay cs → (replayed (new_server v.config) (all_events_said cs)).server ≡ v
-record_replays v cs shows can =
-    let all = calls_replay (new_server v.config) [] cs (first_shows v.config shows.moment) shows.accepted can in
-    all.0.same ∙ ap (λ c. server_of c cs) all.1 ∙ sym shows.same
-
--- ---- written bytes
-
 -- The calls before others were accepted.
 front_accepted : (c : ConfigValues) (earlier es fs : List AcceptedCall) → AreAcceptedBehind c earlier (es ++ fs) → AreAcceptedBehind c earlier es × AreAcceptedBehind c (earlier ++ es) fs
 unfolding AreAcceptedBehind
@@ -200,15 +197,177 @@ front_accepted c earlier (e ∷ es) fs all =
     let rest = front_accepted c (earlier ++ e ∷ []) es fs all.1 in
     ((all.0, rest.0), rw (append_assoc earlier (e ∷ []) es) at rest.1)
 
--- The line of a drain has the bytes that the call wrote.
-pub drained_alike : (v : ServerValue) (before behind : List AcceptedCall) (id n : ℕ) → Shows v (before ++ call.Wrote id n ∷ behind) → All CanReplay before
+-- ---- the limit of turns
+
+-- A call is accepted whatever the limit of turns is.
+accepted_at : (turns : ℕ) (c : ConfigValues) (es : List AcceptedCall) (e : AcceptedCall) → IsAccepted c es e → IsAccepted (with_turns turns c) es e
+unfolding IsAccepted world_after takes
+accepted_at turns c es (call.Opened id) is = is
+accepted_at turns c es (call.Took id bytes) is = is
+accepted_at turns c es (call.Wrote id n) is = is
+accepted_at turns c es (call.Ticked now) is = is
+accepted_at turns c es (call.Stored path format bytes) is = is
+accepted_at turns c es (call.Removed path) is = is
+accepted_at turns c es (call.Ended id) is = is
+accepted_at turns c es (call.Released id) is = is
+accepted_at turns c es (call.Announced id size) is = is
+accepted_at turns c es (call.Responded id m) is = is
+accepted_at turns c es (call.Dropped id) is = is
+
+all_accepted_at : (turns : ℕ) (c : ConfigValues) (earlier es : List AcceptedCall) → AreAcceptedBehind c earlier es → AreAcceptedBehind (with_turns turns c) earlier es
+unfolding AreAcceptedBehind
+all_accepted_at turns c earlier [] are = tt
+all_accepted_at turns c earlier (e ∷ es) are = (accepted_at turns c earlier e are.0, all_accepted_at turns c (earlier ++ e ∷ []) es are.1)
+
+-- The server that calls determine, with another limit of turns.
+server_at : (turns : ℕ) (c : ConfigValues) (cs : List AcceptedCall) → server_with_turns turns (server_of c cs) ≡ server_of (with_turns turns c) cs
+unfolding server_of world_after
+server_at turns c cs = refl
+
+shows_at : (turns : ℕ) (v : ServerValue) (cs : List AcceptedCall) → Shows v cs → Shows (server_with_turns turns v) cs
+shows_at turns v cs shows = record {
+  accepted = all_accepted_at turns v.config [] cs shows.accepted;
+  same = ap (server_with_turns turns) shows.same ∙ server_at turns v.config cs;
+  moment = shows.moment;
+}
+
+-- The bytes that calls write, whatever the limit of turns is.
+writes_at : (turns : ℕ) (c : ConfigValues) (earlier cs : List AcceptedCall) → writes_of (with_turns turns c) earlier cs ≡ writes_of c earlier cs
+unfolding writes_of world_after
+writes_at turns c earlier [] = refl
+writes_at turns c earlier (e ∷ es) = ap (λ ws. write_in (world_after c earlier) e ++ ws) (writes_at turns c (earlier ++ e ∷ []) es)
+
+-- ---- a replay on a new server
+
+-- The server after the events of all calls is the one that accepted them.
+replays_on_new : (v : ServerValue) (cs : List AcceptedCall) → Shows v cs → All CanReplay cs → (replayed (new_server v.config) (all_events_said cs)).server ≡ v
+replays_on_new v cs shows can =
+    let all = calls_replay (new_server v.config) [] cs (first_shows v.config shows.moment) shows.accepted can in
+    all.0.same ∙ ap (λ c. server_of c cs) all.1 ∙ sym shows.same
+
+pub record_replays : (v : ServerValue) (cs : List AcceptedCall) (turns : ℕ) → Shows v cs → All CanReplay cs → (replayed (new_server (with_turns turns v.config)) (all_events_said cs)).server ≡ server_with_turns turns v
+record_replays v cs turns shows can = replays_on_new (server_with_turns turns v) cs (shows_at turns v cs shows) can
+
+-- ---- written bytes
+
+-- The line of a drain has the bytes that the call writes.
+drain_line_is : (v : ServerValue) (es : List AcceptedCall) (id n : ℕ) → Shows v es → IsAccepted v.config es (call.Wrote id n)
+    → (event_ran v (Drain id (Some n))).text ≡ out_line id (take n (waiting_of (side_of id (world_after v.config es).sides)))
+unfolding IsAccepted event_ran
+drain_line_is v es id n shows accepted =
+    let here = there v es id (λ s. n ≤ length (waiting_on s)) shows accepted in
+    rw here.session (ap (λ (s : Option Connection). out_line id (take n (waiting_of s))) (sym here.at))
+
+-- The same after a replay of the calls before it.
+drained_on_new : (v : ServerValue) (before behind : List AcceptedCall) (id n : ℕ) → Shows v (before ++ call.Wrote id n ∷ behind) → All CanReplay before
     → (event_ran (replayed (new_server v.config) (all_events_said before)).server (Drain id (Some n))).text ≡ out_line id (take n (waiting_of (side_of id (world_after v.config before).sides)))
-unfolding AreAcceptedBehind IsAccepted event_ran
-drained_alike v before behind id n shows can =
-    let c : ConfigValues = v.config in
-    let parts = front_accepted c [] before (call.Wrote id n ∷ behind) shows.accepted in
-    let new : ServerValue = new_server c in
-    let front = calls_replay new [] before (first_shows c shows.moment) parts.0 can in
-    let now : ServerValue = (replayed new (all_events_said before)).server in
-    let here = there now before id (λ s. n ≤ length (waiting_on s)) front.0 (rw front.1 parts.1.0) in
-    rw here.session (rw front.1 at (ap (λ (s : Option Connection). out_line id (take n (waiting_of s))) (sym here.at)))
+unfolding AreAcceptedBehind
+drained_on_new v before behind id n shows can =
+    let parts = front_accepted v.config [] before (call.Wrote id n ∷ behind) shows.accepted in
+    let front = calls_replay (new_server v.config) [] before (first_shows v.config shows.moment) parts.0 can in
+    rw front.1 at (drain_line_is (replayed (new_server v.config) (all_events_said before)).server before id n front.0 (rw front.1 parts.1.0))
+
+pub drained_alike : (v : ServerValue) (before behind : List AcceptedCall) (id n turns : ℕ) → Shows v (before ++ call.Wrote id n ∷ behind) → All CanReplay before
+    → (event_ran (replayed (new_server (with_turns turns v.config)) (all_events_said before)).server (Drain id (Some n))).text ≡ out_line id (take n (waiting_of (side_of id (world_after v.config before).sides)))
+unfolding world_after
+drained_alike v before behind id n turns shows can =
+    drained_on_new (server_with_turns turns v) before behind id n (shows_at turns v (before ++ call.Wrote id n ∷ behind) shows) can
+
+-- The lines of drains in a replay of events in sequence.
+drains_on : (v : ServerValue) (es fs : List ScriptEventValue) → drains_of v (es ++ fs) ≡ drains_of v es ++ drains_of (replayed v es).server fs
+unfolding drains_of replayed
+drains_on v [] fs = refl
+drains_on v (e ∷ es) fs = ap (λ ls. drain_of v e ++ ls) (drains_on (event_ran v e).server es fs) ∙ sym (append_assoc (drain_of v e) (drains_of (event_ran v e).server es) (drains_of (replayed (event_ran v e).server es).server fs))
+
+-- The lines of drains of one call.
+call_drains : (v : ServerValue) (es : List AcceptedCall) (e : AcceptedCall) → Shows v es → IsAccepted v.config es e → drains_of v (events_said e) ≡ lines_of_writes (write_in (world_after v.config es) e)
+unfolding drains_of events_said
+call_drains v es (call.Opened id) shows accepted = refl
+call_drains v es (call.Took id []) shows accepted = refl
+call_drains v es (call.Took id (byte ∷ bytes)) shows accepted = refl
+call_drains v es (call.Wrote id n) shows accepted = ap (λ line. line ∷ []) (drain_line_is v es id n shows accepted)
+call_drains v es (call.Ticked now) shows accepted = refl
+call_drains v es (call.Stored path format bytes) shows accepted = refl
+call_drains v es (call.Removed path) shows accepted = refl
+call_drains v es (call.Ended id) shows accepted = refl
+call_drains v es (call.Released id) shows accepted = refl
+call_drains v es (call.Announced id size) shows accepted = refl
+call_drains v es (call.Responded id m) shows accepted = refl
+call_drains v es (call.Dropped id) shows accepted = refl
+
+-- The lines of drains of all calls.
+calls_drain : (v : ServerValue) (es cs : List AcceptedCall) → Shows v es → AreAcceptedBehind v.config es cs → All CanReplay cs → drains_of v (all_events_said cs) ≡ lines_of_writes (writes_of v.config es cs)
+unfolding AreAcceptedBehind all_events_said drains_of writes_of
+calls_drain v es [] shows accepted can = refl
+calls_drain v es (e ∷ cs) shows accepted can =
+    let one = call_replays v es e shows accepted.0 (All-head CanReplay e cs can) in
+    let next : ServerValue = (replayed v (events_said e)).server in
+    let rest = calls_drain next (es ++ e ∷ []) cs one.0 (rw one.1 accepted.1) (All-tail CanReplay e cs can) in
+    let writes : List (ℕ × List ℕ) = write_in (world_after v.config es) e in
+    drains_on v (events_said e) (all_events_said cs)
+    ∙ ap (λ ls. ls ++ drains_of next (all_events_said cs)) (call_drains v es e shows accepted.0)
+    ∙ ap (λ ls. lines_of_writes writes ++ ls) (rest ∙ ap (λ c. lines_of_writes (writes_of c (es ++ e ∷ []) cs)) one.1)
+    ∙ sym (map-append (λ w. out_line w.0 w.1) writes (writes_of v.config (es ++ e ∷ []) cs))
+
+drains_on_new : (v : ServerValue) (cs : List AcceptedCall) → Shows v cs → All CanReplay cs → drains_of (new_server v.config) (all_events_said cs) ≡ lines_of_writes (writes_of v.config [] cs)
+drains_on_new v cs shows can = calls_drain (new_server v.config) [] cs (first_shows v.config shows.moment) shows.accepted can
+
+-- ---- the text of a record
+
+-- A header and lines of calls replay to the server that shows the calls.
+lines_replay : (v : ServerValue) (header text : List ℕ) (cs : List AcceptedCall) (turns : ℕ) → SaysNoEvent header → HasLines header text cs → Shows v cs → All CanReplay cs
+    → ReplaysTo (with_turns turns v.config) text (server_with_turns turns v) (writes_of v.config [] cs)
+lines_replay v header text cs turns silent has shows can =
+    let shown = shows_at turns v cs shows in
+    record {
+      events = all_events_said cs;
+      read = ap script_of has.0 ∙ silent (lines_of cs) (all_events_said cs) (lines_read_back cs has.1);
+      server = record_replays v cs turns shows can;
+      drains = drains_on_new (server_with_turns turns v) cs shown can ∙ ap lines_of_writes (writes_at turns v.config [] cs);
+    }
+
+-- A record that has not ended.
+pub whole_replays : (v : ServerValue) (header text : List ℕ) (cs : List AcceptedCall) (turns : ℕ) → SaysNoEvent header → IsRecordOf header false false (Some text) cs → Shows v cs → All CanReplay cs
+    → ReplaysTo (with_turns turns v.config) text (server_with_turns turns v) (writes_of v.config [] cs)
+whole_replays v header text cs turns silent is shows can = lines_replay v header text cs turns silent is shows can
+
+-- A property of all calls is one of the first calls.
+all_front : (P : AcceptedCall → Type 0) (front behind : List AcceptedCall) → All P (front ++ behind) → All P front
+all_front P [] behind all = All-nil P
+all_front P (c ∷ cs) behind all = All-cons P c cs (All-head P c (cs ++ behind) all) (all_front P cs behind (All-tail P c (cs ++ behind) all))
+
+-- The server after the first calls shows them.
+front_shows : (v : ServerValue) (front behind : List AcceptedCall) → Shows v (front ++ behind) → Shows (server_of v.config front) front
+unfolding server_of
+front_shows v front behind shows = record {
+  accepted = (front_accepted v.config [] front behind shows.accepted).0;
+  same = refl;
+  moment = shows.moment;
+}
+
+-- A header and lines of the first calls.
+front_replays : (v : ServerValue) (header text : List ℕ) (cs front behind : List AcceptedCall) (turns : ℕ) → SaysNoEvent header → cs ≡ front ++ behind → HasLines header text front → Shows v cs → All CanReplay cs
+    → ReplaysTo (with_turns turns v.config) text (server_of (with_turns turns v.config) front) (writes_of v.config [] front)
+unfolding server_of world_after
+front_replays v header text cs front behind turns silent all has shows can =
+    let shown = front_shows v front behind (subst (Shows v) all shows) in
+    lines_replay (server_of v.config front) header text front turns silent has shown (all_front CanReplay front behind (subst (All CanReplay) all can))
+
+-- A record that has ended at its limit.
+pub full_replays : (v : ServerValue) (header text : List ℕ) (cs : List AcceptedCall) (turns : ℕ) → SaysNoEvent header → IsRecordOf header false true (Some text) cs → Shows v cs → All CanReplay cs
+    → (front behind : List AcceptedCall) × (cs ≡ front ++ behind) × ReplaysTo (with_turns turns v.config) text (server_of (with_turns turns v.config) front) (writes_of v.config [] front)
+full_replays v header text cs turns silent is shows can =
+    (is.front, is.behind, is.all, front_replays v header text cs is.front is.behind turns silent is.all is.lines shows can)
+
+-- Whole lines of a record.
+pub part_replays : (v : ServerValue) (header text lines part : List ℕ) (cs : List AcceptedCall) (failed full : Bool) (turns : ℕ) → SaysNoEvent header → IsRecordOf header failed full (Some text) cs
+    → text ≡ header ++ (lines ++ part) → AreWholeLines lines → Shows v cs → All CanReplay cs
+    → (front behind : List AcceptedCall) × (cs ≡ front ++ behind) × ReplaysTo (with_turns turns v.config) (header ++ lines) (server_of (with_turns turns v.config) front) (writes_of v.config [] front)
+part_replays v header text lines part cs failed full turns silent is same whole shows can =
+    let has = any_part header text cs failed full is in
+    let begins : header ++ lines_of has.front ≡ header ++ (lines ++ (part ++ has.missing)) =
+    has.lines ∙ ap (λ t. t ++ has.missing) same ∙ append_assoc header (lines ++ part) has.missing ∙ ap (λ t. header ++ t) (append_assoc lines part has.missing) in
+    let found = whole_lines has.front has.ranges (part ++ has.missing) lines whole (append_cancel_left header (lines_of has.front) (lines ++ (part ++ has.missing)) begins) in
+    let all : cs ≡ found.0 ++ (found.1 ++ has.behind) = has.all ∙ ap (λ ds. ds ++ has.behind) found.2 ∙ append_assoc found.0 found.1 has.behind in
+    let ranges = all_front IsInRange found.0 found.1 (subst (All IsInRange) found.2 has.ranges) in
+    (found.0, found.1 ++ has.behind, all, front_replays v header (header ++ lines) cs found.0 (found.1 ++ has.behind) turns silent all (ap (λ t. header ++ t) found.3, ranges) shows can)

@@ -46,6 +46,7 @@ pub use Rattle.coap_server_engine.specs.values.Calls.{call_value}
 unfoldable pub use Rattle.coap_server_engine.specs.values.Calls.{FollowsMore}
 pub use Rattle.coap_server_engine.specs.values.Servers.{ServerValue, new_server}
 pub use Rattle.coap_server_engine.specs.world.Shows.{Shows}
+unfoldable pub use Rattle.coap_server_engine.specs.world.Shows.{server_of}
 unfoldable pub use Rattle.coap_server_engine.specs.script.Replay.{replayed, event_ran}
 -- ---- this crate
 pub use Rattle.coap_record.specs.RecordLines.{format_word, drain_line, stored_line, removed_line, announced_line}
@@ -54,4 +55,6 @@ unfoldable pub use Rattle.coap_record.specs.RecordLines.{path_word, took_line, l
 unfoldable pub use Rattle.coap_record.specs.SaidEvents.{events_said, all_events_said, IsInRange}
 pub use Rattle.coap_record.specs.SaidEvents.{IsNumber, AreBytes, IsPathOfBytes, IsFormat, CanReplay}
 pub use Rattle.coap_record.specs.Writes.{WritesText, WritesUpTo, room_in}
-pub use Rattle.coap_record.specs.Records.{IsRecordOf, is_printable}
+pub use Rattle.coap_record.specs.Records.{HasLines, HasFirstLines, HasPart, IsRecordOf, AreWholeLines, SaysNoEvent, is_printable}
+pub use Rattle.coap_record.specs.Replays.{with_turns, server_with_turns, write_in, lines_of_writes, drain_of, ReplaysTo}
+unfoldable pub use Rattle.coap_record.specs.Replays.{writes_of, drains_of}

@@ -1,10 +1,11 @@
 //! Theorems on records, as contracts of functions that do nothing.
 
-ghost use Rattle.std.specs.Prelude.{◌≡◌, ℕ, All, List, ◌∷◌, ◌++◌, Some, Ok, take, true};
+ghost use Rattle.std.specs.Prelude.{◌≡◌, ℕ, Bool, All, List, [], ◌∷◌, ◌++◌, Some, Ok, take, true, false};
 ghost use Rattle.coap_record.specs.Prelude.{AcceptedCall, Wrote, ScriptEventValue, Drain, script_of, line_of, lines_of};
 ghost use Rattle.coap_record.specs.Prelude.{events_said, all_events_said, IsInRange, CanReplay, is_printable, newline};
 ghost use Rattle.coap_record.specs.Prelude.{ServerValue, Shows, new_server, replayed, event_ran, out_line, waiting_of};
-ghost use Rattle.coap_record.specs.Prelude.{side_of, world_after, list_all};
+ghost use Rattle.coap_record.specs.Prelude.{side_of, world_after, list_all, server_of, IsRecordOf, SaysNoEvent};
+ghost use Rattle.coap_record.specs.Prelude.{with_turns, server_with_turns, writes_of, ReplaysTo, AreWholeLines};
 
 /// States that the script reader reads the line of a call back as the event of the call.
 ///
@@ -26,12 +27,43 @@ pub fn lines_are_read_back()
 /// - The line of a `drain` has the bytes that the recorded server wrote: the first `n` bytes of those queued. So each
 ///   connection is sent the same bytes, in the same order (`drained`).
 ///
-/// No call may announce a message size, since a script cannot.
+/// The limit of turns may be another one. No call may announce a message size, since a script cannot.
 pub fn a_record_replays()
-    ensures server { (v : ServerValue) (calls : List AcceptedCall) → Shows v calls → All CanReplay calls →
-        (replayed (new_server v.config) (all_events_said calls)).server ≡ v }
-    ensures drained { (v : ServerValue) (before behind : List AcceptedCall) (id n : ℕ) →
+    ensures server { (v : ServerValue) (calls : List AcceptedCall) (turns : ℕ) → Shows v calls → All CanReplay calls →
+        (replayed (new_server (with_turns turns v.config)) (all_events_said calls)).server ≡ server_with_turns turns v }
+    ensures drained { (v : ServerValue) (before behind : List AcceptedCall) (id n turns : ℕ) →
         Shows v (before ++ Wrote id n ∷ behind) → All CanReplay before →
-        (event_ran (replayed (new_server v.config) (all_events_said before)).server (Drain id (Some n))).text
+        (event_ran (replayed (new_server (with_turns turns v.config)) (all_events_said before)).server
+        (Drain id (Some n))).text
         ≡ out_line id (take n (waiting_of (side_of id (world_after v.config before).sides))) }
+{}
+
+/// States that the text of a record replays the run of which it is the record.
+///
+/// The calls are those of a run: the server after the run shows them (`Shows`), and a `Recorder` received them after
+/// its header (`follows`). The header has comments only. Each call must be one that a script can make again
+/// (`CanReplay`).
+///
+/// - The text of a record that has not ended is a script. Its replay leaves the server after the run, and its `drain`
+///   lines have the bytes that the run wrote, in order (`whole`).
+/// - A record that has ended at its limit replays the first calls in the same way (`limit`).
+/// - So does each prefix of whole lines of any record (`lines`): a write may have failed, or the server was killed.
+///
+/// The replay runs on a new server with the configuration of the recorded one. Its limit of turns may be another one.
+pub fn a_recorded_run_replays()
+    ensures whole { (v : ServerValue) (header text : List ℕ) (calls : List AcceptedCall) (turns : ℕ) →
+        SaysNoEvent header → IsRecordOf header false false (Some text) calls → Shows v calls → All CanReplay calls →
+        ReplaysTo (with_turns turns v.config) text (server_with_turns turns v) (writes_of v.config [] calls) }
+    ensures limit { (v : ServerValue) (header text : List ℕ) (calls : List AcceptedCall) (turns : ℕ) →
+        SaysNoEvent header → IsRecordOf header false true (Some text) calls → Shows v calls → All CanReplay calls →
+        (front behind : List AcceptedCall) × (calls ≡ front ++ behind)
+        × ReplaysTo (with_turns turns v.config) text (server_of (with_turns turns v.config) front)
+        (writes_of v.config [] front) }
+    ensures lines { (v : ServerValue) (header text lines part : List ℕ) (calls : List AcceptedCall)
+        (has_failed is_full : Bool) (turns : ℕ) →
+        SaysNoEvent header → IsRecordOf header has_failed is_full (Some text) calls →
+        text ≡ header ++ (lines ++ part) → AreWholeLines lines → Shows v calls → All CanReplay calls →
+        (front behind : List AcceptedCall) × (calls ≡ front ++ behind)
+        × ReplaysTo (with_turns turns v.config) (header ++ lines) (server_of (with_turns turns v.config) front)
+        (writes_of v.config [] front) }
 {}

@@ -3,8 +3,9 @@
 //! - `write_call` and `write_opened` write the line of a call to an outlet. They allocate nothing.
 //! - `Recorder` is a monitor that writes these lines to a `BufferedOutlet`, up to a limit, and passes them on at the end of
 //!   each turn. `MonitorPair` passes each call on to two monitors, such as a recorder and a log.
-//! - `read_range` gives the range of a call's values, which the theorem asks for.
-//! - `laws` has the theorem on lines: the script reader reads the line of a call back as the event of the call.
+//! - `read_range` gives the range of a call's values, which the theorems ask for.
+//! - `laws` has the theorems. The script reader reads the line of a call back as the event of the call. The text of a record
+//!   replays the run of which it is the record.
 //!
 //! The contracts name the definitions of `specs/`: `RecordLines` for the line of a call, `SaidEvents` for the events that
 //! it says. An announced message size has no event, so its line is a comment. A record is faithful up to the first such

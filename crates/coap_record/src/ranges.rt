@@ -1,8 +1,10 @@
-//! The ranges of the values of a call, which the theorem on lines asks for.
+//! The ranges of the values of a call, which the theorems ask for.
 
+ghost use Rattle.coap_model.specs.world.Events.{Opened};
 ghost use Rattle.coap_record.specs.Prelude.{IsNumber, AreBytes, IsPathOfBytes, IsFormat, IsInRange, call_value};
 
 use crate::lines::response_of;
+use coap_model::ConnId;
 use coap_server_engine::Call;
 use coap_store::PathKey;
 
@@ -34,9 +36,18 @@ fn read_format(format: Option<u16>)
     }
 }
 
+/// Reads the number of a connection that was opened, which gives the range of this call to the proof of a caller. Does
+/// nothing else.
+#[tactic(auto, unfolding(crate::specs::SaidEvents::IsInRange))]
+pub(crate) fn read_opened(_id: ConnId)
+    ensures { IsInRange (Opened _id) }
+{
+    read_number(_id);
+}
+
 /// Reads a call, which gives the range of its values to the proof of a caller. Does nothing else.
 ///
-/// `laws::lines_are_read_back` asks for this range.
+/// `laws::lines_are_read_back` asks for this range. `Recorder` states it of each call whose line it has written.
 #[tactic(auto, unfolding(crate::specs::SaidEvents::IsInRange))]
 pub fn read_range(call: &Call<'_>)
     ensures { IsInRange (call_value call.now) }

@@ -6,13 +6,14 @@ ghost use Rattle.coap_record.specs.Prelude.{AcceptedCall, IsRecordOf, call_value
 
 use crate::buffered::BufferedOutlet;
 use crate::lines::{write_call, write_opened};
+use crate::ranges::{read_opened, read_range};
 use coap_io::{Outlet, write_all};
 use coap_model::ConnId;
 use coap_server_engine::{Call, Monitor, Server};
 
 /// Monitor that writes the line of each call to an outlet, and passes the lines on at the end of each turn. The record
 /// ends after a failed write, or with the line with which the number of its bytes reaches a limit. After that the monitor
-/// ignores all calls.
+/// ignores all calls. `laws::a_recorded_run_replays` has the theorem on its text.
 #[derive(Drop)]
 pub struct Recorder<O> {
     outlet: BufferedOutlet<O>,
@@ -27,8 +28,8 @@ impl<O: Outlet + Drop> Recorder<O> {
         ensures limit { result.limit ≡ limit }
         // Over an outlet without bytes, this is the record of no header and no calls.
         ensures begins { ⟦<BufferedOutlet<O> as Outlet>⟧.written outlet ≡ Some [] →
-            IsRecordOf [] (⟦<BufferedOutlet<O> as Outlet>⟧.is_failed result.outlet
-            || nat_le result.limit result.outlet.count)
+            IsRecordOf [] (⟦<BufferedOutlet<O> as Outlet>⟧.is_failed result.outlet)
+            (nat_le result.limit result.outlet.count)
             (⟦<BufferedOutlet<O> as Outlet>⟧.written result.outlet) [] }
     {
         Recorder { outlet, limit }
@@ -63,19 +64,20 @@ impl<O: Outlet + Drop> Recorder<O> {
         self.has_failed() || self.has_reached_limit()
     }
 
-    /// Writes a text before the lines of all calls, unless the record has ended.
+    /// Writes a text before the lines of all calls, unless a write has failed. The text is written whole, also if the
+    /// record has reached its limit.
     #[tactic(auto, using(crate::proofs::RecordLemmas::header_written, crate::proofs::RecordLemmas::header_stays))]
     pub fn write_header(&mut self, text: &[u8])
         ensures header { (before : List ℕ) →
-            IsRecordOf before (⟦<BufferedOutlet<O> as Outlet>⟧.is_failed self.old.outlet
-            || nat_le self.old.limit self.old.outlet.count)
+            IsRecordOf before (⟦<BufferedOutlet<O> as Outlet>⟧.is_failed self.old.outlet)
+            (nat_le self.old.limit self.old.outlet.count)
             (⟦<BufferedOutlet<O> as Outlet>⟧.written self.old.outlet) [] →
-            IsRecordOf (before ++ text.now) (⟦<BufferedOutlet<O> as Outlet>⟧.is_failed self.new.outlet
-            || nat_le self.new.limit self.new.outlet.count)
+            IsRecordOf (before ++ text.now) (⟦<BufferedOutlet<O> as Outlet>⟧.is_failed self.new.outlet)
+            (nat_le self.new.limit self.new.outlet.count)
             (⟦<BufferedOutlet<O> as Outlet>⟧.written self.new.outlet) [] }
         ensures limit { self.new.limit ≡ self.old.limit }
     {
-        if self.has_ended() {
+        if self.has_failed() {
             return;
         }
         let _ = write_all(&mut self.outlet, text);
@@ -85,11 +87,11 @@ impl<O: Outlet + Drop> Recorder<O> {
     #[tactic(auto, using(crate::proofs::RecordLemmas::record_goes_on, crate::proofs::RecordLemmas::record_stays))]
     pub fn record_opened(&mut self, id: ConnId)
         ensures follows { (header : List ℕ) (calls : List AcceptedCall) →
-            IsRecordOf header (⟦<BufferedOutlet<O> as Outlet>⟧.is_failed self.old.outlet
-            || nat_le self.old.limit self.old.outlet.count)
+            IsRecordOf header (⟦<BufferedOutlet<O> as Outlet>⟧.is_failed self.old.outlet)
+            (nat_le self.old.limit self.old.outlet.count)
             (⟦<BufferedOutlet<O> as Outlet>⟧.written self.old.outlet) calls →
-            IsRecordOf header (⟦<BufferedOutlet<O> as Outlet>⟧.is_failed self.new.outlet
-            || nat_le self.new.limit self.new.outlet.count)
+            IsRecordOf header (⟦<BufferedOutlet<O> as Outlet>⟧.is_failed self.new.outlet)
+            (nat_le self.new.limit self.new.outlet.count)
             (⟦<BufferedOutlet<O> as Outlet>⟧.written self.new.outlet) (calls ++ Opened id ∷ []) }
         ensures ended { (⟦<BufferedOutlet<O> as Outlet>⟧.is_failed self.old.outlet
             || nat_le self.old.limit self.old.outlet.count) ≡ true → self.new ≡ self.old }
@@ -98,6 +100,7 @@ impl<O: Outlet + Drop> Recorder<O> {
         if self.has_ended() {
             return;
         }
+        read_opened(id);
         let _ = write_opened(&mut self.outlet, id);
     }
 
@@ -105,11 +108,11 @@ impl<O: Outlet + Drop> Recorder<O> {
     #[tactic(auto, using(crate::proofs::RecordLemmas::record_goes_on, crate::proofs::RecordLemmas::record_stays))]
     pub fn record(&mut self, call: &Call<'_>)
         ensures follows { (header : List ℕ) (calls : List AcceptedCall) →
-            IsRecordOf header (⟦<BufferedOutlet<O> as Outlet>⟧.is_failed self.old.outlet
-            || nat_le self.old.limit self.old.outlet.count)
+            IsRecordOf header (⟦<BufferedOutlet<O> as Outlet>⟧.is_failed self.old.outlet)
+            (nat_le self.old.limit self.old.outlet.count)
             (⟦<BufferedOutlet<O> as Outlet>⟧.written self.old.outlet) calls →
-            IsRecordOf header (⟦<BufferedOutlet<O> as Outlet>⟧.is_failed self.new.outlet
-            || nat_le self.new.limit self.new.outlet.count)
+            IsRecordOf header (⟦<BufferedOutlet<O> as Outlet>⟧.is_failed self.new.outlet)
+            (nat_le self.new.limit self.new.outlet.count)
             (⟦<BufferedOutlet<O> as Outlet>⟧.written self.new.outlet) (calls ++ call_value call.now ∷ []) }
         ensures ended { (⟦<BufferedOutlet<O> as Outlet>⟧.is_failed self.old.outlet
             || nat_le self.old.limit self.old.outlet.count) ≡ true → self.new ≡ self.old }
@@ -118,6 +121,7 @@ impl<O: Outlet + Drop> Recorder<O> {
         if self.has_ended() {
             return;
         }
+        read_range(call);
         let _ = write_call(&mut self.outlet, call);
     }
 
@@ -125,11 +129,11 @@ impl<O: Outlet + Drop> Recorder<O> {
     #[tactic(auto, using(crate::proofs::RecordLemmas::record_flushed))]
     pub fn flush(&mut self)
         ensures follows { (header : List ℕ) (calls : List AcceptedCall) →
-            IsRecordOf header (⟦<BufferedOutlet<O> as Outlet>⟧.is_failed self.old.outlet
-            || nat_le self.old.limit self.old.outlet.count)
+            IsRecordOf header (⟦<BufferedOutlet<O> as Outlet>⟧.is_failed self.old.outlet)
+            (nat_le self.old.limit self.old.outlet.count)
             (⟦<BufferedOutlet<O> as Outlet>⟧.written self.old.outlet) calls →
-            IsRecordOf header (⟦<BufferedOutlet<O> as Outlet>⟧.is_failed self.new.outlet
-            || nat_le self.new.limit self.new.outlet.count)
+            IsRecordOf header (⟦<BufferedOutlet<O> as Outlet>⟧.is_failed self.new.outlet)
+            (nat_le self.new.limit self.new.outlet.count)
             (⟦<BufferedOutlet<O> as Outlet>⟧.written self.new.outlet) calls }
         ensures failed { ⟦<BufferedOutlet<O> as Outlet>⟧.is_failed self.old.outlet ≡ true → self.new ≡ self.old }
         ensures passed { ⟦<BufferedOutlet<O> as Outlet>⟧.is_failed self.new.outlet ≡ false →
@@ -144,8 +148,8 @@ impl<O: Outlet + Drop> Recorder<O> {
 }
 
 impl<W, O: Outlet + Drop> Monitor<W> for Recorder<O> {
-    ghost follows = { λ r header calls. IsRecordOf header (⟦<BufferedOutlet<O> as Outlet>⟧.is_failed r.outlet
-        || nat_le r.limit r.outlet.count) (⟦<BufferedOutlet<O> as Outlet>⟧.written r.outlet) calls };
+    ghost follows = { λ r header calls. IsRecordOf header (⟦<BufferedOutlet<O> as Outlet>⟧.is_failed r.outlet)
+        (nat_le r.limit r.outlet.count) (⟦<BufferedOutlet<O> as Outlet>⟧.written r.outlet) calls };
 
     #[tactic(auto, unfolding(crate::specs::Prelude::FollowsMore))]
     fn opened(&mut self, id: ConnId, _wire: &W, _server: &Server) {

@@ -1,3 +1,3 @@
 pub mod RecordEnds
-pub mod Comments
 pub mod Refusals
+pub mod ConnectionEnds

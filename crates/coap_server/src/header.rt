@@ -4,7 +4,7 @@ ghost use Rattle.std.specs.Prelude.{◌≡◌, ◌++◌, true, IfOk, OnOk, codes
 ghost use Rattle.std.specs.List.{flat_map, list_all};
 ghost use Rattle.coap_command_line.specs.declared.arguments.help.TheConstants.{VERSION};
 ghost use Rattle.coap_print.specs.Texts.{is_text};
-ghost use Rattle.coap_server.specs.Comments.{SaysNoEvent};
+ghost use Rattle.coap_record.specs.Prelude.{SaysNoEvent};
 ghost use Rattle.coap_server_common.specs.RecordHeaders.{header_text, options_text, starts_text};
 ghost use Rattle.coap_server_common.specs.RecordHeaders as spec;
 

@@ -7,6 +7,8 @@ ghost use Rattle.std.specs.Prelude.{IsErr};
 ghost use Rattle.coap_server_common.specs.Planned.{planned, starts_of};
 
 use crate::PROGRAM;
+use crate::failures::MarkedDoor;
+use crate::lent::Lent;
 use crate::log::ServerLog;
 use crate::record::{ServerRecord, open_record};
 use coap_print::LogLevel;
@@ -14,12 +16,13 @@ use coap_program::{FAULT, USAGE};
 use coap_record::MonitorPair;
 use coap_request::ServerPlan;
 use coap_serve::{
-    Clock, Config, IoFault, Monitor, NoMonitor, Outlet, SilenceWatch, Starts, serve_door_timed,
-    serve_door_with,
+    Clock, Config, Door, IoFault, Monitor, NoMonitor, Outlet, SilenceWatch, Starts,
+    serve_door_timed, serve_door_with,
 };
 use coap_server_common::{config_of, print_listen_fault};
-use coap_sockets::{RunClock, SocketDoor, SocketWire, SystemClock};
+use coap_sockets::{RunClock, SocketDoor, SystemClock};
 use std::alloc::AllocError;
+use std::cell::Cell;
 use std::net::{Net, SocketAddr};
 use std::rt::Files;
 use std::time;
@@ -86,10 +89,14 @@ fn serve_unrecorded<'a, R: Net + time::Clock + AllocGlobal>(
     if plan.log == LogLevel::Nothing {
         return serve(rt, door, clock, config, plan.idle, NoMonitor);
     }
-    let Ok(log) = log_of(rt, door, &config, plan) else {
+    let has_failed = Cell::new(false);
+    let Ok(mut log) = log_of(rt, door, &config, plan, &has_failed) else {
         return Err(IoFault::Memory);
     };
-    serve(rt, door, clock, config, plan.idle, log)
+    let mut door = MarkedDoor::new(door, &has_failed);
+    let served = serve(rt, &mut door, clock, config, plan.idle, Lent(&mut log));
+    log.finish(None);
+    served
 }
 
 /// Serves the connections of a listener with a record, and with a log if the plan has one.
@@ -110,35 +117,41 @@ fn serve_recorded<'a, R: Net + time::Clock + AllocGlobal, O: Outlet + Drop>(
     if plan.log == LogLevel::Nothing {
         return serve(rt, door, clock, config, plan.idle, record);
     }
-    let Ok(log) = log_of(rt, door, &config, plan) else {
+    let has_failed = Cell::new(false);
+    let Ok(mut log) = log_of(rt, door, &config, plan, &has_failed) else {
         return Err(IoFault::Memory);
     };
-    let pair = MonitorPair::new(log, record);
-    serve(rt, door, clock, config, plan.idle, pair)
+    let mut door = MarkedDoor::new(door, &has_failed);
+    let pair = MonitorPair::new(Lent(&mut log), record);
+    let served = serve(rt, &mut door, clock, config, plan.idle, pair);
+    log.finish(None);
+    served
 }
 
-/// Returns the log of a listener, of the plan's level. Then the listener wakes up each second.
+/// Returns the log of a listener, of the plan's level. Then the listener wakes up each second. Its wires set `has_failed` if
+/// they fail.
 ///
 /// # Errors
 ///
 /// Returns `AllocError` if allocation fails.
 fn log_of<'a, R: Net + time::Clock + AllocGlobal>(
     rt: &'a R,
-    door: &mut SocketDoor<'a, R>,
+    door: &mut SocketDoor<'_, R>,
     config: &Config,
     plan: &ServerPlan,
+    has_failed: &'a Cell<bool>,
 ) -> Result<ServerLog<'a, R>, AllocError> {
     door.wake_each_second();
     let troubles = door.troubles();
-    ServerLog::new(rt, rt.alloc(), plan.log, config, plan.idle > 0, troubles)
+    ServerLog::new(rt, rt.alloc(), plan.log, config, Some(has_failed), troubles)
 }
 
 /// Serves the connections of a listener. The monitor receives the calls that the server accepts. Connections are ended
 /// after `idle` seconds without a byte, or never if `idle` is zero.
-fn serve<'a, R: Net + time::Clock + AllocGlobal, M: Monitor<SocketWire> + Drop>(
-    rt: &'a R,
-    door: &mut SocketDoor<'a, R>,
-    clock: &mut SystemClock<'a, R>,
+fn serve<R: Net + time::Clock + AllocGlobal, D: Door, M: Monitor<D::Wire> + Drop>(
+    rt: &R,
+    door: &mut D,
+    clock: &mut SystemClock<'_, R>,
     config: Config,
     idle: u32,
     monitor: M,
@@ -165,6 +178,6 @@ fn serve<'a, R: Net + time::Clock + AllocGlobal, M: Monitor<SocketWire> + Drop>(
         idle,
         &mut watch,
     );
-    Monitor::<SocketWire>::turn_ended(&mut watch);
+    Monitor::<D::Wire>::turn_ended(&mut watch);
     served
 }

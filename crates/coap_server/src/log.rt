@@ -1,15 +1,17 @@
 //! The log of a serving server: warnings, connections and messages, up to a level.
 
 ghost use Rattle.std.specs.Prelude.{◌≡◌, ◌≤◌, length, take};
+ghost use Rattle.coap_server.specs.ConnectionEnds.{end_text};
 ghost use Rattle.coap_server.specs.Refusals.{is_refusal};
 
+use crate::failures::MarkedWire;
 use coap_log::{
     COUNTED, DESCRIBED, LineWriter, Log, Stderr, Tap, append_counts, describe_head, head_code,
 };
 use coap_print::{Line, LogLevel};
 use coap_serve::{Call, Config, ConnId, Handled, Monitor, Reason, Server};
 use coap_server_common::text_of;
-use coap_sockets::{DoorTroubles, SocketWire};
+use coap_sockets::DoorTroubles;
 use coap_wire::Code;
 use indexmap::IndexMap;
 use std::alloc::{AllocError, Global};
@@ -45,8 +47,8 @@ pub(crate) struct ServerLog<'a, R> {
     connections: IndexMap<u64, Followed>,
     /// Maximum number of resources that clients may create.
     dynamic_max: usize,
-    /// `true` if silent connections are dropped.
-    drops_silent: bool,
+    /// `true` if the last wire that was used has failed. `None` if no wire says so.
+    has_failed: Option<&'a Cell<bool>>,
     troubles: Option<Rc<Cell<DoorTroubles>>>,
     reported: DoorTroubles,
 }
@@ -86,9 +88,9 @@ fn append_address(alloc: Global, line: &mut Line, address: SocketAddr) {
 }
 
 impl<'a, R: time::Clock> ServerLog<'a, R> {
-    /// Returns the log of a server with this configuration. `drops_silent` is `true` if silent connections are dropped: then
-    /// the log cannot tell them from those that failed. `troubles` counts the failed system calls of
-    /// its listener.
+    /// Returns the log of a server with this configuration. The wires of its listener set `has_failed` if they fail, and
+    /// `troubles` counts the failed system calls of the listener. Without `has_failed`, each connection that ends without a
+    /// reason has failed.
     ///
     /// # Errors
     ///
@@ -98,7 +100,7 @@ impl<'a, R: time::Clock> ServerLog<'a, R> {
         alloc: Global,
         level: LogLevel,
         config: &Config,
-        drops_silent: bool,
+        has_failed: Option<&'a Cell<bool>>,
         troubles: Option<Rc<Cell<DoorTroubles>>>,
     ) -> Result<ServerLog<'a, R>, AllocError> {
         let mut program = Line::new();
@@ -109,7 +111,7 @@ impl<'a, R: time::Clock> ServerLog<'a, R> {
             log: Log::new(level, program, LineWriter::new(Stderr::new())),
             connections: IndexMap::with_capacity(alloc, config.connections())?,
             dynamic_max: config.dynamic_max(),
-            drops_silent,
+            has_failed,
             troubles,
             reported: DoorTroubles {
                 full: 0,
@@ -230,34 +232,51 @@ impl<'a, R: time::Clock> ServerLog<'a, R> {
             }
             Call::Ended(id) => self.note_stop(id, server),
             Call::Released(id) => self.note_stop(id, server),
-            Call::Dropped(id) => self.end(id),
+            Call::Dropped(id) => {
+                if let Some(line) = self.last_line(id) {
+                    self.write(LogLevel::Connections, &line);
+                }
+            }
             _ => {}
         }
     }
 
-    /// Ends the log of this connection, the only one of a server over standard input and output.
-    pub(crate) fn finish(&mut self, id: ConnId) {
-        self.end(id);
+    /// Ends the log, with the last line of this connection if it is still open. The lines left out are reported first.
+    pub(crate) fn finish(&mut self, id: Option<ConnId>) {
+        let line = match id {
+            Some(id) => self.last_line(id),
+            None => None,
+        };
+        let now = self.now();
+        self.log.end(now);
+        if let Some(line) = line {
+            self.write(LogLevel::Connections, &line);
+        }
     }
 
-    /// Writes the last line of a connection, and removes it from the log.
-    fn end(&mut self, id: ConnId) {
-        let Some(followed) = self.connections.shift_remove(&id) else {
-            return;
-        };
+    /// Removes a connection from the log, and returns its last line. Writes a warning if the connection has failed.
+    fn last_line(&mut self, id: ConnId) -> Option<Line> {
+        let has_failed = self.take_failure();
+        let followed = self.connections.shift_remove(&id)?;
+        if followed.stop.is_none() && has_failed {
+            self.warn(id, " failed");
+        }
         let mut line = front(id);
         line.text(" ended: ");
-        match followed.stop {
-            Some(reason) => line.escaped(text_of(reason).as_bytes()),
-            None if self.drops_silent => line.text("failed or silent connection"),
-            None => {
-                self.warn(id, " failed");
-                line.text("failed connection");
-            }
-        }
+        line.escaped(reason_of(&followed, has_failed).as_bytes());
         line.text("; ");
         append_counts(&mut line, &followed.incoming, &followed.outgoing);
-        self.write(LogLevel::Connections, &line);
+        Some(line)
+    }
+
+    /// Returns `true` if the wire of the connection that is removed has failed. The next connection begins with `false`.
+    fn take_failure(&self) -> bool {
+        let Some(cell) = self.has_failed else {
+            return true;
+        };
+        let has_failed = cell.get();
+        cell.set(false);
+        has_failed
     }
 
     /// Writes a warning if a number of failed system calls has grown.
@@ -291,6 +310,23 @@ impl<'a, R: time::Clock> ServerLog<'a, R> {
         self.report(before.other, now.other, "connections not accepted");
         self.report(before.waits, now.waits, "failed waits");
     }
+}
+
+/// Returns the reason for the end of a connection, in words. If there is no reason of the protocol, its wire has failed, or
+/// it was silent and could not be released. It has then sent no CSM, or its queue was full.
+fn reason_of(followed: &Followed, has_failed: bool) -> &'static str
+    ensures { result.now ≡ end_text followed.now.stop has_failed followed.now.incoming.messages }
+{
+    if let Some(reason) = followed.stop {
+        return text_of(reason);
+    }
+    if has_failed {
+        return "failed connection";
+    }
+    if followed.incoming.messages() == 0 {
+        return "no CSM in time";
+    }
+    "silent connection that could not be released"
 }
 
 /// Passes bytes of one direction of a connection to its tap, and writes a line for each message that ends with them. A
@@ -349,8 +385,8 @@ fn described(head: &[u8]) -> &[u8]
 }
 
 #[tactic(auto, unfolding(coap_record::specs::Prelude::FollowsMore))]
-impl<'a, R: time::Clock> Monitor<SocketWire> for ServerLog<'a, R> {
-    fn opened(&mut self, id: ConnId, wire: &SocketWire, server: &Server) {
+impl<'a, R: time::Clock> Monitor<MarkedWire<'a>> for ServerLog<'a, R> {
+    fn opened(&mut self, id: ConnId, wire: &MarkedWire<'a>, server: &Server) {
         let mut peer = Line::new();
         append_address(self.alloc, &mut peer, wire.peer());
         self.open(id, &peer, server);

@@ -9,7 +9,9 @@
 
 ghost use Rattle.std.specs.Prelude.{◌<◌, ◌+◌, ◌^◌};
 
+mod failures;
 mod header;
+mod lent;
 mod listening;
 mod log;
 mod record;

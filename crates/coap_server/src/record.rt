@@ -40,6 +40,10 @@ pub(crate) enum RecordWriter<F, O> {
 }
 
 impl<F: Write, O: Write> Write for RecordWriter<F, O> {
+    ghost use Rattle.coap_server.specs.declared.record.RecordWriter.TheVariants.{File, Output};
+
+    ghost contents = { elim [ File f ↦ F.contents f | Output o ↦ O.contents o ] };
+
     fn write(&mut self, bytes: &[u8]) -> io::Result<usize> {
         match self {
             RecordWriter::File(file) => file.write(bytes),

@@ -3,6 +3,7 @@
 ghost use Rattle.std.specs.Prelude.{◌<◌, ◌+◌, ◌^◌};
 
 use crate::PROGRAM;
+use crate::lent::Lent;
 use crate::log::ServerLog;
 use crate::record::{ServerRecord, open_record};
 use coap_print::LogLevel;
@@ -10,32 +11,10 @@ use coap_program::{ENDED, FAULT};
 use coap_record::MonitorPair;
 use coap_request::ServerPlan;
 use coap_serve::{
-    Call, Config, ConnId, IoFault, Monitor, Outlet, ReadSource, Report, Server, WriteOutlet,
-    serve_one, serve_one_with,
+    Config, IoFault, Monitor, Outlet, ReadSource, Report, WriteOutlet, serve_one, serve_one_with,
 };
 use std::rt::Files;
 use std::{io, time};
-
-/// Monitor that passes each call on to a monitor of its caller.
-#[derive(Drop)]
-struct Lent<'a, M>(&'a mut M);
-
-#[tactic(auto, unfolding(coap_record::specs::Prelude::FollowsMore))]
-impl<W, M: Monitor<W>> Monitor<W> for Lent<'_, M> {
-    ghost follows = { λ lent. M.follows lent.0.now };
-
-    fn opened(&mut self, id: ConnId, wire: &W, server: &Server) {
-        self.0.opened(id, wire, server);
-    }
-
-    fn accepted(&mut self, call: Call<'_>, server: &Server) {
-        self.0.accepted(call, server);
-    }
-
-    fn turn_ended(&mut self) {
-        self.0.turn_ended();
-    }
-}
 
 /// Serves one connection over standard input and output, and returns the exit status. The file of a record is created
 /// before anything is read.
@@ -70,11 +49,11 @@ fn serve_unrecorded(
         let mut output = WriteOutlet::new(io::writer(rt));
         return serve_one(rt.alloc(), &mut input, &mut output, config);
     }
-    let Ok(mut log) = ServerLog::new(rt, rt.alloc(), level, config, false, None) else {
+    let Ok(mut log) = ServerLog::new(rt, rt.alloc(), level, config, None, None) else {
         return Err(IoFault::Memory);
     };
     let served = serve(rt, config, &mut log);
-    log.finish(config.starts().ids + 1);
+    log.finish(Some(config.starts().ids + 1));
     served
 }
 
@@ -94,7 +73,7 @@ fn serve_recorded<O: Outlet + Drop>(
     if level == LogLevel::Nothing {
         return serve(rt, config, &mut record);
     }
-    let Ok(mut log) = ServerLog::new(rt, rt.alloc(), level, config, false, None) else {
+    let Ok(mut log) = ServerLog::new(rt, rt.alloc(), level, config, None, None) else {
         return Err(IoFault::Memory);
     };
     let served = serve(
@@ -102,7 +81,7 @@ fn serve_recorded<O: Outlet + Drop>(
         config,
         &mut MonitorPair::new(Lent(&mut log), Lent(&mut record)),
     );
-    log.finish(config.starts().ids + 1);
+    log.finish(Some(config.starts().ids + 1));
     served
 }
 

@@ -28,15 +28,24 @@ pub fn print_listen_fault(
         ),
         ListenError::Denied if port < 1_024 => program.print_fault(
             rt,
-            format_args!("permission denied for port {port}; choose a port from 1024 on with -p"),
+            format_args!(
+                "permission denied for address {ip} port {port}; choose a port from 1024 on with -p"
+            ),
+            status,
+        ),
+        ListenError::Denied => program.print_fault(
+            rt,
+            format_args!("permission denied for address {ip} port {port}; choose another with -p"),
             status,
         ),
         ListenError::NotAvailable => program.print_fault(
             rt,
-            format_args!("address {ip} is not an address of this machine; choose another with -A"),
+            format_args!(
+                "address {ip} port {port} is not available on this machine; choose another address with -A"
+            ),
             status,
         ),
-        _ => program.print_fault(
+        ListenError::System(_) => program.print_fault(
             rt,
             format_args!("address {ip} port {port}: {error}"),
             status,

@@ -10,6 +10,38 @@ use coap_io::{Outlet, WriteFailed, write_parts};
 use coap_model::ConnId;
 use coap_server_engine::{Call, FlushStep, Monitor, Server};
 
+/// Writes the bytes that are queued on a new connection. The monitor also receives the end of a turn, because the caller
+/// reads next, and a read may wait for the peer.
+///
+/// # Errors
+///
+/// - `WriteFailed`: a write failed, and only a part of the bytes was written.
+///
+/// # Preconditions
+///
+/// The outlet has not failed.
+pub(crate) fn greet<W: Outlet, M: Monitor<()>>(
+    writer: &mut W,
+    server: &mut Server,
+    id: ConnId,
+    monitor: &mut M,
+) -> Result<(), WriteFailed>
+    requires { W.is_failed writer.old ≡ false }
+    ensures ok { OnOk result (IsReportedFlush id server.old server.new
+        (AddsBytes (W.written writer.old) (W.written writer.new))
+        (FollowsMore (M.follows monitor.old) (M.follows monitor.new))) }
+    ensures part { OnErr result (IsCutFlush id server.old
+        (AddsBytes (W.written writer.old) (W.written writer.new))
+        (FollowsMore (M.follows monitor.old) (M.follows monitor.new))) }
+    ensures failure { W.is_failed writer.new ≡ is_err result }
+{
+    let Ok(_) = flush(writer, server, id, monitor) else {
+        return Err(WriteFailed);
+    };
+    monitor.turn_ended();
+    Ok(())
+}
+
 /// Writes the queued bytes of a connection until none is queued, as `flush_at` does.
 ///
 /// # Errors

@@ -8,7 +8,7 @@ ghost use Rattle.coap_server_streams.specs.Prelude.{is_write_fault, AcceptedCall
 ghost use Rattle.coap_server_streams.specs.Prelude.{HasReportedEnd};
 ghost use Rattle.coap_server_streams.specs.streams.StdioProgress.{IsServed};
 
-use crate::output::{flush, flush_at, stop_in};
+use crate::output::{flush_at, greet, stop_in};
 use coap_conn::Reason;
 use coap_io::{Outlet, Source};
 use coap_model::{Config, ConnId, Handled, TakeFault};
@@ -106,8 +106,8 @@ pub fn serve_one<R: Source, W: Outlet>(
 ///
 /// The first call opens the connection. Each `take` is a call, also one for which allocation fails: the bytes before the
 /// last one of its message are accepted. Each successful write of all queued bytes is a call, and before each `take` no
-/// byte is queued. If the end of input ends the run, that is the last call. The monitor also receives the end of each
-/// turn, that is, of the processing of each read.
+/// byte is queued. If the end of input ends the run, that is the last call. The monitor also receives the end of a turn
+/// before the first read, and after the bytes of each read were processed.
 ///
 /// # Errors
 ///
@@ -151,7 +151,7 @@ pub fn serve_one_with<R: Source, W: Outlet, M: Monitor<()>>(
         return Err(IoFault::Memory);
     };
     monitor.opened(id, &(), &server);
-    let Ok(_) = flush(writer, &mut server, id, monitor) else {
+    let Ok(()) = greet(writer, &mut server, id, monitor) else {
         return Err(IoFault::Write);
     };
     run(reader, writer, &mut server, id, config, monitor)

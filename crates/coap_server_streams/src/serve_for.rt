@@ -9,7 +9,7 @@ ghost use Rattle.coap_server_streams.specs.Prelude.{is_read_fault, is_write_faul
 ghost use Rattle.coap_server_streams.specs.Prelude.{Ended, ShowsMore, state_opened, stop_on};
 
 use crate::answer::take_for;
-use crate::output::{flush, stop_in};
+use crate::output::{flush, greet, stop_in};
 use crate::serve::{PIECE, Report, Turn, handled};
 use coap_application::Applications;
 use coap_conn::Reason;
@@ -119,7 +119,7 @@ fn run_for<R: Source, W: Outlet, A: Application, M: Monitor<()>>(
     ensures read { R.is_failed reader.new ≡ is_read_fault result }
     ensures write { W.is_failed writer.new ≡ is_write_fault result }
 {
-    let Ok(_) = flush(writer, server, id, monitor) else {
+    let Ok(()) = greet(writer, server, id, monitor) else {
         return Err(IoFault::Write);
     };
     let mut buffer = [0; PIECE];

@@ -88,7 +88,7 @@ pub record HasRejected (fault : StreamFault) (h k : History) : Type 0 where
   pub handled : k.handled ≡ h.handled
   pub stopped : HasStopped k (reject_reason (reject_of fault))
 
-side_rejects : (s : Connection) (fault : StreamFault) → handles s ≡ true → HasRejected fault s.history (side_faulted s fault).history
+pub side_rejects : (s : Connection) (fault : StreamFault) → handles s ≡ true → HasRejected fault s.history (side_faulted s fault).history
 unfolding side_faulted
 side_rejects s fault does = grind arith
 

@@ -225,7 +225,7 @@ module _ (a : Option ApplicationsValue) where
 
       unanswered_none : (fate : Fate) → is_unanswered fate ≡ true → messages_of fate ≡ []
       unanswered_none Unanswered so = refl
-      unanswered_none (Answered by response sent place) so = absurd cc
+      unanswered_none (Answered by response sent handled place) so = absurd cc
 
       this_only : IsOnly t (record r { fate = fate })
       this_only current =

@@ -39,7 +39,7 @@ responses_more (r ∷ rs) qs = ap (λ ms. response_of r.fate ++ ms) (responses_m
 
 unanswered_gives : (fate : Fate) → is_unanswered fate ≡ true → response_of fate ≡ []
 unanswered_gives Unanswered is = refl
-unanswered_gives (Answered by response sent place) is = absurd cc
+unanswered_gives (Answered by response sent handled place) is = absurd cc
 
 -- A fate without a response of the application.
 responses_with : (test : ApplicationRequest → Bool) (fate : Fate) → response_of fate ≡ [] → ((r : ApplicationRequest) → test r ≡ true → waits r ≡ true) → (rs : List ApplicationRequest) → responses_to (with_fate test fate rs) ≡ responses_to rs
@@ -72,8 +72,8 @@ responses_old n (r ∷ rs) old = all_append (λ m. m.1 < n) (response_of r.fate)
   where
     by : (fate : Fate) → IsOld n fate → AllByRecursion (λ m. m.1 < n) (response_of fate)
     by Unanswered is = tt
-    by (Answered Engine response sent place) is = tt
-    by (Answered Application response sent place) is = (is, tt)
+    by (Answered Engine response sent handled place) is = tt
+    by (Answered Application response sent handled place) is = (is, tt)
 
 order_more : (ms : List (Message × ℕ)) (m : Message × ℕ) → AllByRecursion (λ other. other.1 < m.1) ms → AreQueuedInOrder ms → AreQueuedInOrder (ms ++ m ∷ [])
 order_more [] m earlier in_order = (tt, tt)
@@ -84,7 +84,7 @@ order_more (n ∷ ms) m earlier in_order = (all_append (λ other. n.1 < other.1)
 engine_gives : (h : History) (m : Message) → response_of (fate_by Engine h m) ≡ []
 engine_gives h m = cond_both (answers h.phase) _ Unanswered (λ (f : Fate). response_of f ≡ []) (λ on. by (fit (limit_now h) m (bare_response m))) (λ off. refl)
   where
-    by : (r : Reply) → response_of (fate_at None Engine m r (length h.queued)) ≡ []
+    by : (r : Reply) → response_of (fate_at None Engine m r (length h.handled) (length h.queued)) ≡ []
     by Whole = refl
     by Bare = refl
     by Stopped = refl
@@ -189,7 +189,7 @@ others_before limits id w (st ∷ ss) t apart there =
 -- ---- events
 
 -- The lists after one more event.
-given_then : (id : ℕ) (es : List AcceptedCall) (e : AcceptedCall) → given_on id (es ++ e ∷ []) ≡ given_on id es ++ given_in id e
+pub given_then : (id : ℕ) (es : List AcceptedCall) (e : AcceptedCall) → given_on id (es ++ e ∷ []) ≡ given_on id es ++ given_in id e
 unfolding given_on
 given_then id [] e = append-nil (given_in id e)
 given_then id (d ∷ es) e = ap (λ ms. given_in id d ++ ms) (given_then id es e) ∙ sym (append_assoc (given_in id d) (given_on id es) (given_in id e))
@@ -199,7 +199,7 @@ unfolding requests_by after_steps
 requests_more limits id w [] ts rs = refl
 requests_more limits id w (s ∷ ss) ts rs = requests_more limits id (world.step limits w s) ss ts (requests_then id (acted limits w s) (requests_acted id w s rs))
 
-requests_last : (c : ConfigValues) (id : ℕ) (es : List AcceptedCall) (e : AcceptedCall) → requests_on c id (es ++ e ∷ []) ≡ requests_by c.limits id (world_after c es) (steps_by c.limits.max_message es e) (requests_on c id es)
+pub requests_last : (c : ConfigValues) (id : ℕ) (es : List AcceptedCall) (e : AcceptedCall) → requests_on c id (es ++ e ∷ []) ≡ requests_by c.limits id (world_after c es) (steps_by c.limits.max_message es e) (requests_on c id es)
 unfolding requests_on world_after
 requests_last c id es e =
     let M : ℕ = c.limits.max_message in
@@ -330,7 +330,7 @@ module _ (c : ConfigValues) (id : ℕ) where
       earlier : AllByRecursion (λ n. n.1 < length s.history.queued) were.order
       earlier =
           let Earlier : Message × ℕ → Type 0 = λ n. n.1 < length s.history.queued in
-          let old = all_to (λ r. HasFate s.history.queued r r.fate) (λ r. IsOld (length s.history.queued) r.fate) (λ r. old_fate s.history.queued r r.fate) rs account.answered in
+          let old = all_to (λ r. HasFate s.history r r.fate) (λ r. IsOld (length s.history.queued) r.fate) (λ r. old_fate s.history r r.fate) rs account.answered in
           recursion_from_All Earlier were.order
           (All-permutation Earlier (responses_to rs) were.order (IsPermutation-sym were.order (responses_to rs) were.same)
           (All-from_recursion Earlier (responses_to rs) (responses_old (length s.history.queued) rs old)))
@@ -357,7 +357,7 @@ module _ (c : ConfigValues) (id : ℕ) where
       }
 
       -- The response is queued, or the connection stops.
-      answers_by : (r : Reply) (stopped : Bool) → (r ≡ Stopped → stopped ≡ true) → AreAnswers stopped (given_on id (es ++ event.Responded id m ∷ [])) (responses_to (with_fate test (fate_at c.applications Application m r (length s.history.queued)) rs))
+      answers_by : (r : Reply) (stopped : Bool) → (r ≡ Stopped → stopped ≡ true) → AreAnswers stopped (given_on id (es ++ event.Responded id m ∷ [])) (responses_to (with_fate test (fate_at c.applications Application m r (length s.history.handled) (length s.history.queued)) rs))
       answers_by Stopped stopped over = record {
         order = were.order;
         same = subst (IsPermutation were.order) (sym (responses_with test Unanswered refl (λ q is. (and_parts (waits q) _ is).0) rs)) were.same;
@@ -367,14 +367,14 @@ module _ (c : ConfigValues) (id : ℕ) where
         few = omega arith;
         none = λ live. absurd (both_ways stopped live (over refl));
       }
-      answers_by Whole stopped over = sent_by (fate_at c.applications Application m Whole (length s.history.queued)) refl stopped
-      answers_by Bare stopped over = sent_by (fate_at c.applications Application m Bare (length s.history.queued)) refl stopped
+      answers_by Whole stopped over = sent_by (fate_at c.applications Application m Whole (length s.history.handled) (length s.history.queued)) refl stopped
+      answers_by Bare stopped over = sent_by (fate_at c.applications Application m Bare (length s.history.handled) (length s.history.queued)) refl stopped
 
       abbrev its_reply : Reply
       its_reply = fit (limit_now s.history) m (bare_response m)
 
       -- The requests after the response.
-      acted_is : requests_acted id reached_world (world.Responded id m) rs ≡ with_fate test (fate_at c.applications Application m its_reply (length s.history.queued)) rs
+      acted_is : requests_acted id reached_world (world.Responded id m) rs ≡ with_fate test (fate_at c.applications Application m its_reply (length s.history.handled) (length s.history.queued)) rs
       unfolding requests_acted requests_responded
       acted_is =
           ap (λ (b : Bool). cond b (if_there (side_of id reached_world.sides) (λ u. requests_responded u m) rs) rs) (eq-eqb id id refl)
@@ -406,7 +406,7 @@ module _ (c : ConfigValues) (id : ℕ) where
       responded_all : IsAccepted c es (event.Responded id m) → AreAll (es ++ event.Responded id m ∷ [])
       unfolding steps_by requests_by
       responded_all accepted =
-          let responses : responses_to (requests_on c id (es ++ event.Responded id m ∷ [])) ≡ responses_to (with_fate test (fate_at c.applications Application m its_reply (length s.history.queued)) rs) =
+          let responses : responses_to (requests_on c id (es ++ event.Responded id m ∷ [])) ≡ responses_to (with_fate test (fate_at c.applications Application m its_reply (length s.history.handled) (length s.history.queued)) rs) =
           ap responses_to (requests_last c id es (event.Responded id m)) ∙ then_gives id (acted c.limits reached_world (world.Responded id m)) (requests_acted id reached_world (world.Responded id m) rs) ∙ ap responses_to acted_is in
           record {
             none = λ later. absurd (omega (arith, later, ids_later c es (event.Responded id m) accepted, (number_given c reached_world id s reached.numbered there).within));

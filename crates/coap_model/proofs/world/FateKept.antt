@@ -1,5 +1,5 @@
 -- Each effect on a connection keeps the account of the requests that the application answers.
-use Rattle.std.proofs.Common.{◌≡◌, ℕ, ◌≤◌, Bool, true, false, cond, ◌&&◌, ◌==◌, List, [], ◌∷◌, ◌++◌, length, map, filter, Option, Some, None, refl, sym, ap, subst, ◌∙◌, inl, inr, arith, is_none, is_some, not}
+use Rattle.std.proofs.Common.{◌≡◌, ℕ, ◌<◌, ◌≤◌, Bool, true, false, cond, ◌&&◌, ◌==◌, List, [], ◌∷◌, ◌++◌, length, map, filter, Option, Some, None, refl, sym, ap, subst, ◌∙◌, inl, inr, arith, is_none, is_some, not}
 use Rattle.std.proofs.lemmas.Bool.{both_ways, cond-true, cond_both, and_parts, and_from, cases_Bool, eq-eqb}
 use Rattle.std.proofs.lemmas.List.{append-nil, length-append, map-append}
 use Rattle.std.proofs.lemmas.List.Elements.{filter-append}
@@ -12,7 +12,7 @@ use Rattle.coap_model.specs.Prelude.{ApplicationsValue, application_deadline, St
 use Rattle.coap_model.specs.Prelude.{Connection, handles, held_message, after_sent, next_held, moment_after, with_history, notified, next_due, Observer, goes_on, notification}
 use Rattle.coap_model.specs.Prelude.{is_request, Delay, delay_or, delay_by, delay_of, hold_call, held_for, asks_answer, side_handled, side_after, side_with, side_answered, side_replied, without_token, side_responded, side_faulted, side_written, side_ended, side_released, side_announced, settled_once, awaits}
 use Rattle.coap_model.specs.Prelude.{Fate, Unanswered, ApplicationRequest, is_for_application, is_unanswered, messages_of, entry_of, is_of_application}
-use Rattle.coap_model.specs.Prelude.{has_stopped, fate_by, is_unanswered_with, refusal_of, new_request, HasFate, with_fate}
+use Rattle.coap_model.specs.Prelude.{has_stopped, fate_by, is_unanswered_with, refusal_of, new_request, MayAnswer, HasFate, with_fate}
 use Rattle.coap_model.specs.Prelude.{first_fate, requests_after, requests_once, requests_due, requests_responded, ConfigValues, AcceptedCall, side_of, world_after, requests_on}
 use Rattle.coap_conn.specs.PendingEntries.{is_answer_at, is_request_for}
 use Rattle.coap_conn.specs.Calls as call
@@ -34,7 +34,7 @@ use Rattle.coap_model.proofs.world.AskedLaws.{answered_is_request, asked_or_over
 use Rattle.coap_model.proofs.world.FateWalk.{KeepsRequests, requests_kept}
 use Rattle.coap_model.proofs.world.FateLists.{waits, without_found, IsNew, IsOld, old_fate, own_more}
 use Rattle.coap_model.proofs.world.FateLists as lists
-use Rattle.coap_model.proofs.world.FateLaws.{StillHeld, held_same, held_over, Passes, Accounted, passes_same, passes_then, passes_keep, reply_passes, reject_passes, end_passes, release_passes, announce_passes, write_passes, engine_passes, pong_passes, fate_at, sent_messages, sent_answered, fate_new, fate_has, IsNext, answer_kept, grown, still_queued}
+use Rattle.coap_model.proofs.world.FateLaws.{StillHeld, held_same, held_over, Passes, Accounted, passes_same, passes_then, passes_keep, reply_passes, reject_passes, end_passes, release_passes, announce_passes, write_passes, engine_passes, pong_passes, fate_at, sent_messages, sent_answered, fate_new, fate_has, IsNext, answer_kept, grown, later, still_answered}
 
 -- The history after a message.
 abbrev pub after_message : Connection → Message → History
@@ -57,7 +57,7 @@ module _ (a : Option ApplicationsValue) where
       record {
         unanswered = λ r is. (and_parts (waits r) _ is).0;
         same = λ r is. rw is refl;
-        may = λ r is. (sym (has_token m.token r.request.token (waits r) is), (allowed (link_of h) m none).plain);
+        may = λ r is handed. (handed, sym (has_token m.token r.request.token (waits r) is), (allowed (link_of h) m none).plain);
         of_application = request_of_application m.token;
         left_is = ap (lists.without_passing (is_request_for m.token)) first.there
             ∙ without_found (is_request_for m.token) first.before (Answer Application m.token first.moment) first.after first.earliest ((bytes_decides m.token m.token).1 refl)
@@ -99,7 +99,7 @@ module _ (a : Option ApplicationsValue) where
       record {
         unanswered = λ r so. (and_parts (waits r) _ (and_parts (is_unanswered_with token r) _ so).0).0;
         same = λ r so. rw so refl;
-        may = λ r so. inr (ap (held_message Application) (sym (has_token token r.request.token (waits r) (and_parts (is_unanswered_with token r) _ so).0)));
+        may = λ r so handed. ((λ is. ap (held_message Application) (sym (has_token token r.request.token (waits r) (and_parts (is_unanswered_with token r) _ so).0))), (λ other. absurd (both_ways r.handed other handed)));
         of_application = λ e so. request_of_application token e (and_parts (is_request_for token e) _ so).0;
         left_is = ap (lists.without_passing entry) first.there
             ∙ without_found entry first.before (Answer Application token moment) first.after
@@ -173,12 +173,13 @@ module _ (a : Option ApplicationsValue) where
   message_passes : (h : History) (m : Message) → is_for_application a m ≡ false → Passes a h (after h (call.Handle m))
   message_passes h m other =
       if_between (Passes a) (takes_messages h.phase) h (heard h m) (passes_same a h)
-      (λ takes. record { heard = m ∷ []; handled = refl; none = rw other refl; more = _; queued = refl; held = heard_held h m takes })
+      (λ takes. record { limits = refl; heard = m ∷ []; handled = refl; none = rw other refl; more = _; queued = refl; held = heard_held h m takes })
 
   -- A response that the engine delays is pending.
   hold_passes : (h : History) (token : List ℕ) (moment : ℕ) → Passes a h (after h (hold_call Engine token moment))
   hold_passes h token moment =
       if_between (Passes a) (is_open h.phase && may_hold h) h (holding h (h.held ++ Answer Engine token moment ∷ [])) (passes_same a h) (λ so. record {
+        limits = refl;
         heard = [];
         handled = sym (append-nil h.handled);
         none = refl;
@@ -226,11 +227,12 @@ module _ (a : Option ApplicationsValue) where
   -- ---- a request for the application
 
   -- One more request, with its fate.
-  added_kept : (h k : History) (rs : List ApplicationRequest) (r : ApplicationRequest) (more : List Message) → is_for_application a r.request ≡ true → k.handled ≡ h.handled ++ r.request ∷ [] → k.queued ≡ h.queued ++ more → r.queued ≡ length h.queued
-      → HasFate k.queued r r.fate → IsNew (length h.queued) r.fate
+  added_kept : (h k : History) (rs : List ApplicationRequest) (r : ApplicationRequest) (more : List Message) → is_for_application a r.request ≡ true → k.handled ≡ h.handled ++ r.request ∷ [] → k.queued ≡ h.queued ++ more → r.queued ≡ length h.queued → r.handled ≡ length h.handled → k.limits ≡ h.limits
+      → HasFate k r r.fate → IsNew (length h.queued) r.fate
       → (has_stopped k.phase ≡ false → (has_stopped h.phase ≡ false) × (filter is_of_application k.held ≡ filter is_of_application h.held ++ map entry_of (filter waits (r ∷ []))))
+      → (has_stopped k.phase ≡ false → waits r ≡ true → r.handed ≡ true)
       → (answers k.phase ≡ false → k.held ≡ []) → Accounted a h rs → Accounted a k (rs ++ r ∷ [])
-  added_kept h k rs r more for handled queued at has new held quiet is = record {
+  added_kept h k rs r more for handled queued at at_handled limits has new held handed quiet is = record {
     requests = map-append (λ (q : ApplicationRequest). q.request) rs (r ∷ []) ∙ ap (λ ms. ms ++ r.request ∷ []) is.requests
         ∙ sym (ap (filter (is_for_application a)) handled ∙ filter-append (is_for_application a) h.handled (r.request ∷ []) ∙ rw for refl);
     pending = λ on. (
@@ -238,12 +240,19 @@ module _ (a : Option ApplicationsValue) where
         ap (map entry_of) (filter-append waits rs (r ∷ [])) ∙ map-append entry_of (filter waits rs) (filter waits (r ∷ []))
         ∙ ap (λ es. es ++ map entry_of (filter waits (r ∷ []))) (is.pending before.0) ∙ sym before.1);
     quiet = quiet;
-    answered = all_append (λ q. HasFate k.queued q q.fate) rs (r ∷ [])
-        (all_to (λ q. HasFate h.queued q q.fate) (λ q. HasFate k.queued q q.fate) (λ q. still_queued h k more q q.fate queued) rs is.answered) (has, tt);
-    own = own_more (length h.queued) r rs new (all_to (λ q. HasFate h.queued q q.fate) (λ q. IsOld (length h.queued) q.fate) (λ q. old_fate h.queued q q.fate) rs is.answered) is.own;
+    handed = λ on. all_append (λ q. waits q ≡ true → q.handed ≡ true) rs (r ∷ []) (is.handed (held on).0) (handed on, tt);
+    answered = all_append (λ q. HasFate k q q.fate) rs (r ∷ [])
+        (still_answered h k (record { limits = limits; heard = r.request ∷ []; handled = handled; more = more; queued = queued }) rs is.answered) (has, tt);
+    own = own_more (length h.queued) r rs new (all_to (λ q. HasFate h q q.fate) (λ q. IsOld (length h.queued) q.fate) (λ q. old_fate h q q.fate) rs is.answered) is.own;
     counted = all_append (λ q. q.queued ≤ length k.queued) rs (r ∷ []) (grown h k more rs queued is.counted)
         (omega (arith, at, ap (λ (ms : List Message). length ms) queued, length-append h.queued more), tt);
+    since = all_append (λ q. q.handled < length k.handled) rs (r ∷ []) (later h k (r.request ∷ []) rs handled is.since)
+        (omega (arith, at_handled, ap (λ (ms : List Message). length ms) handled, length-append h.handled (r.request ∷ [])), tt);
   }
+
+  -- A message leaves the limits.
+  pub message_limits : (h : History) (m : Message) → (after h (call.Handle m)).limits ≡ h.limits
+  message_limits h m = cond_both (takes_messages h.phase) (heard h m) h (λ (k : History). k.limits ≡ h.limits) (λ takes. refl) (λ off. refl)
 
   -- A request queues nothing.
   pub asked_queued : (h : History) (m : Message) → is_request (react (standing_now h) m).verdict ≡ true → (after h (call.Handle m)).queued ≡ h.queued
@@ -260,6 +269,10 @@ module _ (a : Option ApplicationsValue) where
   pub unanswered_over : (b : Bool) (h : History) (response : Message) → answers h.phase ≡ false → cond b Unanswered (fate_by Engine h response) ≡ Unanswered
   unanswered_over true h response off = refl
   unanswered_over false h response off = rw off refl
+
+  and_none : (b : Bool) → (b && false) ≡ false
+  and_none true = refl
+  and_none false = refl
 
   sent_kept : (s : ConnectionState) (m less : Message) (r : Reply) → has_stopped (send_as s m less r).phase ≡ false → (send_as s m less r).held ≡ s.held
   sent_kept s m less Whole on = refl
@@ -279,6 +292,7 @@ module _ (a : Option ApplicationsValue) where
       handled = length s.history.handled;
       queued = length s.history.queued;
       alone = not (list_any (awaits m.token) s.history.held);
+      handed = asks_answer s m && may_hold (after_message s m);
       fate = fate;
     }
 
@@ -295,7 +309,8 @@ module _ (a : Option ApplicationsValue) where
         let stopped : has_stopped (after_message s m).phase ≡ true = ap (λ (k : History). has_stopped k.phase) same ∙ over in
         let none : (first_fate (after_message s m) m) ≡ Unanswered = unanswered_over (may_hold (after_message s m)) (after_message s m) (refusal_of m) (off_over (after_message s m).phase stopped) in
         subst (λ (fate : Fate). Accounted a (after_message s m) (rs ++ request_with fate ∷ [])) (sym none)
-        (added_kept s.history (after_message s m) rs (request_with Unanswered) (react (standing_now s.history) m).effect.queued for handled (ap (λ (k : History). k.queued) same) refl tt tt
+        (added_kept s.history (after_message s m) rs (request_with Unanswered) (react (standing_now s.history) m).effect.queued for handled (ap (λ (k : History). k.queued) same) refl refl (message_limits s.history m) tt tt
+        (λ on. absurd (both_ways (has_stopped (after_message s m).phase) on stopped))
         (λ on. absurd (both_ways (has_stopped (after_message s m).phase) on stopped))
         (λ off. ap (λ (k : History). k.held) same ∙ (heard_held s.history m live).quiet is.quiet (ap (λ (k : History). answers k.phase) (sym same) ∙ off)) is)
 
@@ -313,31 +328,36 @@ module _ (a : Option ApplicationsValue) where
           let entry : PendingEntryValue = Answer Application m.token (moment_after now seconds) in
           let none : (first_fate (after_message s m) m) ≡ Unanswered = ap (λ b. cond b Unanswered (fate_by Engine (after_message s m) (refusal_of m))) may in
           subst (λ (fate : Fate). Accounted a (holding (after_message s m) ((after_message s m).held ++ entry ∷ [])) (rs ++ request_with fate ∷ [])) (sym none)
-          (added_kept s.history (holding (after_message s m) ((after_message s m).held ++ entry ∷ [])) rs (request_with Unanswered) [] for handled (queued_same ∙ sym (append-nil s.history.queued)) refl tt tt
+          (added_kept s.history (holding (after_message s m) ((after_message s m).held ++ entry ∷ [])) rs (request_with Unanswered) [] for handled (queued_same ∙ sym (append-nil s.history.queued)) refl refl (message_limits s.history m) tt tt
           (λ on. (on_before, filter-append is_of_application (after_message s m).held (entry ∷ []) ∙ ap (λ es. filter is_of_application es ++ entry ∷ []) (asked_quiet s m asks).0))
+          (λ on waiting. and_from (asks_answer s m) (may_hold (after_message s m)) asks may)
           (λ off. absurd (both_ways (answers (after_message s m).phase) off answering)) is)
 
       -- The list is full.
       refused_kept : may_hold (after_message s m) ≡ false → (after (after_message s m) (call.Reply (refusal_of m))).handled ≡ s.history.handled ++ m ∷ [] → Accounted a (after (after_message s m) (call.Reply (refusal_of m))) (rs ++ request_with (first_fate (after_message s m) m) ∷ [])
       refused_kept full =
           let r : Reply = fit (limit_now (after_message s m)) (refusal_of m) (bare_response (refusal_of m)) in
-          let fate : Fate = fate_at a Engine (refusal_of m) r (length (after_message s m).queued) in
+          let fate : Fate = fate_at a Engine (refusal_of m) r (length (after_message s m).handled) (length (after_message s m).queued) in
           let k : History = sent (after_message s m) (refusal_of m) (bare_response (refusal_of m)) in
           let is_fate : (first_fate (after_message s m) m) ≡ fate = ap (λ b. cond b Unanswered (fate_by Engine (after_message s m) (refusal_of m))) full ∙ ap (λ b. cond b fate Unanswered) answering in
-          let queued : k.queued ≡ (after_message s m).queued ++ messages_of fate = ap (λ ms. (after_message s m).queued ++ ms) (sent_messages a (standing_now (after_message s m)) Engine (refusal_of m) r (length (after_message s m).queued)) in
+          let queued : k.queued ≡ (after_message s m).queued ++ messages_of fate = ap (λ ms. (after_message s m).queued ++ ms) (sent_messages a (standing_now (after_message s m)) Engine (refusal_of m) r (length (after_message s m).handled) (length (after_message s m).queued)) in
           let count : length (after_message s m).queued ≡ length s.history.queued = ap (λ ms. length ms) queued_same in
+          let apart : (request_with fate).handed ≡ false = ap (λ b. asks_answer s m && b) full ∙ and_none (asks_answer s m) in
+          let may : MayAnswer (request_with fate) Engine (refusal_of m) (length (after_message s m).queued) =
+          ((λ handed. absurd (both_ways (request_with fate).handed apart handed)), (λ none. (refl, count))) in
           subst (λ (b : Bool). (cond b k (after_message s m)).handled ≡ s.history.handled ++ m ∷ [] → Accounted a (cond b k (after_message s m)) (rs ++ request_with (first_fate (after_message s m) m) ∷ [])) (sym answering)
           (λ handled. subst (λ (f : Fate). Accounted a k (rs ++ request_with f ∷ [])) (sym is_fate)
-          (added_kept s.history k rs (request_with fate) (messages_of fate) for handled (queued ∙ ap (λ ms. ms ++ messages_of fate) queued_same) refl
-          (subst (λ (ms : List Message). HasFate ms (request_with fate) fate) (sym queued)
-          (fate_has a (after_message s m).queued (request_with fate) Engine (refusal_of m) (limit_now (after_message s m)) r refl (inl (refl, count)) (omega (arith, count))))
-          (subst (λ (n : ℕ). IsNew n fate) count (fate_new a Engine (refusal_of m) r (length (after_message s m).queued)))
+          (added_kept s.history k rs (request_with fate) (messages_of fate) for handled (queued ∙ ap (λ ms. ms ++ messages_of fate) queued_same) refl refl (message_limits s.history m)
+          (fate_has a (after_message s m) k (request_with fate) Engine (refusal_of m) r refl may (omega (arith, count))
+          (omega (arith, ap (λ (ms : List Message). length ms) handled, length-append s.history.handled (m ∷ []))) refl refl queued)
+          (subst (λ (n : ℕ). IsNew n fate) count (fate_new a Engine (refusal_of m) r (length (after_message s m).handled) (length (after_message s m).queued)))
           (λ on. (
             on_before,
-            (let over : is_unanswered fate ≡ false = sent_answered a (standing_now (after_message s m)) Engine (refusal_of m) r (length (after_message s m).queued) on in
+            (let over : is_unanswered fate ≡ false = sent_answered a (standing_now (after_message s m)) Engine (refusal_of m) r (length (after_message s m).handled) (length (after_message s m).queued) on in
                 ap (filter is_of_application) (sent_kept (standing_now (after_message s m)) (refusal_of m) (bare_response (refusal_of m)) r on ∙ (asked_quiet s m asks).0)
                 ∙ sym (ap (λ b. filter is_of_application s.history.held ++ map entry_of (cond b (request_with fate ∷ []) [])) over ∙ append-nil (filter is_of_application s.history.held))),
           ))
+          (λ on waiting. absurd (both_ways (is_unanswered fate) (sent_answered a (standing_now (after_message s m)) Engine (refusal_of m) r (length (after_message s m).handled) (length (after_message s m).queued) on) waiting))
           (sent_quiet (standing_now (after_message s m)) (refusal_of m) (bare_response (refusal_of m)) r answering) is))
 
       replied_kept : IsKeptAt (side_replied store now (after_message s m) (without_token m.token s.observers) m (held_for (after_message s m) (delay_of store now m)))
@@ -392,7 +412,7 @@ module _ (a : Option ApplicationsValue) where
 
   pub accounts_keep : (limits : LimitValues) → KeepsRequests limits a (λ s rs. Accounted a s.history rs)
   accounts_keep limits = record {
-    first = record { requests = refl; pending = λ on. refl; quiet = λ off. refl; answered = tt; own = tt; counted = tt };
+    first = record { requests = refl; pending = λ on. refl; quiet = λ off. refl; handed = λ on. tt; answered = tt; own = tt; counted = tt; since = tt };
     handled = handled_kept limits;
     faulted = λ s fault rs. passes_keep a s.history (side_faulted s fault).history rs (faulted_between (Passes a) (passes_same a) (reject_passes a) s fault);
     written = λ s n rs. passes_keep a s.history (side_written s n).history rs (written_between (Passes a) (passes_same a) (write_passes a) s n);

@@ -1,8 +1,9 @@
 -- After any events, the requests that the application answers are those that were handled. The unanswered ones are
 -- pending, and the answer to each other one is queued at its own place.
-use Rattle.std.proofs.Common.{◌≡◌, ℕ, ◌≤◌, Bool, true, false, List, [], ◌∷◌, ◌++◌, length, map, filter, Option, Some, refl, sym, ap, subst, ◌∙◌, inl, inr, arith, append_assoc}
+use Rattle.std.proofs.Common.{◌≡◌, ℕ, ◌<◌, ◌≤◌, Bool, take, slice_get, true, false, List, [], ◌∷◌, ◌++◌, length, map, filter, Option, Some, refl, sym, ap, subst, ◌∙◌, inl, inr, arith, append_assoc}
 use Rattle.std.proofs.lemmas.Bool.{both_ways, cases_Bool}
 use Rattle.std.proofs.lemmas.List.{append-nil, length-append}
+use Rattle.std.proofs.Math.Seq.{take-length}
 use Rattle.std.proofs.lemmas.List.Elements.{filter-append}
 use Rattle.coap_model.specs.Prelude.{AllByRecursion, Responder, Engine, Message, Phase, Reason, Reply, Whole, Bare, Stopped}
 use Rattle.coap_model.specs.Prelude.{answers, fit, fitted, bare_response, PendingEntryValue, Answer, Pong, first_due, without_due}
@@ -10,7 +11,7 @@ use Rattle.coap_model.specs.Prelude.{ConnectionState, send_as, pong_with, Histor
 use Rattle.coap_model.specs.Prelude.{reject_reason, end_reason}
 use Rattle.coap_model.specs.Prelude.{ApplicationsValue}
 use Rattle.coap_model.specs.Prelude.{held_message, after_sent}
-use Rattle.coap_model.specs.Prelude.{Fate, ApplicationRequest, is_for_application, is_unanswered, messages_of, entry_of, is_of_application}
+use Rattle.coap_model.specs.Prelude.{Answered, IsReduced, limit_after, LimitValues, Fate, ApplicationRequest, is_for_application, is_unanswered, messages_of, entry_of, is_of_application}
 use Rattle.coap_model.specs.Prelude.{has_stopped, fate_of, fate_by, MayAnswer, HasFate, HaveOwnAnswers, with_fate}
 use Rattle.coap_conn.specs.declared.phase.Phase.TheVariants as phase
 use Rattle.coap_conn.specs.declared.reason.Reason.TheVariants as reason
@@ -19,7 +20,7 @@ use Rattle.coap_conn.proofs.PendingLaws.{due_answer, due_pong}
 use Rattle.coap_model.proofs.world.WalkLaws.{sent, without_first, due_is, answer_goes, if_between, Rejects, Ends, Releases, Announces, Writes}
 use Rattle.coap_model.proofs.world.EntryLemmas.{all_to}
 use Rattle.coap_model.proofs.world.ToldMessages.{sent_either}
-use Rattle.coap_model.proofs.world.FateLists.{waits, without_found, filter_without, map_without, waiting_without, fate_requests, fate_all, IsNew, IsOld, old_fate, own_with, own_more, next_at, still_fate}
+use Rattle.coap_model.proofs.world.FateLists.{waits, without_found, filter_without, map_without, waiting_without, fate_requests, fate_all, IsNew, IsOld, old_fate, own_with, own_more, next_at, still_fate, Extends}
 use Rattle.coap_model.proofs.world.FateLists as lists
 
 -- ---- pending entries and the phase
@@ -52,6 +53,7 @@ held_gone before e later p other = record {
 
 -- A history continues another one, in which no request for the application was handled since.
 pub record Passes (a : Option ApplicationsValue) (h k : History) : Type 0 where
+  pub limits : k.limits ≡ h.limits
   pub heard : List Message
   pub handled : k.handled ≡ h.handled ++ heard
   pub none : filter (is_for_application a) heard ≡ []
@@ -59,15 +61,17 @@ pub record Passes (a : Option ApplicationsValue) (h k : History) : Type 0 where
   pub queued : k.queued ≡ h.queued ++ more
   pub held : StillHeld h.held h.phase k.held k.phase
 
--- The requests are accounted for. Those that were handled are these. The unanswered ones are pending, and the answer to
--- each other one is queued at its own place.
+-- The requests are accounted for. Those that were handled are these. The unanswered ones were handed to the application
+-- and are pending, and the answer to each other one is queued at its own place.
 pub record Accounted (a : Option ApplicationsValue) (h : History) (rs : List ApplicationRequest) : Type 0 where
   pub requests : map (λ r. r.request) rs ≡ filter (is_for_application a) h.handled
   pub pending : has_stopped h.phase ≡ false → map entry_of (filter waits rs) ≡ filter is_of_application h.held
   pub quiet : answers h.phase ≡ false → h.held ≡ []
-  pub answered : AllByRecursion (λ r. HasFate h.queued r r.fate) rs
+  pub handed : has_stopped h.phase ≡ false → AllByRecursion (λ r. waits r ≡ true → r.handed ≡ true) rs
+  pub answered : AllByRecursion (λ r. HasFate h r r.fate) rs
   pub own : HaveOwnAnswers rs
   pub counted : AllByRecursion (λ r. r.queued ≤ length h.queued) rs
+  pub since : AllByRecursion (λ r. r.handled < length h.handled) rs
 
 -- The messages queued are more.
 pub grown : (h k : History) (more : List Message) (rs : List ApplicationRequest) → k.queued ≡ h.queued ++ more → AllByRecursion (λ r. r.queued ≤ length h.queued) rs → AllByRecursion (λ r. r.queued ≤ length k.queued) rs
@@ -75,12 +79,19 @@ grown h k more rs queued counted =
     all_to (λ r. r.queued ≤ length h.queued) (λ r. r.queued ≤ length k.queued)
     (λ r few. omega (arith, few, ap (λ (ms : List Message). length ms) queued, length-append h.queued more)) rs counted
 
-pub still_queued : (h k : History) (more : List Message) (r : ApplicationRequest) (fate : Fate) → k.queued ≡ h.queued ++ more → HasFate h.queued r fate → HasFate k.queued r fate
-still_queued h k more r fate queued has = subst (λ (ms : List Message). HasFate ms r fate) (sym queued) (still_fate h.queued more r fate has)
+-- So are those handled.
+pub later : (h k : History) (heard : List Message) (rs : List ApplicationRequest) → k.handled ≡ h.handled ++ heard → AllByRecursion (λ r. r.handled < length h.handled) rs → AllByRecursion (λ r. r.handled < length k.handled) rs
+later h k heard rs handled since =
+    all_to (λ r. r.handled < length h.handled) (λ r. r.handled < length k.handled)
+    (λ r few. omega (arith, few, ap (λ (ms : List Message). length ms) handled, length-append h.handled heard)) rs since
+
+pub still_answered : (h k : History) → Extends h k → (rs : List ApplicationRequest) → AllByRecursion (λ r. HasFate h r r.fate) rs → AllByRecursion (λ r. HasFate k r r.fate) rs
+still_answered h k e rs answered = all_to (λ r. HasFate h r r.fate) (λ r. HasFate k r r.fate) (λ r. still_fate h k e r r.fate) rs answered
 
 module _ (a : Option ApplicationsValue) where
   pub passes_same : (h : History) → Passes a h h
   passes_same h = record {
+    limits = refl;
     heard = [];
     handled = sym (append-nil h.handled);
     none = refl;
@@ -91,6 +102,7 @@ module _ (a : Option ApplicationsValue) where
 
   pub passes_then : (h k g : History) → Passes a h k → Passes a k g → Passes a h g
   passes_then h k g one two = record {
+    limits = two.limits ∙ one.limits;
     heard = one.heard ++ two.heard;
     handled = two.handled ∙ ap (λ (ms : List Message). ms ++ two.heard) one.handled ∙ append_assoc h.handled one.heard two.heard;
     none = filter-append (is_for_application a) one.heard two.heard ∙ rw (one.none, two.none) refl;
@@ -106,21 +118,23 @@ module _ (a : Option ApplicationsValue) where
         ∙ ap (λ ms. filter (is_for_application a) h.handled ++ ms) passes.none ∙ append-nil (filter (is_for_application a) h.handled));
     pending = λ on. let before = passes.held.running on in is.pending before.0 ∙ sym before.1;
     quiet = passes.held.quiet is.quiet;
-    answered = all_to (λ r. HasFate h.queued r r.fate) (λ r. HasFate k.queued r r.fate) (λ r. still_queued h k passes.more r r.fate passes.queued) rs is.answered;
+    handed = λ on. is.handed (passes.held.running on).0;
+    answered = still_answered h k (record { limits = passes.limits; heard = passes.heard; handled = passes.handled; more = passes.more; queued = passes.queued }) rs is.answered;
     own = is.own;
     counted = grown h k passes.more rs passes.queued is.counted;
+    since = later h k passes.heard rs passes.handled is.since;
   }
 
   -- ---- parts of effects
 
   -- No message is handled.
-  passes_so : (h k : History) (more : List Message) → k.handled ≡ h.handled → k.queued ≡ h.queued ++ more → StillHeld h.held h.phase k.held k.phase → Passes a h k
-  passes_so h k more handled queued held =
-      record { heard = []; handled = handled ∙ sym (append-nil h.handled); none = refl; more = more; queued = queued; held = held }
+  passes_so : (h k : History) (more : List Message) → k.limits ≡ h.limits → k.handled ≡ h.handled → k.queued ≡ h.queued ++ more → StillHeld h.held h.phase k.held k.phase → Passes a h k
+  passes_so h k more limits handled queued held =
+      record { limits = limits; heard = []; handled = handled ∙ sym (append-nil h.handled); none = refl; more = more; queued = queued; held = held }
 
   sent_passes : (h : History) (m less : Message) → Passes a h (sent h m less)
   sent_passes h m less =
-      passes_so h (sent h m less) _ refl refl
+      passes_so h (sent h m less) _ refl refl refl
       (sent_either (standing_now h) m less (fit (limit_now h) m less) (λ es now. StillHeld h.held h.phase es now) (held_same h.held h.phase)
       (held_over h.held h.phase reason.PeerTooSmall))
 
@@ -128,24 +142,24 @@ module _ (a : Option ApplicationsValue) where
   reply_passes h m = if_between (Passes a) (answers h.phase) h _ (passes_same h) (λ does. sent_passes h m (bare_response m))
 
   pub reject_passes : Rejects (Passes a)
-  reject_passes h fault takes room = passes_so h _ _ refl refl (held_over h.held h.phase (reject_reason fault))
+  reject_passes h fault takes room = passes_so h _ _ refl refl refl (held_over h.held h.phase (reject_reason fault))
 
   pub end_passes : Ends (Passes a)
-  end_passes h cut takes = passes_so h _ [] refl refl (held_over h.held h.phase (end_reason cut))
+  end_passes h cut takes = passes_so h _ [] refl refl refl (held_over h.held h.phase (end_reason cut))
 
   pub release_passes : Releases (Passes a)
-  release_passes h opened none = passes_so h _ (release ∷ []) refl refl (held_over h.held h.phase reason.ReleasedHere)
+  release_passes h opened none = passes_so h _ (release ∷ []) refl refl refl (held_over h.held h.phase reason.ReleasedHere)
 
   pub announce_passes : Announces (Passes a)
-  announce_passes h size opened room fits = passes_so h _ (own_csm size ∷ []) refl refl (held_same h.held h.phase)
+  announce_passes h size opened room fits = passes_so h _ (own_csm size ∷ []) refl refl refl (held_same h.held h.phase)
 
   pub write_passes : Writes (Passes a)
-  write_passes h n within = passes_so h _ [] refl (sym (append-nil h.queued)) (held_same h.held h.phase)
+  write_passes h n within = passes_so h _ [] refl refl (sym (append-nil h.queued)) (held_same h.held h.phase)
 
   -- A pending entry that is no request for the application is sent.
   gone_passes : (h : History) (now : ℕ) (before : List PendingEntryValue) (e : PendingEntryValue) (later : List PendingEntryValue) → is_of_application e ≡ false → h.held ≡ before ++ e ∷ later → without_due now h.held ≡ before ++ later → Passes a h (without_first h now)
   gone_passes h now before e later other there without =
-      passes_so h (without_first h now) [] refl (sym (append-nil h.queued))
+      passes_so h (without_first h now) [] refl refl (sym (append-nil h.queued))
       (subst (λ (es : List PendingEntryValue). StillHeld es h.phase (without_due now h.held) h.phase) (sym there)
       (subst (λ (fs : List PendingEntryValue). StillHeld (before ++ e ∷ later) h.phase fs h.phase) (sym without) (held_gone before e later h.phase other)))
 
@@ -166,36 +180,56 @@ module _ (a : Option ApplicationsValue) where
   -- ---- the answer to a pending request
 
   -- The fate by the form in which the response is sent.
-  abbrev pub fate_at : Responder → Message → Reply → ℕ → Fate
-  fate_at by response r n = fate_of by response (fitted response (bare_response response) r) n
+  abbrev pub fate_at : Responder → Message → Reply → (handled n : ℕ) → Fate
+  fate_at by response r handled n = fate_of by response (fitted response (bare_response response) r) handled n
 
-  pub sent_messages : (s : ConnectionState) (by : Responder) (response : Message) (r : Reply) (n : ℕ) → (send_as s response (bare_response response) r).queued ≡ messages_of (fate_at by response r n)
-  sent_messages s by response Whole n = refl
-  sent_messages s by response Bare n = refl
-  sent_messages s by response Stopped n = refl
+  pub sent_messages : (s : ConnectionState) (by : Responder) (response : Message) (r : Reply) (handled n : ℕ) → (send_as s response (bare_response response) r).queued ≡ messages_of (fate_at by response r handled n)
+  sent_messages s by response Whole handled n = refl
+  sent_messages s by response Bare handled n = refl
+  sent_messages s by response Stopped handled n = refl
 
-  pub sent_answered : (s : ConnectionState) (by : Responder) (response : Message) (r : Reply) (n : ℕ) → has_stopped (send_as s response (bare_response response) r).phase ≡ false → is_unanswered (fate_at by response r n) ≡ false
-  sent_answered s by response Whole n on = refl
-  sent_answered s by response Bare n on = refl
-  sent_answered s by response Stopped n on = absurd cc
+  pub sent_answered : (s : ConnectionState) (by : Responder) (response : Message) (r : Reply) (handled n : ℕ) → has_stopped (send_as s response (bare_response response) r).phase ≡ false → is_unanswered (fate_at by response r handled n) ≡ false
+  sent_answered s by response Whole handled n on = refl
+  sent_answered s by response Bare handled n on = refl
+  sent_answered s by response Stopped handled n on = absurd cc
 
-  pub fate_new : (by : Responder) (response : Message) (r : Reply) (n : ℕ) → IsNew n (fate_at by response r n)
-  fate_new by response Whole n = omega arith
-  fate_new by response Bare n = omega arith
-  fate_new by response Stopped n = tt
+  pub fate_new : (by : Responder) (response : Message) (r : Reply) (handled n : ℕ) → IsNew n (fate_at by response r handled n)
+  fate_new by response Whole handled n = omega arith
+  fate_new by response Bare handled n = omega arith
+  fate_new by response Stopped handled n = tt
 
-  pub fate_has : (queued : List Message) (q : ApplicationRequest) (by : Responder) (response : Message) (limit : ℕ) (r : Reply) → fit limit response (bare_response response) ≡ r → MayAnswer q.request q.queued by response (length queued) → q.queued ≤ length queued → HasFate (queued ++ messages_of (fate_at by response r (length queued))) q (fate_at by response r (length queued))
-  fate_has queued q by response limit Whole is may few =
-      record { allowed = may; reduced = (limit, ap (fitted response (bare_response response)) is); there = next_at queued response []; later = few }
-  fate_has queued q by response limit Bare is may few =
-      record { allowed = may; reduced = (limit, ap (fitted response (bare_response response)) is); there = next_at queued (bare_response response) []; later = few }
-  fate_has queued q by response limit Stopped is may few = tt
+  -- The limit at which a response is reduced.
+  limit_at : (h k : History) → k.limits ≡ h.limits → k.handled ≡ h.handled → limit_after k.limits (take (length h.handled) k.handled) ≡ limit_now h
+  limit_at h k limits handled =
+      ap (λ (l : LimitValues). limit_after l (take (length h.handled) k.handled)) limits
+      ∙ ap (limit_after h.limits) (ap (take (length h.handled)) handled ∙ take-length h.handled)
+
+  -- The fate of a request to which a response is sent, which is the next message queued.
+  pub fate_has : (h k : History) (q : ApplicationRequest) (by : Responder) (response : Message) (r : Reply) → fit (limit_now h) response (bare_response response) ≡ r
+      → MayAnswer q by response (length h.queued) → q.queued ≤ length h.queued → q.handled < length h.handled → k.limits ≡ h.limits → k.handled ≡ h.handled
+      → k.queued ≡ h.queued ++ messages_of (fate_at by response r (length h.handled) (length h.queued)) → HasFate k q (fate_at by response r (length h.handled) (length h.queued))
+  fate_has h k q by response r is may few since limits handled queued = by_reply r is queued
+    where
+      answers_so : (sent : Message) → fitted response (bare_response response) (fit (limit_now h) response (bare_response response)) ≡ sent ∷ [] → k.queued ≡ h.queued ++ sent ∷ [] → HasFate k q (Answered by response sent (length h.handled) (length h.queued))
+      answers_so sent reduced queued = record {
+        allowed = may;
+        reduced = subst (λ (n : ℕ). IsReduced n response sent) (sym (limit_at h k limits handled)) reduced;
+        there = ap (λ (ms : List Message). slice_get ms (length h.queued)) queued ∙ next_at h.queued sent [];
+        later = few;
+        after_it = since;
+        within = omega (arith, ap (λ (ms : List Message). length ms) handled);
+      }
+
+      by_reply : (r : Reply) → fit (limit_now h) response (bare_response response) ≡ r → k.queued ≡ h.queued ++ messages_of (fate_at by response r (length h.handled) (length h.queued)) → HasFate k q (fate_at by response r (length h.handled) (length h.queued))
+      by_reply Whole is queued = answers_so response (ap (fitted response (bare_response response)) is) queued
+      by_reply Bare is queued = answers_so (bare_response response) (ap (fitted response (bare_response response)) is) queued
+      by_reply Stopped is queued = tt
 
   -- The answer to the first unanswered request that passes a test. Its entry is the first that passes another one.
   pub record IsNext (h : History) (test : ApplicationRequest → Bool) (entry : PendingEntryValue → Bool) (by : Responder) (response : Message) (left : List PendingEntryValue) : Type 0 where
     pub unanswered : (r : ApplicationRequest) → test r ≡ true → waits r ≡ true
     pub same : (r : ApplicationRequest) → waits r ≡ true → test r ≡ entry (entry_of r)
-    pub may : (r : ApplicationRequest) → test r ≡ true → MayAnswer r.request r.queued by response (length h.queued)
+    pub may : (r : ApplicationRequest) → test r ≡ true → r.handed ≡ true → MayAnswer r by response (length h.queued)
     pub of_application : (e : PendingEntryValue) → entry e ≡ true → is_of_application e ≡ true
     pub left_is : lists.without_passing entry h.held ≡ left
 
@@ -211,7 +245,7 @@ module _ (a : Option ApplicationsValue) where
     after_answer r = with_effect h (send_as state response (bare_response response) r)
 
     abbrev its_fate : Reply → Fate
-    its_fate r = fate_at by response r (length h.queued)
+    its_fate r = fate_at by response r (length h.handled) (length h.queued)
 
     running : has_stopped h.phase ≡ false
     running = grind arith
@@ -235,28 +269,38 @@ module _ (a : Option ApplicationsValue) where
     quiet_so Bare off = absurd (both_ways (answers h.phase) off on)
     quiet_so Stopped off = refl
 
+    -- The facts on one request.
+    record IsReady (q : ApplicationRequest) : Type 0 where
+      has : HasFate h q q.fate
+      few : q.queued ≤ length h.queued
+      since : q.handled < length h.handled
+      handed : waits q ≡ true → q.handed ≡ true
+
+    each_ready : (qs : List ApplicationRequest) → AllByRecursion (λ q. HasFate h q q.fate) qs → AllByRecursion (λ q. q.queued ≤ length h.queued) qs → AllByRecursion (λ q. q.handled < length h.handled) qs
+        → AllByRecursion (λ q. waits q ≡ true → q.handed ≡ true) qs → AllByRecursion IsReady qs
+    each_ready [] has few since handed = tt
+    each_ready (q ∷ qs) has few since handed = (record { has = has.0; few = few.0; since = since.0; handed = handed.0 }, each_ready qs has.1 few.1 since.1 handed.1)
+
     answer_accounted : (r : Reply) → fit (limit_now h) response (bare_response response) ≡ r → Accounted a (after_answer r) (with_fate test (its_fate r) rs)
     answer_accounted r fits =
         let k : History = after_answer r in
-        let queued : k.queued ≡ h.queued ++ messages_of (its_fate r) = ap (λ (ms : List Message). h.queued ++ ms) (sent_messages state by response r (length h.queued)) in
+        let queued : k.queued ≡ h.queued ++ messages_of (its_fate r) = ap (λ (ms : List Message). h.queued ++ ms) (sent_messages state by response r (length h.handled) (length h.queued)) in
         record {
           requests = fate_requests test (its_fate r) rs ∙ is.requests;
-          pending = λ live. pending_left (its_fate r) (sent_answered state by response r (length h.queued) live) ∙ ap (filter is_of_application) (sym (held_so r live));
+          pending = λ live. pending_left (its_fate r) (sent_answered state by response r (length h.handled) (length h.queued) live) ∙ ap (filter is_of_application) (sym (held_so r live));
           quiet = quiet_so r;
-          answered = fate_all (λ q. (HasFate h.queued q q.fate) × (q.queued ≤ length h.queued)) (λ q. HasFate k.queued q q.fate) test (its_fate r)
-              (λ q has. still_queued h k (messages_of (its_fate r)) q q.fate queued has.0)
-              (λ q passes has. subst (λ (ms : List Message). HasFate ms (record q { fate = its_fate r }) (its_fate r)) (sym queued)
-              (fate_has h.queued (record q { fate = its_fate r }) by response (limit_now h) r fits (next.may q passes) has.1)) rs
-              (both rs is.answered is.counted);
-          own = own_with (length h.queued) test (its_fate r) rs (fate_new by response r (length h.queued))
-              (all_to (λ q. HasFate h.queued q q.fate) (λ q. IsOld (length h.queued) q.fate) (λ q. old_fate h.queued q q.fate) rs is.answered) is.own;
+          handed = λ live. fate_all (λ q. waits q ≡ true → q.handed ≡ true) (λ q. waits q ≡ true → q.handed ≡ true) test (its_fate r) (λ q so. so)
+              (λ q passes so waiting. absurd (both_ways (is_unanswered (its_fate r)) (sent_answered state by response r (length h.handled) (length h.queued) live) waiting)) rs (is.handed running);
+          answered = fate_all IsReady (λ q. HasFate k q q.fate) test (its_fate r)
+              (λ q ready. still_fate h k (record { limits = refl; heard = []; handled = sym (append-nil h.handled); more = messages_of (its_fate r); queued = queued }) q q.fate ready.has)
+              (λ q passes ready. fate_has h k (record q { fate = its_fate r }) by response r fits (next.may q passes (ready.handed (next.unanswered q passes))) ready.few ready.since refl refl queued) rs
+              (each_ready rs is.answered is.counted is.since (is.handed running));
+          own = own_with (length h.queued) test (its_fate r) rs (fate_new by response r (length h.handled) (length h.queued))
+              (all_to (λ q. HasFate h q q.fate) (λ q. IsOld (length h.queued) q.fate) (λ q. old_fate h q q.fate) rs is.answered) is.own;
           counted = fate_all (λ q. q.queued ≤ length k.queued) (λ q. q.queued ≤ length k.queued) test (its_fate r) (λ q few. few) (λ q passes few. few) rs
               (grown h k (messages_of (its_fate r)) rs queued is.counted);
+          since = fate_all (λ q. q.handled < length h.handled) (λ q. q.handled < length k.handled) test (its_fate r) (λ q few. few) (λ q passes few. few) rs is.since;
         }
-      where
-        both : (qs : List ApplicationRequest) → AllByRecursion (λ q. HasFate h.queued q q.fate) qs → AllByRecursion (λ q. q.queued ≤ length h.queued) qs → AllByRecursion (λ q. (HasFate h.queued q q.fate) × (q.queued ≤ length h.queued)) qs
-        both [] has few = tt
-        both (q ∷ qs) has few = ((has.0, few.0), both qs has.1 few.1)
 
     pub answer_kept : Accounted a (after_answer (fit (limit_now h) response (bare_response response))) (with_fate test (fate_by by h response) rs)
     answer_kept = rw on (answer_accounted (fit (limit_now h) response (bare_response response)) refl)

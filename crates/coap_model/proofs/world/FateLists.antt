@@ -1,9 +1,11 @@
 -- Lists of requests that the application answers: one of them gets another fate.
-use Rattle.std.proofs.Common.{◌≡◌, ℕ, zero, suc, ◌<◌, ◌≤◌, Bool, true, false, cond, List, [], ◌∷◌, ◌++◌, length, map, filter, Some, refl, ap, arith, slice_get}
+use Rattle.std.proofs.Common.{◌≡◌, ℕ, zero, suc, ◌<◌, ◌≤◌, Bool, true, false, cond, List, [], ◌∷◌, ◌++◌, length, map, filter, take, Some, refl, sym, ap, subst, ◌∙◌, arith, slice_get}
+use Rattle.std.proofs.lemmas.List.{length-append, take-append-le}
 use Rattle.std.proofs.lemmas.Bool.{cond_both}
 use Rattle.std.proofs.lemmas.Option.{slice_get_within}
 use Rattle.coap_model.specs.Prelude.{AllByRecursion, Message, ApplicationRequest, Fate, Unanswered, Answered}
 use Rattle.coap_model.specs.Prelude.{with_fate, is_unanswered, HaveOtherPlaces, HaveOwnAnswers, HasFate}
+use Rattle.coap_model.specs.Prelude.{History, LimitValues, IsReduced, limit_after}
 use Rattle.coap_model.proofs.world.EntryLemmas.{all_to, all_append}
 
 -- ---- a list without the first element that passes a test
@@ -59,26 +61,26 @@ fate_all P Q test fate stay change (r ∷ rs) all =
 -- If a response is queued, its place is this one or a later one.
 abbrev pub IsNew : ℕ → Fate → Type 0
 IsNew n Unanswered = Unit {0}
-IsNew n (Answered by response sent place) = n ≤ place
+IsNew n (Answered by response sent handled place) = n ≤ place
 
 -- If a response is queued, its place is an earlier one.
 abbrev pub IsOld : ℕ → Fate → Type 0
 IsOld n Unanswered = Unit {0}
-IsOld n (Answered by response sent place) = place < n
+IsOld n (Answered by response sent handled place) = place < n
 
-pub old_fate : (queued : List Message) (r : ApplicationRequest) (fate : Fate) → HasFate queued r fate → IsOld (length queued) fate
-old_fate queued r Unanswered has = tt
-old_fate queued r (Answered by response sent place) has = slice_get_within queued place sent has.there
+pub old_fate : (h : History) (r : ApplicationRequest) (fate : Fate) → HasFate h r fate → IsOld (length h.queued) fate
+old_fate h r Unanswered has = tt
+old_fate h r (Answered by response sent handled place) has = slice_get_within h.queued place sent has.there
 
 pub old_then_new : (n : ℕ) (old new : Fate) → IsOld n old → IsNew n new → HaveOtherPlaces old new
 old_then_new n Unanswered new is then = tt
-old_then_new n (Answered by response sent place) Unanswered is then = tt
-old_then_new n (Answered by response sent place) (Answered other_by other_response other_sent other) is then = λ same. absurd (omega (arith, is, then, same))
+old_then_new n (Answered by response sent handled place) Unanswered is then = tt
+old_then_new n (Answered by response sent handled place) (Answered other_by other_response other_sent other_handled other) is then = λ same. absurd (omega (arith, is, then, same))
 
 pub new_then_old : (n : ℕ) (new old : Fate) → IsNew n new → IsOld n old → HaveOtherPlaces new old
 new_then_old n Unanswered old is then = tt
-new_then_old n (Answered by response sent place) Unanswered is then = tt
-new_then_old n (Answered by response sent place) (Answered other_by other_response other_sent other) is then = λ same. absurd (omega (arith, is, then, same))
+new_then_old n (Answered by response sent handled place) Unanswered is then = tt
+new_then_old n (Answered by response sent handled place) (Answered other_by other_response other_sent other_handled other) is then = λ same. absurd (omega (arith, is, then, same))
 
 -- A new fate shares its response with no other request.
 pub own_with : (n : ℕ) (test : ApplicationRequest → Bool) (fate : Fate) (rs : List ApplicationRequest) → IsNew n fate → AllByRecursion (λ r. IsOld n r.fate) rs → HaveOwnAnswers rs → HaveOwnAnswers (with_fate test fate rs)
@@ -110,7 +112,28 @@ pub next_at : {A : Type 0} (xs : List A) (x : A) (ys : List A) → slice_get (xs
 next_at [] x ys = refl
 next_at (z ∷ xs) x ys = next_at xs x ys
 
-pub still_fate : (queued more : List Message) (r : ApplicationRequest) (fate : Fate) → HasFate queued r fate → HasFate (queued ++ more) r fate
-still_fate queued more r Unanswered has = tt
-still_fate queued more r (Answered by response sent place) has =
-    record { allowed = has.allowed; reduced = has.reduced; there = still_at queued more place sent has.there; later = has.later }
+-- A history has the limits and the messages of another one, and perhaps more messages.
+pub record Extends (h k : History) : Type 0 where
+  pub limits : k.limits ≡ h.limits
+  pub heard : List Message
+  pub handled : k.handled ≡ h.handled ++ heard
+  pub more : List Message
+  pub queued : k.queued ≡ h.queued ++ more
+
+-- The limit at an earlier time.
+limit_same : (h k : History) → Extends h k → (n : ℕ) → n ≤ length h.handled → limit_after k.limits (take n k.handled) ≡ limit_after h.limits (take n h.handled)
+limit_same h k e n within =
+    ap (λ (l : LimitValues). limit_after l (take n k.handled)) e.limits
+    ∙ ap (limit_after h.limits) (ap (take n) e.handled ∙ take-append-le n h.handled e.heard within)
+
+-- The fate of a request stays.
+pub still_fate : (h k : History) → Extends h k → (r : ApplicationRequest) (fate : Fate) → HasFate h r fate → HasFate k r fate
+still_fate h k e r Unanswered has = tt
+still_fate h k e r (Answered by response sent handled place) has = record {
+  allowed = has.allowed;
+  reduced = subst (λ (n : ℕ). IsReduced n response sent) (sym (limit_same h k e handled has.within)) has.reduced;
+  there = ap (λ (ms : List Message). slice_get ms place) e.queued ∙ still_at h.queued e.more place sent has.there;
+  later = has.later;
+  after_it = has.after_it;
+  within = omega (arith, has.within, ap (λ (ms : List Message). length ms) e.handled, length-append h.handled e.heard);
+}

@@ -42,12 +42,12 @@ use Rattle.coap_model.proofs.world.FateAlone.{filter_none, filter_whole, any_fil
 -- ---- the response of a fate
 
 -- The messages queued of a response have its token.
-fate_responses : (a : Option ApplicationsValue) (by : Responder) (response : Message) (r : Reply) (n : ℕ) → is_response response ≡ true → is_response (bare_response response) ≡ true → AllByRecursion (λ m. (is_response m ≡ true) × (m.token ≡ response.token)) (messages_of (fate_at a by response r n))
-fate_responses a by response Whole n whole bare = ((whole, refl), tt)
-fate_responses a by response Bare n whole bare = ((bare, refl), tt)
-fate_responses a by response Stopped n whole bare = tt
+fate_responses : (a : Option ApplicationsValue) (by : Responder) (response : Message) (r : Reply) (handled n : ℕ) → is_response response ≡ true → is_response (bare_response response) ≡ true → AllByRecursion (λ m. (is_response m ≡ true) × (m.token ≡ response.token)) (messages_of (fate_at a by response r handled n))
+fate_responses a by response Whole handled n whole bare = ((whole, refl), tt)
+fate_responses a by response Bare handled n whole bare = ((bare, refl), tt)
+fate_responses a by response Stopped handled n whole bare = tt
 
-pub fate_is : (a : Option ApplicationsValue) (by : Responder) (h : History) (response : Message) → answers h.phase ≡ true → fate_by by h response ≡ fate_at a by response (fit (limit_now h) response (bare_response response)) (length h.queued)
+pub fate_is : (a : Option ApplicationsValue) (by : Responder) (h : History) (response : Message) → answers h.phase ≡ true → fate_by by h response ≡ fate_at a by response (fit (limit_now h) response (bare_response response)) (length h.handled) (length h.queued)
 fate_is a by h response on = rw on refl
 
 -- The connection is unchanged, but its observers may be removed.
@@ -76,13 +76,13 @@ module _ (a : Option ApplicationsValue) where
       let r : Reply = fit (limit_now h) m (bare_response m) in
       let state : ConnectionState = standing_without m.token (standing_now h) in
       let k : History = with_effect h (send state m (bare_response m)) in
-      let fate : Fate = fate_at a Application m r (length h.queued) in
+      let fate : Fate = fate_at a Application m r (length h.handled) (length h.queued) in
       let codes = plain_codes m (allowed (link_of h) m allows).plain in
       let first : IsFirstRequest h.held m.token (without_request m.token h.held) = answered_request (link_of h) m allows in
       subst (λ (f : Fate). Answers a m.token f s (with_history s k)) (sym (fate_is a Application h m on)) (record {
         handled = refl;
-        queued = ap (λ ms. h.queued ++ ms) (sent_messages a state Application m r (length h.queued));
-        responses = fate_responses a Application m r (length h.queued) codes.0 codes.1;
+        queued = ap (λ ms. h.queued ++ ms) (sent_messages a state Application m r (length h.handled) (length h.queued));
+        responses = fate_responses a Application m r (length h.handled) (length h.queued) codes.0 codes.1;
         calm = λ other calm. record {
           others = kept_open_has (HaveOtherTokens other) tt k s.observers calm.others;
           engine = sent_either state m (bare_response m) r (λ es now. NoEngine other es)
@@ -130,11 +130,11 @@ module _ (a : Option ApplicationsValue) where
       let r : Reply = fit (limit_now h) response (bare_response response) in
       let g : History = without_first h now in
       let k : History = sent g response (bare_response response) in
-      let fate : Fate = fate_at a Engine response r (length h.queued) in
+      let fate : Fate = fate_at a Engine response r (length h.handled) (length h.queued) in
       subst (λ (f : Fate). Answers a token f s (with_history s k)) (sym (fate_is a Engine h response on)) (record {
         handled = refl;
-        queued = ap (λ ms. h.queued ++ ms) (sent_messages a (standing_now g) Engine response r (length h.queued));
-        responses = fate_responses a Engine response r (length h.queued) refl refl;
+        queued = ap (λ ms. h.queued ++ ms) (sent_messages a (standing_now g) Engine response r (length h.handled) (length h.queued));
+        responses = fate_responses a Engine response r (length h.handled) (length h.queued) refl refl;
         calm = λ other calm. record {
           others = kept_open_has (HaveOtherTokens other) tt k s.observers calm.others;
           engine = sent_either (standing_now g) response (bare_response response) r (λ es now. NoEngine other es)
@@ -249,12 +249,12 @@ module _ (a : Option ApplicationsValue) where
       refused_first full =
           let on : answers (after_message s m).phase ≡ true = open_answers (after_message s m).phase (asked_quiet s m asks).1 in
           let r : Reply = fit (limit_now (after_message s m)) (refusal_of m) (bare_response (refusal_of m)) in
-          let fate : Fate = fate_at a Engine (refusal_of m) r (length (after_message s m).queued) in
+          let fate : Fate = fate_at a Engine (refusal_of m) r (length (after_message s m).handled) (length (after_message s m).queued) in
           let k : History = after (after_message s m) (call.Reply (refusal_of m)) in
           let is_fate : (first_fate (after_message s m) m) ≡ fate = ap (λ b. cond b Unanswered (fate_by Engine (after_message s m) (refusal_of m))) full ∙ fate_is a Engine (after_message s m) (refusal_of m) on in
           let queued : k.queued ≡ (after_message s m).queued ++ messages_of fate =
           ap (λ (b : Bool). (cond b (sent (after_message s m) (refusal_of m) (bare_response (refusal_of m))) (after_message s m)).queued) on
-          ∙ ap (λ ms. (after_message s m).queued ++ ms) (sent_messages a (standing_now (after_message s m)) Engine (refusal_of m) r (length (after_message s m).queued)) in
+          ∙ ap (λ ms. (after_message s m).queued ++ ms) (sent_messages a (standing_now (after_message s m)) Engine (refusal_of m) r (length (after_message s m).handled) (length (after_message s m).queued)) in
           subst (IsFirst s (side_with k others) m.token) (sym is_fate) (record {
             calm = λ apart. record { others = kept_open_has (HaveOtherTokens m.token) tt k others others_none; engine = reply_engineless m.token (after_message s m) (refusal_of m) (engine_none apart) };
             more = messages_of fate;
@@ -262,7 +262,7 @@ module _ (a : Option ApplicationsValue) where
             only = filter_whole (responds m.token) (messages_of fate)
                 (all_to (λ n. (is_response n ≡ true) × (n.token ≡ m.token)) (λ n. responds m.token n ≡ true)
                 (λ n is. and_from (is_response n) (same_bytes n.token m.token) is.0 ((bytes_decides n.token m.token).1 is.1)) (messages_of fate)
-                (fate_responses a Engine (refusal_of m) r (length (after_message s m).queued) refl refl));
+                (fate_responses a Engine (refusal_of m) r (length (after_message s m).handled) (length (after_message s m).queued) refl refl));
           })
 
       replied_first : IsIt (side_replied store now (after_message s m) others m (held_for (after_message s m) (delay_of store now m)))
@@ -355,6 +355,7 @@ module _ (a : Option ApplicationsValue) where
             handled = length s.history.handled;
             queued = length s.history.queued;
             alone = not (list_any (awaits m.token) s.history.held);
+            handed = asks_answer s m && may_hold (after_message s m);
             fate = first_fate (after_message s m) m;
           }) rs moves ((handled_hears store now s m).handled_more live) asking refl refl refl (running_live a s.history.phase live)
           (handed_first store now s m seconds side.is_server live some asking) account is

@@ -25,14 +25,14 @@ AreTimely now rs = AllByRecursion (λ r. IsTimely now r.request.token r.deadline
 
 timely_later : (now later : ℕ) → now ≤ later → (token : List ℕ) (deadline : ℕ) (fate : Fate) → IsTimely now token deadline fate → IsTimely later token deadline fate
 timely_later now later h token deadline Unanswered is = tt
-timely_later now later h token deadline (Answered Engine response sent place) is = λ same. omega (arith, h, is same)
-timely_later now later h token deadline (Answered Application response sent place) is = tt
+timely_later now later h token deadline (Answered Engine response sent handled place) is = λ same. omega (arith, h, is same)
+timely_later now later h token deadline (Answered Application response sent handled place) is = tt
 
 -- A fate of the engine, if its response is no 5.04 or the deadline has come, and one of the application.
 engine_timely : (now : ℕ) (token : List ℕ) (deadline : ℕ) (h : History) (m : Message) → (m ≡ held_message Application token → deadline ≤ now) → IsTimely now token deadline (fate_by Engine h m)
 engine_timely now token deadline h m come = cond_both (answers h.phase) _ Unanswered (λ (f : Fate). IsTimely now token deadline f) (λ on. by (fit (limit_now h) m (bare_response m))) (λ off. tt)
   where
-    by : (reply : Reply) → IsTimely now token deadline (fate_at None Engine m reply (length h.queued))
+    by : (reply : Reply) → IsTimely now token deadline (fate_at None Engine m reply (length h.handled) (length h.queued))
     by Whole = come
     by Bare = come
     by Stopped = tt
@@ -40,7 +40,7 @@ engine_timely now token deadline h m come = cond_both (answers h.phase) _ Unansw
 application_timely : (now : ℕ) (token : List ℕ) (deadline : ℕ) (h : History) (m : Message) → IsTimely now token deadline (fate_by Application h m)
 application_timely now token deadline h m = cond_both (answers h.phase) _ Unanswered (λ (f : Fate). IsTimely now token deadline f) (λ on. by (fit (limit_now h) m (bare_response m))) (λ off. tt)
   where
-    by : (reply : Reply) → IsTimely now token deadline (fate_at None Application m reply (length h.queued))
+    by : (reply : Reply) → IsTimely now token deadline (fate_at None Application m reply (length h.handled) (length h.queued))
     by Whole = tt
     by Bare = tt
     by Stopped = tt

@@ -41,13 +41,14 @@ pub record Line : Type 0 where
   pub handled : ℕ
   pub queued : ℕ
   pub alone : Bool
+  pub handed : Bool
   pub fate : Fate
 
-abbrev line : ℕ → ℕ → ℕ → Bool → Fate → Line
-line token handled queued alone fate = record { token = token ∷ []; handled = handled; queued = queued; alone = alone; fate = fate }
+abbrev line : ℕ → ℕ → ℕ → (alone handed : Bool) → Fate → Line
+line token handled queued alone handed fate = record { token = token ∷ []; handled = handled; queued = queued; alone = alone; handed = handed; fate = fate }
 
 abbrev lines : List ApplicationRequest → List Line
-lines rs = map (λ r. record { token = r.request.token; handled = r.handled; queued = r.queued; alone = r.alone; fate = r.fate }) rs
+lines rs = map (λ r. record { token = r.request.token; handled = r.handled; queued = r.queued; alone = r.alone; handed = r.handed; fate = r.fate }) rs
 
 -- The responses with the token of each request that were queued since it was handled.
 abbrev responses_on : List ApplicationRequest → Option Connection → List (List Message)
@@ -67,8 +68,8 @@ two : List AcceptedCall
 two = greeted ++ posted (hex "05") ∷ posted (hex "06") ∷ Responded 1 (created 6 []) ∷ []
 
 answered_second : lines (requests_on (with_directory 16) 1 two)
-    ≡ line 5 1 1 true Unanswered
-    ∷ line 6 2 1 true (Answered Application (created 6 []) (created 6 []) 1)
+    ≡ line 5 1 1 true true Unanswered
+    ∷ line 6 2 1 true true (Answered Application (created 6 []) (created 6 []) 3 1)
     ∷ []
 unfolding told requests_computed two
 answered_second = refl
@@ -79,36 +80,56 @@ unfolding told requests_computed two
 deadlines = refl
 
 expired_first : lines (requests_on (with_directory 16) 1 (two ++ Ticked 60 ∷ []))
-    ≡ line 5 1 1 true (Answered Engine (held_message Application (5 ∷ [])) (held_message Application (5 ∷ [])) 2)
-    ∷ line 6 2 1 true (Answered Application (created 6 []) (created 6 []) 1)
+    ≡ line 5 1 1 true true (Answered Engine (held_message Application (5 ∷ [])) (held_message Application (5 ∷ [])) 3 2)
+    ∷ line 6 2 1 true true (Answered Application (created 6 []) (created 6 []) 3 1)
     ∷ []
 unfolding told requests_computed two
 expired_first = refl
 
--- If the list is full, a request is answered by 5.03 at once.
+-- If the list is full, a request is not handed to the application, and is answered by 5.03 at once.
 full_list : lines (requests_on (with_directory 1) 1 (greeted ++ posted (hex "05") ∷ posted (hex "06") ∷ []))
-    ≡ line 5 1 1 true Unanswered
-    ∷ line 6 2 1 true (Answered Engine (refusal_of (post 6)) (refusal_of (post 6)) 1)
+    ≡ line 5 1 1 true true Unanswered
+    ∷ line 6 2 1 true false (Answered Engine (refusal_of (post 6)) (refusal_of (post 6)) 3 1)
     ∷ []
 unfolding told requests_computed
 full_list = refl
 
 -- A response that does not fit is queued bare.
 reduced : lines (requests_on (with_directory 16) 1 (greeted ++ posted (hex "05") ∷ Responded 1 (created 5 (replicate 1200 0)) ∷ []))
-    ≡ line 5 1 1 true (Answered Application (created 5 (replicate 1200 0)) (created 5 []) 1)
+    ≡ line 5 1 1 true true (Answered Application (created 5 (replicate 1200 0)) (created 5 []) 2 1)
     ∷ []
 unfolding told requests_computed
 reduced = refl
 
+-- If the client announces a larger size before the response, the response fits. The limit is that of the third message.
+announced_later : lines (requests_on (with_directory 16) 1 (greeted ++ posted (hex "05") ∷ Took 1 (hex "30e1222000") ∷ Responded 1 (created 5 (replicate 1200 0)) ∷ []))
+    ≡ line 5 1 1 true true (Answered Application (created 5 (replicate 1200 0)) (created 5 (replicate 1200 0)) 3 1)
+    ∷ []
+unfolding told requests_computed
+announced_later = refl
+
 -- The end of input gives up the request.
-given_up : lines (requests_on (with_directory 16) 1 (greeted ++ posted (hex "05") ∷ Ended 1 ∷ Ticked 60 ∷ [])) ≡ line 5 1 1 true Unanswered ∷ []
+given_up : lines (requests_on (with_directory 16) 1 (greeted ++ posted (hex "05") ∷ Ended 1 ∷ Ticked 60 ∷ [])) ≡ line 5 1 1 true true Unanswered ∷ []
 unfolding told requests_computed
 given_up = refl
 
+-- So does a drop of the connection.
+given_up_by_drop : lines (requests_on (with_directory 16) 1 (two ++ Dropped 1 ∷ Ticked 60 ∷ []))
+    ≡ line 5 1 1 true true Unanswered
+    ∷ line 6 2 1 true true (Answered Application (created 6 []) (created 6 []) 3 1)
+    ∷ []
+unfolding told requests_computed two
+given_up_by_drop = refl
+
+-- A request before the first CSM stops the connection, and is not handed to the application.
+too_early : lines (requests_on (with_directory 16) 1 (Opened 1 ∷ Wrote 1 8 ∷ posted (hex "05") ∷ [])) ≡ line 5 0 1 true false Unanswered ∷ []
+unfolding told requests_computed
+too_early = refl
+
 -- Of two requests with one token the first is answered first, and the second is not alone.
 token_twice : lines (requests_on (with_directory 16) 1 (greeted ++ posted (hex "05") ∷ posted (hex "05") ∷ Responded 1 (created 5 []) ∷ Ticked 60 ∷ []))
-    ≡ line 5 1 1 true (Answered Application (created 5 []) (created 5 []) 1)
-    ∷ line 5 2 1 false (Answered Engine (held_message Application (5 ∷ [])) (held_message Application (5 ∷ [])) 2)
+    ≡ line 5 1 1 true true (Answered Application (created 5 []) (created 5 []) 3 1)
+    ∷ line 5 2 1 false true (Answered Engine (held_message Application (5 ∷ [])) (held_message Application (5 ∷ [])) 3 2)
     ∷ []
 unfolding told requests_computed
 token_twice = refl

@@ -1,7 +1,7 @@
 -- Defined by this project: the requests of a connection that the application answers, each with its fate. Both are
 -- computed from the steps of the server.
-use Rattle.std.specs.Prelude.{◌≡◌, ◌≢◌, ◌<◌, ◌≤◌, ◌⊎◌, ℕ, zero, suc, ◌+◌, Bool, true, false, not, ◌&&◌, List, [], ◌∷◌, ◌++◌, length, map, drop, filter, Option, Some, None, is_none, is_some, slice_get, ◌==◌, if◌then◌else◌}
-use Rattle.std.specs.List.{AllByRecursion, list_any}
+use Rattle.std.specs.Prelude.{◌≡◌, ◌≢◌, ◌<◌, ◌≤◌, ◌⊎◌, ℕ, zero, suc, ◌+◌, Bool, true, false, not, ◌&&◌, List, [], ◌∷◌, ◌++◌, length, map, drop, filter, take, Option, Some, None, is_none, is_some, slice_get, ◌==◌, if◌then◌else◌}
+use Rattle.std.specs.List.{AllByRecursion, list_any, flat_map}
 use Rattle.std.specs.List.Sorted.{IsPermutation}
 use Rattle.coap_wire.specs.Message.{Message}
 use Rattle.coap_wire.specs.Codes as code
@@ -13,6 +13,7 @@ use Rattle.coap_conn.specs.declared.pending.Responder.TheVariants.{Engine, Appli
 use Rattle.coap_conn.specs.Fit.{fit, fitted, bare_response}
 use Rattle.coap_conn.specs.Phases.{answers}
 use Rattle.coap_conn.specs.History.{History, link_of, limit_now, after, may_hold}
+use Rattle.coap_conn.specs.Announced.{announced, size_limit}
 use Rattle.coap_conn.specs.PendingEntries.{PendingEntryValue}
 use Rattle.coap_conn.specs.PendingEntries as held
 use Rattle.coap_conn.specs.Calls as call
@@ -25,30 +26,34 @@ use Rattle.coap_store.specs.Answer.{only}
 use Rattle.coap_store.specs.ApplicationRequests.{application_deadline}
 use Rattle.coap_store.specs.Messages.{response_message}
 use Rattle.coap_model.specs.Configs.{ConfigValues}
-use Rattle.coap_model.specs.world.Connections.{Connection, handles, held_message, moment_after, next_held, settled_once}
+use Rattle.coap_model.specs.world.Connections.{Connection, Delay, delay_of, held_for, handles, asks_answer, held_message, moment_after, next_held, settled_once}
 use Rattle.coap_model.specs.world.World.{World, Step, new_world, side_of, Opened, Handled, Responded, acted, step}
-use Rattle.coap_model.specs.world.Events.{AcceptedCall, steps_of}
+use Rattle.coap_model.specs.world.Events.{AcceptedCall, AreAccepted, steps_of, world_after}
 use Rattle.coap_model.specs.world.Events as event
 use Rattle.coap_model.specs.world.LastNotification.{responds}
 
 -- ---- requests and their fates
 
 -- The fate of a request that the application answers.
--- - `Unanswered`: no response is queued. The request is pending, or its connection has stopped and gave it up.
--- - `Answered`: the message `sent` is queued, after this number of messages (`place`). It is the response as it fits.
---   The response is that of the application, or an error of the engine.
+-- - `Unanswered`: no response is queued. The request is pending, or its connection gave it up: it has stopped, or was
+--   dropped.
+-- - `Answered`: the message `sent` is queued, after this number of messages (`place`). The connection had handled
+--   `handled` messages then. The message is the response as it fits the limit after these. The response is that of the
+--   application, or an error of the engine.
 pub data Fate : Type 0 where
   Unanswered : Fate
-  Answered : (by : Responder) (response sent : Message) (place : ℕ) → Fate
+  Answered : (by : Responder) (response sent : Message) (handled place : ℕ) → Fate
 
 -- A request that the application answers, and its deadline. `handled` and `queued` count the messages that its
--- connection had handled and queued before it. `alone` is true if no response with its token was pending then.
+-- connection had handled and queued before it. `alone` is true if no response with its token was pending then. `handed`
+-- is true if the request was handed to the application: it got a place in the pending list.
 pub record ApplicationRequest : Type 0 where
   pub request : Message
   pub deadline : ℕ
   pub handled : ℕ
   pub queued : ℕ
   pub alone : Bool
+  pub handed : Bool
   pub fate : Fate
 
 -- The message is a request that the application answers.
@@ -67,12 +72,12 @@ awaits token (held.Pong own) = false
 -- No response is queued.
 abbrev pub is_unanswered : Fate → Bool
 is_unanswered Unanswered = true
-is_unanswered (Answered by response sent place) = false
+is_unanswered (Answered by response sent handled place) = false
 
 -- The messages that are queued: none, or one.
 abbrev pub messages_of : Fate → List Message
 messages_of Unanswered = []
-messages_of (Answered by response sent place) = sent ∷ []
+messages_of (Answered by response sent handled place) = sent ∷ []
 
 -- The pending entry of a request.
 abbrev pub entry_of : ApplicationRequest → PendingEntryValue
@@ -91,16 +96,17 @@ has_stopped other = false
 
 -- ---- responses
 
--- The fate for which these messages are queued of a response: none, or one.
-abbrev pub fate_of : Responder → Message → List Message → ℕ → Fate
-fate_of by response [] place = Unanswered
-fate_of by response (sent ∷ others) place = Answered by response sent place
+-- The fate for which these messages are queued of a response: none, or one. The numbers count the messages that were
+-- handled and queued before.
+abbrev pub fate_of : Responder → Message → List Message → (handled place : ℕ) → Fate
+fate_of by response [] handled place = Unanswered
+fate_of by response (sent ∷ others) handled place = Answered by response sent handled place
 
 -- The fate of a request to which this response is sent. If the response does not fit, not even reduced, the connection
 -- stops and nothing is queued.
 abbrev pub fate_by : Responder → History → Message → Fate
 fate_by by h response =
-    if answers h.phase then fate_of by response (fitted response (bare_response response) (fit (limit_now h) response (bare_response response))) (length h.queued)
+    if answers h.phase then fate_of by response (fitted response (bare_response response) (fit (limit_now h) response (bare_response response))) (length h.handled) (length h.queued)
     else Unanswered
 
 -- The requests after the first one that passes the test got this fate.
@@ -131,6 +137,7 @@ new_request now s m (Some seconds) = record {
   handled = length s.history.handled;
   queued = length s.history.queued;
   alone = not (list_any (awaits m.token) s.history.held);
+  handed = asks_answer s m && may_hold (after s.history (call.Handle m));
   fate = first_fate (after s.history (call.Handle m)) m;
 } ∷ []
 
@@ -208,12 +215,39 @@ given_on id (e ∷ es) = given_in id e ++ given_on id es
 -- Those that are answers to requests, before they are reduced, with the places of the answers.
 abbrev pub response_of : Fate → List (Message × ℕ)
 response_of Unanswered = []
-response_of (Answered Engine response sent place) = []
-response_of (Answered Application response sent place) = (response, place) ∷ []
+response_of (Answered Engine response sent handled place) = []
+response_of (Answered Application response sent handled place) = (response, place) ∷ []
 
 unfoldable pub responses_to : List ApplicationRequest → List (Message × ℕ)
 responses_to [] = []
 responses_to (r ∷ rs) = response_of r.fate ++ responses_to rs
+
+-- ---- the requests handed to the application
+
+-- These requests, in order.
+abbrev pub handed_requests : List ApplicationRequest → List Message
+handed_requests rs = map (λ r. r.request) (filter (λ r. r.handed) rs)
+
+-- The application responds, and not the engine.
+abbrev pub is_responder : Responder → Bool
+is_responder Engine = false
+is_responder Application = true
+
+-- The response is delayed until the application responds.
+abbrev pub is_by_application : Option Delay → Bool
+is_by_application None = false
+is_by_application (Some d) = is_responder d.by
+
+-- The message, if the connection hands it to the application when it handles it. Then the server must answer it, and it
+-- becomes a pending entry of the application.
+abbrev pub handed_in : StoreValue → ℕ → Connection → Message → List Message
+handed_in store now s m =
+    if asks_answer s m && is_by_application (held_for (after s.history (call.Handle m)) (delay_of store now m)) then m ∷ [] else []
+
+-- The messages that a connection handled between two states and handed to the application. The first state is that in
+-- this world.
+abbrev pub handed_between : World → Connection → Connection → List Message
+handed_between w s t = flat_map (handed_in w.store w.now s) (drop (length s.history.handled) t.history.handled)
 
 -- ---- properties of the requests
 
@@ -233,33 +267,44 @@ pub record AreAnswers (stopped : Bool) (given : List Message) (responses : List 
   pub few : length lost ≤ 1
   pub none : stopped ≡ false → lost ≡ []
 
--- The message `sent` is the response, reduced as `fit` says.
-abbrev pub IsReduced : Message → Message → Type 0
-IsReduced response sent = (limit : ℕ) × (fitted response (bare_response response) (fit limit response (bare_response response)) ≡ sent ∷ [])
+-- The size of the largest message that a connection with these limits may send after it handled these messages. It is the
+-- smaller of the local limit and the size that the peer announced last.
+abbrev pub limit_after : LimitValues → List Message → ℕ
+limit_after limits handled = size_limit limits.max_sent (announced handled)
 
--- The response may answer this request, before which this number of messages was queued, if it is queued at this place.
--- The application gives a response without Observe. The engine sends 5.03 at once, or 5.04 later.
-abbrev pub MayAnswer : Message → ℕ → Responder → Message → ℕ → Type 0
-MayAnswer m queued Application response place = (response.token ≡ m.token) × (is_plain_response response ≡ true)
-MayAnswer m queued Engine response place = ((response ≡ refusal_of m) × (place ≡ queued)) ⊎ (response ≡ held_message Application m.token)
+-- The message `sent` is the response, reduced to this limit as `fit` says.
+abbrev pub IsReduced : ℕ → Message → Message → Type 0
+IsReduced limit response sent = fitted response (bare_response response) (fit limit response (bare_response response)) ≡ sent ∷ []
 
--- The answer to a request is queued at its place, which is after the request was handled.
-pub record IsAnswer (queued : List Message) (r : ApplicationRequest) (by : Responder) (response sent : Message) (place : ℕ) : Type 0 where
-  pub allowed : MayAnswer r.request r.queued by response place
-  pub reduced : IsReduced response sent
-  pub there : slice_get queued place ≡ Some sent
+-- The response may answer this request, if it is queued at this place. If the request was handed to the application,
+-- the response is one of the application, without Observe, or 5.04 of the engine. If not, it is 5.03 of the engine at
+-- once.
+abbrev pub MayAnswer : ApplicationRequest → Responder → Message → ℕ → Type 0
+MayAnswer r Application response place = (r.handed ≡ true) × (response.token ≡ r.request.token) × (is_plain_response response ≡ true)
+MayAnswer r Engine response place =
+    (r.handed ≡ true → response ≡ held_message Application r.request.token)
+    × (r.handed ≡ false → (response ≡ refusal_of r.request) × (place ≡ r.queued))
+
+-- The answer to a request is queued at its place, after the request was handled. It is reduced to the limit at that time.
+-- This is the limit after the first `handled` messages, of which the request is one.
+pub record IsAnswer (h : History) (r : ApplicationRequest) (by : Responder) (response sent : Message) (handled place : ℕ) : Type 0 where
+  pub allowed : MayAnswer r by response place
+  pub reduced : IsReduced (limit_after h.limits (take handled h.handled)) response sent
+  pub there : slice_get h.queued place ≡ Some sent
   pub later : r.queued ≤ place
+  pub after_it : r.handled < handled
+  pub within : handled ≤ length h.handled
 
 -- The fate of a request is that of an unanswered one, or its answer is queued.
-abbrev pub HasFate : List Message → ApplicationRequest → Fate → Type 0
-HasFate queued r Unanswered = Unit {0}
-HasFate queued r (Answered by response sent place) = IsAnswer queued r by response sent place
+abbrev pub HasFate : History → ApplicationRequest → Fate → Type 0
+HasFate h r Unanswered = Unit {0}
+HasFate h r (Answered by response sent handled place) = IsAnswer h r by response sent handled place
 
 -- Two fates have different places.
 abbrev pub HaveOtherPlaces : Fate → Fate → Type 0
 HaveOtherPlaces Unanswered other = Unit {0}
-HaveOtherPlaces (Answered by response sent place) Unanswered = Unit {0}
-HaveOtherPlaces (Answered by response sent place) (Answered other_by other_response other_sent other) = place ≢ other
+HaveOtherPlaces (Answered by response sent handled place) Unanswered = Unit {0}
+HaveOtherPlaces (Answered by response sent handled place) (Answered other_by other_response other_sent other_handled other) = place ≢ other
 
 -- No two requests share a response.
 abbrev pub HaveOwnAnswers : List ApplicationRequest → Type 0
@@ -269,8 +314,8 @@ HaveOwnAnswers (r ∷ rs) = AllByRecursion (λ other. HaveOtherPlaces r.fate oth
 -- If the answer to a request with this token is the error 5.04 of the engine, the deadline of the request has come.
 abbrev pub IsTimely : ℕ → List ℕ → ℕ → Fate → Type 0
 IsTimely now token deadline Unanswered = Unit {0}
-IsTimely now token deadline (Answered Engine response sent place) = response ≡ held_message Application token → deadline ≤ now
-IsTimely now token deadline (Answered Application response sent place) = Unit {0}
+IsTimely now token deadline (Answered Engine response sent handled place) = response ≡ held_message Application token → deadline ≤ now
+IsTimely now token deadline (Answered Application response sent handled place) = Unit {0}
 
 -- Of the responses with the token of a request that were queued after it, its answer is the only one. There are two
 -- conditions. No response with the token was pending before, and no request with the token was handled later.
@@ -278,3 +323,19 @@ abbrev pub HasOnlyAnswer : List Message → List Message → ApplicationRequest 
 HasOnlyAnswer handled queued r =
     r.alone ≡ true → AllByRecursion (λ m. asks_with r.request.token m ≡ false) (drop (suc r.handled) handled)
     → filter (responds r.request.token) (drop r.queued queued) ≡ messages_of r.fate
+
+-- The connection was dropped. Its requests with their fates, and the responses of the application, are those of the
+-- events before the drop. So the drop gave up what was pending.
+pub record WasDropped (c : ConfigValues) (id : ℕ) (events : List AcceptedCall) : Type 0 where
+  pub earlier : List AcceptedCall
+  pub later : List AcceptedCall
+  pub connection : Connection
+  pub parts : events ≡ earlier ++ event.Dropped id ∷ later
+  pub accepted : AreAccepted c earlier
+  pub there : side_of id (world_after c earlier).sides ≡ Some connection
+  pub requests : requests_on c id events ≡ requests_on c id earlier
+  pub given : given_on id events ≡ given_on id earlier
+
+-- The connection never existed and has no request and no response, or it was dropped.
+abbrev pub IsGone : ConfigValues → ℕ → List AcceptedCall → Type 0
+IsGone c id events = ((requests_on c id events ≡ []) × (given_on id events ≡ [])) ⊎ WasDropped c id events

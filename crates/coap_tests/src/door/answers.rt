@@ -1,15 +1,17 @@
 //! Runs for an application in memory, which answers one request at once and another one later.
 
-use super::devices::{CallLog, Moments, ScriptedDoor};
+use super::devices::{CallLog, Passing, ScriptedDoor};
+use crate::rows::same;
 use crate::settings::{configured, set_all, usual};
 use coap_serve::{
     Application, Applications, ConnId, IoFault, NoMonitor, PathKey, ReadSource, Reason, Reply,
-    Report, ResponseFault, WriteOutlet, serve_door_for, serve_one_for,
+    Report, ResponseFault, Wait, WriteOutlet, serve_door_for, serve_one_for,
 };
 use coap_wire::{Code, MessageRef};
 use std::test::Fail;
 
-/// Application that answers PUT at once, and another request when it is asked next.
+/// Application that answers PUT at once, and another request when it is asked next. A wait lasts at most 7 seconds, and
+/// there is none before a later response.
 #[derive(Drop)]
 struct Board {
     later: Option<ConnId>,
@@ -50,23 +52,32 @@ impl Application for Board {
         }
     }
 
+    fn wait(&self, now: u64) -> Wait {
+        if self.later.is_some() {
+            return Wait::No;
+        }
+        Wait::Until(now.saturating_add(7))
+    }
+
     #[tactic(auto, unfolding(coap_server_engine::specs::values::Exchanges::AnswersMore))]
     fn gone(&mut self, _from: ConnId) {
         self.ends = self.ends.saturating_add(1);
     }
 }
 
-/// The client's CSM, PUT /rd and GET /rd, and the end of the input.
-const WIRES: &str = "all 00e131032ab2726431012bb27264 later end";
+/// The client's CSM, PUT /rd and GET /rd after two waits, and the end of the input after five.
+const WIRES: &str = "all 00e1 @2 31032ab2726431012bb27264 @5 end";
 
-/// The response at once is written in the first turn, the later one in the second.
-const TOLD: &str = "+1 1<14 1>11 +- 1<later 1>3 +- 1<end +-
+/// All but the first wait are bounded by the application: from time 0 until 7, and from there until 14. Without it, they
+/// would last until something is ready. Both requests come in the third turn. The response at once is written in that
+/// turn, and the later one in the next turn, without a wait before it.
+const TOLD: &str = "+1 1<2 1>8 ~no +- ~7 +- 1<12 1>3 ~no +- 1>3 ~14 +- ~21 +- 1<end
 1 60e123010000414001442a01452b";
 
 #[test]
 fn an_application_answers(rt: HostRuntime) -> Result<(), Fail> {
-    let setting = set_all(&rt, "turns 4")?;
-    let book = CallLog::new(rt.alloc(), false);
+    let setting = set_all(&rt, "turns 6")?;
+    let book = CallLog::new(rt.alloc(), true);
     let mut door = ScriptedDoor {
         wires: WIRES,
         count: 0,
@@ -84,7 +95,7 @@ fn an_application_answers(rt: HostRuntime) -> Result<(), Fail> {
     let result = serve_door_for(
         rt.alloc(),
         &mut door,
-        &mut Moments { text: "0" },
+        &mut Passing { book: &book },
         configured(&rt, &setting),
         applications,
         &mut board,
@@ -93,7 +104,7 @@ fn an_application_answers(rt: HostRuntime) -> Result<(), Fail> {
     assert!(&rt; result == Err(IoFault::Turns));
     assert!(&rt; board.requests == 2 && board.accepted == 1 && board.ends == 1);
     let told = book.told()?;
-    assert!(&rt; told.as_str() == TOLD);
+    same(&rt, "a run for an application", told.as_str(), TOLD);
     Ok(())
 }
 

@@ -12,17 +12,11 @@ struct Lamp {
 
 impl Application for Lamp {
     #[tactic(auto, unfolding(coap_server_engine::specs::values::Exchanges::AnswersMore))]
-    fn request(
-        &mut self,
-        _from: ConnId,
-        request: &MessageRef<'_>,
-        _limit: usize,
-        response: &mut Vec<u8>,
-    ) {
+    fn request(&mut self, _id: ConnId, request: &MessageRef<'_>, _limit: usize, out: &mut Vec<u8>) {
         self.is_on = request.payload() == b"on".as_slice();
         let changed: Builder = Builder::with_token_ref(Code::CHANGED, request.token().copy());
-        if response.reserve(changed.size() as usize).is_ok() {
-            changed.write(response);
+        if out.reserve(changed.size() as usize).is_ok() {
+            changed.write(out);
         }
     }
 
@@ -47,26 +41,20 @@ struct Oven {
 
 impl Application for Oven {
     #[tactic(auto, unfolding(coap_server_engine::specs::values::Exchanges::AnswersMore))]
-    fn request(
-        &mut self,
-        from: ConnId,
-        request: &MessageRef<'_>,
-        _limit: usize,
-        _response: &mut Vec<u8>,
-    ) {
-        self.waiting = Some((from, request.token().to_token()));
+    fn request(&mut self, id: ConnId, request: &MessageRef<'_>, _limit: usize, _out: &mut Vec<u8>) {
+        self.waiting = Some((id, request.token().to_token()));
     }
 
     #[tactic(auto, unfolding(coap_server_engine::specs::values::Exchanges::AnswersMore))]
-    fn next_response(&mut self, response: &mut Vec<u8>) -> Option<ConnId> {
+    fn next_response(&mut self, out: &mut Vec<u8>) -> Option<ConnId> {
         if !self.is_hot {
             return None;
         }
-        let (from, token) = self.waiting.take()?;
+        let (id, token) = self.waiting.take()?;
         let hot: Builder = Builder::new(Code::CHANGED, &token);
-        response.reserve(hot.size() as usize).ok()?;
-        hot.write(response);
-        Some(from)
+        out.reserve(hot.size() as usize).ok()?;
+        hot.write(out);
+        Some(id)
     }
 
     #[tactic(auto, unfolding(coap_server_engine::specs::values::Exchanges::AnswersMore))]

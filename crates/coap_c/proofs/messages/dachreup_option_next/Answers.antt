@@ -51,6 +51,6 @@ returns c =
       record {
         at_is = omega (arith, n);
         number_is = c.from.ensures;
-        value_is = (at, (c.span_within.ensures, part_at c.args.options.now v.front o.value rest at v.is (omega (arith, n))));
+        value_is = (at, (omega (arith, n), (c.span_within.ensures, part_at c.args.options.now v.front o.value rest at v.is (omega (arith, n)))));
       },
     )

@@ -58,10 +58,10 @@ returns c =
     let options : at - length c.marker_bytes.result.now - (l.token_at + l.token_length) ≡ length (options_spelling 0 m.options) = omega (arith, n, p.within, payload, ap length c.marker_bytes.ensures, ap (λ (x : List ℕ). length (payload_marker x)) c.payload-payload.ensures) in (
       c.from.ensures ∙ c.byte.ensures ∙ c.code.ensures,
       (
-        (l.token_at, (c.span_within.ensures ∙ ap (span_at f l.token_at) p.token_length, p.token)),
+        (l.token_at, (omega (arith, p.within, p.token_length), (c.span_within.ensures ∙ ap (span_at f l.token_at) p.token_length, p.token))),
         (
-          (l.token_at + l.token_length, (c.span_within-2.ensures ∙ ap (span_at f (l.token_at + l.token_length)) options, options_placed f.now l m p)),
-          (at, (c.span_within-3.ensures ∙ ap (span_at f at) payload, payload_placed f.now l m at p (omega (arith, n, payload)))),
+          (l.token_at + l.token_length, (omega (arith, n), (c.span_within-2.ensures ∙ ap (span_at f (l.token_at + l.token_length)) options, options_placed f.now l m p))),
+          (at, (omega (arith, n, payload), (c.span_within-3.ensures ∙ ap (span_at f at) payload, payload_placed f.now l m at p (omega (arith, n, payload))))),
         ),
       ),
     )

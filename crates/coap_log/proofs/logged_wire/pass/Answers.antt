@@ -1,7 +1,7 @@
 use Rattle.std.proofs.Common.{List, ℕ, length, subst}
 use Rattle.std.specs.Duration.{as_nanos}
 use Rattle.coap_log.specs.Logs.{trace_of}
-use Rattle.coap_log.specs.Connections.{LogsBytes, front}
+use Rattle.coap_log.specs.Connections.{LogsBytes}
 use Rattle.coap_log.proofs.logged_wire.pass.Goals as goal
 
 pub returns : goal.returns
@@ -10,6 +10,5 @@ returns g c =
     let after = trace_of g.L.LogWriter.offers g.L.LogWriter.accepted c.log_messages.new.log in
     let nanos = as_nanos c.now.result in (
       nanos,
-      subst (λ (b : List ℕ). LogsBytes (length b) nanos (front c.args.direction.now) b c.args.tap.now c.log_messages.new.tap before after) c.passed.ensures
-          (subst (λ (f : List ℕ). LogsBytes (length c.passed.result.now) nanos f c.passed.result.now c.args.tap.now c.log_messages.new.tap before after) c.front.ensures c.log_messages.ensures),
+      subst (λ (f : List ℕ). LogsBytes (length c.args.bytes.now) nanos f c.args.bytes.now c.args.tap.now c.log_messages.new.tap before after) c.connection_line.ensures c.log_messages.ensures,
     )

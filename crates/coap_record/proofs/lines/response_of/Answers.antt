@@ -1,4 +1,3 @@
-use Rattle.std.proofs.Common.{arith}
 use Rattle.coap_wire.proofs.SpellingLaws.{spelled_as}
 use Rattle.coap_record.proofs.WriteLemmas.{none_encoded, some_encoded}
 use Rattle.coap_record.proofs.lines.response_of.Goals as goal

@@ -1,4 +1,4 @@
-use Rattle.std.proofs.Common.{append_assoc, sym, ◌∙◌, ◌++◌, codes, decimal}
+use Rattle.std.proofs.Common.{append_assoc, ◌∙◌, ◌++◌, codes, decimal}
 use Rattle.coap_io.proofs.streams.DeviceLemmas.{bytes_then}
 use Rattle.coap_record.specs.Prelude.{encode_lower}
 use Rattle.coap_record.proofs.WriteLemmas.{text_then, text_of_all, fault_first, fault_then, responded_parts}

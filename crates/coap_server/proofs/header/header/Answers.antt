@@ -1,6 +1,6 @@
 use Rattle.std.proofs.Common.{◌≡◌, List, ℕ, ◌∷◌, ◌++◌, append_assoc, append-nil, refl, sym, subst}
 use Rattle.coap_command_line.specs.declared.arguments.help.TheConstants.{VERSION}
-use Rattle.coap_server.specs.Comments.{SaysNoEvent}
+use Rattle.coap_record.specs.Prelude.{SaysNoEvent}
 use Rattle.coap_server_common.specs.RecordHeaders.{header_text}
 use Rattle.coap_server.proofs.HeaderLemmas.{header_says_nothing}
 use Rattle.coap_server.proofs.header.header.Goals as goal

@@ -7,20 +7,20 @@ use Rattle.coap_server_streams.proofs.serve_for.run_for.Goals as goal
 -- The server's CSM was not written.
 pub returns-in_default-clause-run : goal.returns-in_default-clause-run
 returns-in_default-clause-run g c = λ first before x k at.
-    cut_for (HasNoLater g.A.Application.follows g.A.Application.idle before) k c.args.id (g.M.Monitor.follows first) (g.M.Monitor.follows c.args.monitor.now) (g.M.Monitor.follows c.flush.new.monitor) (AnswersMore (g.A.Application.follows before) (g.A.Application.follows c.args.application.now)) x (g.W.Outlet.written c.args.writer.now) (g.W.Outlet.written c.flush.new.writer)
+    cut_for (HasNoLater g.A.Application.follows g.A.Application.idle before) k c.args.id (g.M.Monitor.follows first) (g.M.Monitor.follows c.args.monitor.now) (g.M.Monitor.follows c.greet.new.monitor) (AnswersMore (g.A.Application.follows before) (g.A.Application.follows c.args.application.now)) x (g.W.Outlet.written c.args.writer.now) (g.W.Outlet.written c.greet.new.writer)
     c.args.server.now at (g.R.Source.told c.args.reader.now) c.in_default.ensures.part
 
 pub loop-init : goal.loop-init
 loop-init g c =
     let s = c.requires.stands in
-    let start = starts_for (HasNoLater g.A.Application.follows g.A.Application.idle s.1) s.3 c.args.id (g.M.Monitor.follows s.0) (g.M.Monitor.follows c.args.monitor.now) (g.M.Monitor.follows c.flush.new.monitor) (AnswersMore (g.A.Application.follows s.1) (g.A.Application.follows c.args.application.now)) s.2 (g.W.Outlet.written c.args.writer.now) (g.W.Outlet.written c.flush.new.writer)
-    c.args.server.now s.4 (g.R.Source.told c.args.reader.now) c.flush.new.server c.in-Ok.ensures.ok in
+    let start = starts_for (HasNoLater g.A.Application.follows g.A.Application.idle s.1) s.3 c.args.id (g.M.Monitor.follows s.0) (g.M.Monitor.follows c.args.monitor.now) (g.M.Monitor.follows c.greet.new.monitor) (AnswersMore (g.A.Application.follows s.1) (g.A.Application.follows c.args.application.now)) s.2 (g.W.Outlet.written c.args.writer.now) (g.W.Outlet.written c.greet.new.writer)
+    c.args.server.now s.4 (g.R.Source.told c.args.reader.now) c.greet.new.server c.in-Ok.ensures.ok in
     record {
       runs = λ first before x k at.
-          starts_for (HasNoLater g.A.Application.follows g.A.Application.idle before) k c.args.id (g.M.Monitor.follows first) (g.M.Monitor.follows c.args.monitor.now) (g.M.Monitor.follows c.flush.new.monitor) (AnswersMore (g.A.Application.follows before) (g.A.Application.follows c.args.application.now)) x (g.W.Outlet.written c.args.writer.now) (g.W.Outlet.written c.flush.new.writer)
-          c.args.server.now at (g.R.Source.told c.args.reader.now) c.flush.new.server c.in-Ok.ensures.ok;
+          starts_for (HasNoLater g.A.Application.follows g.A.Application.idle before) k c.args.id (g.M.Monitor.follows first) (g.M.Monitor.follows c.args.monitor.now) (g.M.Monitor.follows c.greet.new.monitor) (AnswersMore (g.A.Application.follows before) (g.A.Application.follows c.args.application.now)) x (g.W.Outlet.written c.args.writer.now) (g.W.Outlet.written c.greet.new.writer)
+          c.args.server.now at (g.R.Source.told c.args.reader.now) c.greet.new.server c.in-Ok.ensures.ok;
       live = start.live;
-      limit = limit_stays s.3 c.args.server.now c.flush.new.server _ s.4.config start.rest.at.config c.requires.limit;
+      limit = limit_stays s.3 c.args.server.now c.greet.new.server _ s.4.config start.rest.at.config c.requires.limit;
       reader_works = c.requires.reader_works;
       writer_works = c.in-Ok.ensures.failure;
       read = omega arith;
