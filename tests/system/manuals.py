@@ -402,7 +402,8 @@ def check_values(checks, manual, program, more):
     checks.same("%s: values of options" % manual.name, listed, value_texts(manual.name))
     for option, text in listed.items():
         if option != "-f":
-            error = run([program, option, ""] + more)[2].splitlines()
+            # No option is given twice.
+            error = run([program, option, ""] + more * (more[0] != option))[2].splitlines()
             wanted = "%s: %s takes %s, not an empty text" % (manual.name, option, text.replace("n (", "65536 (", 1))
             checks.same("%s: second line for %s" % (manual.name, option), error[1:], [wanted])
 
