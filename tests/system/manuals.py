@@ -442,8 +442,9 @@ def check_sentences(checks, manual):
 def check_signal(checks, program):
     """Checks that a signal ends the server at once, and that its clients receive no Release."""
     with Server(program) as server, server.connect() as peer:
-        peer.sendall(bytes.fromhex("00e1"))
-        checks.same("the CSM of the server", read_bytes(peer, len(CSM) // 2).hex(), CSM)
+        # The server has read all bytes when it sends the Pong. So the end of the connection is no reset.
+        peer.sendall(bytes.fromhex("00e1" "00e2"))
+        checks.same("the CSM and the Pong of the server", read_bytes(peer, len(CSM + "00e3") // 2).hex(), CSM + "00e3")
         server.process.terminate()
         checks.same("bytes after a signal", (read_to_end(peer), server.process.wait(LIMIT)), ((b"", "the end"), -signal.SIGTERM))
         # The server has ended as it should, so the block need not report that.
