@@ -147,7 +147,7 @@ def place_of(text, name):
     """Returns the place of a function or a constant, in a text formatted by `rt fmt`."""
     if name.startswith("const "):
         begin = text.index(f"{name}:")
-        return Place(begin, begin, text.index(";", begin), False)
+        return Place(begin, begin, text.index(";\n", begin), False)
     found, block, is_free, at = [], "", True, 0
     lines = text.splitlines(keepends=True)
     for number, line in enumerate(lines):

@@ -1,4 +1,5 @@
 pub mod WordLemmas
+pub mod TableLemmas
 pub mod PlanLemmas
 pub mod ReasonLemmas
 mod WordsWorked

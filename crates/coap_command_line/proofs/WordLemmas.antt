@@ -1,8 +1,8 @@
 -- Lemmas on the results of `clap`, and on the texts of addresses.
 use Rattle.std.proofs.Common.{◌≡◌, ◌∙◌, ◌==◌, ◌≤◌, ℕ, List, [], ◌∷◌, length, Option, Some, None, Result, Ok, Err, sym, ap, refl, subst, option_map, true, append-nil, ne_eqb, arith, lit≤}
 use Rattle.coap_command_line.specs.Prelude.{result_ok, ipv4_octets, ipv6_segments, IsColonHex, IsDotted, IsIpText, Parses}
-use Rattle.coap_command_line.specs.Prelude.{Read, read_ipv4, read_ipv6, whole_value, IpAddr, App, Rule, Text, first_of}
-use Rattle.coap_command_line.specs.Prelude.{first_value, rows_of, with_rule, Found, list_any, Bor, AreHalves, is_comma}
+use Rattle.coap_command_line.specs.Prelude.{Read, read_ipv4, read_ipv6, whole_value, IpAddr, Text, first_of}
+use Rattle.coap_command_line.specs.Prelude.{first_value, rows_of, Found, list_any, Bor, AreHalves, is_comma}
 use Rattle.coap_command_line.specs.Prelude.{address_of, three_in}
 use Rattle.coap_command_line.specs.CommandLines.{comma}
 use Rattle.coap_command_line.specs.ServerWords.{three_of}
@@ -23,10 +23,6 @@ first_text f name said e = e ∙ first_value-rows f name
 -- The texts that `clap` keeps for an option are those of its row.
 pub all_texts : (f : Found) (name : Text) (said : Option (List Text)) → said ≡ option_map raw_values (matched_of f name) → said ≡ all_of name (rows_of f)
 all_texts f name said e = e ∙ raw_values-rows f name
-
--- Another option adds another rule.
-pub shape_with_rule : (before after shape : App) (rule : Rule) → after ≡ with_rule before rule → before ≡ shape → after ≡ with_rule shape rule
-shape_with_rule before after shape rule e h = e ∙ ap (λ (a : App). with_rule a rule) h
 
 -- ---- addresses
 

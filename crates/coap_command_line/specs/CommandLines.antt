@@ -1,6 +1,6 @@
 -- Defined by this project: the parts of a command line that both programs share. The crate `clap` finds the options and
 -- their texts, and this file defines the values of the texts.
-use Rattle.std.specs.Prelude.{◌∷◌, [], ℕ, Bool, true, false, List, drop, Option, Some, None, Result, Ok, Err, slice_get, codes, bytes_eq, ◌==◌, if◌then◌else◌}
+use Rattle.std.specs.Prelude.{◌∷◌, [], ℕ, Bool, true, false, List, drop, map, ◌++◌, Option, Some, None, Result, Ok, Err, slice_get, codes, bytes_eq, ◌==◌, if◌then◌else◌}
 use Rattle.std.specs.Borrow.{Bor}
 use Rattle.std.specs.Option.{option_map_or}
 use Rattle.clap.specs.Simple.{new_shape}
@@ -11,6 +11,8 @@ use Rattle.coap_text.specs.Words.{decimal_value, parts}
 use Rattle.coap_print.specs.Levels.{level_of}
 use Rattle.coap_print.specs.declared.level.LogLevel.{LogLevel}
 use Rattle.coap_request.specs.declared.target.TargetFault.{TargetFault}
+use Rattle.coap_command_line.specs.declared.arguments.commands.tables.Form.{Form}
+use Rattle.coap_command_line.specs.declared.arguments.commands.tables.Form.TheVariants as form
 
 -- ---- refusals
 
@@ -53,6 +55,31 @@ letter_flag name = record (new_rule name) { short = slice_get name 1; action = S
 -- A long option without a value.
 abbrev pub word_flag : Text → Rule
 word_flag name = record (new_rule name) { long = Some (drop 2 name); action = Some SetTrue }
+
+-- ---- tables of the code
+
+-- An argument with a form.
+abbrev pub with_form : Rule → Form → Rule
+with_form rule (form.Letter letter value) = record rule { short = Some letter; value_names = 1 }
+with_form rule (form.LetterFlag letter) = record rule { short = Some letter; action = Some SetTrue }
+with_form rule (form.Word word value) = record rule { long = Some word.now; value_names = 1 }
+with_form rule (form.RepeatedWord word value) = record rule { long = Some word.now; value_names = 1; action = Some Append }
+with_form rule (form.WordFlag word) = record rule { long = Some word.now; action = Some SetTrue }
+with_form rule form.Required = record rule { required = true }
+
+-- The argument of a row.
+abbrev pub row_rule : Bor Text × Form × Bor Text → Rule
+row_rule row = with_form (new_rule row.0.now) row.1
+
+-- A command with more arguments.
+abbrev pub with_rules : App → List Rule → App
+with_rules app rules = record app { top = record app.top { rules = app.top.rules ++ rules } }
+
+-- The command of a program with a name and a table.
+abbrev pub program_app : Text → List (Bor Text × Form × Bor Text) → App
+program_app name rows = with_rules (bare_app name) (map row_rule rows)
+
+-- ---- flags
 
 -- True if an option without a value is given, for which `clap` keeps the text `true`.
 unfoldable pub is_used : Text → List Row → Bool
@@ -98,6 +125,11 @@ before separator bytes = first_part (parts separator bytes)
 unfoldable pub after : ℕ → Text → Text
 after separator [] = []
 after separator (byte ∷ bytes) = if byte == separator then bytes else after separator bytes
+
+-- The value of a name in a table, if the table has the name.
+unfoldable pub named_value : {A : Type 0} → List (Bor Text × A) → Text → Option A
+named_value [] name = None
+named_value (row ∷ rows) name = if bytes_eq name row.0.now then Some row.1 else named_value rows name
 
 -- ---- numbers
 

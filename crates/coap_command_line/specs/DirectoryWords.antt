@@ -1,5 +1,5 @@
 -- Defined by this project: the plan for the arguments of `coap-directory`, and the reason for refused arguments.
-use Rattle.std.specs.Prelude.{◌≡◌, ◌∷◌, [], ℕ, true, List, map, Option, Some, None, Result, Ok, Err, codes}
+use Rattle.std.specs.Prelude.{◌≡◌, ◌∷◌, [], true, List, map, Option, None, Result, Ok, Err, codes}
 use Rattle.clap.specs.Simple.{new_shape}
 use Rattle.clap.specs.Words.{App, Row, Text, fault_of, matches_of}
 use Rattle.coap_command_line.specs.CommandLines.{◌>>=◌, WordsFaultValue, Value, letter_option, number_within, option_value, unless_refused, word_option}

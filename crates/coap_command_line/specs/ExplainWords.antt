@@ -1,5 +1,5 @@
 -- Defined by this project: the plan for the arguments of `coap-explain`, and the reason for refused arguments.
-use Rattle.std.specs.Prelude.{◌≡◌, ◌∷◌, [], ℕ, true, List, map, Option, Some, None, unwrap_or, Result, Ok, Err, codes, string_bytes}
+use Rattle.std.specs.Prelude.{◌≡◌, ◌∷◌, [], ℕ, true, List, map, Option, None, unwrap_or, Result, Ok, Err, codes, string_bytes}
 use Rattle.clap.specs.Simple.{new_shape}
 use Rattle.clap.specs.Words.{App, Row, Rule, Text, fault_of, first_of, matches_of, new_rule}
 use Rattle.coap_command_line.specs.CommandLines.{◌>>=◌, WordsFaultValue, number_within, option_value, unless_refused, word_option}

@@ -2,7 +2,7 @@
 
 -- ---- std and the kit's crates
 pub use Rattle.clap.specs.Words.{first_of, found_of, rows_of, app_of, fault_of, is_simple, is_simple_and_free}
-pub use Rattle.clap.specs.Words.{matches_of, new_rule, with_rule, App, Kinds, Row, Rule, Text, all_of, first_value}
+pub use Rattle.clap.specs.Words.{matches_of, new_rule, rule_of, with_rule, App, Kinds, Row, Rule, Text, all_of, first_value}
 pub use Rattle.clap.specs.declared.parser.matches.Found.{Found}
 unfoldable pub use Rattle.hex.specs.Hex.{decode_pairs}
 unfoldable pub use Rattle.percent_encoding.specs.Percent.{percent_decode}
@@ -38,7 +38,6 @@ unfoldable pub use Rattle.coap_command_line.specs.ClientWords.{clashes, client_p
 unfoldable pub use Rattle.coap_command_line.specs.ClientWords.{format_of, method_named, option_bytes, payload_said}
 unfoldable pub use Rattle.coap_command_line.specs.ClientWords.{request_said, uri_said}
 pub use Rattle.coap_command_line.specs.CommandLines.{named, option_value, Clash, Usage, Value, WordsFaultValue}
-pub use Rattle.coap_command_line.specs.CommandLines.{bare_app, letter_flag, letter_option, repeated_option, word_flag, word_option}
 unfoldable pub use Rattle.coap_command_line.specs.CommandLines.{number_within, is_used, level_in}
 pub use Rattle.coap_command_line.specs.PlanViews.{IsClientPlan, IsServerPlan, is_help_or_version, words_fault_number}
 pub use Rattle.coap_command_line.specs.PlanViews.{TellsClientPlan, client_value, extra_named, extra_value, IsTurnedDown}

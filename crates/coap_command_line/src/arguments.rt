@@ -20,7 +20,7 @@ use clap::error::ErrorKind;
 use client::client_plan;
 use coap_print::Line;
 use coap_request::{ClientPlan, ServerPlan, TargetFault};
-use commands::{client_command, matches_in, server_command};
+use commands::{CLIENT, SERVER, matches_in};
 pub use help::VERSION;
 use reasons::{client_line, server_line};
 use server::server_plan;
@@ -95,10 +95,7 @@ pub fn server_words<'a, S: AsStr>(alloc: Global, words: &'a [S]) -> Result<Serve
     ensures id_left { IfOk result (λ plan. plan.starts.ids + 1 < 2 ^ 64) }
     ensures limit { IfOk result (λ plan. 1 ≤ plan.record_limit) }
 {
-    let Ok(command) = server_command(alloc) else {
-        return Err(WordsFault::Memory);
-    };
-    let matches = match matches_in(command, words) {
+    let matches = match matches_in(alloc, "coap-server", help::SERVER, &SERVER, words) {
         Ok(matches) => matches,
         Err(fault) => return Err(fault),
     };
@@ -129,10 +126,7 @@ pub fn server_words<'a, S: AsStr>(alloc: Global, words: &'a [S]) -> Result<Serve
 pub fn client_words<'a, S: AsStr>(alloc: Global, words: &'a [S]) -> Result<ClientPlan, WordsFault>
     ensures { IsClientPlan (map S.text words.entry.now) result }
 {
-    let Ok(command) = client_command(alloc) else {
-        return Err(WordsFault::Memory);
-    };
-    let matches = match matches_in(command, words) {
+    let matches = match matches_in(alloc, "coap-client", help::CLIENT, &CLIENT, words) {
         Ok(matches) => matches,
         Err(fault) => return Err(fault),
     };
@@ -152,8 +146,7 @@ pub fn server_reason<'a, S: AsStr>(
 ) -> Result<Option<Line>, AllocError>
     ensures { IfOk result (λ line. line ≡ option_map line_of (spec.server_reason (map S.text words.entry.now) fault.now)) }
 {
-    let command = server_command(alloc)?;
-    match matches_in(command, words) {
+    match matches_in(alloc, "coap-server", help::SERVER, &SERVER, words) {
         Ok(matches) => server_line(alloc, &matches, fault),
         Err(WordsFault::Usage(_)) => Ok(None),
         Err(_) => Err(AllocError),
@@ -173,8 +166,7 @@ pub fn client_reason<'a, S: AsStr>(
 ) -> Result<Option<Line>, AllocError>
     ensures { IfOk result (λ line. line ≡ option_map line_of (spec.client_reason (map S.text words.entry.now) fault.now)) }
 {
-    let command = client_command(alloc)?;
-    match matches_in(command, words) {
+    match matches_in(alloc, "coap-client", help::CLIENT, &CLIENT, words) {
         Ok(matches) => Ok(client_line(&matches, fault)),
         Err(WordsFault::Usage(_)) => Ok(None),
         Err(_) => Err(AllocError),

@@ -8,7 +8,9 @@ ghost use Rattle.coap_command_line.specs.ClientWords as spec;
 ghost use Rattle.coap_request.specs.declared.request.Method.TheVariants.{Get};
 
 use crate::arguments::WordsFault;
-use crate::arguments::option_values::{file_name, is_used, log, number, number_within, text_of};
+use crate::arguments::option_values::{
+    file_name, is_used, log, named_value, number, number_within, text_of,
+};
 use clap::ArgMatches;
 use coap_print::LogLevel;
 use coap_request::{ClientPlan, Method, Target, TargetFault};
@@ -16,22 +18,20 @@ use coap_text::bytes_in;
 use percent_encoding::percent_decode;
 use std::alloc::{AllocError, Global};
 
+/// Methods by their names.
+const METHODS: [(&str, Method); 4] = [
+    ("get", Method::Get),
+    ("put", Method::Put),
+    ("post", Method::Post),
+    ("delete", Method::Delete),
+];
+
 /// Returns the method with this name.
-#[tactic(auto, unfolding(crate::specs::ClientWords::method_named))]
+#[tactic(auto, unfolding(crate::specs::ClientWords::method_named, crate::specs::CommandLines::named_value))]
 fn method_named(text: &str) -> Option<Method>
     ensures { result ≡ spec.method_named text.now }
 {
-    if text == "get" {
-        Some(Method::Get)
-    } else if text == "put" {
-        Some(Method::Put)
-    } else if text == "post" {
-        Some(Method::Post)
-    } else if text == "delete" {
-        Some(Method::Delete)
-    } else {
-        None
-    }
+    named_value(&METHODS, text.as_bytes())
 }
 
 /// Returns the method of the request, by default GET.
@@ -49,28 +49,23 @@ fn method(matches: &ArgMatches<'_>) -> Result<Method, &'static str>
     }
 }
 
+/// Numbers of content formats by their full names.
+const FORMATS: [(&str, u16); 7] = [
+    ("text/plain", 0),
+    ("application/link-format", 40),
+    ("application/xml", 41),
+    ("application/octet-stream", 42),
+    ("application/exi", 47),
+    ("application/json", 50),
+    ("application/cbor", 60),
+];
+
 /// Returns the number of the content format with this full name.
-#[tactic(auto, unfolding(crate::specs::ClientWords::format_named))]
+#[tactic(auto, unfolding(crate::specs::ClientWords::format_named, crate::specs::CommandLines::named_value))]
 fn format_named(text: &str) -> Option<u16>
     ensures { result ≡ spec.format_named text.now }
 {
-    if text == "text/plain" {
-        Some(0)
-    } else if text == "application/link-format" {
-        Some(40)
-    } else if text == "application/xml" {
-        Some(41)
-    } else if text == "application/octet-stream" {
-        Some(42)
-    } else if text == "application/exi" {
-        Some(47)
-    } else if text == "application/json" {
-        Some(50)
-    } else if text == "application/cbor" {
-        Some(60)
-    } else {
-        None
-    }
+    named_value(&FORMATS, text.as_bytes())
 }
 
 /// Returns the content format with this full name or number.

@@ -1,18 +1,17 @@
 //! The command line of `coap-directory`.
 
 ghost use Rattle.std.specs.Prelude.{◌≡◌, ◌≤◌, IfOk, codes, map, option_map};
-ghost use Rattle.coap_command_line.specs.Prelude.{app_of, found_of, rows_of, named};
-ghost use Rattle.coap_command_line.specs.DirectoryWords.{directory_app, TellsDirectoryPlan};
-ghost use Rattle.coap_command_line.specs.DirectoryWords.{IsDirectoryPlan};
+ghost use Rattle.coap_command_line.specs.Prelude.{found_of, rows_of, named};
+ghost use Rattle.coap_command_line.specs.DirectoryWords.{IsDirectoryPlan, TellsDirectoryPlan};
 ghost use Rattle.coap_command_line.specs.DirectoryWords as spec;
 ghost use Rattle.coap_command_line.specs.Reasons.{line_of};
 
-use crate::arguments::commands::{bare, matches_in, with_letter, with_number};
+use crate::arguments::commands::{DIRECTORY, matches_in};
 use crate::arguments::option_values::number;
 use crate::arguments::reasons::directory_line;
 use crate::arguments::server::address;
 use crate::arguments::{WordsFault, help};
-use clap::{ArgMatches, Command};
+use clap::ArgMatches;
 use coap_print::Line;
 use std::alloc::{AllocError, Global};
 use std::convert::AsStr;
@@ -29,29 +28,6 @@ pub struct DirectoryPlan {
     pub connections: usize,
     /// Maximum number of registrations, 1 to 100,000.
     pub registrations: usize,
-}
-
-/// Creates the command of `coap-directory`.
-fn directory_command<'a>(alloc: Global) -> Result<Command<'a>, AllocError>
-    ensures { IfOk result (λ c. app_of c ≡ directory_app) }
-{
-    let command = bare(alloc, "coap-directory", help::DIRECTORY);
-    let command = with_letter(alloc, command, "-A", 'A', "ADDRESS", help::ADDRESS)?;
-    let command = with_letter(alloc, command, "-p", 'p', "PORT", help::PORT)?;
-    let command = with_number(
-        alloc,
-        command,
-        "--connections",
-        "connections",
-        help::CONNECTIONS,
-    )?;
-    with_number(
-        alloc,
-        command,
-        "--registrations",
-        "registrations",
-        help::REGISTRATIONS,
-    )
 }
 
 /// Returns the plan for the options that `clap` found.
@@ -105,10 +81,7 @@ pub fn directory_words<'a, S: AsStr>(
     ensures connections { IfOk result (λ plan. (1 ≤ plan.connections) × (plan.connections ≤ 256)) }
     ensures registrations { IfOk result (λ plan. (1 ≤ plan.registrations) × (plan.registrations ≤ 100000)) }
 {
-    let Ok(command) = directory_command(alloc) else {
-        return Err(WordsFault::Memory);
-    };
-    let matches = match matches_in(command, words) {
+    let matches = match matches_in(alloc, "coap-directory", help::DIRECTORY, &DIRECTORY, words) {
         Ok(matches) => matches,
         Err(fault) => return Err(fault),
     };
@@ -128,8 +101,7 @@ pub fn directory_reason<'a, S: AsStr>(
 ) -> Result<Option<Line>, AllocError>
     ensures { IfOk result (λ line. line ≡ option_map line_of (spec.directory_reason (map S.text words.entry.now) fault.now)) }
 {
-    let command = directory_command(alloc)?;
-    match matches_in(command, words) {
+    match matches_in(alloc, "coap-directory", help::DIRECTORY, &DIRECTORY, words) {
         Ok(matches) => Ok(directory_line(&matches, fault)),
         Err(WordsFault::Usage(_)) => Ok(None),
         Err(_) => Err(AllocError),

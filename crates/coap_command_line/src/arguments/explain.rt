@@ -1,16 +1,16 @@
 //! The command line of `coap-explain`.
 
 ghost use Rattle.std.specs.Prelude.{◌≡◌, IfOk, codes, map, option_map};
-ghost use Rattle.coap_command_line.specs.Prelude.{app_of, found_of, rows_of, named, with_rule};
-ghost use Rattle.coap_command_line.specs.ExplainWords.{explain_app, file_rule, TellsExplainPlan, IsExplainPlan};
+ghost use Rattle.coap_command_line.specs.Prelude.{found_of, rows_of, named};
+ghost use Rattle.coap_command_line.specs.ExplainWords.{IsExplainPlan, TellsExplainPlan};
 ghost use Rattle.coap_command_line.specs.ExplainWords as spec;
 ghost use Rattle.coap_command_line.specs.Reasons.{line_of};
 
-use crate::arguments::commands::{bare, matches_in, with_word};
+use crate::arguments::commands::{EXPLAIN, matches_in};
 use crate::arguments::option_values::{number_within, text_of};
 use crate::arguments::reasons::explain_line;
 use crate::arguments::{WordsFault, help};
-use clap::{Arg, ArgMatches, Command};
+use clap::ArgMatches;
 use coap_print::Line;
 use std::alloc::{AllocError, Global};
 use std::convert::AsStr;
@@ -22,30 +22,6 @@ pub struct ExplainPlan {
     pub file: String,
     /// Number of the only connection whose lines are printed, or `None` for all lines.
     pub connection: Option<u64>,
-}
-
-/// Adds the file as the only argument that is no option. The file is required.
-fn with_file<'a>(alloc: Global, command: Command<'a>) -> Result<Command<'a>, AllocError>
-    ensures { IfOk result (λ c. app_of c ≡ with_rule (app_of command.entry) file_rule) }
-{
-    let file = Arg::new(alloc, "FILE").required(true).help(help::FILE);
-    command.arg(file)
-}
-
-/// Creates the command of `coap-explain`.
-fn explain_command<'a>(alloc: Global) -> Result<Command<'a>, AllocError>
-    ensures { IfOk result (λ c. app_of c ≡ explain_app) }
-{
-    let command = bare(alloc, "coap-explain", help::EXPLAIN);
-    let command = with_word(
-        alloc,
-        command,
-        "--connection",
-        "connection",
-        "ID",
-        help::CONNECTION,
-    )?;
-    with_file(alloc, command)
 }
 
 /// Returns the number of the only connection that is printed, if the option is given.
@@ -99,10 +75,7 @@ fn explain_plan(alloc: Global, matches: &ArgMatches<'_>) -> Result<ExplainPlan, 
 pub fn explain_words<'a, S: AsStr>(alloc: Global, words: &'a [S]) -> Result<ExplainPlan, WordsFault>
     ensures { IsExplainPlan (map S.text words.entry.now) result }
 {
-    let Ok(command) = explain_command(alloc) else {
-        return Err(WordsFault::Memory);
-    };
-    let matches = match matches_in(command, words) {
+    let matches = match matches_in(alloc, "coap-explain", help::EXPLAIN, &EXPLAIN, words) {
         Ok(matches) => matches,
         Err(fault) => return Err(fault),
     };
@@ -122,8 +95,7 @@ pub fn explain_reason<'a, S: AsStr>(
 ) -> Result<Option<Line>, AllocError>
     ensures { IfOk result (λ line. line ≡ option_map line_of (spec.explain_reason (map S.text words.entry.now) fault.now)) }
 {
-    let command = explain_command(alloc)?;
-    match matches_in(command, words) {
+    match matches_in(alloc, "coap-explain", help::EXPLAIN, &EXPLAIN, words) {
         Ok(matches) => Ok(explain_line(&matches, fault)),
         Err(WordsFault::Usage(_)) => Ok(None),
         Err(_) => Err(AllocError),

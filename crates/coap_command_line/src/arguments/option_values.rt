@@ -53,6 +53,20 @@ pub(super) fn is_used(matches: &ArgMatches<'_>, name: &str) -> bool
     }
 }
 
+/// Returns the value of a name in a table, or `None` if the table does not have the name.
+#[tactic(auto, unfolding(crate::specs::CommandLines::named_value))]
+pub(super) fn named_value<T: Copy>(mut table: &[(&'static str, T)], name: &[u8]) -> Option<T>
+    ensures { result ≡ spec.named_value table.entry.now name.now }
+{
+    while let [row, rest @ ..] = table {
+        if name == row.0.as_bytes() {
+            return Some(row.1);
+        }
+        table = rest;
+    }
+    None
+}
+
 /// Returns the bytes before the first separator, or all if there is none.
 #[tactic(auto, unfolding(crate::specs::CommandLines::before))]
 pub(super) fn before(bytes: &[u8], separator: u8) -> &[u8]

@@ -1,13 +1,12 @@
-use Rattle.std.proofs.Common.{map}
-use Rattle.coap_command_line.specs.Prelude.{app_of, found_of, rows_of}
+use Rattle.std.proofs.Common.{map, refl}
+use Rattle.coap_command_line.specs.Prelude.{found_of, rows_of}
 use Rattle.coap_command_line.proofs.PlanLemmas.{client_refused, client_told}
 use Rattle.coap_command_line.proofs.arguments.client_words.Goals as goal
 
 pub returns-in-Err : goal.returns-in-Err
 returns-in-Err g c =
-    client_refused (app_of c.in-Ok.command) (map g.S.AsStr.text c.args.words.now) c.in-Err.fault c.in-Ok.ensures c.in-Err.ensures.refusal
+    client_refused _ (map g.S.AsStr.text c.args.words.now) c.in-Err.fault refl c.in-Err.ensures.refusal
 
 pub returns : goal.returns
 returns g c =
-    client_told (app_of c.in-Ok.command) (map g.S.AsStr.text c.args.words.now) (rows_of (found_of c.in-Ok-matches_in.matches)) c.client_plan.result c.in-Ok.ensures
-    c.in-Ok-matches_in.ensures.kinds c.in-Ok-matches_in.ensures.rows c.client_plan.ensures
+    client_told _ (map g.S.AsStr.text c.args.words.now) (rows_of (found_of c.in-Ok.matches)) c.client_plan.result refl c.in-Ok.ensures.kinds c.in-Ok.ensures.rows c.client_plan.ensures

@@ -1,17 +1,16 @@
-use Rattle.std.proofs.Common.{◌∙◌, map}
+use Rattle.std.proofs.Common.{◌∙◌, map, refl}
 use Rattle.std.proofs.lemmas.Result.{IfOk-weaker}
-use Rattle.coap_command_line.specs.Prelude.{app_of, found_of, rows_of}
+use Rattle.coap_command_line.specs.Prelude.{found_of, rows_of}
 use Rattle.coap_command_line.proofs.ReasonLemmas.{server_found, server_rejected}
 use Rattle.coap_command_line.proofs.arguments.server_reason.Goals as goal
 
 pub returns-in-Ok : goal.returns-in-Ok
 returns-in-Ok g c =
     let found =
-    server_found (app_of c.in_ok-command.command) (map g.S.AsStr.text c.args.words.now) (rows_of (found_of c.in-Ok.matches)) c.args.fault.now c.in_ok-command.ensures
-    c.in-Ok.ensures.kinds c.in-Ok.ensures.rows in
+    server_found _ (map g.S.AsStr.text c.args.words.now) (rows_of (found_of c.in-Ok.matches)) c.args.fault.now refl c.in-Ok.ensures.kinds c.in-Ok.ensures.rows in
     IfOk-weaker c.server_line.result _ _ (λ line is. is ∙ found) c.server_line.ensures
 
 pub returns-in-Err-Usage : goal.returns-in-Err-Usage
 returns-in-Err-Usage g c =
-    server_rejected (app_of c.in_ok-command.command) (map g.S.AsStr.text c.args.words.now) c.in-Err-Usage.field-0 c.in-Err-Usage.field-0-0 c.args.fault.now
-    c.in_ok-command.ensures c.in-Err-Usage.field-0-is c.in-Err-Usage.ensures.refusal
+    server_rejected _ (map g.S.AsStr.text c.args.words.now) c.in-Err-Usage.field-0 c.in-Err-Usage.field-0-0 c.args.fault.now
+    refl c.in-Err-Usage.field-0-is c.in-Err-Usage.ensures.refusal

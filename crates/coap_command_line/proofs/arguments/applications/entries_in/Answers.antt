@@ -1,4 +1,4 @@
-use Rattle.std.proofs.Common.{◌∙◌, sym, refl, map}
+use Rattle.std.proofs.Common.{◌∙◌, sym, map}
 use Rattle.std.proofs.lemmas.List.{at_drop_all}
 use Rattle.coap_command_line.specs.Prelude.{with_texts}
 use Rattle.coap_command_line.proofs.ApplicationLemmas.{entry_added, entry_refused}
