@@ -149,9 +149,10 @@ pub fn serve_door_timed<D: Door, C: Clock, U: Clock, M: Monitor<D::Wire>>(
     let mut wait = Wait::No;
     for turn in 0..config.turns() {
         wait_after_turn(door, turn, wait, service.can_open());
-        let _ = service.tick_with(clock.now(), watch);
         let second = uptime.now();
         end_silent_after(&mut service, second, idle, watch);
+        // A response that is due now keeps its connection until its bytes have been written.
+        let _ = service.tick_with(clock.now(), watch);
         let asked = service.turn_with(door, watch)?;
         wait = service.at_most_a_second(asked);
         watch.turn_ended();

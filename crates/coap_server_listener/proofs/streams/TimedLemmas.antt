@@ -84,27 +84,32 @@ cut_heard a b c now later all after v w events each told turned =
     let own = watch_followed b c now later all after (opening v turned.opens ++ turned.events) turned.tells in
     turn_cut a b c v w events each told (record { opens = turned.opens; events = turned.events; serving = turned.serving; shows = turned.shows; tells = own.0 })
 
--- The calls of a sweep, if there was one, after those before it.
-pub record IsSweptTo {W : Type 0} (told : List AcceptedCall → Type 0) (sweep : Sweep W) (events : List AcceptedCall) (between : ServerValue) (rest : List (ℕ × Peer W)) (acts : List (ℕ × Activity)) : Type 0 where
-  pub server : between ≡ sweep.server
+-- The calls of a sweep, if there was one, after those before it. Then the time of the server was set.
+pub record IsBegun {W : Type 0} (told : List AcceptedCall → Type 0) (sweep : Sweep W) (moment : ℕ) (events : List AcceptedCall) (moved : ServerValue) (rest : List (ℕ × Peer W)) (acts : List (ℕ × Activity)) : Type 0 where
+  pub server : moved ≡ moved_to sweep.server moment
   pub entries : rest ≡ sweep.entries
   pub activities : acts ≡ sweep.activities
-  pub heard : IsHeard told sweep.server (events ++ sweep.events)
+  pub heard : IsHeard told (moved_to sweep.server moment) ((events ++ sweep.events) ++ moved_calls sweep.server moment)
 
-swept_to : {W : Type 0} (a b c : Following) (sweep : Sweep W) (v between : ServerValue) (rest : List (ℕ × Peer W)) (acts : List (ℕ × Activity)) (events : List AcceptedCall) → All IsDoorCall sweep.events → IsHeard (FollowsMore a b) v events → HasSwept (FollowsMore b c) sweep v between acts → rest ≡ sweep.entries → IsSweptTo (FollowsMore a c) sweep events between rest acts
-swept_to a b c sweep v between rest acts events each heard swept left = record {
-  server = swept.server;
-  entries = left;
-  activities = swept.activities;
-  heard = rw swept.server at (heard_further a b c v between events sweep.events heard each swept.shows swept.tells);
+-- The calls of a sweep after those before it.
+pub sweep_heard : {W : Type 0} (a b c : Following) (idle second last : ℕ) (v between : ServerValue) (all acts : List (ℕ × Activity)) (es : List (ℕ × Peer W)) (events : List AcceptedCall)
+    → IsHeard (FollowsMore a b) v events → HasSwept (FollowsMore b c) (due_sweep (is_sweep_due last second) idle second v all es) v between acts
+    → IsHeard (FollowsMore a c) between (events ++ (due_sweep (is_sweep_due last second) idle second v all es).events)
+sweep_heard a b c idle second last v between all acts es events heard swept =
+    let sweep = due_sweep (is_sweep_due last second) idle second v all es in
+    heard_further a b c v between events sweep.events heard (sweeps_are_made (is_sweep_due last second) idle second v all es) swept.shows swept.tells
+
+-- A turn began with this sweep, and then the time of the server was set.
+pub turn_begun : {W : Type 0} (a b c d : Following) (sweep : Sweep W) (moment later second : ℕ) (v between moved : ServerValue) (acts acts' : List (ℕ × Activity)) (rest rest' : List (ℕ × Peer W)) (events : List AcceptedCall)
+    → HasSwept (FollowsMore b c) sweep v between acts → rest ≡ sweep.entries → moved ≡ moved_to between moment → rest' ≡ rest
+    → IsHeard (FollowsMore a d) moved ((events ++ sweep.events) ++ moved_calls between moment) × (later ≡ second) × (acts' ≡ acts)
+    → IsBegun (FollowsMore a d) sweep moment events moved rest' acts'
+turn_begun a b c d sweep moment later second v between moved acts acts' rest rest' events swept left moves same heard = record {
+  server = moves ∙ ap (λ w. moved_to w moment) swept.server;
+  entries = same ∙ left;
+  activities = heard.2 ∙ swept.activities;
+  heard = rw (moves, swept.server) at heard.0;
 }
-
-pub sweep_heard : {W : Type 0} (a b c : Following) (idle second last last' moment : ℕ) (v moved between : ServerValue) (all all' acts : List (ℕ × Activity)) (es kept rest : List (ℕ × Peer W)) (events : List AcceptedCall)
-    → IsHeard (FollowsMore a b) moved events × (last' ≡ last) × (all' ≡ all) → moved ≡ moved_to v moment → kept ≡ es
-    → HasSwept (FollowsMore b c) (due_sweep (is_sweep_due last' second) idle second moved all' kept) moved between acts → rest ≡ (due_sweep (is_sweep_due last' second) idle second moved all' kept).entries
-    → IsSweptTo (FollowsMore a c) (due_sweep (is_sweep_due last second) idle second (moved_to v moment) all es) events between rest acts
-sweep_heard a b c idle second last last' moment v moved between all all' acts es kept rest events heard moves same swept left =
-    rw (moves, same, heard.1, heard.2) at (swept_to a b c (due_sweep (is_sweep_due last' second) idle second moved all' kept) moved between rest acts events (sweeps_are_made (is_sweep_due last' second) idle second moved all' kept) heard.0 swept left)
 
 -- ---- no sweep
 
@@ -128,7 +133,7 @@ module _ {W : Type 0} (readable writable : W → Option Bool) (trace : W → Wir
   heard_so_far run = record { each = run.turned.each; shows = run.turned.shows; tells = run.turned.monitor_tells }
 
   module _ (first before now : Option (List ℕ)) (began till read : Option (List ℕ)) (begin came waited asked : Option (List (DoorCall W))) (a b d : Following) (last : ℕ) (all : List (ℕ × Activity)) (v : ServerValue) (es : List (ℕ × Peer W)) (is_spent : Bool) (wait : Wait) (turns : ℕ) (so_far : HasTimedTo (TellsMore first before) (TellsMore began till) (TellsMore begin came) (FollowsMore a b) last all v es is_spent wait turns) (opens : Bool) (may_open : opens ≡ is_none (open_refusal v)) (waits : TellsMore came waited (waited_behind turns wait opens)) (moment : ℕ) (tells : TellsMore before now (moment ∷ [])) (second : ℕ) (reads : TellsMore till read (second ∷ [])) (between : ServerValue) (rest : List (ℕ × Peer W)) (acts : List (ℕ × Activity))
-      (swept : IsSweptTo (FollowsMore a d) (due_sweep (is_sweep_due last second) idle second (moved_to v moment) all es) (so_far.turned.events ++ moved_calls v moment) between rest acts) where
+      (begun : IsBegun (FollowsMore a d) (due_sweep (is_sweep_due last second) idle second v all es) moment so_far.turned.events between rest acts) where
     timed_calls : (u : ServerValue) (handed : Option W) → TellsMore waited asked (asked_by u handed) → TellsMore begin asked ((so_far.turned.calls ++ waited_behind (length so_far.turned.moments) wait (is_none (open_refusal v))) ++ asked_by u handed)
     timed_calls u handed asks =
         let behind : List (DoorCall W) = waited_behind (length so_far.turned.moments) wait (is_none (open_refusal v)) in
@@ -138,18 +143,18 @@ module _ {W : Type 0} (readable writable : W → Option Bool) (trace : W → Wir
     pub timed_once_more : (f : Following) (after : ServerValue) (left : List (ℕ × Peer W)) (later : List (ℕ × Activity)) (is_spent' : Bool) (next limited : Wait) → IsTurnOf readable writable trace (TellsMore waited asked) between rest after left next → IsTurnHeard (FollowsMore d f) between after second acts later → is_spent' ≡ false → limited ≡ short_wait after.host.now left next
         → HasTimedTo (TellsMore first now) (TellsMore began read) (TellsMore begin asked) (FollowsMore a f) second later after left is_spent' limited (turns + 1)
     timed_once_more f after left later is_spent' next limited turned heard ready' limits =
-        let sweep : Sweep W = due_sweep (is_sweep_due last second) idle second (moved_to v moment) all es in
-        let t : IsTurnOf readable writable trace (TellsMore waited asked) sweep.server sweep.entries after left next = rw (swept.server, swept.entries) at turned in
-        let h : IsTurnHeard (FollowsMore d f) sweep.server after second sweep.activities later = rw (swept.server, swept.activities) at heard in
-        let earlier : List AcceptedCall = (so_far.turned.events ++ moved_calls v moment) ++ sweep.events in
+        let sweep : Sweep W = due_sweep (is_sweep_due last second) idle second v all es in
+        let t : IsTurnOf readable writable trace (TellsMore waited asked) (moved_to sweep.server moment) sweep.entries after left next = rw (begun.server, begun.entries) at turned in
+        let h : IsTurnHeard (FollowsMore d f) (moved_to sweep.server moment) after second sweep.activities later = rw (begun.server, begun.activities) at heard in
+        let earlier : List AcceptedCall = (so_far.turned.events ++ sweep.events) ++ moved_calls sweep.server moment in
         let handed = t.opened.handed in
         record {
           turned = record {
             moments = so_far.turned.moments ++ moment ∷ [];
             seconds = so_far.turned.seconds ++ second ∷ [];
             events = earlier ++ h.more;
-            calls = (so_far.turned.calls ++ waited_behind (length so_far.turned.moments) wait (is_none (open_refusal v))) ++ asked_by sweep.server handed;
-            turns = rw limits (OneSoFar so_far.turned.moments so_far.turned.seconds last all so_far.turned.events so_far.turned.calls v es wait moment second sweep h.more later (asked_by sweep.server handed) after left next so_far.turned.turns refl
+            calls = (so_far.turned.calls ++ waited_behind (length so_far.turned.moments) wait (is_none (open_refusal v))) ++ asked_by (moved_to sweep.server moment) handed;
+            turns = rw limits (OneSoFar so_far.turned.moments so_far.turned.seconds last all so_far.turned.events so_far.turned.calls v es wait moment second sweep h.more later (asked_by (moved_to sweep.server moment) handed) after left next so_far.turned.turns refl
                 (record {
                   opens = t.opens;
                   server = t.server;
@@ -162,10 +167,10 @@ module _ {W : Type 0} (readable writable : W → Option Bool) (trace : W → Wir
                 h.turned h.followed);
             clock_tells = told_then first before now so_far.turned.moments (moment ∷ []) so_far.turned.clock_tells tells;
             uptime_tells = told_then began till read so_far.turned.seconds (second ∷ []) so_far.turned.uptime_tells reads;
-            door_tells = timed_calls sweep.server handed t.opened.asked;
-            each = All-append IsDoorCall earlier h.more swept.heard.each h.each;
-            shows = h.shows earlier swept.heard.shows;
-            monitor_tells = followed_then a d f earlier h.more swept.heard.tells h.tells;
+            door_tells = timed_calls (moved_to sweep.server moment) handed t.opened.asked;
+            each = All-append IsDoorCall earlier h.more begun.heard.each h.each;
+            shows = h.shows earlier begun.heard.shows;
+            monitor_tells = followed_then a d f earlier h.more begun.heard.tells h.tells;
           };
           counted = length-append so_far.turned.moments (moment ∷ []) ∙ ap (λ n. n + 1) so_far.counted;
           ready = ready';
@@ -174,8 +179,8 @@ module _ {W : Type 0} (readable writable : W → Option Bool) (trace : W → Wir
     pub cut_in_a_timed_turn : (f : Following) (final : ServerValue) (later : ℕ) (cut_acts : List (ℕ × Activity)) → IsAskedOnce (TellsMore waited asked) between → turns < c.turns → HasTurned (FollowsMore (watched d second acts) (watched f later cut_acts)) between final
         → IsCutTimedRun readable writable trace c idle start initial (TellsMore first now) (TellsMore began read) (TellsMore begin asked) (FollowsMore a f)
     cut_in_a_timed_turn f final later cut_acts asks few cut =
-        let sweep : Sweep W = due_sweep (is_sweep_due last second) idle second (moved_to v moment) all es in
-        let earlier : List AcceptedCall = (so_far.turned.events ++ moved_calls v moment) ++ sweep.events in
+        let sweep : Sweep W = due_sweep (is_sweep_due last second) idle second v all es in
+        let earlier : List AcceptedCall = (so_far.turned.events ++ sweep.events) ++ moved_calls sweep.server moment in
         record {
           moments = so_far.turned.moments;
           seconds = so_far.turned.seconds;
@@ -195,10 +200,10 @@ module _ {W : Type 0} (readable writable : W → Option Bool) (trace : W → Wir
           handed = asks.0;
           clock_tells = told_then first before now so_far.turned.moments (moment ∷ []) so_far.turned.clock_tells tells;
           uptime_tells = told_then began till read so_far.turned.seconds (second ∷ []) so_far.turned.uptime_tells reads;
-          door_tells = timed_calls sweep.server asks.0 (rw swept.server at asks.1);
-          shown = swept.heard.shows;
+          door_tells = timed_calls (moved_to sweep.server moment) asks.0 (rw begun.server at asks.1);
+          shown = begun.heard.shows;
           final = final;
-          cut = rw swept.server at (cut_heard a d f second later acts cut_acts between final earlier swept.heard.each swept.heard.tells cut);
+          cut = rw begun.server at (cut_heard a d f second later acts cut_acts between final earlier begun.heard.each begun.heard.tells cut);
         }
 
   pub timed_ended_by_memory : (clock uptime : List ℕ → Type 0) (door : List (DoorCall W) → Type 0) (monitor : List AcceptedCall → Type 0) (fault : IoFault) → IsMemory fault → IsCutTimedRun readable writable trace c idle start initial clock uptime door monitor → TimedEndsWith readable writable trace c idle start initial clock uptime door monitor fault

@@ -33,7 +33,8 @@ abbrev pub due_sweep : {W : Type 0} (is_due : Bool) (idle second : ℕ) → Serv
 due_sweep true idle second v all es = swept idle second v all es
 due_sweep false idle second v all es = record { server = v; activities = all; entries = es; events = []; exchanges = [] }
 
--- Whole turns on a new server, as `AreTurns` defines them, with a sweep in each one in which it is due. The first four
+-- Whole turns on a new server, as `AreTurns` defines them. A turn in which a sweep is due begins with it, and then sets
+-- the time of the server. So a response that is due then keeps its connection until it was written. The first four
 -- indices are the times of the clock and of `uptime`, the time of the last sweep, and the activities of the
 -- connections. They are followed by the calls that the server accepted, the calls of the listener, the resulting server
 -- and connections, and the wait that follows.
@@ -45,11 +46,11 @@ pub data AreTimedTurns {W : Type 0} (readable writable : W → Option Bool) (tra
   NoneSoFar : AreTimedTurns readable writable trace c idle start initial [] [] start initial [] [] (new_server c) [] No
   OneSoFar : (moments seconds : List ℕ) (last : ℕ) (all : List (ℕ × Activity)) (events : List AcceptedCall) (calls : List (DoorCall W)) (v : ServerValue) (es : List (ℕ × Peer W)) (wait : Wait) (moment second : ℕ) (sweep : Sweep W) (more : List AcceptedCall) (later : List (ℕ × Activity)) (asked : List (DoorCall W)) (after : ServerValue) (left : List (ℕ × Peer W)) (next : Wait)
       → AreTimedTurns readable writable trace c idle start initial moments seconds last all events calls v es wait
-      → sweep ≡ due_sweep (is_sweep_due last second) idle second (moved_to v moment) all es
-      → IsTurnOf readable writable trace (λ calls. asked ≡ calls) sweep.server sweep.entries after left next
-      → HasTurned (λ calls. more ≡ calls) sweep.server after
+      → sweep ≡ due_sweep (is_sweep_due last second) idle second v all es
+      → IsTurnOf readable writable trace (λ calls. asked ≡ calls) (moved_to sweep.server moment) sweep.entries after left next
+      → HasTurned (λ calls. more ≡ calls) (moved_to sweep.server moment) after
       → AreWatchedCalls second sweep.activities more later
-      → AreTimedTurns readable writable trace c idle start initial (moments ++ moment ∷ []) (seconds ++ second ∷ []) second later (((events ++ moved_calls v moment) ++ sweep.events) ++ more) ((calls ++ waited_behind (length moments) wait (is_none (open_refusal v))) ++ asked) after left (short_wait after.host.now left next)
+      → AreTimedTurns readable writable trace c idle start initial (moments ++ moment ∷ []) (seconds ++ second ∷ []) second later (((events ++ sweep.events) ++ moved_calls sweep.server moment) ++ more) ((calls ++ waited_behind (length moments) wait (is_none (open_refusal v))) ++ asked) after left (short_wait after.host.now left next)
 
 -- Whole turns that match the traces of the clocks and the listener. The server shows the calls of these turns, and the
 -- monitor received them.
@@ -93,14 +94,14 @@ pub record IsCutTimedRun {W : Type 0} (readable writable : W → Option Bool) (t
   pub moment : ℕ
   pub second : ℕ
   pub sweep : Sweep W
-  pub is_swept : sweep ≡ due_sweep (is_sweep_due last second) idle second (moved_to server moment) activities entries
+  pub is_swept : sweep ≡ due_sweep (is_sweep_due last second) idle second server activities entries
   pub handed : Option W
   pub clock_tells : clock (moments ++ moment ∷ [])
   pub uptime_tells : uptime (seconds ++ second ∷ [])
-  pub door_tells : door ((calls ++ waited_behind (length moments) wait (is_none (open_refusal server))) ++ asked_by sweep.server handed)
-  pub shown : Shows sweep.server ((events ++ moved_calls server moment) ++ sweep.events)
+  pub door_tells : door ((calls ++ waited_behind (length moments) wait (is_none (open_refusal server))) ++ asked_by (moved_to sweep.server moment) handed)
+  pub shown : Shows (moved_to sweep.server moment) ((events ++ sweep.events) ++ moved_calls sweep.server moment)
   pub final : ServerValue
-  pub cut : HasTurned (λ more. All IsDoorCall (((events ++ moved_calls server moment) ++ sweep.events) ++ more) × monitor (((events ++ moved_calls server moment) ++ sweep.events) ++ more)) sweep.server final
+  pub cut : HasTurned (λ more. All IsDoorCall (((events ++ sweep.events) ++ moved_calls sweep.server moment) ++ more) × monitor (((events ++ sweep.events) ++ moved_calls sweep.server moment) ++ more)) (moved_to sweep.server moment) final
 
 -- The error that ends a run with these traces. It is `Turns` if every turn was made. It is `Memory` if an allocation
 -- failed, before the first turn or in one of them.
