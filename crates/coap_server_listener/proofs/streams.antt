@@ -10,6 +10,7 @@ pub mod NextPartLemmas
 pub mod ServiceLemmas
 pub mod DoorLemmas
 pub mod TimedLemmas
+pub mod WatchLemmas
 pub mod IndexSetLemmas
 pub mod SleepLemmas
 pub mod LaterLemmas

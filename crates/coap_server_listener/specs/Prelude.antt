@@ -66,15 +66,15 @@ pub use Rattle.coap_server_engine.specs.declared.io_fault.IoFault.TheVariants.{M
 pub use Rattle.coap_server_engine.specs.declared.server.ConnectionWork.{ConnectionWork}
 pub use Rattle.coap_server_engine.specs.declared.server.ChangeStamp.{ChangeStamp}
 -- ---- runs
-pub use Rattle.coap_server_listener.specs.streams.DoorRun.{IsDoorRun, waited_behind, moved_to, ticked_calls, EndsWith, HasTurnedSo, IsCutRun}
+pub use Rattle.coap_server_listener.specs.streams.DoorRun.{IsDoorCall, IsDoorRun, waited_behind, moved_calls, moved_to, ticked_calls, EndsWith, HasTurnedSo, IsCutRun}
 pub use Rattle.coap_server_listener.specs.streams.DoorRun.{NoneYet, OneMore}
 pub use Rattle.coap_server_engine.specs.values.Faults.{is_read_fault, is_write_fault, IsMemory, IsMemoryOrTurns}
 pub use Rattle.coap_server_listener.specs.streams.Silence.{silence_action, quiet_action, action_for, new_activity, activities_after}
 pub use Rattle.coap_server_listener.specs.streams.Silence.{changed_by, changed_from, moved_by, Sweep, swept_one, swept_both, acted}
-pub use Rattle.coap_server_listener.specs.streams.Silence.{HasSwept, HasSweptAt, drop_one, release_one}
-unfoldable pub use Rattle.coap_server_listener.specs.streams.Silence.{swept}
+pub use Rattle.coap_server_listener.specs.streams.Silence.{HasSwept, HasSweptAt, drop_one, release_one, IsWatchedCall, AreWatchedCalls, text_of, activities_in, number_of, time_in}
+unfoldable pub use Rattle.coap_server_listener.specs.streams.Silence.{swept, watched}
 pub use Rattle.coap_server_listener.specs.streams.ApplicationRun.{AreRunSteps, HasRun, HasMadeTurns, IsCutRunFor, IsCutTurn, IsRunFor, IsTurnFor, limit_for, wait_within}
-pub use Rattle.coap_server_listener.specs.streams.TimedRun.{short_wait, AreEnded, HasEnded, is_sweep_due, IsTimedRun, TimedEndsWith}
+pub use Rattle.coap_server_listener.specs.streams.TimedRun.{short_wait, due_sweep, is_sweep_due, IsTimedRun, TimedEndsWith}
 pub use Rattle.coap_server_listener.specs.streams.TimedRun.{HasTimedTurns, IsCutTimedRun, IsWholeTimedRun, NoneSoFar, OneSoFar}
 pub use Rattle.coap_server_listener.specs.streams.RecordedInterests.{true_end, recorded, recorded_on, AreNoted, IsNoEarlier, KeepsNotes}
 pub use Rattle.coap_server_listener.specs.streams.RecordedInterests.{WhilePassedOver, AtFirst, Follows, GoesOnSparing, But, AreRecorded, unrecorded}

@@ -2,7 +2,7 @@
 
 ghost use Rattle.coap_server_listener.specs.Prelude.{IsDoorRun, waited_behind, TellsMore, FollowsMore, trace_by};
 ghost use Rattle.coap_server_listener.specs.Prelude.{IsMemoryOrTurns};
-ghost use Rattle.coap_server_listener.specs.Prelude.{AreEnded, HasEnded, IsTimedRun, Unrecorded, is_sweep_due};
+ghost use Rattle.coap_server_listener.specs.Prelude.{HasSwept, IsTimedRun, Unrecorded, due_sweep, is_sweep_due};
 ghost use Rattle.std.specs.Prelude.{◌≡◌, false};
 
 mod application_run;
@@ -116,9 +116,9 @@ pub fn serve_door_with<D: Door, C: Clock, M: Monitor<D::Wire>>(
 /// Serves the connections that a listener accepts, as `serve_door_with` does, and ends those that are silent.
 ///
 /// `uptime` is read once in each turn, after the time was set. It must be a clock that never goes back, such as
-/// `RunClock` of `coap_sockets`. If its time differs from that of the last sweep, silent connections are released or
-/// dropped (`Service::end_silent`) before the turn goes on. While a connection exists, the listener waits at most until
-/// the next second.
+/// `RunClock` of `coap_sockets`. If its time differs from that of the last sweep by `watch`, silent connections are
+/// released or dropped (`Service::end_silent`) before the turn goes on. While a connection exists, the listener waits at
+/// most until the next second.
 ///
 /// # Errors
 ///
@@ -134,9 +134,11 @@ pub fn serve_door_timed<D: Door, C: Clock, U: Clock, M: Monitor<D::Wire>>(
 ) -> Result<(), IoFault>
     ensures fault { IsMemoryOrTurns result }
     // The run consists of whole turns, as the traces of both clocks and of the listener record them. Before each turn,
-    // silent connections are ended if the time differs from that of the last sweep.
+    // silent connections are ended if the time differs from that of the last sweep. Their activities follow the calls
+    // that the monitor received.
     ensures run { IsTimedRun D.Wire.readable D.Wire.writable
-        (trace_by D.Wire.given D.Wire.written D.Wire.answers D.Wire.rooms) config idle
+        (trace_by D.Wire.given D.Wire.written D.Wire.answers D.Wire.rooms) config idle watch.old.now
+        watch.old.activities.entries
         (TellsMore (C.moments clock.old) (C.moments clock.new)) (TellsMore (U.moments uptime.old) (U.moments uptime.new))
         (TellsMore (D.calls door.old) (D.calls door.new))
         (FollowsMore (M.follows watch.old.monitor) (M.follows watch.new.monitor)) result }
@@ -145,13 +147,12 @@ pub fn serve_door_timed<D: Door, C: Clock, U: Clock, M: Monitor<D::Wire>>(
         return Err(IoFault::Memory);
     };
     let mut wait = Wait::No;
-    let mut last = 0;
     for turn in 0..config.turns() {
         wait_after_turn(door, turn, wait, service.can_open());
-        let _ = service.tick_with(clock.now(), watch);
         let second = uptime.now();
-        end_silent_after(&mut service, last, second, idle, watch);
-        last = second;
+        end_silent_after(&mut service, second, idle, watch);
+        // A response that is due now keeps its connection until its bytes have been written.
+        let _ = service.tick_with(clock.now(), watch);
         let asked = service.turn_with(door, watch)?;
         wait = service.at_most_a_second(asked);
         watch.turn_ended();
@@ -162,19 +163,21 @@ pub fn serve_door_timed<D: Door, C: Clock, U: Clock, M: Monitor<D::Wire>>(
 /// Ends the silent connections of a service, if the time differs from that of the last sweep.
 fn end_silent_after<W: Wire + Ready + Drop, M: Monitor<W>>(
     service: &mut Service<W>,
-    last: u64,
     second: u64,
     idle: u32,
     watch: &mut SilenceWatch<M>,
 )
     requires { service.old.is_spent ≡ false }
-    ensures ended { AreEnded (is_sweep_due last second) idle second service.old.server service.old.peers.entries
-        service.new.server service.new.peers.entries }
-    ensures shown { HasEnded (FollowsMore (M.follows watch.old.monitor) (M.follows watch.new.monitor)) service.old.server
-        service.new.server }
+    ensures swept { HasSwept (FollowsMore (M.follows watch.old.monitor) (M.follows watch.new.monitor))
+        (due_sweep (is_sweep_due watch.old.now second) idle second service.old.server watch.old.activities.entries
+        service.old.peers.entries) service.old.server service.new.server watch.new.activities.entries }
+    ensures entries { service.new.peers.entries
+        ≡ (due_sweep (is_sweep_due watch.old.now second) idle second service.old.server watch.old.activities.entries
+        service.old.peers.entries).entries }
+    ensures now { watch.new.now ≡ second }
     ensures spent { service.new.is_spent ≡ false }
 {
-    if second != last {
+    if second != watch.now {
         service.end_silent(idle, second, watch);
     }
 }

@@ -7,8 +7,8 @@ use Rattle.coap_server_engine.proofs.scripting.ShownLemmas.{shows_same, shows_th
 use Rattle.coap_server_engine.proofs.scripting.FollowLemmas.{followed_none, followed_then}
 use Rattle.coap_server_listener.specs.Prelude.{AcceptedCall, Answering, AnswersMore, AreAskedLater, AreTakenWith, Following, FollowsMore, HasTurnedBy}
 use Rattle.coap_server_listener.specs.Prelude.{ConfigValues, DoorCall, IoFault, IsAskedOnce, IsMemory, IsTurnBy, IsTakenWith, Memory, Peer, ServerValue, ShowsMore, TellsMore, Wait, WireTrace}
-use Rattle.coap_server_listener.specs.Prelude.{AreRecorded, AreRunSteps, HasRun, HasMadeTurns, IsCutRunFor, IsCutTurn, IsTurnFor, asked_by, is_none, is_ok, moved_to, new_server, open_refusal, ticked_calls, limit_for, wait_within, waited_behind, opening}
-use Rattle.coap_server_listener.specs.streams.ApplicationRun.{NoneRun, TimeSet, LaterGiven, TurnMade, OneMade, EndsRunFor, moved_calls}
+use Rattle.coap_server_listener.specs.Prelude.{AreRecorded, AreRunSteps, HasRun, HasMadeTurns, IsCutRunFor, IsCutTurn, IsTurnFor, asked_by, is_none, is_ok, moved_to, new_server, open_refusal, moved_calls, ticked_calls, limit_for, wait_within, waited_behind, opening}
+use Rattle.coap_server_listener.specs.streams.ApplicationRun.{NoneRun, TimeSet, LaterGiven, TurnMade, OneMade, EndsRunFor}
 use Rattle.std.specs.Prelude.{nat_le}
 use Rattle.coap_server_listener.proofs.streams.ServingLemmas.{answered_none, answered_then}
 

@@ -1,36 +1,78 @@
 -- The traces of clock and listener in a run, turn by turn.
-use Rattle.std.proofs.Common.{◌≡◌, ℕ, ◌+◌, ◌<◌, Bool, false, List, [], ◌∷◌, ◌++◌, length, Option, Result, Ok, Err, OnOk, OnErr, refl, sym, ap, ◌∙◌, arith, le-leb, inl, inr}
+use Rattle.std.proofs.Common.{◌≡◌, ℕ, ◌+◌, ◌<◌, Bool, true, false, if◌then◌else◌, List, [], ◌∷◌, ◌++◌, length, Option, Result, Ok, Err, OnOk, OnErr, refl, sym, ap, ◌∙◌, arith, le-leb, inl, inr}
 use Rattle.coap_server_listener.specs.Prelude.{is_none, ConfigValues, Peer, IoFault, Memory, Read, Turns, Write, Wait, open_refusal, ServerValue}
 use Rattle.coap_server_listener.specs.Prelude.{OneMore, HasTurnedSo, IsCutRun, EndsWith, IsDoorRun, Unrecorded, moved_to, ticked_calls, waited_behind}
 use Rattle.coap_server_listener.specs.Prelude.{IsTurnOf, IsAskedOnce, asked_by, TellsMore, FollowsMore, Following, DoorCall, IsMemory, IsMemoryOrTurns, WireTrace}
 use Rattle.coap_server_listener.specs.Prelude.{AcceptedCall, AreSettled, SessionValue, server_ticked, HasTurned, ShowsMore, Shows, opening}
+use Rattle.coap_server_listener.specs.Prelude.{All, AllByRecursion, IsDoorCall, IsServing, Opened, Took, Wrote, Ticked, Stored, Removed, Ended, Released, Dropped}
+use Rattle.coap_model.specs.world.Events.{Announced, Responded}
+use Rattle.std.specs.Prelude.{◌==◌}
 use Rattle.std.proofs.lemmas.Bool.Decides.{nat_tests}
 use Rattle.std.proofs.lemmas.List.{append-nil, length-append}
+use Rattle.std.proofs.lemmas.List.Elements.{All-nil, All-cons, All-append}
 use Rattle.coap_io.proofs.streams.DeviceLemmas.{told_then}
 use Rattle.coap_server_engine.proofs.values.ServerLemmas.{all_settled_stay}
 use Rattle.coap_server_engine.proofs.scripting.FollowLemmas.{followed_then}
 
 -- ---- the calls that a monitor received
 
--- The record of a monitor, if it has one.
--- The server shows the calls that a monitor received.
-pub record HasShown (told : List AcceptedCall → Type 0) (v : ServerValue) : Type 0 where
-  pub events : List AcceptedCall
+-- The server shows these calls of a run, and a monitor received them.
+pub record IsHeard (told : List AcceptedCall → Type 0) (v : ServerValue) (events : List AcceptedCall) : Type 0 where
+  pub each : All IsDoorCall events
   pub shows : Shows v events
   pub tells : told events
 
+-- The server shows the calls that a monitor received.
+pub record HasShown (told : List AcceptedCall → Type 0) (v : ServerValue) : Type 0 where
+  pub events : List AcceptedCall
+  pub heard : IsHeard told v events
+
 -- After one more part of the run, the server shows the calls of both.
-pub shown_further : (a b c : Following) (v w : ServerValue) (more : List AcceptedCall) → HasShown (FollowsMore a b) v → ShowsMore v w more → FollowsMore b c more → HasShown (FollowsMore a c) w
-shown_further a b c v w more so_far shows tells = record {
-  events = so_far.events ++ more;
-  shows = shows so_far.events so_far.shows;
-  tells = followed_then a b c so_far.events more so_far.tells tells;
+pub heard_further : (a b c : Following) (v w : ServerValue) (events more : List AcceptedCall) → IsHeard (FollowsMore a b) v events → All IsDoorCall more → ShowsMore v w more → FollowsMore b c more → IsHeard (FollowsMore a c) w (events ++ more)
+heard_further a b c v w events more heard each shows tells = record {
+  each = All-append IsDoorCall events more heard.each each;
+  shows = shows events heard.shows;
+  tells = followed_then a b c events more heard.tells tells;
 }
+
+-- The calls of each part.
+pub ticks_are_made : (v : ServerValue) (moment : ℕ) → All IsDoorCall (ticked_calls v moment)
+ticks_are_made v moment = elim (moment == v.host.now) as (λ same. All IsDoorCall (if same then [] else Ticked moment ∷ [])) [
+  | true ↦ All-nil IsDoorCall
+  | false ↦ All-cons IsDoorCall (Ticked moment) [] tt (All-nil IsDoorCall)
+]
+
+is_made : (e : AcceptedCall) → IsServing e → IsDoorCall e
+is_made (Opened id) serving = tt
+is_made (Took id bytes) serving = tt
+is_made (Wrote id n) serving = tt
+is_made (Ticked now) serving = tt
+is_made (Stored path format bytes) serving = serving
+is_made (Removed path) serving = serving
+is_made (Ended id) serving = tt
+is_made (Released id) serving = tt
+is_made (Announced id size) serving = serving
+is_made (Responded id m) serving = serving
+is_made (Dropped id) serving = tt
+
+serving_is_made : (es : List AcceptedCall) → AllByRecursion IsServing es → All IsDoorCall es
+serving_is_made [] all = All-nil IsDoorCall
+serving_is_made (e ∷ es) all = All-cons IsDoorCall e es (is_made e all.0) (serving_is_made es all.1)
+
+opening_is_made : (v : ServerValue) (opens : Bool) → All IsDoorCall (opening v opens)
+opening_is_made v true = All-cons IsDoorCall (Opened (v.ids + 1)) [] tt (All-nil IsDoorCall)
+opening_is_made v false = All-nil IsDoorCall
+
+pub turns_are_made : (told : List AcceptedCall → Type 0) (v w : ServerValue) (turned : HasTurned told v w) → All IsDoorCall (opening v turned.opens ++ turned.events)
+turns_are_made told v w turned = All-append IsDoorCall (opening v turned.opens) turned.events (opening_is_made v turned.opens) (serving_is_made turned.events turned.serving)
 
 -- The time was set, or it was earlier and nothing changed.
 pub shown_ticked : {T E M : Type 0} (calls : M → Following) (m n : M) (r : Result T E) (a : Following) (v w : ServerValue) (now : ℕ) → HasShown (FollowsMore a (calls m)) v
     → OnOk r (ShowsMore v w (ticked_calls v now)) → OnOk r (FollowsMore (calls m) (calls n) (ticked_calls v now)) → OnErr r ((w ≡ v) × (n ≡ m)) → HasShown (FollowsMore a (calls n)) w
-shown_ticked calls m n (Ok x) a v w now so_far shows tells err = shown_further a (calls m) (calls n) v w (ticked_calls v now) so_far shows tells
+shown_ticked calls m n (Ok x) a v w now so_far shows tells err = record {
+  events = so_far.events ++ ticked_calls v now;
+  heard = heard_further a (calls m) (calls n) v w so_far.events (ticked_calls v now) so_far.heard (ticks_are_made v now) shows tells;
+}
 shown_ticked calls m n (Err e) a v w now so_far shows tells err = rw (err.0, err.1) so_far
 
 -- The server has this time already.
@@ -45,18 +87,22 @@ none_ticked v now is = grind (arith, nat_tests)
 -- A turn was made.
 pub shown_turned : (a b c d : Following) (v w : ServerValue) → HasShown (FollowsMore a b) v → HasTurned (FollowsMore b c) v w → FollowsMore c d [] → HasShown (FollowsMore a d) w
 shown_turned a b c d v w so_far turned ends =
-    let after = shown_further a b c v w (opening v turned.opens ++ turned.events) so_far turned.shows turned.tells in
-    record { events = after.events; shows = after.shows; tells = rw (← append-nil after.events) (followed_then a c d after.events [] after.tells ends) }
+    let more : List AcceptedCall = opening v turned.opens ++ turned.events in
+    let after = heard_further a b c v w so_far.events more so_far.heard (turns_are_made (FollowsMore b c) v w turned) turned.shows turned.tells in
+    let events : List AcceptedCall = so_far.events ++ more in
+    record { events = events; heard = record { each = after.each; shows = after.shows; tells = rw (← append-nil events) (followed_then a c d events [] after.tells ends) } }
 
 -- A turn was cut.
-pub turn_cut : (a b c : Following) (v w : ServerValue) (so_far : HasShown (FollowsMore a b) v) → HasTurned (FollowsMore b c) v w → HasTurned (λ more. FollowsMore a c (so_far.events ++ more)) v w
-turn_cut a b c v w so_far turned = record {
-  opens = turned.opens;
-  events = turned.events;
-  serving = turned.serving;
-  shows = turned.shows;
-  tells = followed_then a b c so_far.events (opening v turned.opens ++ turned.events) so_far.tells turned.tells;
-}
+pub turn_cut : (a b c : Following) (v w : ServerValue) (events : List AcceptedCall) → All IsDoorCall events → FollowsMore a b events → HasTurned (FollowsMore b c) v w → HasTurned (λ more. All IsDoorCall (events ++ more) × FollowsMore a c (events ++ more)) v w
+turn_cut a b c v w events each told turned =
+    let more : List AcceptedCall = opening v turned.opens ++ turned.events in
+    record {
+      opens = turned.opens;
+      events = turned.events;
+      serving = turned.serving;
+      shows = turned.shows;
+      tells = (All-append IsDoorCall events more each (turns_are_made (FollowsMore b c) v w turned), followed_then a b c events more told turned.tells);
+    }
 
 -- ---- progress of a run
 
@@ -68,7 +114,7 @@ module _ {W : Type 0} (readable writable : W → Option Bool) (trace : W → Wir
 
   -- The server shows the calls that the monitor received so far.
   pub shown_so_far : {clock : List ℕ → Type 0} {door : List (DoorCall W) → Type 0} {monitor : List AcceptedCall → Type 0} {v : ServerValue} {es : List (ℕ × Peer W)} {is_spent : Bool} {wait : Wait} {turns : ℕ} → HasRunTo clock door monitor v es is_spent wait turns → HasShown monitor v
-  shown_so_far run = record { events = run.turned.events; shows = run.turned.shows; tells = run.turned.monitor_tells }
+  shown_so_far run = record { events = run.turned.events; heard = record { each = run.turned.each; shows = run.turned.shows; tells = run.turned.monitor_tells } }
 
   module _ (first before now : Option (List ℕ)) (start came waited asked : Option (List (DoorCall W))) (v : ServerValue) (es : List (ℕ × Peer W)) (is_spent : Bool) (wait : Wait) (turns : ℕ) (monitor : List AcceptedCall → Type 0) (so_far : HasRunTo (TellsMore first before) (TellsMore start came) monitor v es is_spent wait turns) (opens : Bool) (may_open : opens ≡ is_none (open_refusal v)) (waits : TellsMore came waited (waited_behind turns wait opens)) (moment : ℕ) (tells : TellsMore before now (moment ∷ [])) (moved : ServerValue) (moves : moved ≡ moved_to v moment) where
     told_calls : (handed : Option W) → TellsMore waited asked (asked_by (moved_to v moment) handed) → TellsMore start asked ((so_far.turned.calls ++ waited_behind (length so_far.turned.moments) wait (is_none (open_refusal v))) ++ asked_by (moved_to v moment) handed)
@@ -99,14 +145,15 @@ module _ {W : Type 0} (readable writable : W → Option Bool) (trace : W → Wir
             clock_tells = told_then first before now so_far.turned.moments (moment ∷ []) so_far.turned.clock_tells tells;
             door_tells = told_calls handed t.opened.asked;
             events = shown.events;
-            shows = shown.shows;
-            monitor_tells = shown.tells;
+            each = shown.heard.each;
+            shows = shown.heard.shows;
+            monitor_tells = shown.heard.tells;
           };
           counted = length-append so_far.turned.moments (moment ∷ []) ∙ ap (λ n. n + 1) so_far.counted;
           ready = ready';
         }
 
-    pub cut_in_a_turn : (ticked : List AcceptedCall → Type 0) (later : List AcceptedCall → Type 0) (last : ServerValue) → IsAskedOnce (TellsMore waited asked) moved → turns < c.turns → (shown : HasShown ticked moved) → HasTurned (λ more. later (shown.events ++ more)) moved last
+    pub cut_in_a_turn : (ticked : List AcceptedCall → Type 0) (later : List AcceptedCall → Type 0) (last : ServerValue) → IsAskedOnce (TellsMore waited asked) moved → turns < c.turns → (shown : HasShown ticked moved) → HasTurned (λ more. All IsDoorCall (shown.events ++ more) × later (shown.events ++ more)) moved last
         → IsCutRun readable writable trace c (TellsMore first now) (TellsMore start asked) later
     cut_in_a_turn ticked later last asks few shown cut = record {
       moments = so_far.turned.moments;
@@ -121,7 +168,7 @@ module _ {W : Type 0} (readable writable : W → Option Bool) (trace : W → Wir
       clock_tells = told_then first before now so_far.turned.moments (moment ∷ []) so_far.turned.clock_tells tells;
       door_tells = told_calls asks.0 (rw moves at asks.1);
       before = shown.events;
-      shown = rw moves at shown.shows;
+      shown = rw moves at shown.heard.shows;
       last = last;
       cut = rw moves at cut;
     }
@@ -161,7 +208,7 @@ unrecorded_run readable writable trace c clock door monitor (Err Memory) (inr cu
   before = cut.before;
   shown = cut.shown;
   last = cut.last;
-  cut = record { opens = cut.cut.opens; events = cut.cut.events; serving = cut.cut.serving; shows = cut.cut.shows; tells = tt };
+  cut = record { opens = cut.cut.opens; events = cut.cut.events; serving = cut.cut.serving; shows = cut.cut.shows; tells = (cut.cut.tells.0, tt) };
 })
 unrecorded_run readable writable trace c clock door monitor (Err Turns) run = record {
   server = run.server;
@@ -174,6 +221,7 @@ unrecorded_run readable writable trace c clock door monitor (Err Turns) run = re
     clock_tells = run.turned.clock_tells;
     door_tells = run.turned.door_tells;
     events = run.turned.events;
+    each = run.turned.each;
     shows = run.turned.shows;
     monitor_tells = tt;
   };

@@ -1,5 +1,5 @@
 -- Defined by this project: a run over the connections of a listener with an application, as whole turns, and its history.
-use Rattle.std.specs.Prelude.{◌≡◌, ◌≤◌, ◌⊎◌, ℕ, ◌+◌, nat_le, Bool, false, List, [], ◌∷◌, ◌++◌, length, Option, Result, Ok, Err, is_none, if◌then◌else◌}
+use Rattle.std.specs.Prelude.{◌≡◌, ◌≤◌, ◌⊎◌, ℕ, ◌+◌, Bool, false, List, [], ◌∷◌, ◌++◌, length, Option, Result, Ok, Err, is_none, if◌then◌else◌}
 use Rattle.coap_io.specs.declared.wire.Wait.{Wait}
 use Rattle.coap_io.specs.declared.wire.Wait.TheVariants.{No, Until, Forever}
 use Rattle.coap_io.specs.streams.DeviceTraces.{DoorCall}
@@ -14,16 +14,12 @@ use Rattle.coap_server_engine.specs.values.InResults.{ShowsMore}
 use Rattle.coap_server_engine.specs.values.ServerAnswers.{open_refusal}
 use Rattle.coap_server_engine.specs.values.Servers.{ServerValue, new_server}
 use Rattle.coap_server_listener.specs.declared.door.peer.Peer.{Peer}
-use Rattle.coap_server_listener.specs.streams.DoorRun.{moved_to, ticked_calls, waited_behind}
+use Rattle.coap_server_listener.specs.streams.DoorRun.{moved_calls, moved_to, waited_behind}
 use Rattle.coap_server_listener.specs.streams.RecordedInterests.{AreRecorded}
 use Rattle.coap_server_listener.specs.streams.Serving.{AreStepsBy, AreTakenWith, IsTurnBy, asked_by, opened_if, opening}
 use Rattle.coap_server_listener.specs.streams.Turns.{IsTakenWith}
 
 -- ---- the history of a run
-
--- The call that sets the time of the server, if it is accepted and changes the time.
-abbrev pub moved_calls : ServerValue → (moment : ℕ) → List AcceptedCall
-moved_calls v moment = if nat_le v.host.now moment then ticked_calls v moment else []
 
 -- The events of a run for an application and its exchanges with it, from the server `v` on. The time is set, the
 -- application gives later responses, and turns are made.

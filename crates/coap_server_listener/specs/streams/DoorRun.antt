@@ -1,6 +1,6 @@
 -- Defined by this project: a run over the connections of a listener, as whole turns that match the traces of clock and
 -- listener.
-use Rattle.std.specs.Prelude.{◌≡◌, ◌≤◌, ◌⊎◌, ℕ, ◌+◌, ◌==◌, nat_le, nat_lt, Bool, List, [], ◌∷◌, ◌++◌, length, Option, Result, Ok, Err, is_none, if◌then◌else◌}
+use Rattle.std.specs.Prelude.{◌≡◌, ◌≤◌, ◌⊎◌, ℕ, ◌+◌, ◌==◌, nat_le, nat_lt, Bool, List, [], ◌∷◌, ◌++◌, length, All, Option, Result, Ok, Err, is_none, if◌then◌else◌}
 use Rattle.coap_model.specs.Configs.{ConfigValues}
 use Rattle.coap_server_listener.specs.declared.door.peer.Peer.{Peer}
 use Rattle.coap_server_engine.specs.declared.io_fault.IoFault.{IoFault}
@@ -10,7 +10,7 @@ use Rattle.coap_io.specs.declared.wire.Wait.TheVariants.{No}
 use Rattle.coap_server_engine.specs.values.ServerAnswers.{open_refusal}
 use Rattle.coap_server_engine.specs.values.Servers.{ServerValue, new_server, server_ticked}
 use Rattle.coap_server_listener.specs.streams.Serving.{asked_by, HasTurned, IsTurnOf}
-use Rattle.coap_model.specs.world.Events.{AcceptedCall, Ticked}
+use Rattle.coap_model.specs.world.Events.{AcceptedCall, Opened, Took, Wrote, Ticked, Stored, Removed, Ended, Released, Announced, Responded, Dropped}
 use Rattle.coap_server_engine.specs.world.Shows.{Shows}
 use Rattle.coap_io.specs.streams.DeviceTraces.{DoorCall, Waited}
 use Rattle.coap_io.specs.streams.Wires.{WireTrace}
@@ -23,10 +23,29 @@ moved_to v moment = if nat_le v.host.now moment then server_ticked v moment else
 abbrev pub ticked_calls : ServerValue → (moment : ℕ) → List AcceptedCall
 ticked_calls v moment = if moment == v.host.now then [] else Ticked moment ∷ []
 
+-- The call that sets the time of the server, if it is accepted and changes the time.
+abbrev pub moved_calls : ServerValue → (moment : ℕ) → List AcceptedCall
+moved_calls v moment = if nat_le v.host.now moment then ticked_calls v moment else []
+
 -- The call of a listener after a turn: it waits, and learns whether another connection may be opened. There is none
 -- before the first turn.
 abbrev pub waited_behind : {W : Type 0} → (turns : ℕ) → Wait → (opens : Bool) → List (DoorCall W)
 waited_behind turns wait opens = if nat_lt 0 turns then (Waited wait opens ∷ []) else []
+
+-- The calls of a run in which no application responds. The program neither stores nor removes a resource, and announces no
+-- message size. So a script can make each of these calls again, from its line in a record alone.
+abbrev pub IsDoorCall : AcceptedCall → Type 0
+IsDoorCall (Opened id) = Unit {0}
+IsDoorCall (Took id bytes) = Unit {0}
+IsDoorCall (Wrote id n) = Unit {0}
+IsDoorCall (Ticked now) = Unit {0}
+IsDoorCall (Stored path format bytes) = ⊥
+IsDoorCall (Removed path) = ⊥
+IsDoorCall (Ended id) = Unit {0}
+IsDoorCall (Released id) = Unit {0}
+IsDoorCall (Announced id size) = ⊥
+IsDoorCall (Responded id m) = ⊥
+IsDoorCall (Dropped id) = Unit {0}
 
 -- Whole turns on a new server, one after the other. The indices are the times that the clock returned, the calls of the
 -- listener, the resulting server and connections, and the wait that follows. Before each turn but the first, the
@@ -47,6 +66,7 @@ pub record HasTurnedSo {W : Type 0} (readable writable : W → Option Bool) (tra
   pub clock_tells : clock moments
   pub door_tells : door calls
   pub events : List AcceptedCall
+  pub each : All IsDoorCall events
   pub shows : Shows v events
   pub monitor_tells : monitor events
 
@@ -76,7 +96,7 @@ pub record IsCutRun {W : Type 0} (readable writable : W → Option Bool) (trace 
   pub before : List AcceptedCall
   pub shown : Shows (moved_to server moment) before
   pub last : ServerValue
-  pub cut : HasTurned (λ more. monitor (before ++ more)) (moved_to server moment) last
+  pub cut : HasTurned (λ more. All IsDoorCall (before ++ more) × monitor (before ++ more)) (moved_to server moment) last
 
 -- A run in which an allocation failed before the first turn: the clock, the listener and the monitor were not called.
 abbrev pub FailedBeforeStart : {W : Type 0} → (clock : List ℕ → Type 0) (door : List (DoorCall W) → Type 0) (monitor : List AcceptedCall → Type 0) → Type 0

@@ -1,11 +1,12 @@
 -- Defined by this project: the activity of connections, which of them a sweep releases or drops, and the effect of a sweep.
-use Rattle.std.specs.Prelude.{◌≡◌, take, drop, ℕ, ◌+◌, ◌-◌, List, [], ◌∷◌, ◌++◌, length, Option, Some, None, nat_eq, nat_lt, nat_le, ◌==◌, ◌&&◌, if◌then◌else◌}
+use Rattle.std.specs.Prelude.{◌≡◌, ◌⊎◌, take, drop, ℕ, zero, suc, ◌+◌, ◌-◌, List, [], ◌∷◌, ◌++◌, length, Option, Some, None, nat_eq, nat_lt, nat_le, ◌==◌, ◌&&◌, if◌then◌else◌}
 use Rattle.std.specs.Map.{lookup, set_value}
 use Rattle.indexmap.specs.IndexMap.{insert_entry, shift_remove_entry}
 use Rattle.coap_conn.specs.Phases.{is_waiting}
 use Rattle.coap_model.specs.declared.answers.ReleaseFault.{ReleaseFault}
 use Rattle.coap_model.specs.declared.answers.Status.{Status}
 use Rattle.coap_model.specs.world.Events.{AcceptedCall, Opened, Took, Wrote, Ticked, Stored, Removed, Ended, Released, Announced, Responded, Dropped}
+use Rattle.coap_server_engine.specs.values.Calls.{Following}
 use Rattle.coap_server_engine.specs.values.Exchanges.{Exchange, Gone}
 use Rattle.coap_server_engine.specs.values.InResults.{ShowsMore}
 use Rattle.coap_server_engine.specs.values.ServerAnswers.{released_refusal, status_of}
@@ -69,6 +70,45 @@ activities_after now all (Released id) = changed_by id (λ a. record a { release
 activities_after now all (Announced id size) = all
 activities_after now all (Responded id m) = all
 activities_after now all (Dropped id) = shift_remove_entry (nat_eq id) all
+
+-- The activities after one more call at this time, as a watch records them. It misses a call of `open` if it has no
+-- memory for the connection.
+abbrev pub IsWatchedCall : (now : ℕ) → List (ℕ × Activity) → AcceptedCall → List (ℕ × Activity) → Type 0
+IsWatchedCall now all call after = (after ≡ activities_after now all call) ⊎ ((id : ℕ) × (call ≡ Opened id) × (after ≡ all))
+
+-- The activities after these calls, in order, all at this time.
+abbrev pub AreWatchedCalls : (now : ℕ) → List (ℕ × Activity) → List AcceptedCall → List (ℕ × Activity) → Type 0
+AreWatchedCalls now all [] after = after ≡ all
+AreWatchedCalls now all (call ∷ calls) after = (between : List (ℕ × Activity)) × IsWatchedCall now all call between × AreWatchedCalls now between calls after
+
+-- ---- the statement of a watch
+
+-- Activities as a text: four numbers for each connection.
+abbrev pub number_of : Option ℕ → ℕ
+number_of None = zero
+number_of (Some since) = suc since
+
+abbrev pub text_of : List (ℕ × Activity) → List ℕ
+text_of [] = []
+text_of (e ∷ all) = e.0 ∷ e.1.opened ∷ e.1.moved ∷ number_of e.1.released ∷ text_of all
+
+-- The activities in such a text.
+abbrev pub time_in : ℕ → Option ℕ
+time_in zero = None
+time_in (suc since) = Some since
+
+abbrev pub activities_in : List ℕ → List (ℕ × Activity)
+activities_in (id ∷ opened ∷ moved ∷ released ∷ text) = (id, record { opened = opened; moved = moved; released = time_in released }) ∷ activities_in text
+activities_in text = []
+
+-- The statement of a watch that has this time and these activities, over a monitor with the statement `follows`. A text
+-- that begins with 0 continues with the text of the monitor: the monitor follows the calls. A text that begins with
+-- another number continues with activities. The number is one more than the time of the calls. The activities of the
+-- watch are those after the calls.
+unfoldable pub watched : Following → (now : ℕ) → List (ℕ × Activity) → Following
+watched follows now all [] calls = Unit {0}
+watched follows now all (zero ∷ start) calls = follows start calls
+watched follows now all (suc time ∷ text) calls = (now ≡ time) × AreWatchedCalls time (activities_in text) calls all
 
 -- ---- a sweep
 

@@ -1,9 +1,10 @@
 //! The rule that ends silent connections, and the times that it needs.
 
-ghost use Rattle.std.specs.Prelude.{◌≡◌, ◌∷◌, ◌⊎◌, [], IfOk, nat_eq};
+ghost use Rattle.std.specs.Prelude.{◌≡◌, ◌<◌, ◌∷◌, ◌⊎◌, [], IfOk, nat_eq};
+ghost use Rattle.indexmap.specs.IndexMap.{spare};
 ghost use Rattle.coap_server_listener.specs.Prelude.{FollowsMore, Opened, AcceptedCall, call_value, activities_after};
 ghost use Rattle.coap_server_listener.specs.Prelude.{changed_by, silence_action as action_of, quiet_action as quiet};
-ghost use Rattle.coap_server_listener.specs.Prelude.{moved_by};
+ghost use Rattle.coap_server_listener.specs.Prelude.{moved_by, watched};
 
 use coap_conn::Phase;
 use coap_model::{ConnId, Status};
@@ -81,8 +82,11 @@ fn quiet_action(idle: u32, now: u64, status: Status, activity: Activity) -> Sile
 
 /// Records in the activities that a connection was opened at the time `now`. If an allocation fails, nothing is recorded.
 fn record_opened(activities: &mut Activities, now: u64, id: ConnId)
-    ensures { (activities.new.entries ≡ activities_after now activities.old.entries (Opened id))
+    ensures recorded { (activities.new.entries ≡ activities_after now activities.old.entries (Opened id))
         ⊎ (activities.new.entries ≡ activities.old.entries) }
+    // With memory for another connection, it is recorded.
+    ensures room { 0 < spare activities.old
+        → activities.new.entries ≡ activities_after now activities.old.entries (Opened id) }
 {
     let _ = activities.insert(
         id,
@@ -171,20 +175,25 @@ impl<M: Drop> SilenceWatch<M> {
 }
 
 impl<W, M: Monitor<W>> Monitor<W> for SilenceWatch<M> {
-    ghost follows = { λ watch. M.follows watch.monitor };
+    // The calls that the other monitor received, and the activities after them.
+    ghost follows = { λ watch. watched (M.follows watch.monitor) watch.now watch.activities.entries };
 
+    #[tactic(auto, using(crate::proofs::streams::WatchLemmas::opening_watched))]
     fn opened(&mut self, id: ConnId, wire: &W, server: &Server)
         ensures told { FollowsMore (M.follows self.old.monitor) (M.follows self.new.monitor) (Opened id ∷ []) }
         // Nothing is recorded if an allocation fails.
         ensures activities { (self.new.activities.entries
             ≡ activities_after self.old.now self.old.activities.entries (Opened id))
             ⊎ (self.new.activities.entries ≡ self.old.activities.entries) }
+        ensures room { 0 < spare self.old.activities → self.new.activities.entries
+            ≡ activities_after self.old.now self.old.activities.entries (Opened id) }
         ensures now { self.new.now ≡ self.old.now }
     {
         record_opened(&mut self.activities, self.now, id);
         self.monitor.opened(id, wire, server);
     }
 
+    #[tactic(auto, using(crate::proofs::streams::WatchLemmas::call_watched))]
     fn accepted(&mut self, call: Call<'_>, server: &Server)
         ensures told { FollowsMore (M.follows self.old.monitor) (M.follows self.new.monitor) (call_value call.entry ∷ []) }
         ensures activities { self.new.activities.entries
@@ -195,6 +204,7 @@ impl<W, M: Monitor<W>> Monitor<W> for SilenceWatch<M> {
         self.monitor.accepted(call, server);
     }
 
+    #[tactic(auto, using(crate::proofs::streams::WatchLemmas::turn_watched))]
     fn turn_ended(&mut self)
         ensures told { FollowsMore (M.follows self.old.monitor) (M.follows self.new.monitor) [] }
         ensures activities { self.new.activities ≡ self.old.activities }

@@ -6,8 +6,8 @@ use Rattle.coap_server_listener.proofs.door.serve_door_timed.Given as goal
 abbrev pub invariant-loop-turn : goal.invariant-loop-turn
 invariant-loop-turn g l =
     HasTimedTo g.D.Wire.Ready.readable g.D.Wire.Ready.writable
-    (trace_by g.D.Wire.Wire.given g.D.Wire.Wire.written g.D.Wire.Wire.answers g.D.Wire.Wire.rooms) l.fn.config l.fn.idle
+    (trace_by g.D.Wire.Wire.given g.D.Wire.Wire.written g.D.Wire.Wire.answers g.D.Wire.Wire.rooms) l.fn.config l.fn.idle l.fn.watch.now l.fn.watch.activities.entries
     (TellsMore (g.C.Clock.moments l.fn.clock) (g.C.Clock.moments l.clock)) (TellsMore (g.U.Clock.moments l.fn.uptime) (g.U.Clock.moments l.uptime))
     (TellsMore (g.D.Door.calls l.fn.door) (g.D.Door.calls l.door))
     (FollowsMore (g.M.Monitor.follows l.fn.watch.monitor) (g.M.Monitor.follows l.watch.monitor))
-    l.last l.service.server l.service.peers.entries l.service.is_spent l.wait l.turn
+    l.watch.now l.watch.activities.entries l.service.server l.service.peers.entries l.service.is_spent l.wait l.turn

@@ -1,4 +1,5 @@
-use Rattle.coap_server_listener.specs.Prelude.{NoneYet, FollowsMore, trace_by}
+use Rattle.coap_server_listener.specs.Prelude.{IsDoorCall, NoneYet, FollowsMore, trace_by}
+use Rattle.std.proofs.lemmas.List.Elements.{All-nil}
 use Rattle.std.proofs.Common.{[], refl, ap, arith, inl, ◌∙◌}
 use Rattle.std.proofs.lemmas.Result.{err_from_is_err_and}
 use Rattle.coap_io.proofs.streams.DeviceLemmas.{told_none}
@@ -15,6 +16,7 @@ loop-turn-init g c = record {
     clock_tells = told_none (g.C.Clock.moments c.args.clock.now);
     door_tells = told_none (g.D.Door.calls c.args.door.now);
     events = [];
+    each = All-nil IsDoorCall;
     shows = c.in-Ok.ensures.shows;
     monitor_tells = followed_none (g.M.Monitor.follows c.args.monitor.now);
   };
@@ -52,7 +54,7 @@ returns-in_err-wait-clause-run g c =
     c.can_open.result c.can_open.ensures c.wait_after_turn.ensures c.now.result c.now.ensures c.tick_with.new.self.server c.tick_with.ensures.moved
     (FollowsMore (g.M.Monitor.follows c.args.monitor.now) (g.M.Monitor.follows c.tick_with.new.monitor)) (FollowsMore (g.M.Monitor.follows c.args.monitor.now) (g.M.Monitor.follows c.turn_with.new.monitor)) c.turn_with.new.self.server
     (c.turn_with.ensures.asks (c.tick_with.ensures.spent ∙ c.loop-turn.invariant.ready)) (omega (arith, c.loop-turn-test.true, c.turns-turn-end.ensures.value)) ticked
-    (turn_cut (g.M.Monitor.follows c.args.monitor.now) (g.M.Monitor.follows c.tick_with.new.monitor) (g.M.Monitor.follows c.turn_with.new.monitor) c.tick_with.new.self.server c.turn_with.new.self.server ticked c.turn_with.ensures.shows)))
+    (turn_cut (g.M.Monitor.follows c.args.monitor.now) (g.M.Monitor.follows c.tick_with.new.monitor) (g.M.Monitor.follows c.turn_with.new.monitor) c.tick_with.new.self.server c.turn_with.new.self.server ticked.events ticked.heard.each ticked.heard.tells c.turn_with.ensures.shows)))
 
 pub returns-clause-run : goal.returns-clause-run
 returns-clause-run g c = record {
