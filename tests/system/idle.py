@@ -3,12 +3,13 @@
 
     tests/system/idle.py bin/coap-server
 
-Four servers run side by side for 16 seconds:
+Five servers run side by side for 16 seconds:
 
 - `--idle 5`: 256 silent peers, of which every second one sends a CSM, beside a peer that makes a request every second. All silent peers must be
     gone, and those that sent a CSM must have a Release. The server has room for 256 connections, so the last silent peer waits for a place.
 - `--idle 5`: an observer, a peer that waits for a delayed response, and a peer that sends a Ping every 3 seconds must stay. A peer that requests
     much and never reads must be gone.
+- `--idle 5`: peers that have just received a delayed response must stay. The server has no other peers.
 - `--idle 60`: a peer that sends no CSM must be gone after 10 to 13 seconds, and a silent peer with a CSM must stay.
 - No `--idle`: silent peers must stay.
 """
@@ -34,14 +35,17 @@ SOON = 1
 # Seconds until the last silent peer but one must have its place. They are fewer than 5, so that no other peer is gone.
 ROOM = 4
 
-# Seconds until the delayed response, which are more than the whole run.
-DELAY = 30
+# Seconds until the delayed responses: one that is more than the whole run, and others. A peer is silent for less than 5 seconds after these.
+DELAY, DELAYS = 30, (12, 13)
 
 SETTINGS, RELEASE, PING, PONG = (bytes.fromhex(it) for it in ("00e1", "00e4", "00e2", "00e3"))
 OWN = bytes.fromhex(CSM)
 
 # A CSM with a Max-Message-Size of 65,536 bytes, so that the large representation is sent.
 LARGE_SETTINGS = bytes.fromhex("40e1" "23010000")
+
+# A delayed response: 2.05 with the token 05, Content-Format 0 and the payload `done`.
+DONE = bytes.fromhex("614505c0ff" "646f6e65")
 
 # Codes and options.
 GET, PUT, OBSERVE, URI_PATH, URI_QUERY = 0x01, 0x03, 6, 11, 15
@@ -129,7 +133,7 @@ def serve(checks, peer):
 def check(checks, program):
     many = ["--idle", "5", "--connections", "256"]
     with Server(program, many) as crowded, Server(program, ["--idle", "5", "-d", "4"]) as mixed, Server(program, ["--idle", "60"]) as patient, \
-            Server(program) as plain:
+            Server(program) as plain, Server(program, ["--idle", "5"]) as quiet:
         good = Peer(crowded)
         silent = [Peer(crowded, SETTINGS if at % 2 else b"") for at in range(256)]
         serve(checks, good)
@@ -147,6 +151,9 @@ def check(checks, program):
         fill(deaf)
         pings, delayed = Peer(mixed), Peer(mixed)
         delayed.ask(GET, 5, "/async", [(URI_QUERY, b"%d" % DELAY)])
+        answered = [Peer(quiet) for _ in DELAYS]
+        for peer, delay in zip(answered, DELAYS):
+            peer.ask(GET, 5, "/async", [(URI_QUERY, b"%d" % delay)])
         mute, mild = Peer(patient, b""), Peer(patient)
         stays = [Peer(plain, it) for it in (b"", SETTINGS)]
         began, asked, pinged, slow = time.monotonic(), 0, 0, 0
@@ -168,6 +175,8 @@ def check(checks, program):
         checks.same("silent peers without a CSM have none", {peer.stream for peer in silent[::2]}, {OWN})
         checks.same("a peer that writes is released too", writer.look().ended is not None, True)
         checks.same("a peer that never reads is gone", sockets_of(mixed), 4)
+        got = [(peer.look().ended, peer.stream) for peer in answered]
+        checks.same("peers stay after a delayed response", got, [(None, OWN + DONE)] * len(DELAYS))
         checks.same("a peer with a pending response stays", (delayed.look().ended, delayed.stream), (None, OWN))
         again = Peer(mixed)
         again.ask(PUT, 4, "/x", payload=b"2")
