@@ -49,6 +49,7 @@ replays v shows = whole_replays v header text calls v.config.turns silent whole 
   where
     silent : SaysNoEvent header
     silent more events read = comment_read_back (codes " a") more events refl read
+
     can : All CanReplay calls
     can = All-cons CanReplay (call.Opened 1) (call.Wrote 1 8 ∷ []) tt (All-cons CanReplay (call.Wrote 1 8) [] tt (All-nil CanReplay))
 
