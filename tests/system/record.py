@@ -679,7 +679,9 @@ def over_socket(server, words, stream, environment):
             # A server whose allocation has just failed may have ended.
             with contextlib.suppress(ConnectionError), socket.create_connection((LOCAL, port), LIMIT) as peer:
                 peer.sendall(stream)
-                peer.shutdown(socket.SHUT_WR)
+                # It may have ended just now too, and then nothing can be shut down.
+                with contextlib.suppress(OSError):
+                    peer.shutdown(socket.SHUT_WR)
                 got, _ = read_to_end(peer)
         with contextlib.suppress(subprocess.TimeoutExpired):
             process.wait(0.2)
