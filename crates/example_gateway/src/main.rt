@@ -23,14 +23,8 @@ fn measured(rt: &(impl Files + AllocGlobal), file: &str) -> Result<Vec<u8>> {
     Ok(bytes)
 }
 
-/// Serves the contents of a file at an address, as long as the file can be read. Each error says what could not be done,
-/// and `main` prints it with its cause.
-fn serve(
-    rt: &(impl Eprint + Files + Net + time::Clock + AllocGlobal),
-    address: SocketAddr,
-    file: &str,
-) -> Result<()> {
-    let mut clock = SystemClock::new(rt);
+/// Returns the configuration of a server that stores one resource and starts at this time.
+fn configuration(now: u64) -> Result<Config> {
     let limits = Limits::builder()
         .max_message(1_152)
         .max_sent(1_152)
@@ -41,8 +35,44 @@ fn serve(
         .limits(limits)
         .dynamic_max(1)
         .rep_max(1_024)
-        .starts(Starts::at(clock.now()))
+        .starts(Starts::at(now))
         .build()?;
+    Ok(config)
+}
+
+/// Stores the measured value at a path if it is new, serves the connections once, and waits.
+fn turn<R: Files + AllocGlobal, D: Door>(
+    rt: &R,
+    file: &str,
+    path: &PathKey,
+    now: u64,
+    stored: &mut Option<Vec<u8>>,
+    door: &mut D,
+    service: &mut Service<D::Wire>,
+) -> Result<()> {
+    let value = measured(rt, file)?;
+    let _ = service.tick(now);
+    // Each `put` notifies the observers, so only a new value is stored. `put` fails if a client deleted the
+    // resource and stored another one, since the server stores only one. It is then repeated in the next turn.
+    if stored.as_ref() != Some(&value) && service.put(path, Some(0), &value).is_ok() {
+        *stored = Some(value);
+    }
+    let wait = service
+        .turn(door)
+        .context("no memory to serve the connections")?;
+    door.wait(wait.at_most(now.saturating_add(1)), service.can_open());
+    Ok(())
+}
+
+/// Serves the contents of a file at an address, as long as the file can be read. Each error says what could not be done,
+/// and `main` prints it with its cause.
+fn serve(
+    rt: &(impl Eprint + Files + Net + time::Clock + AllocGlobal),
+    address: SocketAddr,
+    file: &str,
+) -> Result<()> {
+    let mut clock = SystemClock::new(rt);
+    let config = configuration(clock.now())?;
     let path = PathKey::from_segments(&[b"measured"]).context("no path")?;
     let mut door = SocketDoor::listen(rt, rt.alloc(), address, config.connections()).context(
         "cannot listen at the address",
@@ -54,18 +84,15 @@ fn serve(
     )?;
     let mut stored = None;
     for _ in 0..config.turns() {
-        let now = clock.now();
-        let _ = service.tick(now);
-        let value = measured(rt, file)?;
-        // Each `put` notifies the observers, so only a new value is stored. `put` fails if a client deleted the
-        // resource and stored another one, since the server stores only one. It is then repeated in the next turn.
-        if stored.as_ref() != Some(&value) && service.put(&path, Some(0), &value).is_ok() {
-            stored = Some(value);
-        }
-        let wait = service
-            .turn(&mut door)
-            .context("no memory to serve the connections")?;
-        door.wait(wait.at_most(now.saturating_add(1)), service.can_open());
+        turn(
+            rt,
+            file,
+            &path,
+            clock.now(),
+            &mut stored,
+            &mut door,
+            &mut service,
+        )?;
     }
     bail!("the limit of turns is reached")
 }
