@@ -29,8 +29,8 @@ from peers import Server, is_silent  # noqa: E402
 # Seconds after which all silent peers must be gone, between two Pings, and between two requests of the good peer.
 WINDOW, PING_EVERY, ASK_EVERY = 16, 3, 1
 
-# Seconds until the good peer must have its response.
-SOON = 1
+# Seconds until the good peer must have its response, also on a busy machine.
+SOON = 2
 
 # Seconds until the last silent peer but one must have its place. They are fewer than 5, so that no other peer is gone.
 ROOM = 4

@@ -343,7 +343,7 @@ def check_formats(checks, manual, program, more):
     _, lines = next(item for item in manual.items("DESCRIPTION") if item[0][:2] == ["Fl", "t"])
     named = re.findall(r"\.Dq (\S+)\n\((\d+)\)", "\n".join(lines))
     source = source_of(["coap_command_line/src/arguments/client.rt"])
-    checks.same("content formats", named, re.findall(r'text == "(\w+/\S+)" \{\s*Some\((\d+)\)', source))
+    checks.same("content formats", named, re.findall(r'\("(\w+/\S+)", (\d+)\)', source))
     for name, _ in named:
         checks.same("content format %s" % name, run([program, "-t", name, "-A", name] + more)[0] == USAGE, False)
 
