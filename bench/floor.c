@@ -112,6 +112,8 @@ int main(int words, char **word)
         return fputs("floor HOST PORT, the host as four numbers\n", stderr), 1;
     address.sin_port = htons((uint16_t)port);
     int listener = checked(socket(AF_INET, SOCK_STREAM, 0), "socket"), epoll = checked(epoll_create1(0), "epoll");
+    int yes = 1;
+    checked(setsockopt(listener, SOL_SOCKET, SO_REUSEADDR, &yes, sizeof yes), "setsockopt");
     checked(bind(listener, (struct sockaddr *)&address, sizeof address), "bind");
     checked(listen(listener, SOMAXCONN), "listen");
     checked(epoll_ctl(epoll, EPOLL_CTL_ADD, listener, &event), "epoll");
