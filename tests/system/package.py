@@ -486,7 +486,7 @@ def check_compiled(checks, client):
         compiled = run(["sh", "-c", command], cwd=folder, env=environment)
         checks.same("the installed example is compiled", compiled, (0, ""))
         if not compiled[0]:
-            check_example(checks, os.path.join(folder, "server"), client)
+            check_example(checks, [[os.path.join(folder, "server")]], client)
 
 
 def check_ended(checks, name, kept):
