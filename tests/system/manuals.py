@@ -60,7 +60,7 @@ ERRORS = {
 # Values other than texts that programs give to `print_fault`. Their texts are those of ERRORS, and the second lines of which other checks know.
 VALUES = {"fault", "hindrance", "line.as_str()", "reason.as_str()", "text"}
 
-# Error texts that a program does not print, and the text that stands for that of clap.
+# Error texts that a program does not print, and the text in place of that of clap.
 UNPRINTED = {"coap-server": {"bad target {}"}, "coap-client": set()}
 UNPRINTED.update({name: {"bad target {}", "options exclude each other", "cannot read"} for name in ("coap-explain", "coap-directory")})
 USAGE_TEXT = "{}"

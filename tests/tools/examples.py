@@ -7,7 +7,7 @@
   last line `Ok(())`. Each of these tests must have such a block.
 - Each block marked `rust` in README.md and docs/*.md must consist of consecutive lines of one of the files in SOURCES.
 
-A last line such as `send(rt, &mut client)` stands for the body of the function `send` of the same file, if `rt` and
+A last line such as `send(rt, &mut client)` means the body of the function `send` of the same file, if `rt` and
 `client` are its parameters.
 
 Indentation does not count. The last line is 'N passed, M failed'; each block and each test counts once.
