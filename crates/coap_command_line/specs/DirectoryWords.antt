@@ -61,7 +61,7 @@ IsDirectoryPlan words answer = TellsDirectoryPlan (directory_plan_of words) answ
 -- ---- reasons
 
 abbrev pub directory_values : List ValueRow
-directory_values = map (λ row. record { option = row.0.now; allowed = row.1.now }) DIRECTORY_VALUES
+directory_values = map (λ row. record { option = row.0.now; allowed = row.1.now }) DIRECTORY_VALUES.now
 
 -- The reason for an error, from the options that `clap` found. Only the value of an option has one.
 abbrev pub directory_reason_in : List Row → WordsFault → Option Text

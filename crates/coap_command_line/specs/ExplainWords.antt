@@ -71,7 +71,7 @@ IsExplainPlan words answer = TellsExplainPlan (explain_plan_of words) answer
 -- ---- reasons
 
 abbrev pub explain_values : List ValueRow
-explain_values = map (λ row. record { option = row.0.now; allowed = row.1.now }) EXPLAIN_VALUES
+explain_values = map (λ row. record { option = row.0.now; allowed = row.1.now }) EXPLAIN_VALUES.now
 
 -- The reason for an error, from the options that `clap` found. Only the value of an option has one.
 abbrev pub explain_reason_in : List Row → WordsFault → Option Text

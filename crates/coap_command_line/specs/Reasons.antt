@@ -47,10 +47,10 @@ row_in [] name = None
 row_in (row ∷ rows) name = if bytes_eq row.option name then Some row else row_in rows name
 
 abbrev pub server_values : List ValueRow
-server_values = map (λ row. record { option = row.0.now; allowed = row.1.now }) SERVER_VALUES
+server_values = map (λ row. record { option = row.0.now; allowed = row.1.now }) SERVER_VALUES.now
 
 abbrev pub client_values : List ValueRow
-client_values = map (λ row. record { option = row.0.now; allowed = row.1.now }) CLIENT_VALUES
+client_values = map (λ row. record { option = row.0.now; allowed = row.1.now }) CLIENT_VALUES.now
 
 -- ---- values of options
 

@@ -95,7 +95,7 @@ pub fn server_words<'a, S: AsStr>(alloc: Global, words: &'a [S]) -> Result<Serve
     ensures id_left { IfOk result (λ plan. plan.starts.ids + 1 < 2 ^ 64) }
     ensures limit { IfOk result (λ plan. 1 ≤ plan.record_limit) }
 {
-    let matches = match matches_in(alloc, "coap-server", help::SERVER, &SERVER, words) {
+    let matches = match matches_in(alloc, "coap-server", help::SERVER, SERVER, words) {
         Ok(matches) => matches,
         Err(fault) => return Err(fault),
     };
@@ -126,7 +126,7 @@ pub fn server_words<'a, S: AsStr>(alloc: Global, words: &'a [S]) -> Result<Serve
 pub fn client_words<'a, S: AsStr>(alloc: Global, words: &'a [S]) -> Result<ClientPlan, WordsFault>
     ensures { IsClientPlan (map S.text words.entry.now) result }
 {
-    let matches = match matches_in(alloc, "coap-client", help::CLIENT, &CLIENT, words) {
+    let matches = match matches_in(alloc, "coap-client", help::CLIENT, CLIENT, words) {
         Ok(matches) => matches,
         Err(fault) => return Err(fault),
     };
@@ -146,7 +146,7 @@ pub fn server_reason<'a, S: AsStr>(
 ) -> Result<Option<Line>, AllocError>
     ensures { IfOk result (λ line. line ≡ option_map line_of (spec.server_reason (map S.text words.entry.now) fault.now)) }
 {
-    match matches_in(alloc, "coap-server", help::SERVER, &SERVER, words) {
+    match matches_in(alloc, "coap-server", help::SERVER, SERVER, words) {
         Ok(matches) => server_line(alloc, &matches, fault),
         Err(WordsFault::Usage(_)) => Ok(None),
         Err(_) => Err(AllocError),
@@ -166,7 +166,7 @@ pub fn client_reason<'a, S: AsStr>(
 ) -> Result<Option<Line>, AllocError>
     ensures { IfOk result (λ line. line ≡ option_map line_of (spec.client_reason (map S.text words.entry.now) fault.now)) }
 {
-    match matches_in(alloc, "coap-client", help::CLIENT, &CLIENT, words) {
+    match matches_in(alloc, "coap-client", help::CLIENT, CLIENT, words) {
         Ok(matches) => Ok(client_line(&matches, fault)),
         Err(WordsFault::Usage(_)) => Ok(None),
         Err(_) => Err(AllocError),

@@ -19,7 +19,7 @@ use percent_encoding::percent_decode;
 use std::alloc::{AllocError, Global};
 
 /// Methods by their names.
-const METHODS: [(&str, Method); 4] = [
+const METHODS: &[(&str, Method)] = &[
     ("get", Method::Get),
     ("put", Method::Put),
     ("post", Method::Post),
@@ -31,7 +31,7 @@ const METHODS: [(&str, Method); 4] = [
 fn method_named(text: &str) -> Option<Method>
     ensures { result ≡ spec.method_named text.now }
 {
-    named_value(&METHODS, text.as_bytes())
+    named_value(METHODS, text.as_bytes())
 }
 
 /// Returns the method of the request, by default GET.
@@ -50,7 +50,7 @@ fn method(matches: &ArgMatches<'_>) -> Result<Method, &'static str>
 }
 
 /// Numbers of content formats by their full names.
-const FORMATS: [(&str, u16); 7] = [
+const FORMATS: &[(&str, u16)] = &[
     ("text/plain", 0),
     ("application/link-format", 40),
     ("application/xml", 41),
@@ -65,7 +65,7 @@ const FORMATS: [(&str, u16); 7] = [
 fn format_named(text: &str) -> Option<u16>
     ensures { result ≡ spec.format_named text.now }
 {
-    named_value(&FORMATS, text.as_bytes())
+    named_value(FORMATS, text.as_bytes())
 }
 
 /// Returns the content format with this full name or number.

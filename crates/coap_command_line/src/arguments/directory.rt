@@ -81,7 +81,7 @@ pub fn directory_words<'a, S: AsStr>(
     ensures connections { IfOk result (λ plan. (1 ≤ plan.connections) × (plan.connections ≤ 256)) }
     ensures registrations { IfOk result (λ plan. (1 ≤ plan.registrations) × (plan.registrations ≤ 100000)) }
 {
-    let matches = match matches_in(alloc, "coap-directory", help::DIRECTORY, &DIRECTORY, words) {
+    let matches = match matches_in(alloc, "coap-directory", help::DIRECTORY, DIRECTORY, words) {
         Ok(matches) => matches,
         Err(fault) => return Err(fault),
     };
@@ -101,7 +101,7 @@ pub fn directory_reason<'a, S: AsStr>(
 ) -> Result<Option<Line>, AllocError>
     ensures { IfOk result (λ line. line ≡ option_map line_of (spec.directory_reason (map S.text words.entry.now) fault.now)) }
 {
-    match matches_in(alloc, "coap-directory", help::DIRECTORY, &DIRECTORY, words) {
+    match matches_in(alloc, "coap-directory", help::DIRECTORY, DIRECTORY, words) {
         Ok(matches) => Ok(directory_line(&matches, fault)),
         Err(WordsFault::Usage(_)) => Ok(None),
         Err(_) => Err(AllocError),

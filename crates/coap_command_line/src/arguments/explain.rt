@@ -75,7 +75,7 @@ fn explain_plan(alloc: Global, matches: &ArgMatches<'_>) -> Result<ExplainPlan, 
 pub fn explain_words<'a, S: AsStr>(alloc: Global, words: &'a [S]) -> Result<ExplainPlan, WordsFault>
     ensures { IsExplainPlan (map S.text words.entry.now) result }
 {
-    let matches = match matches_in(alloc, "coap-explain", help::EXPLAIN, &EXPLAIN, words) {
+    let matches = match matches_in(alloc, "coap-explain", help::EXPLAIN, EXPLAIN, words) {
         Ok(matches) => matches,
         Err(fault) => return Err(fault),
     };
@@ -95,7 +95,7 @@ pub fn explain_reason<'a, S: AsStr>(
 ) -> Result<Option<Line>, AllocError>
     ensures { IfOk result (λ line. line ≡ option_map line_of (spec.explain_reason (map S.text words.entry.now) fault.now)) }
 {
-    match matches_in(alloc, "coap-explain", help::EXPLAIN, &EXPLAIN, words) {
+    match matches_in(alloc, "coap-explain", help::EXPLAIN, EXPLAIN, words) {
         Ok(matches) => Ok(explain_line(&matches, fault)),
         Err(WordsFault::Usage(_)) => Ok(None),
         Err(_) => Err(AllocError),

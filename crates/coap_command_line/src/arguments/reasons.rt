@@ -60,7 +60,7 @@ pub(super) fn explain_line(matches: &ArgMatches<'_>, fault: &WordsFault) -> Opti
     ensures { result ≡ option_map spec.line_of (explain_reason_in (rows_of (found_of matches.now)) fault.now) }
 {
     match fault {
-        WordsFault::Value(name) => row_line(&EXPLAIN_VALUES, name, given_for(matches, name)),
+        WordsFault::Value(name) => row_line(EXPLAIN_VALUES, name, given_for(matches, name)),
         _ => None,
     }
 }
@@ -70,7 +70,7 @@ pub(super) fn directory_line(matches: &ArgMatches<'_>, fault: &WordsFault) -> Op
     ensures { result ≡ option_map spec.line_of (directory_reason_in (rows_of (found_of matches.now)) fault.now) }
 {
     match fault {
-        WordsFault::Value(name) => row_line(&DIRECTORY_VALUES, name, given_for(matches, name)),
+        WordsFault::Value(name) => row_line(DIRECTORY_VALUES, name, given_for(matches, name)),
         _ => None,
     }
 }
@@ -249,7 +249,7 @@ fn server_value(
     if name == "--application" {
         return application_value(alloc, matches);
     }
-    Ok(row_line(&SERVER_VALUES, name, given))
+    Ok(row_line(SERVER_VALUES, name, given))
 }
 
 /// Returns the reason for the value of an option of the client.
@@ -257,7 +257,7 @@ fn server_value(
 fn client_value(matches: &ArgMatches<'_>, name: &str) -> Option<Line>
     ensures { result ≡ option_map spec.line_of (spec.client_value (rows_of (found_of matches.now)) name.now) }
 {
-    row_line(&CLIENT_VALUES, name, given_for(matches, name))
+    row_line(CLIENT_VALUES, name, given_for(matches, name))
 }
 
 // ---- options that exclude each other

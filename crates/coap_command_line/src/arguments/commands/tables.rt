@@ -23,7 +23,7 @@ pub enum Form {
 pub type ArgumentRow = (&'static str, Form, &'static str);
 
 /// Arguments of `coap-server`.
-pub const SERVER: [ArgumentRow; 18] = [
+pub const SERVER: &[ArgumentRow] = &[
     ("-A", Form::Letter('A', "ADDRESS"), help::ADDRESS),
     ("-p", Form::Letter('p', "PORT"), help::PORT),
     ("-d", Form::Letter('d', "MAX"), help::DYNAMIC_MAX),
@@ -61,7 +61,7 @@ pub const SERVER: [ArgumentRow; 18] = [
 ];
 
 /// Arguments of `coap-client`.
-pub const CLIENT: [ArgumentRow; 13] = [
+pub const CLIENT: &[ArgumentRow] = &[
     ("-m", Form::Letter('m', "METHOD"), help::METHOD),
     ("-e", Form::Letter('e', "TEXT"), help::PAYLOAD),
     ("-f", Form::Letter('f', "FILE"), help::INPUT),
@@ -78,7 +78,7 @@ pub const CLIENT: [ArgumentRow; 13] = [
 ];
 
 /// Arguments of `coap-explain`.
-pub const EXPLAIN: [ArgumentRow; 2] = [
+pub const EXPLAIN: &[ArgumentRow] = &[
     (
         "--connection",
         Form::Word("connection", "ID"),
@@ -88,7 +88,7 @@ pub const EXPLAIN: [ArgumentRow; 2] = [
 ];
 
 /// Arguments of `coap-directory`.
-pub const DIRECTORY: [ArgumentRow; 4] = [
+pub const DIRECTORY: &[ArgumentRow] = &[
     ("-A", Form::Letter('A', "ADDRESS"), help::ADDRESS),
     ("-p", Form::Letter('p', "PORT"), help::PORT),
     (

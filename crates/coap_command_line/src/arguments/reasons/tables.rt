@@ -19,7 +19,7 @@ const LEVEL: &str = "a level from 0 to 3";
 
 /// Options of `coap-server`. The minimum of `--queue` depends on `--max-sent`, and `--application` has several
 /// values, so the table does not have them.
-pub const SERVER_VALUES: [ValueRow; 14] = [
+pub const SERVER_VALUES: &[ValueRow] = &[
     ("-A", "a numeric IPv4 or IPv6 address"),
     ("-p", "a port from 1 to 65535"),
     ("-d", "0 to 1000 resources"),
@@ -37,13 +37,13 @@ pub const SERVER_VALUES: [ValueRow; 14] = [
 ];
 
 /// Options of `coap-explain`.
-pub const EXPLAIN_VALUES: [ValueRow; 1] = [(
+pub const EXPLAIN_VALUES: &[ValueRow] = &[(
     "--connection",
     "the number of a connection from 1 to 18446744073709551615",
 )];
 
 /// Options of `coap-directory`.
-pub const DIRECTORY_VALUES: [ValueRow; 4] = [
+pub const DIRECTORY_VALUES: &[ValueRow] = &[
     ("-A", "a numeric IPv4 or IPv6 address"),
     ("-p", "a port from 1 to 65535"),
     ("--connections", "1 to 256 connections"),
@@ -51,7 +51,7 @@ pub const DIRECTORY_VALUES: [ValueRow; 4] = [
 ];
 
 /// Options of `coap-client`.
-pub const CLIENT_VALUES: [ValueRow; 7] = [
+pub const CLIENT_VALUES: &[ValueRow] = &[
     ("-m", "get, put, post or delete"),
     ("-t", FORMAT),
     ("-A", FORMAT),
