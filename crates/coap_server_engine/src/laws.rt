@@ -138,9 +138,8 @@ pub fn each_message_taken_is_handled_once()
 
 /// States that a take lends exactly the request that it hands to the application.
 ///
-/// An accepted event of received bytes adds one request at most to those that were handed over (`handed_requests`, see
-/// `application_requests_have_one_fate` of `coap_model`). It is the one that `Server::take_request` lends (`request_in`).
-/// The connection must still process messages afterwards: a take that stops it lends none.
+/// An accepted take adds to the requests that were handed over (`handed_requests`) the one that `Server::take_request`
+/// lends (`request_in`), if there is one. A take that stops the connection lends none.
 pub fn lent_requests_are_handed_over()
     ensures { (c : ConfigValues) (events : List AcceptedCall) (id : ℕ) (bytes : List ℕ) (s t : Connection) →
         AreAccepted c events → IsAccepted c events (Took id bytes) →
