@@ -8,4 +8,5 @@ pub mod RefusedLaws
 pub mod RequestLaws
 pub mod DeadlineLaws
 pub mod AtOnceLaws
+pub mod RequestFates
 mod WorkedAtOnce

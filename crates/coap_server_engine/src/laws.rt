@@ -11,7 +11,9 @@ ghost use Rattle.coap_server_engine.specs.Prelude.{server_of, normalised_step, n
 ghost use Rattle.coap_server_engine.specs.Prelude.{IsRefusedStored, StoresNothing, ScriptEventValue, in_result};
 ghost use Rattle.coap_server_engine.specs.Prelude.{replayed, DifferInCuts, AreInTime, lines_of, other_lines};
 ghost use Rattle.coap_server_engine.specs.Prelude.{Message, message_of, ResponseFault, handed_by, server_taken};
-ghost use Rattle.coap_server_engine.specs.Prelude.{responded_refusal, response_for};
+ghost use Rattle.coap_server_engine.specs.Prelude.{responded_refusal, response_for, request_in, IsAccepted};
+ghost use Rattle.std.specs.Option.{option_to_list};
+ghost use Rattle.coap_model.specs.world.Fates.{handed_requests, requests_on};
 ghost use Rattle.coap_conn.specs.Responses.{is_plain_response};
 ghost use Rattle.coap_conn.specs.declared.phase.Phase.TheVariants.{Stopped};
 ghost use Rattle.coap_model.specs.declared.answers.TakeFault.TheVariants.{Memory};
@@ -132,6 +134,20 @@ pub fn each_message_taken_is_handled_once()
         AreAccepted c events → side_of id (world_after c events).sides ≡ Some s →
         (stream_on c.limits.max_message id events).fault ≡ Some fault →
         s.history.phase ≡ Stopped (reject_reason (reject_of fault)) }
+{}
+
+/// States that a take lends exactly the request that it hands to the application.
+///
+/// An accepted take adds to the requests that were handed over (`handed_requests`) the one that `Server::take_request`
+/// lends (`request_in`), if there is one. A take that stops the connection lends none.
+pub fn lent_requests_are_handed_over()
+    ensures { (c : ConfigValues) (events : List AcceptedCall) (id : ℕ) (bytes : List ℕ) (s t : Connection) →
+        AreAccepted c events → IsAccepted c events (Took id bytes) →
+        side_of id (world_after c events).sides ≡ Some s →
+        side_of id (world_after c (events ++ Took id bytes ∷ [])).sides ≡ Some t →
+        takes_messages t.history.phase ≡ true →
+        handed_requests (requests_on c id (events ++ Took id bytes ∷ []))
+        ≡ handed_requests (requests_on c id events) ++ option_to_list (request_in c events (Took id bytes) id) }
 {}
 
 /// States that a response at once has room: one that is given directly after the take that handed over its request.

@@ -81,7 +81,7 @@ accepted_so c es id bytes s is there all =
     let message : Bool = (taking host (session_shown (stream_on c.limits.max_message id es).rest s) bytes).handled in
     (message, subst (λ (b : List ℕ). TakesSo c.limits.max_message id es b s message) whole (took_so c es id bytes s is there host))
 
-took_became : (c : ConfigValues) (es : List AcceptedCall) (id : ℕ) (bytes : List ℕ) (s t : Connection) → IsReached c es → takes c es id bytes ≡ length bytes → side_of id (world_after c es).sides ≡ Some s → side_of id (world_after c (es ++ Took id bytes ∷ [])).sides ≡ Some t
+pub took_became : (c : ConfigValues) (es : List AcceptedCall) (id : ℕ) (bytes : List ℕ) (s t : Connection) → IsReached c es → takes c es id bytes ≡ length bytes → side_of id (world_after c es).sides ≡ Some s → side_of id (world_after c (es ++ Took id bytes ∷ [])).sides ≡ Some t
     → (message : Bool) × Became (stream_on c.limits.max_message id es) (stream_on c.limits.max_message id (es ++ Took id bytes ∷ [])) s t message
 took_became c es id bytes s t is all there then =
     let so = accepted_so c es id bytes s is there all in

@@ -34,10 +34,10 @@ at_the_end : {A : Type 0} (xs : List A) (x : A) → slice_get (xs ++ x ∷ []) (
 at_the_end [] x = refl
 at_the_end (y ∷ xs) x = at_the_end xs x
 
-none_between : (s t : Connection) → t.history.handled ≡ s.history.handled → message_between s t ≡ None
+pub none_between : (s t : Connection) → t.history.handled ≡ s.history.handled → message_between s t ≡ None
 none_between s t same = ap (λ ms. slice_get ms (length s.history.handled)) same ∙ past_the_end s.history.handled
 
-one_between : (s t : Connection) (m : Message) → t.history.handled ≡ s.history.handled ++ m ∷ [] → message_between s t ≡ Some m
+pub one_between : (s t : Connection) (m : Message) → t.history.handled ≡ s.history.handled ++ m ∷ [] → message_between s t ≡ Some m
 one_between s t m one = ap (λ ms. slice_get ms (length s.history.handled)) one ∙ at_the_end s.history.handled m
 
 last_same : (ms : List Message) (m n : Message) → ms ++ m ∷ [] ≡ ms ++ n ∷ [] → m ≡ n
