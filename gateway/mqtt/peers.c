@@ -143,7 +143,7 @@ static size_t offer(struct peers *peers, struct peer *peer, bool *failed) {
     if (!peer->is_raw)
         screen(frame, size, &peers->options->prefix, peers->refuses_reads);
     *failed = dachreup_server_take(peers->server, peer->id, frame, size, &took) != DACHREUP_OK;
-    /* A request is the whole frame. Its span would be lent only until the next call on the server. */
+    /* A request is the whole frame, which stays valid longer than the span that the server lends. */
     if (took.request.count) {
         struct dachreup_span request = {frame, size};
         peers->request(peers->owner, peer->id, &request);

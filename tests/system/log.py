@@ -20,6 +20,7 @@ import tempfile
 import time
 
 sys.path.insert(0, os.path.join(os.path.dirname(os.path.abspath(__file__)), "..", "harness"))
+import rows  # noqa: E402
 from checks import CSM, Checks  # noqa: E402
 from clocks import HOUR, SystemClock  # noqa: E402
 from message_syntax import encoded  # noqa: E402
@@ -398,6 +399,48 @@ def check_client_ends(checks):
             checks.same(f"client: reason at level {level}", ended.startswith(f"connection 1 ended: {reason}; "), level == "2")
 
 
+def listens(process, name):
+    """Waits until a server listens, and returns true, or until it ends."""
+    ends = time.monotonic() + LIMIT
+    while time.monotonic() < ends and process.poll() is None:
+        with open(name, "rb") as log:
+            if b" listening on " in log.read():
+                return True
+        time.sleep(0.005)
+    return False
+
+
+def served_without(number, shim, folder):
+    """Returns the response to a GET and the log of a server in which this allocation fails."""
+    port, name, answer = free_port(), f"{folder}/log", None
+    refusing = {**os.environ, "LD_PRELOAD": shim, "REFUSE_ALLOCATION": str(number)}
+    with open(name, "wb") as log:
+        command = [SERVER, "-A", LOCAL, "-p", str(port), "--log", "2"]
+        process = subprocess.Popen(command, stdin=subprocess.DEVNULL, stdout=subprocess.DEVNULL, stderr=log, env=refusing)
+    with contextlib.suppress(OSError):
+        answer = ask(port, GET_ROOT) if listens(process, name) else None
+    process.kill()
+    process.wait(LIMIT)
+    with open(name, "rb") as log:
+        return answer, log.read()
+
+
+def check_memory(checks):
+    """If an allocation of the log fails for a connection, the log says so, and the connection is served as before."""
+    number, found, said = 0, 0, b"refused\n"
+    with tempfile.TemporaryDirectory() as folder:
+        shim = rows.compiled_shim(folder)
+        while b"refused\n" in said:
+            number += 1
+            answer, said = served_without(number, shim, folder)
+            texts = [it for it in texts_of(said.replace(b"refused\n", b"")) if it.startswith("connection 1")]
+            if "connection 1: no memory to follow it" in texts:
+                found += 1
+                checks.same(f"allocation {number} of a log: response", answer, GREETING)
+                checks.same(f"allocation {number} of a log: lines", len(texts), 2)
+    checks.same("connections without memory for their log", found > 0, True)
+
+
 def main():
     checks = Checks()
     check_levels(checks)
@@ -410,6 +453,7 @@ def main():
     check_last_lines(checks)
     check_client(checks)
     check_client_ends(checks)
+    check_memory(checks)
     check_rate(checks, number_after("--connections", 100_000))
     check_printable(checks, number_after("--messages", 100_000))
     print("%d passed, %d failed" % (checks.passed, checks.failed))

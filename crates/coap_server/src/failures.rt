@@ -1,4 +1,5 @@
-//! A listener whose wires record that they have failed, so that a log can tell a failed connection from a silent one.
+//! A listener whose wires record that they have failed, so that a log can distinguish failed connections from silent
+//! ones.
 
 ghost use Rattle.std.specs.Prelude.{None};
 
