@@ -1,8 +1,9 @@
 //! Theorems on an event loop that skips idle connections. Each is the contract of a function with an empty body.
 
 ghost use Rattle.std.specs.Prelude.{◌≡◌, ℕ, Bool, ◌+◌, ◌≤◌, List, false};
-ghost use Rattle.coap_server_listener.specs.Prelude.{ConfigValues, ServerValue, AreSettled, LiesAt, server_opened};
-ghost use Rattle.coap_server_listener.specs.Prelude.{server_ticked, server_dropped, IsNoOp, IsServedOnce, can_go_on};
+ghost use Rattle.coap_server_listener.specs.Prelude.{AcceptedCall, ConfigValues, ServerValue, AreSettled, LiesAt};
+ghost use Rattle.coap_server_listener.specs.Prelude.{server_opened, server_ticked, server_dropped, IsNoOp};
+ghost use Rattle.coap_server_listener.specs.Prelude.{IsServedOnce, can_go_on};
 ghost use Rattle.coap_server_listener.specs.Prelude.{is_over_in, wants_of, IsNoEarlier, KeepsNotes, WhilePassedOver};
 ghost use Rattle.coap_server_listener.specs.Prelude.{WireTrace, PeerOutcome, ChangeStamp, outlook_of, stamp_of};
 
@@ -11,7 +12,8 @@ ghost use Rattle.coap_server_listener.specs.Prelude.{WireTrace, PeerOutcome, Cha
 /// The theorem is about a connection on which more may be written, on a server whose connections are all settled. If
 /// nothing in its I/O interest can be done, serving it has no effect, whatever its wire does. The wire is neither read
 /// nor written. There is an outcome. Every outcome leaves the server, the bytes left from its reads, and the trace of
-/// its wire unchanged, and the connection stays open.
+/// its wire unchanged, and the connection stays open. The only call is a take that accepts none of the bytes left, if
+/// there are some.
 pub fn idle_connections_may_be_skipped()
     ensures { (v : ServerValue) (id i : ℕ) (rest : List ℕ) (may_read may_write : Bool) → LiesAt id i v.sessions →
         AreSettled v.host v.sessions → can_go_on (wants_of v id rest) may_read may_write ≡ false →
@@ -30,8 +32,8 @@ pub fn stamps_do_not_repeat()
     ensures back { (one other third : ChangeStamp) → IsNoEarlier one other → IsNoEarlier other third → third ≡ one →
         other ≡ one }
     ensures served { (v after : ServerValue) (id : ℕ) (rest left : List ℕ) (wire told : WireTrace)
-        (may_read may_write : Bool) (course : PeerOutcome) →
-        IsServedOnce may_read may_write v id rest wire after left told course →
+        (may_read may_write : Bool) (course : PeerOutcome) (events : List AcceptedCall) →
+        IsServedOnce may_read may_write v id rest wire after left told course events →
         IsNoEarlier (stamp_of v.host) (stamp_of after.host) }
     ensures dropped { (v : ServerValue) (id : ℕ) → stamp_of (server_dropped v id).host ≡ stamp_of v.host }
     ensures opened { (v : ServerValue) → stamp_of (server_opened v).host ≡ stamp_of v.host }
@@ -47,8 +49,8 @@ pub fn stamps_do_not_repeat()
 /// connection may therefore be skipped without a look at the server: to serve it would have no effect.
 pub fn recorded_interests_stay_valid()
     ensures served { (v after : ServerValue) (id : ℕ) (rest left : List ℕ) (wire told : WireTrace)
-        (may_read may_write : Bool) (course : PeerOutcome) →
-        AreSettled v.host v.sessions → IsServedOnce may_read may_write v id rest wire after left told course →
+        (may_read may_write : Bool) (course : PeerOutcome) (events : List AcceptedCall) →
+        AreSettled v.host v.sessions → IsServedOnce may_read may_write v id rest wire after left told course events →
         KeepsNotes id v after }
     ensures dropped { (v : ServerValue) (id : ℕ) → AreSettled v.host v.sessions →
         KeepsNotes id v (server_dropped v id) }

@@ -6,6 +6,8 @@ use Rattle.coap_server_listener.specs.Prelude.{ChangeStamp, sooner, stamp_of, ou
 use Rattle.coap_server_listener.specs.Prelude.{server_dropped, PeerStatus, agenda_with, agenda_past, IsAsked, IsServed, Taking, CanGoOn}
 use Rattle.coap_server_listener.specs.Prelude.{IsIdle, IsInTurn, IsAgendaOf, least_with, wants_in, wants_of, end_of}
 use Rattle.coap_server_listener.specs.Prelude.{insert_entry, Peer, open_refusal, HasGoneOn, HasOneMore, AreServed, NoMore}
+use Rattle.coap_server_listener.specs.Prelude.{AcceptedCall, AreAccepted, Following, FollowsMore, HasAccepted, Answering, AnswersMore, Exchange, dropped_events, events_left, exchanges_left, gone_exchanges}
+use Rattle.coap_server_listener.proofs.streams.ServingLemmas.{accepted_then, answered_then}
 use Rattle.coap_server_listener.specs.Prelude.{PassedOver, HadItsPart, CanAnyGoOn, WireTrace, concerns_earlier}
 use Rattle.std.proofs.lemmas.List.{map-append, length-map, length-append, length-take, length-take-le, append-nil, append_cancel_left, take_all, take_at, take_more, take-take, take-append-drop, drop_all, drop_at, drop_more, drop-append-le}
 use Rattle.std.proofs.lemmas.List.Sums.{fold-append}
@@ -189,55 +191,55 @@ module _ {W : Type 0} (Takes : Taking) (readable writable : W → Option Bool) (
   -- ---- one after the other
 
   -- Two lists that were served, one after the other.
-  both_served : {n : ℕ} {u v w : ServerValue} {es fs ls ms : List (ℕ × Peer W)} {one other : Bool} (m : ℕ) → m ≡ n + length ls → AreServed Takes readable writable trace n u es one v ls → AreServed Takes readable writable trace m v fs other w ms
-      → AreServed Takes readable writable trace n u (es ++ fs) (one || other) w (ls ++ ms)
+  both_served : {n : ℕ} {u v w : ServerValue} {es fs ls ms : List (ℕ × Peer W)} {one other : Bool} {xs ys : List AcceptedCall} {ps qs : List Exchange} (m : ℕ) → m ≡ n + length ls → AreServed Takes readable writable trace n u es one v ls xs ps → AreServed Takes readable writable trace m v fs other w ms ys qs
+      → AreServed Takes readable writable trace n u (es ++ fs) (one || other) w (ls ++ ms) (xs ++ ys) (ps ++ qs)
   both_served m many (NoMore n start) two = let same : m ≡ n = omega (arith, many) in rw same at two
-  both_served m many (PassedOver n start e others changed after left rests rest) two =
-      PassedOver n start e _ _ _ _ rests (both_served m (omega (arith, many)) rest two)
-  both_served {ms = ms} {other = other} m many (HadItsPart n start e others between its changed after left in_turn part rest) two =
-      rw (append_assoc its left ms, or_assoc (concerns_earlier n (stamp_of start.host) (stamp_of between.host)) changed other)
-      (HadItsPart n start e _ between its _ _ _ in_turn part (both_served m (omega (arith, many, length-append its left)) rest two))
+  both_served m many (PassedOver n start e others changed after left events exchanges rests rest) two =
+      PassedOver n start e _ _ _ _ _ _ rests (both_served m (omega (arith, many)) rest two)
+  both_served {ms = ms} {other = other} {ys = ys} {qs = qs} m many (HadItsPart n start e others between its own asked changed after left events exchanges in_turn part rest) two =
+      rw (append_assoc its left ms, append_assoc own events ys, append_assoc asked exchanges qs, or_assoc (concerns_earlier n (stamp_of start.host) (stamp_of between.host)) changed other)
+      (HadItsPart n start e _ between its own asked _ _ _ _ _ in_turn part (both_served m (omega (arith, many, length-append its left)) rest two))
 
   -- Idle connections only.
-  all_passed : (n : ℕ) (v : ServerValue) (es : List (ℕ × Peer W)) → AllByRecursion (IsIdle (stamp_of v.host)) (map (λ e. end_of readable writable e.1) es) → AreServed Takes readable writable trace n v es false v es
+  all_passed : (n : ℕ) (v : ServerValue) (es : List (ℕ × Peer W)) → AllByRecursion (IsIdle (stamp_of v.host)) (map (λ e. end_of readable writable e.1) es) → AreServed Takes readable writable trace n v es false v es [] []
   all_passed n v [] rests = NoMore n v
-  all_passed n v (e ∷ es) rests = PassedOver n v e es false v es rests.0 (all_passed (n + 1) v es rests.1)
+  all_passed n v (e ∷ es) rests = PassedOver n v e es false v es [] [] rests.0 (all_passed (n + 1) v es rests.1)
 
   -- The progress of a turn: the connections before an index were served.
-  pub record AreServedTo (u : ServerValue) (all : List (ℕ × Peer W)) (v : ServerValue) (now : List (ℕ × Peer W)) (at : ℕ) (changed : Bool) : Type 0 where
+  pub record AreServedTo (u : ServerValue) (all : List (ℕ × Peer W)) (v : ServerValue) (now : List (ℕ × Peer W)) (at : ℕ) (changed : Bool) (events : List AcceptedCall) (exchanges : List Exchange) : Type 0 where
     pub done : List (ℕ × Peer W)
     pub all_of_them : all ≡ done ++ drop at now
-    pub served : AreServed Takes readable writable trace 0 u done changed v (take at now)
+    pub served : AreServed Takes readable writable trace 0 u done changed v (take at now) events exchanges
 
   -- The connections up to another index were skipped.
-  pub passed_on : {u v : ServerValue} {all now : List (ℕ × Peer W)} (from to : ℕ) {changed : Bool} {stamp : ChangeStamp} → stamp ≡ stamp_of v.host → from ≤ to → to ≤ length now → AllByRecursion (IsIdle stamp) (map (λ e. end_of readable writable e.1) (drop from (take to now)))
-      → AreServedTo u all v now from changed → AreServedTo u all v now to changed
-  passed_on {u} {v} {all} {now} from to {changed = changed} is order within rests before = record {
+  pub passed_on : {u v : ServerValue} {all now : List (ℕ × Peer W)} (from to : ℕ) {changed : Bool} {stamp : ChangeStamp} {events : List AcceptedCall} {exchanges : List Exchange} → stamp ≡ stamp_of v.host → from ≤ to → to ≤ length now → AllByRecursion (IsIdle stamp) (map (λ e. end_of readable writable e.1) (drop from (take to now)))
+      → AreServedTo u all v now from changed events exchanges → AreServedTo u all v now to changed events exchanges
+  passed_on {u} {v} {all} {now} from to {changed = changed} {events = events} {exchanges = exchanges} is order within rests before = record {
     done = before.done ++ drop from (take to now);
     all_of_them =
         rw (append_assoc, ← drop-append-le from (take to now) (drop to now) (omega (arith, length-take to now)), take-append-drop) before.all_of_them;
-    served = subst (AreServed Takes readable writable trace 0 u (before.done ++ drop from (take to now)) changed v) (front_between now from to order)
-        (rw (or-false changed) at (both_served from (omega (arith, length-take-le from now (omega (arith, order, within)))) before.served (all_passed from v (drop from (take to now)) (rw is at rests))));
+    served = subst (λ ls. AreServed Takes readable writable trace 0 u (before.done ++ drop from (take to now)) changed v ls events exchanges) (front_between now from to order)
+        (rw (or-false changed, append-nil events, append-nil exchanges) at (both_served from (omega (arith, length-take-le from now (omega (arith, order, within)))) before.served (all_passed from v (drop from (take to now)) (rw is at rests))));
   }
 
-  pub one_further : {u v w : ServerValue} {all es now : List (ℕ × Peer W)} {i at : ℕ} {changed : Bool} → IfSome (slice_get es i) (λ e. IsInTurn (stamp_of v.host) (end_of readable writable e.1)) → HasGoneOn Takes readable writable trace v es i w now at → AreServedTo u all v es i changed
-      → AreServedTo u all w now at (changed || concerns_earlier i (stamp_of v.host) (stamp_of w.host))
-  one_further {v = v} {w = w} {es = es} {i = i} in_turn gone before =
+  pub one_further : {u v w : ServerValue} {all es now : List (ℕ × Peer W)} {i at : ℕ} {changed : Bool} {xs ys : List AcceptedCall} {ps qs : List Exchange} → IfSome (slice_get es i) (λ e. IsInTurn (stamp_of v.host) (end_of readable writable e.1)) → HasGoneOn Takes readable writable trace v es i w now at ys qs → AreServedTo u all v es i changed xs ps
+      → AreServedTo u all w now at (changed || concerns_earlier i (stamp_of v.host) (stamp_of w.host)) (xs ++ ys) (ps ++ qs)
+  one_further {v = v} {w = w} {es = es} {i = i} {ys = ys} {qs = qs} in_turn gone before =
       let within = slice_get_within es i gone.e gone.there in
-      let one = HadItsPart i v gone.e [] w gone.its false w [] (rw gone.there at in_turn) gone.part (NoMore (i + length gone.its) w) in
+      let one = HadItsPart i v gone.e [] w gone.its ys qs false w [] [] [] (rw gone.there at in_turn) gone.part (NoMore (i + length gone.its) w) in
       record {
         done = before.done ++ gone.e ∷ [];
         all_of_them = rw (append_assoc, gone.back, ← next_first es i gone.e gone.there) before.all_of_them;
-        served = rw gone.front (both_served i (omega (arith, length-take-le i es (omega (arith, within)))) before.served (rw (append-nil, or-false) at one));
+        served = rw gone.front (both_served i (omega (arith, length-take-le i es (omega (arith, within)))) before.served (rw (append-nil gone.its, append-nil ys, append-nil qs, or-false) at one));
       }
 
-  pub all_are_served : {u v : ServerValue} {all now : List (ℕ × Peer W)} {at : ℕ} {changed : Bool} → length now ≤ at → AreServedTo u all v now at changed → AreServed Takes readable writable trace 0 u all changed v now
+  pub all_are_served : {u v : ServerValue} {all now : List (ℕ × Peer W)} {at : ℕ} {changed : Bool} {events : List AcceptedCall} {exchanges : List Exchange} → length now ≤ at → AreServedTo u all v now at changed events exchanges → AreServed Takes readable writable trace 0 u all changed v now events exchanges
   all_are_served {now = now} {at = at} most before = rw (before.all_of_them, drop_all at now most, append-nil) (rw (take_all at now most) at before.served)
 
   -- The progress of a turn through the connections, with the work that remains on those before an index.
-  pub record IsRoundTo (u : ServerValue) (all : List (ℕ × Peer W)) (a : NextWakeup) (v : ServerValue) (now : List (ℕ × Peer W)) (at : ℕ) : Type 0 where
+  pub record IsRoundTo (u : ServerValue) (all : List (ℕ × Peer W)) (a : NextWakeup) (v : ServerValue) (now : List (ℕ × Peer W)) (at : ℕ) (events : List AcceptedCall) (exchanges : List Exchange) : Type 0 where
     pub changed : Bool
-    pub served : AreServedTo u all v now at changed
+    pub served : AreServedTo u all v now at changed events exchanges
     pub agenda : IsAgendaOf a changed (stamp_of v.host) (map (λ e. end_of readable writable e.1) (take at now))
 
   -- ---- one connection
@@ -258,29 +260,57 @@ module _ {W : Type 0} (Takes : Taking) (readable writable : W → Option Bool) (
     back_same : drop (suc i) mid ≡ drop (suc i) es
     back_same = append_cancel_left (take i es) (drop (suc i) mid) (drop (suc i) es) (rw before at beside)
 
-    module _ (course : PeerOutcome)
-        (part : IfSome (slice_get es i) (λ was. IfSome (slice_get mid i) (λ is. IsServed Takes (readable was.1.wire) (writable was.1.wire) v was.0 was.1.rest (trace was.1.wire) between is.1.rest (trace is.1.wire) course))) where
-      its_part : IsServed Takes (readable entry_was_there.0.1.wire) (writable entry_was_there.0.1.wire) v entry_was_there.0.0 entry_was_there.0.1.rest (trace entry_was_there.0.1.wire) between is_there.0.rest (trace is_there.0.wire) course
+    module _ (a b : Following) (p q : Answering) (course : PeerOutcome)
+        (part : IfSome (slice_get es i) (λ was. IfSome (slice_get mid i) (λ is. HasAccepted (IsServed Takes (readable was.1.wire) (writable was.1.wire) v was.0 was.1.rest (trace was.1.wire) between is.1.rest (trace is.1.wire) course) (FollowsMore a b) (AnswersMore p q) v between))) where
+      its_part : HasAccepted (IsServed Takes (readable entry_was_there.0.1.wire) (writable entry_was_there.0.1.wire) v entry_was_there.0.0 entry_was_there.0.1.rest (trace entry_was_there.0.1.wire) between is_there.0.rest (trace is_there.0.wire) course) (FollowsMore a b) (AnswersMore p q) v between
       its_part = rw is_there.1 at (rw entry_was_there.1 at part)
 
-      pub one_open : course ≡ Open → HasGoneOn Takes readable writable trace v es i between mid (i + 1)
+      pub one_open : course ≡ Open → HasAccepted (HasGoneOn Takes readable writable trace v es i between mid (i + 1)) (FollowsMore a b) (AnswersMore p q) v between
       one_open open_now = record {
-        e = entry_was_there.0;
-        its = (entry_was_there.0.0, is_there.0) ∷ [];
-        there = entry_was_there.1;
-        part = record { served = between; peer = is_there.0; course = course; part = its_part; server = rw open_now refl; far_end = rw open_now refl };
-        front = rw (more_between mid 0 i (entry_was_there.0.0, is_there.0) (omega arith) is_there.1, before) refl;
-        back = rw (add-one i) back_same;
+        events = its_part.events;
+        exchanges = its_part.exchanges;
+        made = record {
+          e = entry_was_there.0;
+          its = (entry_was_there.0.0, is_there.0) ∷ [];
+          there = entry_was_there.1;
+          part = record {
+            served = between;
+            peer = is_there.0;
+            course = course;
+            serving = its_part.events;
+            asked = its_part.exchanges;
+            part = its_part.made;
+            server = rw open_now refl;
+            far_end = rw open_now refl;
+            all = sym (append-nil its_part.events) ∙ ap (λ w. its_part.events ++ events_left w between entry_was_there.0.0) (sym open_now);
+            exchanged = sym (append-nil its_part.exchanges) ∙ ap (λ w. its_part.exchanges ++ exchanges_left w between entry_was_there.0.0) (sym open_now);
+          };
+          front = rw (more_between mid 0 i (entry_was_there.0.0, is_there.0) (omega arith) is_there.1, before) refl;
+          back = rw (add-one i) back_same;
+        };
+        accepted = its_part.accepted;
+        exchanged = its_part.exchanged;
       }
 
-      pub one_over : (after : ServerValue) (now : List (ℕ × Peer W)) → course ≡ Over → now ≡ remove mid i → IfSome (slice_get (keys_of mid) i) (λ id. after ≡ server_dropped between id) → HasGoneOn Takes readable writable trace v es i after now i
-      one_over after now over removed dropped = record {
-        e = entry_was_there.0;
-        its = [];
-        there = entry_was_there.1;
-        part =
-            let left = rw (keys, slice_get-map, entry_was_there.1) at dropped in
-            record { served = between; peer = is_there.0; course = course; part = its_part; server = rw over left; far_end = rw over refl };
-        front = rw (removed, front_stays mid i still_within, before, append-nil) refl;
-        back = rw (removed, add-one i) (drop_at (take i mid) (drop (suc i) mid) i (length-take-le i mid (omega (arith, still_within))) ∙ back_same);
+      pub one_over : (c : Following) (r : Answering) (after : ServerValue) (now : List (ℕ × Peer W)) → course ≡ Over → now ≡ remove mid i → IfSome (slice_get (keys_of mid) i) (λ id. after ≡ server_dropped between id)
+          → IfSome (slice_get (keys_of mid) i) (λ id. AreAccepted (FollowsMore b c) between after (dropped_events between id)) → IfSome (slice_get (keys_of mid) i) (λ id. AnswersMore q r (gone_exchanges between id)) → HasAccepted (HasGoneOn Takes readable writable trace v es i after now i) (FollowsMore a c) (AnswersMore p r) v after
+      one_over c r after now over removed dropped accepted gone = record {
+        events = its_part.events ++ dropped_events between entry_was_there.0.0;
+        exchanges = its_part.exchanges ++ gone_exchanges between entry_was_there.0.0;
+        made = record {
+          e = entry_was_there.0;
+          its = [];
+          there = entry_was_there.1;
+          part =
+              let left = rw (keys, slice_get-map, entry_was_there.1) at dropped in
+              record { served = between; peer = is_there.0; course = course; serving = its_part.events; asked = its_part.exchanges; part = its_part.made; server = rw over left; far_end = rw over refl; all = ap (λ w. its_part.events ++ events_left w between entry_was_there.0.0) (sym over); exchanged = ap (λ w. its_part.exchanges ++ exchanges_left w between entry_was_there.0.0) (sym over) };
+          front = rw (removed, front_stays mid i still_within, before, append-nil) refl;
+          back = rw (removed, add-one i) (drop_at (take i mid) (drop (suc i) mid) i (length-take-le i mid (omega (arith, still_within))) ∙ back_same);
+        };
+        accepted =
+            let last : AreAccepted (FollowsMore b c) between after (dropped_events between entry_was_there.0.0) = rw (keys, slice_get-map, entry_was_there.1) at accepted in
+            accepted_then a b c v between after its_part.events (dropped_events between entry_was_there.0.0) its_part.accepted last;
+        exchanged =
+            let last : AnswersMore q r (gone_exchanges between entry_was_there.0.0) = rw (keys, slice_get-map, entry_was_there.1) at gone in
+            answered_then p q r its_part.exchanges (gone_exchanges between entry_was_there.0.0) its_part.exchanged last;
       }

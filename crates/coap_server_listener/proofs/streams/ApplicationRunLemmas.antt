@@ -1,5 +1,5 @@
 -- The parts of a run for an application, one after another.
-use Rattle.std.proofs.Common.{◌≡◌, ◌⊎◌, ℕ, ◌+◌, ◌≤◌, ◌<◌, Bool, true, false, List, [], ◌∷◌, ◌++◌, length, Option, Result, Ok, Err, OnOk, OnErr, IfOk, refl, sym, ap, ◌∙◌, arith, append_assoc, inl, inr}
+use Rattle.std.proofs.Common.{◌≡◌, ℕ, ◌+◌, ◌<◌, Bool, false, List, [], ◌∷◌, ◌++◌, length, Option, Result, Ok, Err, OnOk, OnErr, refl, ap, ◌∙◌, arith, append_assoc, inr}
 use Rattle.std.proofs.lemmas.List.{append-nil, length-append}
 use Rattle.coap_io.proofs.streams.DeviceLemmas.{told_then}
 use Rattle.coap_server_engine.specs.values.Exchanges.{Exchange}
@@ -7,7 +7,7 @@ use Rattle.coap_server_engine.proofs.scripting.ShownLemmas.{shows_same, shows_th
 use Rattle.coap_server_engine.proofs.scripting.FollowLemmas.{followed_none, followed_then}
 use Rattle.coap_server_listener.specs.Prelude.{AcceptedCall, Answering, AnswersMore, AreAskedLater, AreTakenWith, Following, FollowsMore, HasTurnedBy}
 use Rattle.coap_server_listener.specs.Prelude.{ConfigValues, DoorCall, IoFault, IsAskedOnce, IsMemory, IsTurnBy, IsTakenWith, Memory, Peer, ServerValue, ShowsMore, TellsMore, Wait, WireTrace}
-use Rattle.coap_server_listener.specs.Prelude.{AreRecorded, AreRunSteps, HasRun, HasMadeTurns, IsCutRunFor, IsCutTurn, IsTurnFor, asked_by, is_none, is_ok, moved_to, new_server, open_refusal, moved_calls, ticked_calls, limit_for, wait_within, waited_behind, opening}
+use Rattle.coap_server_listener.specs.Prelude.{AreRecorded, AreRunSteps, HasRun, HasMadeTurns, IsCutTurn, IsTurnFor, asked_by, is_none, is_ok, moved_to, open_refusal, moved_calls, ticked_calls, limit_for, wait_within, waited_behind, opening}
 use Rattle.coap_server_listener.specs.streams.ApplicationRun.{NoneRun, TimeSet, LaterGiven, TurnMade, OneMade, EndsRunFor}
 use Rattle.std.specs.Prelude.{nat_le}
 use Rattle.coap_server_listener.proofs.streams.ServingLemmas.{answered_none, answered_then}
@@ -56,6 +56,12 @@ time_ran calls m n p (Err e) v w moment answer moved shows told err = record {
   exchanged = answered_none p;
 }
 
+-- The event of the clock.
+pub time_told : {T E M : Type 0} (calls : M → Following) (m n : M) (r : Result T E) (v w : ServerValue) (moment : ℕ) → is_ok r ≡ nat_le v.host.now moment
+    → OnOk r (FollowsMore (calls m) (calls n) (ticked_calls v moment)) → OnErr r ((w ≡ v) × (n ≡ m)) → FollowsMore (calls m) (calls n) (moved_calls v moment)
+time_told calls m n (Ok x) v w moment answer told err = rw (← answer) told
+time_told calls m n (Err e) v w moment answer told err = rw (← answer, err.1) (followed_none (calls m))
+
 -- Later responses were given.
 pub later_ran : (a b : Following) (p q : Answering) (v w : ServerValue) (is_full : Bool) → AreAskedLater v 256 is_full w (FollowsMore a b) (AnswersMore p q) → HasRun (FollowsMore a b) (AnswersMore p q) v w
 later_ran a b p q v w is_full given = record {
@@ -94,14 +100,16 @@ ran_to_end a b c asks v w one ends = record {
 
 module _ {A W : Type 0} (follows : A → Answering) (idle : A → Type 0) (readable writable : W → Option Bool) (trace : W → WireTrace) where
   -- A turn whose calls of the listener are named.
-  pub turn_named : (told : List (DoorCall W) → Type 0) (v answered : ServerValue) (es kept : List (ℕ × Peer W)) (after : ServerValue) (left : List (ℕ × Peer W)) (is_full : Bool) (limit next wait : Wait) (one other : A) (asked : List AcceptedCall → Type 0)
-      → AreAskedLater v 256 is_full answered asked (AnswersMore (follows one) (follows other)) → (is_full ≡ false → idle other) → AreRecorded es kept → wait ≡ wait_within (limit_for is_full limit) next → (turn : IsTurnBy (IsTakenWith follows) readable writable trace told answered kept after left next)
-      → IsTurnFor follows idle readable writable trace (λ calls. asked_by answered turn.opened.handed ≡ calls) v es after left wait
-  turn_named told v answered es kept after left is_full limit next wait one other asked given is_idle recorded waits turn = record {
+  pub turn_named : (told : List (DoorCall W) → Type 0) (monitor : List AcceptedCall → Type 0) (asks : List Exchange → Type 0) (v answered : ServerValue) (es kept : List (ℕ × Peer W)) (after : ServerValue) (left : List (ℕ × Peer W)) (is_full : Bool) (limit next wait : Wait) (one other : A) (asked : List AcceptedCall → Type 0)
+      → (given : AreAskedLater v 256 is_full answered asked (AnswersMore (follows one) (follows other))) → (is_full ≡ false → idle other) → AreRecorded es kept → wait ≡ wait_within (limit_for is_full limit) next → (turn : IsTurnBy (IsTakenWith follows) readable writable trace told monitor asks answered kept after left next)
+      → IsTurnFor follows idle readable writable trace (λ calls. asked_by answered turn.opened.handed ≡ calls) (λ all. given.events ++ (opening answered turn.opens ++ turn.events) ≡ all) (λ all. given.exchanges ++ turn.exchanges ≡ all) v es after left wait
+  turn_named told monitor asks v answered es kept after left is_full limit next wait one other asked given is_idle recorded waits turn = record {
     answered = answered;
     kept = kept;
     is_full = is_full;
-    given = record { number = given.number; events = given.events; exchanges = given.exchanges; given = given.given; within = given.within; over = given.over; shows = given.shows; tells = tt; exchanged = (one, other, is_idle, given.exchanged) };
+    later = given.events;
+    exchanges = given.exchanges;
+    given = record { number = given.number; events = given.events; exchanges = given.exchanges; given = given.given; within = given.within; over = given.over; shows = given.shows; tells = refl; exchanged = (refl, one, other, is_idle, given.exchanged) };
     recorded = recorded;
     limit = limit;
     next = next;
@@ -111,33 +119,42 @@ module _ {A W : Type 0} (follows : A → Answering) (idle : A → Type 0) (reada
       entries = turn.entries;
       opened = record { handed = turn.opened.handed; asked = refl; opened = turn.opened.opened; is = turn.opened.is };
       changed = turn.changed;
+      events = turn.events;
+      exchanges = turn.exchanges;
       served = turn.served;
       waits = turn.waits;
+      accepted = (turn.accepted.0, refl);
+      exchanged = refl;
     };
     waits = waits;
   }
 
   module _ (c : ConfigValues) where
-    pub made_once_more : (first before now : Option (List ℕ)) (start came asked : Option (List (DoorCall W))) (turns : ℕ) (v : ServerValue) (es : List (ℕ × Peer W)) (wait : Wait) (moment : ℕ) (called : List (DoorCall W)) (after : ServerValue) (left : List (ℕ × Peer W)) (next : Wait)
-        → HasMadeTurns follows idle readable writable trace c (TellsMore first before) (TellsMore start came) turns v es wait
+    pub made_once_more : (first before now : Option (List ℕ)) (start came asked : Option (List (DoorCall W))) (a b d : Following) (p q r : Answering) (turns : ℕ) (v : ServerValue) (es : List (ℕ × Peer W)) (wait : Wait) (moment : ℕ) (called : List (DoorCall W)) (more : List AcceptedCall) (others : List Exchange) (after : ServerValue) (left : List (ℕ × Peer W)) (next : Wait)
+        → HasMadeTurns follows idle readable writable trace c (TellsMore first before) (TellsMore start came) (FollowsMore a b) (AnswersMore p q) turns v es wait
         → TellsMore before now (moment ∷ []) → TellsMore came asked (waited_behind turns wait (is_none (open_refusal v)) ++ called)
-        → IsTurnFor follows idle readable writable trace (λ calls. called ≡ calls) (moved_to v moment) es after left next
-        → HasMadeTurns follows idle readable writable trace c (TellsMore first now) (TellsMore start asked) (turns + 1) after left next
-    made_once_more first before now start came asked turns v es wait moment called after left next so_far tells calls turn =
+        → FollowsMore b d (moved_calls v moment ++ more) → AnswersMore q r others
+        → IsTurnFor follows idle readable writable trace (λ calls. called ≡ calls) (λ all. more ≡ all) (λ all. others ≡ all) (moved_to v moment) es after left next
+        → HasMadeTurns follows idle readable writable trace c (TellsMore first now) (TellsMore start asked) (FollowsMore a d) (AnswersMore p r) (turns + 1) after left next
+    made_once_more first before now start came asked a b d p q r turns v es wait moment called more others after left next so_far tells calls told answered turn =
         let behind : List (DoorCall W) = waited_behind (length so_far.moments) wait (is_none (open_refusal v)) in
         record {
           moments = so_far.moments ++ moment ∷ [];
           calls = (so_far.calls ++ behind) ++ called;
-          made = OneMade so_far.moments so_far.calls v es wait moment called after left next so_far.made turn;
+          events = (so_far.events ++ moved_calls v moment) ++ more;
+          exchanges = so_far.exchanges ++ others;
+          made = OneMade so_far.moments so_far.calls so_far.events so_far.exchanges v es wait moment called more others after left next so_far.made turn;
           counted = length-append so_far.moments (moment ∷ []) ∙ ap (λ n. n + 1) so_far.counted;
           clock_tells = told_then first before now so_far.moments (moment ∷ []) so_far.clock_tells tells;
           door_tells = rw append_assoc (told_then start came asked so_far.calls (behind ++ called) so_far.door_tells (rw so_far.counted calls));
+          monitor_tells = rw append_assoc (followed_then a b d so_far.events (moved_calls v moment ++ more) so_far.monitor_tells told);
+          exchanged = answered_then p q r so_far.exchanges others so_far.exchanged answered;
         }
 
-    pub cut_after : (first before now : Option (List ℕ)) (start came asked : Option (List (DoorCall W))) (turns : ℕ) (v : ServerValue) (es : List (ℕ × Peer W)) (wait : Wait) (last : ServerValue) (fault : IoFault) → turns < c.turns
-        → HasMadeTurns follows idle readable writable trace c (TellsMore first before) (TellsMore start came) turns v es wait → IsCutTurn (TellsMore before now) (TellsMore came asked) turns wait v → IsMemory fault
-        → EndsRunFor follows idle readable writable trace c (TellsMore first now) (TellsMore start asked) last fault
-    cut_after first before now start came asked turns v es wait last Memory few so_far cut is = inr (record {
+    pub cut_after : (first before now : Option (List ℕ)) (start came asked : Option (List (DoorCall W))) (a b d : Following) (p q r : Answering) (turns : ℕ) (v : ServerValue) (es : List (ℕ × Peer W)) (wait : Wait) (last : ServerValue) (fault : IoFault) → turns < c.turns
+        → HasMadeTurns follows idle readable writable trace c (TellsMore first before) (TellsMore start came) (FollowsMore a b) (AnswersMore p q) turns v es wait → IsCutTurn (TellsMore before now) (TellsMore came asked) turns wait v → HasRun (FollowsMore b d) (AnswersMore q r) v last → IsMemory fault
+        → EndsRunFor follows idle readable writable trace c (TellsMore first now) (TellsMore start asked) (FollowsMore a d) (AnswersMore p r) last fault
+    cut_after first before now start came asked a b d p q r turns v es wait last Memory few so_far cut ran is = inr (record {
       turns = turns;
       few = omega (arith, few);
       server = v;
@@ -145,6 +162,8 @@ module _ {A W : Type 0} (follows : A → Answering) (idle : A → Type 0) (reada
       wait = wait;
       moments = so_far.moments;
       calls = so_far.calls;
+      events = so_far.events;
+      exchanges = so_far.exchanges;
       made = so_far.made;
       counted = so_far.counted;
       cut = record {
@@ -154,8 +173,9 @@ module _ {A W : Type 0} (follows : A → Answering) (idle : A → Type 0) (reada
         clock_tells = told_then first before now so_far.moments (cut.moment ∷ []) so_far.clock_tells cut.clock_tells;
         door_tells = told_then start came asked so_far.calls _ so_far.door_tells cut.door_tells;
       };
+      ran = record { events = ran.events; exchanges = ran.exchanges; steps = ran.steps; shows = ran.shows; tells = followed_then a b d so_far.events ran.events so_far.monitor_tells ran.tells; exchanged = answered_then p q r so_far.exchanges ran.exchanges so_far.exchanged ran.exchanged };
     })
-    cut_after first before now start came asked turns v es wait last fault few so_far cut is = absurd is
+    cut_after first before now start came asked a b d p q r turns v es wait last fault few so_far cut ran is = absurd is
 
 -- The listener was asked in a turn that was cut.
 pub cut_asked : {W : Type 0} (before now : Option (List ℕ)) (came waited asked : Option (List (DoorCall W))) (turns : ℕ) (wait : Wait) (opens : Bool) (v answered : ServerValue) (moment : ℕ) → opens ≡ is_none (open_refusal v) → TellsMore before now (moment ∷ [])

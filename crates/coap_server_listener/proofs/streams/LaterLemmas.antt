@@ -1,5 +1,5 @@
 -- Later responses of an application.
-use Rattle.std.proofs.Common.{◌≡◌, ℕ, suc, ◌+◌, ◌≤◌, ◌==◌, Bool, true, false, List, [], ◌∷◌, ◌++◌, map, Option, Some, None, refl, sym, ap, ◌∙◌, nat_eq, arith, add-one, is_some, if◌then◌else◌}
+use Rattle.std.proofs.Common.{◌≡◌, ℕ, ◌+◌, ◌≤◌, ◌==◌, Bool, true, false, List, [], ◌∷◌, ◌++◌, map, Option, Some, None, refl, ap, nat_eq, arith, add-one, is_some, if◌then◌else◌}
 use Rattle.std.proofs.lemmas.List.{append-nil}
 use Rattle.std.proofs.lemmas.List.Elements.{All-from_recursion, recursion_from_All}
 use Rattle.coap_server_listener.specs.Prelude.{All, AcceptedCall, AreAskedLater, AreRecorded, AreSettled, Following, FollowsMore, Answering, AnswersMore, IsAskedLater, IsNoted, Peer, ServerValue, ShowsMore, recorded, recorded_on, unrecorded}

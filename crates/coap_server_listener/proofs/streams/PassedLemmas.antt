@@ -1,15 +1,17 @@
 -- To serve a connection on which nothing can be done has no effect.
-use Rattle.std.proofs.Common.{◌≡◌, ℕ, zero, suc, Bool, true, false, ◌&&◌, List, [], ◌∷◌, length, drop, Some, None, refl, sym, ap, ◌∙◌, arith, ◌||◌, ◌==◌, nat_lt, option_map, if◌then◌else◌}
+use Rattle.std.proofs.Common.{◌≡◌, ℕ, zero, suc, Bool, true, false, ◌&&◌, List, [], ◌∷◌, ◌++◌, length, drop, Some, None, refl, sym, ap, ◌∙◌, arith, ◌||◌, ◌==◌, nat_lt, option_map, if◌then◌else◌}
+use Rattle.std.proofs.Math.Bool.{and-false}
 use Rattle.std.proofs.Math.Dec.{eqb-suc-zero}
 use Rattle.std.proofs.lemmas.Bool.{or_parts}
 use Rattle.std.proofs.lemmas.Bool.Decides.{nat_tests}
-use Rattle.std.proofs.lemmas.List.{nil_from_length}
+use Rattle.std.proofs.lemmas.List.{append-nil, nil_from_length}
 use Rattle.coap_server_listener.specs.Prelude.{stop_of, is_over, Later, SessionValue, session_takes, ServerValue, LiesAt}
 use Rattle.coap_server_listener.specs.Prelude.{AreSettled, session_of, server_taken, count_taken, count_on, stop_on, InResult}
 use Rattle.coap_server_listener.specs.Prelude.{fed_turns, in_result, fed_more, IsTakenAndWritten, IsTakenAlone, IsNoOp, is_heard}
 use Rattle.coap_server_listener.specs.Prelude.{waiting_once, server_wrote, is_over_in, left_behind, rest_behind, rest_left, wants_of}
 use Rattle.coap_server_listener.specs.Prelude.{can_go_on, session_outlook, outlook_of, PeerInterest, PeerOutcome, WireTrace, course_of}
-use Rattle.coap_server_engine.specs.values.InResults.{goes_on}
+use Rattle.coap_server_listener.specs.Prelude.{AcceptedCall, Took, heard_events, refused_events, took, took_turns, wrote_events}
+use Rattle.coap_server_engine.specs.values.InResults.{goes_on, unfed}
 use Rattle.coap_server_listener.specs.declared.door.peer.PeerOutcome.TheVariants.{Open}
 use Rattle.coap_server_engine.proofs.values.ServerLemmas.{changed_one, written_at_index, written_back, all_settled_stay}
 use Rattle.coap_model.proofs.OptionLemmas.{there_is_none}
@@ -57,6 +59,28 @@ still_fed v id i s [] lies here settled idle = record { server = refl; count = r
 still_fed v id i s (b ∷ rest) lies here settled idle =
     untouched_where_stopped v id i s (b ∷ rest) (length (b ∷ rest)) lies here settled (takes_nothing v id s b rest here idle).0
 
+-- The first take accepts none of these bytes, and there is no other.
+begins : (v : ServerValue) (b : ℕ) (bytes : List ℕ) → goes_on (b ∷ bytes) (unfed v) ≡ true
+begins v b bytes = grind (arith, nat_tests)
+
+refused_once : (v : ServerValue) (id i : ℕ) (s : SessionValue) (b : ℕ) (bytes : List ℕ) (turns : ℕ) → LiesAt id i v.sessions → session_of id v.sessions ≡ Some s → AreSettled v.host v.sessions → session_takes s ≡ false
+    → (took_turns (suc turns) v id (b ∷ bytes) ≡ Took id [] ∷ []) × ((fed_turns (suc turns) v id (b ∷ bytes)).done ≡ true)
+unfolding fed_turns took_turns count_taken
+refused_once v id i s b bytes zero lies here settled closed =
+    let stopped = ap (λ t. t.count) (taking_stopped v.host s (b ∷ bytes) closed) in
+    let none : count_taken v id (b ∷ bytes) ≡ 0 = ap (count_on v (b ∷ bytes)) here ∙ stopped in
+    (rw (begins v b bytes, here, stopped) refl, rw (begins v b bytes, none) refl)
+refused_once v id i s b bytes (suc turns) lies here settled closed =
+    let so_far = refused_once v id i s b bytes turns lies here settled closed in
+    let over : goes_on (b ∷ bytes) (fed_turns (suc turns) v id (b ∷ bytes)) ≡ false = rw (so_far.1, and-false) refl in
+    (rw (over, append-nil) so_far.0, rw over so_far.1)
+
+-- The event of bytes that were read before and that do not fit.
+still_refused : (v : ServerValue) (id i : ℕ) (s : SessionValue) (rest : List ℕ) → LiesAt id i v.sessions → session_of id v.sessions ≡ Some s → AreSettled v.host v.sessions → (wants_of v id rest).take ≡ false → took v id rest ≡ refused_events id rest
+unfolding took_turns
+still_refused v id i s [] lies here settled idle = refl
+still_refused v id i s (b ∷ rest) lies here settled idle = (refused_once v id i s b rest (length rest) lies here settled (takes_nothing v id s b rest here idle).0).0
+
 left_as_it_is : (v : ServerValue) (id : ℕ) (s : SessionValue) (rest : List ℕ) → session_of id v.sessions ≡ Some s → (wants_of v id rest).take ≡ false → left_behind (stop_on (session_of id v.sessions)) rest ≡ rest
 left_as_it_is v id s [] here idle = elim (stop_on (session_of id v.sessions)) as (λ why. left_behind why [] ≡ []) [ None ↦ refl | Some why ↦ refl ]
 left_as_it_is v id s (b ∷ rest) here idle = rw (here, there_is_none (stop_of s.link.phase) (takes_nothing v id s b rest here idle).1) refl
@@ -70,20 +94,22 @@ not_written : (may_write : Bool) (waiting : List ℕ) → (nat_lt 0 (length wait
 not_written may_write waiting e = grind (arith, nat_tests, nil_from_length)
 
 -- If nothing is accepted and nothing is queued, nothing changes.
-nothing_carried : (may_write : Bool) (v : ServerValue) (id : ℕ) (rest : List ℕ) (wire : WireTrace) (after : ServerValue) (left : List ℕ) (told : WireTrace) (course : PeerOutcome)
-    → (in_result v id rest).server ≡ v → rest_left v id rest ≡ rest → waiting_once may_write id v ≡ [] → is_over_in (outlook_of v id) ≡ false
-    → IsTakenAndWritten IsTakenAlone may_write v id rest wire after left told course → (after ≡ v) × (left ≡ rest) × (told ≡ wire) × (course ≡ Open)
-nothing_carried may_write v id rest wire after left told course same left_so unwritten on carried =
+nothing_carried : (may_write : Bool) (v : ServerValue) (id : ℕ) (rest : List ℕ) (wire : WireTrace) (after : ServerValue) (left : List ℕ) (told : WireTrace) (course : PeerOutcome) (events : List AcceptedCall)
+    → (in_result v id rest).server ≡ v → took v id rest ≡ refused_events id rest → rest_left v id rest ≡ rest → waiting_once may_write id v ≡ [] → is_over_in (outlook_of v id) ≡ false
+    → IsTakenAndWritten IsTakenAlone may_write v id rest wire after left told course events [] → (after ≡ v) × (left ≡ rest) × (told ≡ wire) × (course ≡ Open) × (events ≡ refused_events id rest)
+nothing_carried may_write v id rest wire after left told course events same refused left_so unwritten on carried =
     let took = carried.part.took in
     let taken_so : carried.taken ≡ v = took.0 ∙ same in
     let wrote = carried.offered.idle (ap (λ w. waiting_once may_write id w) taken_so ∙ unwritten) in
     let server : after ≡ v = carried.server ∙ ap (server_wrote carried.taken id) wrote.0 ∙ taken_so in
     let kept : rest_behind carried.taken id carried.part.count rest ≡ rest_left v id rest =
-    ap (λ w. rest_behind w id carried.part.count rest) took.0 ∙ ap (λ n. rest_behind (in_result v id rest).server id n rest) took.1 in (
+    ap (λ w. rest_behind w id carried.part.count rest) took.0 ∙ ap (λ n. rest_behind (in_result v id rest).server id n rest) took.1 in
+    let none_written : wrote_events id carried.wrote ≡ [] = ap (wrote_events id) wrote.0 in (
       server,
       carried.part.rest ∙ kept ∙ left_so,
       wrote.1,
       carried.outcome ∙ ap (λ w. course_of w (is_over_in (outlook_of after id))) wrote.0 ∙ ap (λ u. course_of Later (is_over_in (outlook_of u id))) server ∙ ap (course_of Later) on,
+      carried.all ∙ ap (λ es. carried.takes ++ es) none_written ∙ append-nil carried.takes ∙ took.2 ∙ refused,
     )
 
 nothing_done : (v : ServerValue) (id i : ℕ) (s : SessionValue) (rest : List ℕ) (may_read may_write : Bool) → LiesAt id i v.sessions → session_of id v.sessions ≡ Some s → AreSettled v.host v.sessions
@@ -95,6 +121,7 @@ nothing_done v id i s rest may_read may_write lies here settled idle on =
     let unread : is_heard may_read v id rest ≡ false = rw here (not_heard may_read (length rest == 0) (session_takes s) (rw here at read.1)) in
     let unwritten : waiting_once may_write id v ≡ [] = rw here (not_written may_write s.link.waiting (rw here at write.1)) in
     let same = still_fed v id i s rest lies here settled read.0 in
+    let refused : took v id rest ≡ refused_events id rest = still_refused v id i s rest lies here settled read.0 in
     let left_so : rest_left v id rest ≡ rest = rw (same.server, same.count) (left_as_it_is v id s rest here read.0) in
     record {
       unread = unread;
@@ -104,19 +131,24 @@ nothing_done v id i s rest may_read may_write lies here settled idle on =
         bytes = rest;
         between = wire;
         laid = rw unread (refl, refl, refl);
+        later = refused_events id rest;
         carried = record {
           taken = (in_result v id rest).server;
-          part = record { count = (in_result v id rest).count; took = (refl, refl); rest = sym left_so };
+          takes = took v id rest;
+          part = record { count = (in_result v id rest).count; took = (refl, refl, refl, refl); rest = sym left_so };
           wrote = Later;
           offered = rw same.server (record { idle = λ e. (refl, refl); busy = λ some. absurd (some unwritten) });
           server = sym same.server;
           outcome = rw on refl;
+          all = sym (append-nil (took v id rest) ∙ refused);
         };
+        all = refl;
       };
-      always = λ wire after left told course part.
+      always = λ wire after left told course events part.
           let laid : (part.heard ≡ Later) × (part.bytes ≡ rest) × (part.between ≡ wire) = rw unread at part.laid in
-          let carried : IsTakenAndWritten IsTakenAlone may_write v id rest wire after left told course = rw (laid.0, laid.1, laid.2) at part.carried in
-          nothing_carried may_write v id rest wire after left told course same.server left_so unwritten on carried;
+          let carried : IsTakenAndWritten IsTakenAlone may_write v id rest wire after left told course part.later [] = rw (laid.0, laid.1, laid.2) at part.carried in
+          let same_events : events ≡ part.later = part.all ∙ ap (λ got. heard_events id got ++ part.later) laid.0 in
+          rw same_events (nothing_carried may_write v id rest wire after left told course part.later same.server refused left_so unwritten on carried);
     }
 
 -- A connection on which nothing can be done may be skipped.

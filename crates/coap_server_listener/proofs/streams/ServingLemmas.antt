@@ -1,13 +1,15 @@
 -- The events of the parts of a turn.
-use Rattle.std.proofs.Common.{◌≡◌, ℕ, zero, suc, ◌+◌, true, false, List, [], ◌∷◌, ◌++◌, length, take, drop, Option, append_assoc, arith, refl, inl, inr}
+use Rattle.std.proofs.Common.{◌≡◌, ◌≢◌, ℕ, zero, suc, ◌+◌, Bool, true, false, List, [], ◌∷◌, ◌++◌, length, take, drop, Option, Some, None, Result, append_assoc, arith, refl, sym, ◌∙◌, inl, inr}
 use Rattle.std.proofs.lemmas.List.{append-nil}
 use Rattle.coap_server_listener.specs.Prelude.{AllByRecursion, InResult, fed_turns, where_there, took_turns, took, ShowsMore, in_result}
 use Rattle.coap_server_listener.specs.Prelude.{TellsPartlyFed, FollowsMore, Following, IsServing, HasTurned, opening, ServerValue, session_of}
-use Rattle.coap_server_listener.specs.Prelude.{SessionValue, AcceptedCall, Opened, Took, Ended, Wrote, Dropped, server_written, server_dropped, server_opened}
-use Rattle.coap_server_listener.specs.Prelude.{Answering, AnswersMore, Exchange, Gone, HasServedBy, HasTurnedBy, HasOpened, TakingSteps, AreTakenAlone, AreTakenWith, NoneTaken, AreStepsBy, opened_if, IsTakenWith}
+use Rattle.coap_server_listener.specs.Prelude.{SessionValue, AcceptedCall, Opened, Took, Ended, Wrote, Dropped, server_dropped, server_opened}
+use Rattle.coap_server_listener.specs.Prelude.{Answering, AnswersMore, Exchange, Gone, HasServedBy, HasTurnedBy, HasOpened, TakingSteps, AreTakenAlone, AreTakenWith, NoneTaken, AreStepsBy, IsTakenWith}
+use Rattle.coap_server_listener.specs.Prelude.{AreAccepted, HasAccepted, IsTakenAlone, Got, Bytes, End, Failed, Later, dropped_events, gone_exchanges, gone_on, heard_events, is_ok, is_there, server_heard, server_wrote, wrote_events}
+use Rattle.coap_server_listener.specs.Prelude.{AreServed, HadItsPart, IsCarriedOn, IsServedOnceBy, NoMore, Over, PassedOver, Peer, PeerOutcome, WireTrace, events_left, has_failed}
+use Rattle.coap_server_listener.specs.declared.door.peer.PeerOutcome.TheVariants.{Open}
 use Rattle.coap_server_listener.specs.streams.Serving.{NoStep, OneTaken, OneEnded, OneWrote, OneDropped}
 use Rattle.coap_server_engine.specs.values.InResults.{goes_on}
-use Rattle.coap_server_engine.specs.values.Servers.{server_ended}
 use Rattle.coap_server_engine.specs.values.ApplicationCalls.{served, IsPartlyServed, IsServed as IsServedWith}
 use Rattle.coap_server_engine.proofs.scripting.ShownLemmas.{shows_same, shows_then}
 use Rattle.coap_model.proofs.world.EntryLemmas.{all_append, all_if}
@@ -75,18 +77,68 @@ module _ (S : TakingSteps) where
   dropped_served a b p q v after id is shows told gone =
       record { events = Dropped id ∷ []; exchanges = Gone id ∷ []; steps = rw is (OneDropped v [] [] id NoStep); shows = shows; tells = told; exchanged = gone }
 
--- No bytes were taken, and nothing happened.
-pub none_taken : (a : Following) (v after : ServerValue) → after ≡ v → HasServedBy NoneTaken (FollowsMore a a) (λ xs. xs ≡ []) v after
-none_taken a v after is = record { events = []; exchanges = []; steps = rw is NoStep; shows = shows_same v after is; tells = followed_none a; exchanged = refl }
+-- ---- calls one after the other
 
--- The input ended.
-pub ended_served : (a b : Following) (v after : ServerValue) (id : ℕ) → after ≡ server_ended v id → ShowsMore v after (Ended id ∷ []) → FollowsMore a b (Ended id ∷ []) → HasServedBy NoneTaken (FollowsMore a b) (λ xs. xs ≡ []) v after
-ended_served a b v after id is shows told = record { events = Ended id ∷ []; exchanges = []; steps = rw is (OneEnded v [] [] id NoStep); shows = shows; tells = told; exchanged = refl }
+pub none_accepted : (a : Following) (v after : ServerValue) → after ≡ v → AreAccepted (FollowsMore a a) v after []
+none_accepted a v after is = (shows_same v after is, followed_none a)
 
--- Bytes were written.
-pub written_served : (a b : Following) (v w after : ServerValue) (id n : ℕ) → w ≡ v → after ≡ server_written w id n → ShowsMore w after (Wrote id n ∷ []) → FollowsMore a b (Wrote id n ∷ []) → HasServedBy NoneTaken (FollowsMore a b) (λ xs. xs ≡ []) v after
-written_served a b v w after id n same is shows told =
-    record { events = Wrote id n ∷ []; exchanges = []; steps = rw (is, same) (OneWrote v [] [] id n NoStep); shows = rw same at shows; tells = told; exchanged = refl }
+pub accepted_then : (a b c : Following) (u v w : ServerValue) (xs ys : List AcceptedCall) → AreAccepted (FollowsMore a b) u v xs → AreAccepted (FollowsMore b c) v w ys → AreAccepted (FollowsMore a c) u w (xs ++ ys)
+accepted_then a b c u v w xs ys one two = (shows_then u v w xs ys one.0 two.0, followed_then a b c xs ys one.1 two.1)
+
+-- ---- reads and writes
+
+-- A read that did not find the end.
+pub read_accepted : (a : Following) (v after : ServerValue) (id : ℕ) (heard : Got) → heard ≢ End → after ≡ v → AreAccepted (FollowsMore a a) v after (heard_events id heard)
+read_accepted a v after id (Bytes n) apart is = none_accepted a v after is
+read_accepted a v after id Later apart is = none_accepted a v after is
+read_accepted a v after id End apart is = absurd (apart refl)
+read_accepted a v after id Failed apart is = none_accepted a v after is
+
+nothing_served : (a b : Following) (v after : ServerValue) → after ≡ v → AreAccepted (FollowsMore a b) v after [] → HasServedBy NoneTaken (FollowsMore a b) (λ xs. xs ≡ []) v after
+nothing_served a b v after is accepted = record { events = []; exchanges = []; steps = rw is NoStep; shows = accepted.0; tells = accepted.1; exchanged = refl }
+
+pub heard_served : (a b : Following) (v after : ServerValue) (id : ℕ) (heard : Got) → after ≡ server_heard v id heard → AreAccepted (FollowsMore a b) v after (heard_events id heard) → HasServedBy NoneTaken (FollowsMore a b) (λ xs. xs ≡ []) v after
+heard_served a b v after id (Bytes n) is accepted = nothing_served a b v after is accepted
+heard_served a b v after id Later is accepted = nothing_served a b v after is accepted
+heard_served a b v after id End is accepted = record { events = Ended id ∷ []; exchanges = []; steps = rw is (OneEnded v [] [] id NoStep); shows = accepted.0; tells = accepted.1; exchanged = refl }
+heard_served a b v after id Failed is accepted = nothing_served a b v after is accepted
+
+pub wrote_served : (a b : Following) (v after : ServerValue) (id : ℕ) (wrote : Got) → after ≡ server_wrote v id wrote → AreAccepted (FollowsMore a b) v after (wrote_events id wrote) → HasServedBy NoneTaken (FollowsMore a b) (λ xs. xs ≡ []) v after
+wrote_served a b v after id (Bytes n) is accepted = record { events = Wrote id n ∷ []; exchanges = []; steps = rw is (OneWrote v [] [] id n NoStep); shows = accepted.0; tells = accepted.1; exchanged = refl }
+wrote_served a b v after id Later is accepted = nothing_served a b v after is accepted
+wrote_served a b v after id End is accepted = nothing_served a b v after is accepted
+wrote_served a b v after id Failed is accepted = nothing_served a b v after is accepted
+
+-- ---- dropped connections
+
+there_called : (call : AcceptedCall) (o : Option SessionValue) → is_there o ≡ true → where_there o (λ s. call) ≡ call ∷ []
+there_called call None there = absurd cc
+there_called call (Some s) there = refl
+
+not_there_called : (call : AcceptedCall) (o : Option SessionValue) → is_there o ≡ false → where_there o (λ s. call) ≡ []
+not_there_called call None there = refl
+not_there_called call (Some s) there = absurd cc
+
+-- The connection existed, or it did not.
+pub drop_accepted : {T E : Type 0} (a b : Following) (v after : ServerValue) (id : ℕ) (r : Result T E) → is_ok r ≡ is_there (session_of id v.sessions) → is_ok r ≡ true → ShowsMore v after (Dropped id ∷ []) → FollowsMore a b (Dropped id ∷ []) → AreAccepted (FollowsMore a b) v after (dropped_events v id)
+drop_accepted a b v after id r answer ok shows told = rw (there_called (Dropped id) (session_of id v.sessions) (sym answer ∙ ok)) (shows, told)
+
+there_gone : (id : ℕ) (o : Option SessionValue) → is_there o ≡ true → gone_on o id ≡ Gone id ∷ []
+there_gone id None there = absurd cc
+there_gone id (Some s) there = refl
+
+not_there_gone : (id : ℕ) (o : Option SessionValue) → is_there o ≡ false → gone_on o id ≡ []
+not_there_gone id None there = refl
+not_there_gone id (Some s) there = absurd cc
+
+pub gone_answered : {T E : Type 0} (p q : Answering) (v : ServerValue) (id : ℕ) (r : Result T E) → is_ok r ≡ is_there (session_of id v.sessions) → is_ok r ≡ true → AnswersMore p q (Gone id ∷ []) → AnswersMore p q (gone_exchanges v id)
+gone_answered p q v id r answer ok gone = rw (there_gone id (session_of id v.sessions) (sym answer ∙ ok)) gone
+
+pub none_gone_answered : {T E : Type 0} (p : Answering) (v : ServerValue) (id : ℕ) (r : Result T E) → is_ok r ≡ is_there (session_of id v.sessions) → is_ok r ≡ false → AnswersMore p p (gone_exchanges v id)
+none_gone_answered p v id r answer err = rw (not_there_gone id (session_of id v.sessions) (sym answer ∙ err)) (answered_none p)
+
+pub no_drop_accepted : {T E : Type 0} (a : Following) (v after : ServerValue) (id : ℕ) (r : Result T E) → is_ok r ≡ is_there (session_of id v.sessions) → is_ok r ≡ false → after ≡ v → AreAccepted (FollowsMore a a) v after (dropped_events v id)
+no_drop_accepted a v after id r answer err is = rw (not_there_called (Dropped id) (session_of id v.sessions) (sym answer ∙ err)) (none_accepted a v after is)
 
 -- ---- calls of take
 
@@ -115,6 +167,10 @@ takes_served a b p v after id bytes shows told = record {
   exchanged = answered_none p;
 }
 
+pub alone_accepted : (a b : Following) (p : Answering) (v after : ServerValue) (id count : ℕ) (bytes : List ℕ) → count ≡ (in_result v id bytes).count → after ≡ (in_result v id bytes).server → ShowsMore v after (took v id bytes) → FollowsMore a b (took v id bytes) → HasAccepted (IsTakenAlone v id bytes after count) (FollowsMore a b) (AnswersMore p p) v after
+alone_accepted a b p v after id count bytes counted is shows told =
+    record { events = took v id bytes; exchanges = []; made = (is, counted, refl, refl); accepted = (shows, told); exchanged = answered_none p }
+
 pub part_served : (a b : Following) (p : Answering) (v after : ServerValue) (id : ℕ) (bytes : List ℕ) → TellsPartlyFed (FollowsMore a b) v id bytes after → HasServedBy AreTakenAlone (FollowsMore a b) (AnswersMore p p) v after
 part_served a b p v after id bytes part =
     let made = part.part in
@@ -130,16 +186,22 @@ part_served a b p v after id bytes part =
 
 -- ---- calls of take for an application
 
-pub with_taken : {A : Type 0} (follows : A → Answering) (one other : A) (told : List AcceptedCall → Type 0) (v after : ServerValue) (id count : ℕ) (bytes : List ℕ) → IsServedWith v id bytes count after told (AnswersMore (follows one) (follows other)) → IsTakenWith follows v id bytes after count
-with_taken follows one other told v after id count bytes part = record {
-  responses = part.responses;
-  made = part.made;
-  over = part.over;
-  counted = part.counted;
-  server = part.server;
-  shows = part.shows;
-  tells = tt;
-  exchanged = (one, other, part.exchanged);
+pub with_accepted : {A : Type 0} (follows : A → Answering) (one other : A) (a b : Following) (v after : ServerValue) (id count : ℕ) (bytes : List ℕ) → IsServedWith v id bytes count after (FollowsMore a b) (AnswersMore (follows one) (follows other)) → HasAccepted (IsTakenWith follows v id bytes after count) (FollowsMore a b) (AnswersMore (follows one) (follows other)) v after
+with_accepted follows one other a b v after id count bytes part = record {
+  events = (served v id bytes part.responses).events;
+  exchanges = (served v id bytes part.responses).exchanges;
+  made = record {
+    responses = part.responses;
+    made = part.made;
+    over = part.over;
+    counted = part.counted;
+    server = part.server;
+    shows = part.shows;
+    tells = refl;
+    exchanged = (refl, one, other, part.exchanged);
+  };
+  accepted = (part.shows, part.tells);
+  exchanged = part.exchanged;
 }
 
 pub with_served : (a b : Following) (p q : Answering) (v after : ServerValue) (id count : ℕ) (bytes : List ℕ) → IsServedWith v id bytes count after (FollowsMore a b) (AnswersMore p q) → HasServedBy AreTakenWith (FollowsMore a b) (AnswersMore p q) v after
@@ -199,6 +261,9 @@ none_opened a v after is = record { opens = false; server = is; shows = shows_sa
 pub one_opened : (a b : Following) (v after : ServerValue) (id : ℕ) → id ≡ v.ids + 1 → after ≡ server_opened v → ShowsMore v after (Opened id ∷ []) → FollowsMore a b (Opened id ∷ []) → HasOpened (FollowsMore a b) v after
 one_opened a b v after id is opened shows told = record { opens = true; server = opened; shows = rw is at shows; tells = rw is at told }
 
+pub opening_accepted : (a b : Following) (v after : ServerValue) (id : ℕ) → id ≡ v.ids + 1 → ShowsMore v after (Opened id ∷ []) → FollowsMore a b (Opened id ∷ []) → AreAccepted (FollowsMore a b) v after (opening v true)
+opening_accepted a b v after id is shows told = (rw is at shows, rw is at told)
+
 pub turned_further : (S : TakingSteps) (a b c : Following) (p q : Answering) {u v w : ServerValue} → HasOpened (FollowsMore a b) u v → HasServedBy S (FollowsMore b c) (AnswersMore p q) v w → HasTurnedBy S (FollowsMore a c) (AnswersMore p q) u w
 turned_further S a b c p q {u} {v} {w} one two = record {
   opens = one.opens;
@@ -235,3 +300,44 @@ alone_serving (OneDropped w events exchanges id so_far) = all_append IsServing e
 
 pub turned_alone : (told : List AcceptedCall → Type 0) (asks : List Exchange → Type 0) (v w : ServerValue) → HasTurnedBy AreTakenAlone told asks v w → HasTurned told v w
 turned_alone told asks v w one = record { opens = one.opens; events = one.events; serving = alone_serving one.steps; shows = one.shows; tells = one.tells }
+
+-- ---- the events of a turn in which no application responds
+
+heard_serving : (id : ℕ) (heard : Got) → AllByRecursion IsServing (heard_events id heard)
+heard_serving id (Bytes n) = tt
+heard_serving id Later = tt
+heard_serving id End = (tt, tt)
+heard_serving id Failed = tt
+
+wrote_serving : (id : ℕ) (wrote : Got) → AllByRecursion IsServing (wrote_events id wrote)
+wrote_serving id (Bytes n) = (tt, tt)
+wrote_serving id Later = tt
+wrote_serving id End = tt
+wrote_serving id Failed = tt
+
+dropped_serving : (id : ℕ) (o : Option SessionValue) → AllByRecursion IsServing (where_there o (λ s. Dropped id))
+dropped_serving id None = tt
+dropped_serving id (Some s) = (tt, tt)
+
+left_serving : (course : PeerOutcome) (v : ServerValue) (id : ℕ) → AllByRecursion IsServing (events_left course v id)
+left_serving Open v id = tt
+left_serving Over v id = dropped_serving id (session_of id v.sessions)
+
+carried_serving : (failed may_write : Bool) (v : ServerValue) (id : ℕ) (bytes : List ℕ) (wire : WireTrace) (after : ServerValue) (left : List ℕ) (told : WireTrace) (course : PeerOutcome) (events : List AcceptedCall) (exchanges : List Exchange) → IsCarriedOn IsTakenAlone failed may_write v id bytes wire after left told course events exchanges → AllByRecursion IsServing events
+carried_serving true may_write v id bytes wire after left told course events exchanges carried = rw carried.3 tt
+carried_serving false may_write v id bytes wire after left told course events exchanges carried =
+    rw (carried.all, carried.part.took.2) (all_append IsServing (took v id bytes) (wrote_events id carried.wrote) (takes_serving (length bytes) v id bytes) (wrote_serving id carried.wrote))
+
+once_serving : (may_read may_write : Bool) (v : ServerValue) (id : ℕ) (rest : List ℕ) (wire : WireTrace) (after : ServerValue) (left : List ℕ) (told : WireTrace) (course : PeerOutcome) (events : List AcceptedCall) (exchanges : List Exchange) → IsServedOnceBy IsTakenAlone may_read may_write v id rest wire after left told course events exchanges → AllByRecursion IsServing events
+once_serving may_read may_write v id rest wire after left told course events exchanges part =
+    rw part.all (all_append IsServing (heard_events id part.heard) part.later (heard_serving id part.heard)
+    (carried_serving (has_failed part.heard) may_write (server_heard v id part.heard) id part.bytes part.between after left told course part.later exchanges part.carried))
+
+module _ {W : Type 0} (readable writable : W → Option Bool) (trace : W → WireTrace) where
+  pub served_serving : {n : ℕ} {v after : ServerValue} {es left : List (ℕ × Peer W)} {changed : Bool} {events : List AcceptedCall} {exchanges : List Exchange} → AreServed IsTakenAlone readable writable trace n v es changed after left events exchanges → AllByRecursion IsServing events
+  served_serving (NoMore n v) = tt
+  served_serving (PassedOver n v e es changed after left events exchanges idle others) = served_serving others
+  served_serving (HadItsPart n v e es between its own asked changed after left events exchanges in_turn part others) =
+      let once = part.part in
+      let first = once_serving once.may_read once.may_write v e.0 e.1.rest (trace e.1.wire) part.served part.peer.rest (trace part.peer.wire) part.course part.serving part.asked once.part in
+      all_append IsServing own events (rw part.all (all_append IsServing part.serving (events_left part.course part.served e.0) first (left_serving part.course part.served e.0))) (served_serving others)

@@ -16,7 +16,7 @@ use Rattle.coap_io.proofs.streams.DeviceLemmas.{told_then}
 use Rattle.coap_server_engine.proofs.scripting.FollowLemmas.{followed_none, followed_then}
 use Rattle.coap_server_engine.proofs.scripting.ShownLemmas.{shows_same}
 use Rattle.std.proofs.lemmas.Bool.Decides.{nat_tests}
-use Rattle.coap_server_listener.proofs.streams.DoorLemmas.{IsHeard, heard_further, ticks_are_made, turn_cut, turns_are_made}
+use Rattle.coap_server_listener.proofs.streams.DoorLemmas.{IsHeard, heard_further, ticks_are_made, turn_cut, whole_turns_are_made}
 use Rattle.coap_server_listener.proofs.streams.WatchLemmas.{ticks_recorded, watch_followed}
 
 -- ---- the calls of the parts of a turn
@@ -51,25 +51,38 @@ time_heard calls now all m n (Ok x) a v w events moment heard answer shows told 
 time_heard calls now all m n (Err e) a v w events moment heard answer shows told err =
     (rw (← answer, append-nil, err.0, err.1) heard, ap now err.1, ap all err.1)
 
--- The calls of a turn, and the activities after them.
-pub record IsTurnHeard (told : List AcceptedCall → Type 0) (v after : ServerValue) (now : ℕ) (all later : List (ℕ × Activity)) : Type 0 where
+-- A turn, its calls, and the activities after them.
+pub record IsTurnHeard {W : Type 0} (readable writable : W → Option Bool) (trace : W → WireTrace) (door : List (DoorCall W) → Type 0) (told : List AcceptedCall → Type 0) (v : ServerValue) (es : List (ℕ × Peer W)) (after : ServerValue) (left : List (ℕ × Peer W)) (next : Wait) (now : ℕ) (all later : List (ℕ × Activity)) : Type 0 where
   pub more : List AcceptedCall
-  pub turned : HasTurned (λ calls. more ≡ calls) v after
+  pub turn : IsTurnOf readable writable trace door (λ calls. more ≡ calls) v es after left next
   pub followed : AreWatchedCalls now all more later
   pub each : All IsDoorCall more
   pub shows : ShowsMore v after more
   pub tells : told more
 
-pub turn_heard : (a b c : Following) (now later : ℕ) (all after : List (ℕ × Activity)) (v w : ServerValue) → HasTurned (FollowsMore (watched a now all) (watched b later after)) v w → FollowsMore b c [] → IsTurnHeard (FollowsMore a c) v w now all after
-turn_heard a b c now later all after v w turned ends =
-    let more : List AcceptedCall = opening v turned.opens ++ turned.events in
-    let own = watch_followed a b now later all after more turned.tells in
+pub turn_heard : {W : Type 0} (readable writable : W → Option Bool) (trace : W → WireTrace) (door : List (DoorCall W) → Type 0) (a b c : Following) (now later : ℕ) (all acts : List (ℕ × Activity)) (v : ServerValue) (es : List (ℕ × Peer W)) (after : ServerValue) (left : List (ℕ × Peer W)) (next : Wait)
+    → IsTurnOf readable writable trace door (FollowsMore (watched a now all) (watched b later acts)) v es after left next → FollowsMore b c [] → IsTurnHeard readable writable trace door (FollowsMore a c) v es after left next now all acts
+turn_heard readable writable trace door a b c now later all acts v es after left next turn ends =
+    let more : List AcceptedCall = opening v turn.opens ++ turn.events in
+    let own = watch_followed a b now later all acts more turn.accepted.1 in
     record {
       more = more;
-      turned = record { opens = turned.opens; events = turned.events; serving = turned.serving; shows = turned.shows; tells = refl };
+      turn = record {
+        opens = turn.opens;
+        server = turn.server;
+        entries = turn.entries;
+        opened = turn.opened;
+        changed = turn.changed;
+        events = turn.events;
+        exchanges = turn.exchanges;
+        served = turn.served;
+        waits = turn.waits;
+        accepted = (turn.accepted.0, refl);
+        exchanged = tt;
+      };
       followed = own.2;
-      each = turns_are_made (FollowsMore (watched a now all) (watched b later after)) v w turned;
-      shows = turned.shows;
+      each = whole_turns_are_made readable writable trace door (FollowsMore (watched a now all) (watched b later acts)) v es after left next turn;
+      shows = turn.accepted.0;
       tells = rw append-nil at (followed_then a b c more [] own.0 ends);
     }
 
@@ -140,12 +153,12 @@ module _ {W : Type 0} (readable writable : W → Option Bool) (trace : W → Wir
         told_then begin waited asked (so_far.turned.calls ++ behind) (asked_by u handed)
         (told_then begin came waited so_far.turned.calls behind so_far.turned.door_tells (rw (so_far.counted, ← may_open) waits)) asks
 
-    pub timed_once_more : (f : Following) (after : ServerValue) (left : List (ℕ × Peer W)) (later : List (ℕ × Activity)) (is_spent' : Bool) (next limited : Wait) → IsTurnOf readable writable trace (TellsMore waited asked) between rest after left next → IsTurnHeard (FollowsMore d f) between after second acts later → is_spent' ≡ false → limited ≡ short_wait after.host.now left next
+    pub timed_once_more : (f : Following) (after : ServerValue) (left : List (ℕ × Peer W)) (later : List (ℕ × Activity)) (is_spent' : Bool) (next limited : Wait) → IsTurnHeard readable writable trace (TellsMore waited asked) (FollowsMore d f) between rest after left next second acts later → is_spent' ≡ false → limited ≡ short_wait after.host.now left next
         → HasTimedTo (TellsMore first now) (TellsMore began read) (TellsMore begin asked) (FollowsMore a f) second later after left is_spent' limited (turns + 1)
-    timed_once_more f after left later is_spent' next limited turned heard ready' limits =
+    timed_once_more f after left later is_spent' next limited heard ready' limits =
         let sweep : Sweep W = due_sweep (is_sweep_due last second) idle second v all es in
-        let t : IsTurnOf readable writable trace (TellsMore waited asked) (moved_to sweep.server moment) sweep.entries after left next = rw (begun.server, begun.entries) at turned in
-        let h : IsTurnHeard (FollowsMore d f) (moved_to sweep.server moment) after second sweep.activities later = rw (begun.server, begun.activities) at heard in
+        let h : IsTurnHeard readable writable trace (TellsMore waited asked) (FollowsMore d f) (moved_to sweep.server moment) sweep.entries after left next second sweep.activities later = rw (begun.server, begun.entries, begun.activities) at heard in
+        let t = h.turn in
         let earlier : List AcceptedCall = (so_far.turned.events ++ sweep.events) ++ moved_calls sweep.server moment in
         let handed = t.opened.handed in
         record {
@@ -161,10 +174,14 @@ module _ {W : Type 0} (readable writable : W → Option Bool) (trace : W → Wir
                   entries = t.entries;
                   opened = record { handed = handed; asked = refl; opened = t.opened.opened; is = t.opened.is };
                   changed = t.changed;
+                  events = t.events;
+                  exchanges = t.exchanges;
                   served = t.served;
                   waits = t.waits;
+                  accepted = t.accepted;
+                  exchanged = tt;
                 })
-                h.turned h.followed);
+                h.followed);
             clock_tells = told_then first before now so_far.turned.moments (moment ∷ []) so_far.turned.clock_tells tells;
             uptime_tells = told_then began till read so_far.turned.seconds (second ∷ []) so_far.turned.uptime_tells reads;
             door_tells = timed_calls (moved_to sweep.server moment) handed t.opened.asked;

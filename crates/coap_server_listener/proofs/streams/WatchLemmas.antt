@@ -1,5 +1,5 @@
 -- The statement of a watch: the calls of its monitor, and the activities after them.
-use Rattle.std.proofs.Common.{◌≡◌, ◌⊎◌, ℕ, zero, suc, Bool, true, false, List, [], ◌∷◌, ◌++◌, Option, Some, None, refl, sym, ◌∙◌, inl, inr, if◌then◌else◌}
+use Rattle.std.proofs.Common.{◌≡◌, ◌⊎◌, ℕ, zero, suc, true, false, List, [], ◌∷◌, ◌++◌, Option, Some, None, refl, sym, ◌∙◌, inl, inr, if◌then◌else◌}
 use Rattle.coap_server_listener.specs.Prelude.{AcceptedCall, Activity, Opened, Ticked, Following, FollowsMore, ServerValue, ticked_calls}
 use Rattle.coap_server_listener.specs.Prelude.{activities_after, activities_in, text_of, time_in, number_of, watched, IsWatchedCall, AreWatchedCalls}
 use Rattle.std.specs.Prelude.{◌==◌}

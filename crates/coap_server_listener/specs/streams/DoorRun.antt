@@ -47,25 +47,27 @@ IsDoorCall (Announced id size) = ⊥
 IsDoorCall (Responded id m) = ⊥
 IsDoorCall (Dropped id) = Unit {0}
 
--- Whole turns on a new server, one after the other. The indices are the times that the clock returned, the calls of the
--- listener, the resulting server and connections, and the wait that follows. Before each turn but the first, the
--- listener waits as long as the last turn returned. Then the time advances to that of the clock, at most one connection
--- is opened, and each is served.
-pub data AreTurns {W : Type 0} (readable writable : W → Option Bool) (trace : W → WireTrace) (c : ConfigValues) : List ℕ → List (DoorCall W) → ServerValue → List (ℕ × Peer W) → Wait → Type 0 where
-  NoneYet : AreTurns readable writable trace c [] [] (new_server c) [] No
-  OneMore : (moments : List ℕ) (calls : List (DoorCall W)) (v : ServerValue) (es : List (ℕ × Peer W)) (wait : Wait) (moment : ℕ) (asked : List (DoorCall W)) (after : ServerValue) (left : List (ℕ × Peer W)) (next : Wait)
-      → AreTurns readable writable trace c moments calls v es wait
-      → IsTurnOf readable writable trace (λ calls. asked ≡ calls) (moved_to v moment) es after left next
-      → AreTurns readable writable trace c (moments ++ moment ∷ []) ((calls ++ waited_behind (length moments) wait (is_none (open_refusal v))) ++ asked) after left next
+-- Whole turns on a new server, one after the other. The first three indices are the times that the clock returned, the
+-- calls of the listener, and the events. They are followed by the resulting server and connections, and the wait that
+-- follows. Before each turn but the first, the listener waits as long as the last turn returned. Then the time advances to
+-- that of the clock, at most one connection is opened, and each is served. The events of a turn are those of the clock,
+-- then those of `IsTurnOf`.
+pub data AreTurns {W : Type 0} (readable writable : W → Option Bool) (trace : W → WireTrace) (c : ConfigValues) : List ℕ → List (DoorCall W) → List AcceptedCall → ServerValue → List (ℕ × Peer W) → Wait → Type 0 where
+  NoneYet : AreTurns readable writable trace c [] [] [] (new_server c) [] No
+  OneMore : (moments : List ℕ) (calls : List (DoorCall W)) (events : List AcceptedCall) (v : ServerValue) (es : List (ℕ × Peer W)) (wait : Wait) (moment : ℕ) (asked : List (DoorCall W)) (more : List AcceptedCall) (after : ServerValue) (left : List (ℕ × Peer W)) (next : Wait)
+      → AreTurns readable writable trace c moments calls events v es wait
+      → IsTurnOf readable writable trace (λ calls. asked ≡ calls) (λ all. more ≡ all) (moved_to v moment) es after left next
+      → AreTurns readable writable trace c (moments ++ moment ∷ []) ((calls ++ waited_behind (length moments) wait (is_none (open_refusal v))) ++ asked) ((events ++ moved_calls v moment) ++ more) after left next
 
--- Whole turns that match the traces of the clock and the listener. The server shows the calls that the monitor received.
+-- Whole turns that match the traces of the clock and the listener. The monitor received exactly the events of these
+-- turns, and the server shows them.
 pub record HasTurnedSo {W : Type 0} (readable writable : W → Option Bool) (trace : W → WireTrace) (c : ConfigValues) (clock : List ℕ → Type 0) (door : List (DoorCall W) → Type 0) (monitor : List AcceptedCall → Type 0) (v : ServerValue) (es : List (ℕ × Peer W)) (wait : Wait) : Type 0 where
   pub moments : List ℕ
   pub calls : List (DoorCall W)
-  pub turns : AreTurns readable writable trace c moments calls v es wait
+  pub events : List AcceptedCall
+  pub turns : AreTurns readable writable trace c moments calls events v es wait
   pub clock_tells : clock moments
   pub door_tells : door calls
-  pub events : List AcceptedCall
   pub each : All IsDoorCall events
   pub shows : Shows v events
   pub monitor_tells : monitor events
@@ -79,24 +81,24 @@ pub record IsWholeRun {W : Type 0} (readable writable : W → Option Bool) (trac
   pub all : length turned.moments ≡ c.turns
 
 -- A run in which an allocation failed in a turn, after some whole turns. The clock had been read for that turn, and the
--- listener had been asked if another connection might be opened. The monitor received the calls of the whole turns and
--- those of the turn that was cut, and the server after it, `last`, shows them.
+-- listener had been asked if another connection might be opened. The monitor received the events of the whole turns, then
+-- that of the clock, then those of the turn that was cut. The server after it, `last`, shows them.
 pub record IsCutRun {W : Type 0} (readable writable : W → Option Bool) (trace : W → WireTrace) (c : ConfigValues) (clock : List ℕ → Type 0) (door : List (DoorCall W) → Type 0) (monitor : List AcceptedCall → Type 0) : Type 0 where
   pub moments : List ℕ
   pub calls : List (DoorCall W)
+  pub events : List AcceptedCall
   pub server : ServerValue
   pub entries : List (ℕ × Peer W)
   pub wait : Wait
-  pub turns : AreTurns readable writable trace c moments calls server entries wait
+  pub turns : AreTurns readable writable trace c moments calls events server entries wait
   pub few : length moments + 1 ≤ c.turns
   pub moment : ℕ
   pub handed : Option W
   pub clock_tells : clock (moments ++ moment ∷ [])
   pub door_tells : door ((calls ++ waited_behind (length moments) wait (is_none (open_refusal server))) ++ asked_by (moved_to server moment) handed)
-  pub before : List AcceptedCall
-  pub shown : Shows (moved_to server moment) before
+  pub shown : Shows (moved_to server moment) (events ++ moved_calls server moment)
   pub last : ServerValue
-  pub cut : HasTurned (λ more. All IsDoorCall (before ++ more) × monitor (before ++ more)) (moved_to server moment) last
+  pub cut : HasTurned (λ more. All IsDoorCall ((events ++ moved_calls server moment) ++ more) × monitor ((events ++ moved_calls server moment) ++ more)) (moved_to server moment) last
 
 -- A run in which an allocation failed before the first turn: the clock, the listener and the monitor were not called.
 abbrev pub FailedBeforeStart : {W : Type 0} → (clock : List ℕ → Type 0) (door : List (DoorCall W) → Type 0) (monitor : List AcceptedCall → Type 0) → Type 0

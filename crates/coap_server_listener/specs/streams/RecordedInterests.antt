@@ -1,6 +1,7 @@
 -- Defined by this project: the recorded I/O interest of a connection, and how long it is correct.
 use Rattle.std.specs.Prelude.{◌≡◌, ◌≢◌, ◌≤◌, ◌+◌, ℕ, Bool, List, Option, map, nat_eq, if◌then◌else◌}
 use Rattle.std.specs.List.{AllByRecursion}
+use Rattle.coap_model.specs.world.Events.{AcceptedCall}
 use Rattle.coap_server_engine.specs.values.Servers.{ServerValue, AreSettled, session_of, server_opened, server_ticked, server_dropped}
 use Rattle.coap_server_engine.specs.values.ServerDeadlines.{stamp_of}
 use Rattle.coap_server_listener.specs.streams.Turns.{IsServedOnce, wants_of, PeerStatus}
@@ -60,7 +61,7 @@ pub record KeepsNotes (id : ℕ) (v after : ServerValue) : Type 0 where
 -- Then, in any order, other connections are served, dropped and opened, and the time advances.
 pub data WhilePassedOver (id : ℕ) (v : ServerValue) : ServerValue → Type 0 where
   AtFirst : WhilePassedOver id v v
-  Served : (before after : ServerValue) (other : ℕ) (rest left : List ℕ) (wire told : WireTrace) (may_read may_write : Bool) (course : PeerOutcome) → WhilePassedOver id v before → id ≢ other → IsServedOnce may_read may_write before other rest wire after left told course → WhilePassedOver id v after
+  Served : (before after : ServerValue) (other : ℕ) (rest left : List ℕ) (wire told : WireTrace) (may_read may_write : Bool) (course : PeerOutcome) (events : List AcceptedCall) → WhilePassedOver id v before → id ≢ other → IsServedOnce may_read may_write before other rest wire after left told course events → WhilePassedOver id v after
   Dropped : (before : ServerValue) (other : ℕ) → WhilePassedOver id v before → id ≢ other → WhilePassedOver id v (server_dropped before other)
   Opened : (before : ServerValue) → WhilePassedOver id v before → id ≢ before.ids + 1 → WhilePassedOver id v (server_opened before)
   Ticked : (before : ServerValue) (later : ℕ) → WhilePassedOver id v before → before.host.now ≤ later → WhilePassedOver id v (server_ticked before later)

@@ -6,12 +6,13 @@ use Rattle.coap_io.specs.streams.DeviceTraces.{DoorCall, Asked}
 use Rattle.coap_server_listener.specs.streams.RecordedInterests.{true_end}
 use Rattle.coap_server_listener.specs.streams.Turns.{Taking, IsTakenAlone, IsServed, IsIdle, IsInTurn, IsAgendaOf, IsWaitAfter, concerns_earlier, end_of}
 use Rattle.coap_io.specs.streams.Wires.{WireTrace}
-use Rattle.coap_server_engine.specs.values.InResults.{ShowsMore}
+use Rattle.coap_server_engine.specs.values.InResults.{ShowsMore, where_there}
 use Rattle.coap_server_engine.specs.values.Exchanges.{Exchange, Gone}
 use Rattle.coap_server_engine.specs.values.ApplicationCalls.{IsPartlyServed, IsServed as IsServedWith}
 use Rattle.coap_server_engine.specs.values.ServerDeadlines.{stamp_of}
+use Rattle.coap_server_session.specs.values.Sessions.{SessionValue}
 use Rattle.coap_server_engine.specs.values.ServerAnswers.{open_refusal}
-use Rattle.coap_server_engine.specs.values.Servers.{ServerValue, server_opened, server_dropped, server_ended, server_written}
+use Rattle.coap_server_engine.specs.values.Servers.{ServerValue, session_of, server_opened, server_dropped, server_ended, server_written}
 use Rattle.coap_model.specs.world.Events.{AcceptedCall, Opened, Took, Wrote, Ticked, Stored, Removed, Ended, Released, Announced, Responded, Dropped}
 use Rattle.coap_server_listener.specs.declared.door.peer.PeerOutcome.{PeerOutcome}
 use Rattle.coap_server_listener.specs.declared.door.peer.PeerOutcome.TheVariants.{Open, Over}
@@ -38,6 +39,20 @@ IsServing (Released id) = ⊥
 IsServing (Announced id size) = ⊥
 IsServing (Responded id m) = ⊥
 IsServing (Dropped id) = Unit {0}
+
+-- The server accepted the calls of these events. If it showed some events before, it now shows them followed by these.
+-- `told` holds of these events.
+abbrev pub AreAccepted : (told : List AcceptedCall → Type 0) (v after : ServerValue) → List AcceptedCall → Type 0
+AreAccepted told v after events = ShowsMore v after events × told events
+
+-- The server accepted the calls of some events, and had some exchanges with the application. `Made` holds of both, and
+-- `asks` of the exchanges.
+pub record HasAccepted (Made : List AcceptedCall → List Exchange → Type 0) (told : List AcceptedCall → Type 0) (asks : List Exchange → Type 0) (v after : ServerValue) : Type 0 where
+  pub events : List AcceptedCall
+  pub exchanges : List Exchange
+  pub made : Made events exchanges
+  pub accepted : AreAccepted told v after events
+  pub exchanged : asks exchanges
 
 -- Facts on a call that passes bytes to a connection: the server before and after, its events, and the exchanges
 -- with the application.
@@ -124,41 +139,69 @@ abbrev pub end_left : {W : Type 0} → PeerOutcome → ℕ → Peer W → List (
 end_left Open id p = (id, p) ∷ []
 end_left Over id p = []
 
+-- The event that drops a connection, if the connection exists.
+abbrev pub dropped_events : ServerValue → ℕ → List AcceptedCall
+dropped_events v id = where_there (session_of id v.sessions) (λ s. Dropped id)
+
+-- The event that follows those of serving a connection. If the outcome is `Over`, the connection is dropped.
+abbrev pub events_left : PeerOutcome → ServerValue → ℕ → List AcceptedCall
+events_left Open v id = []
+events_left Over v id = dropped_events v id
+
+-- The exchange that reports the end of a connection to the application, if the connection exists.
+abbrev pub gone_on : Option SessionValue → ℕ → List Exchange
+gone_on None id = []
+gone_on (Some s) id = Gone id ∷ []
+
+abbrev pub gone_exchanges : ServerValue → ℕ → List Exchange
+gone_exchanges v id = gone_on (session_of id v.sessions) id
+
+-- The exchange that follows those of serving a connection.
+abbrev pub exchanges_left : PeerOutcome → ServerValue → ℕ → List Exchange
+exchanges_left Open v id = []
+exchanges_left Over v id = gone_exchanges v id
+
 -- A connection was served in a turn, and was dropped if its outcome is `Over`. Its wire was read and written at no
--- other time.
-pub record IsServedInTurn {W : Type 0} (Takes : Taking) (readable writable : W → Option Bool) (trace : W → WireTrace) (v : ServerValue) (e : ℕ × Peer W) (after : ServerValue) (left : List (ℕ × Peer W)) : Type 0 where
+-- other time. The events are those of the service, followed by that of the drop, and so are the exchanges. If the
+-- connection was dropped, its wire is gone, and `peer` is one that fits.
+pub record IsServedInTurn {W : Type 0} (Takes : Taking) (readable writable : W → Option Bool) (trace : W → WireTrace) (v : ServerValue) (e : ℕ × Peer W) (after : ServerValue) (left : List (ℕ × Peer W)) (events : List AcceptedCall) (exchanges : List Exchange) : Type 0 where
   pub served : ServerValue
   pub peer : Peer W
   pub course : PeerOutcome
-  pub part : IsServed Takes (readable e.1.wire) (writable e.1.wire) v e.0 e.1.rest (trace e.1.wire) served peer.rest (trace peer.wire) course
+  pub serving : List AcceptedCall
+  pub asked : List Exchange
+  pub part : IsServed Takes (readable e.1.wire) (writable e.1.wire) v e.0 e.1.rest (trace e.1.wire) served peer.rest (trace peer.wire) course serving asked
   pub server : after ≡ server_left course served e.0
   pub far_end : left ≡ end_left course e.0 peer
+  pub all : events ≡ serving ++ events_left course served e.0
+  pub exchanged : exchanges ≡ asked ++ exchanges_left course served e.0
 
 -- The connection at an index was served, and the turn continues at the index `at`. The connections before and after it
 -- are unchanged.
-pub record HasGoneOn {W : Type 0} (Takes : Taking) (readable writable : W → Option Bool) (trace : W → WireTrace) (v : ServerValue) (es : List (ℕ × Peer W)) (i : ℕ) (after : ServerValue) (left : List (ℕ × Peer W)) (at : ℕ) : Type 0 where
+pub record HasGoneOn {W : Type 0} (Takes : Taking) (readable writable : W → Option Bool) (trace : W → WireTrace) (v : ServerValue) (es : List (ℕ × Peer W)) (i : ℕ) (after : ServerValue) (left : List (ℕ × Peer W)) (at : ℕ) (events : List AcceptedCall) (exchanges : List Exchange) : Type 0 where
   pub e : ℕ × Peer W
   pub its : List (ℕ × Peer W)
   pub there : slice_get es i ≡ Some e
-  pub part : IsServedInTurn Takes readable writable trace v e after its
+  pub part : IsServedInTurn Takes readable writable trace v e after its events exchanges
   pub front : take at left ≡ take i es ++ its
   pub back : drop at left ≡ drop (i + 1) es
 
 -- Each connection in order was served, or skipped if it is idle. `earlier` is the number of connections before these
 -- that still exist. `changed` is `true` if serving one of these may affect a connection before it, including those
--- `earlier` ones.
-pub data AreServed {W : Type 0} (Takes : Taking) (readable writable : W → Option Bool) (trace : W → WireTrace) : (earlier : ℕ) → ServerValue → List (ℕ × Peer W) → (changed : Bool) → ServerValue → List (ℕ × Peer W) → Type 0 where
-  NoMore : (earlier : ℕ) (v : ServerValue) → AreServed Takes readable writable trace earlier v [] false v []
-  PassedOver : (earlier : ℕ) (v : ServerValue) (e : ℕ × Peer W) (es : List (ℕ × Peer W)) (changed : Bool) (after : ServerValue) (left : List (ℕ × Peer W)) → IsIdle (stamp_of v.host) (end_of readable writable e.1)
-      → AreServed Takes readable writable trace (earlier + 1) v es changed after left → AreServed Takes readable writable trace earlier v (e ∷ es) changed after (e ∷ left)
-  HadItsPart : (earlier : ℕ) (v : ServerValue) (e : ℕ × Peer W) (es : List (ℕ × Peer W)) (between : ServerValue) (its : List (ℕ × Peer W)) (changed : Bool) (after : ServerValue) (left : List (ℕ × Peer W)) → IsInTurn (stamp_of v.host) (end_of readable writable e.1)
-      → IsServedInTurn Takes readable writable trace v e between its → AreServed Takes readable writable trace (earlier + length its) between es changed after left
-      → AreServed Takes readable writable trace earlier v (e ∷ es) (concerns_earlier earlier (stamp_of v.host) (stamp_of between.host) || changed) after (its ++ left)
+-- `earlier` ones. The events and exchanges are those of the served connections, in order. A connection that is skipped
+-- has none.
+pub data AreServed {W : Type 0} (Takes : Taking) (readable writable : W → Option Bool) (trace : W → WireTrace) : (earlier : ℕ) → ServerValue → List (ℕ × Peer W) → (changed : Bool) → ServerValue → List (ℕ × Peer W) → List AcceptedCall → List Exchange → Type 0 where
+  NoMore : (earlier : ℕ) (v : ServerValue) → AreServed Takes readable writable trace earlier v [] false v [] [] []
+  PassedOver : (earlier : ℕ) (v : ServerValue) (e : ℕ × Peer W) (es : List (ℕ × Peer W)) (changed : Bool) (after : ServerValue) (left : List (ℕ × Peer W)) (events : List AcceptedCall) (exchanges : List Exchange) → IsIdle (stamp_of v.host) (end_of readable writable e.1)
+      → AreServed Takes readable writable trace (earlier + 1) v es changed after left events exchanges → AreServed Takes readable writable trace earlier v (e ∷ es) changed after (e ∷ left) events exchanges
+  HadItsPart : (earlier : ℕ) (v : ServerValue) (e : ℕ × Peer W) (es : List (ℕ × Peer W)) (between : ServerValue) (its : List (ℕ × Peer W)) (own : List AcceptedCall) (asked : List Exchange) (changed : Bool) (after : ServerValue) (left : List (ℕ × Peer W)) (events : List AcceptedCall) (exchanges : List Exchange) → IsInTurn (stamp_of v.host) (end_of readable writable e.1)
+      → IsServedInTurn Takes readable writable trace v e between its own asked → AreServed Takes readable writable trace (earlier + length its) between es changed after left events exchanges
+      → AreServed Takes readable writable trace earlier v (e ∷ es) (concerns_earlier earlier (stamp_of v.host) (stamp_of between.host) || changed) after (its ++ left) (own ++ events) (asked ++ exchanges)
 
 -- Each connection in order was served, except those that are idle, and the agenda describes the work that remains.
-pub record IsRound {W : Type 0} (Takes : Taking) (readable writable : W → Option Bool) (trace : W → WireTrace) (v : ServerValue) (es : List (ℕ × Peer W)) (a : NextWakeup) (after : ServerValue) (left : List (ℕ × Peer W)) : Type 0 where
+pub record IsRound {W : Type 0} (Takes : Taking) (readable writable : W → Option Bool) (trace : W → WireTrace) (v : ServerValue) (es : List (ℕ × Peer W)) (a : NextWakeup) (after : ServerValue) (left : List (ℕ × Peer W)) (events : List AcceptedCall) (exchanges : List Exchange) : Type 0 where
   pub changed : Bool
-  pub served : AreServed Takes readable writable trace 0 v es changed after left
+  pub served : AreServed Takes readable writable trace 0 v es changed after left events exchanges
   pub agenda : IsAgendaOf a changed (stamp_of after.host) (map (λ e. end_of readable writable e.1) left)
 
 -- ---- a turn
@@ -197,16 +240,21 @@ pub record IsOpening {W : Type 0} (told : List (DoorCall W) → Type 0) (v : Ser
 -- One turn of a server with its connections. `told` states which calls the listener had. If another connection may be
 -- opened, the listener is asked once, and a connection is opened for the wire that it returns. Then each connection is
 -- served. The wait is zero if and only if a connection was opened, a change may affect one served earlier, or one is
--- ready.
-pub record IsTurnBy {W : Type 0} (Takes : Taking) (readable writable : W → Option Bool) (trace : W → WireTrace) (told : List (DoorCall W) → Type 0) (v : ServerValue) (es : List (ℕ × Peer W)) (after : ServerValue) (left : List (ℕ × Peer W)) (wait : Wait) : Type 0 where
+-- ready. The events of the turn are those of the opened connection and of the served ones, in order. The server accepted
+-- their calls, and `monitor` holds of them. `asks` holds of the exchanges with the application.
+pub record IsTurnBy {W : Type 0} (Takes : Taking) (readable writable : W → Option Bool) (trace : W → WireTrace) (told : List (DoorCall W) → Type 0) (monitor : List AcceptedCall → Type 0) (asks : List Exchange → Type 0) (v : ServerValue) (es : List (ℕ × Peer W)) (after : ServerValue) (left : List (ℕ × Peer W)) (wait : Wait) : Type 0 where
   pub opens : Bool
   pub server : ServerValue
   pub entries : List (ℕ × Peer W)
   pub opened : IsOpening told v es server entries opens
   pub changed : Bool
-  pub served : AreServed Takes readable writable trace 0 server entries changed after left
+  pub events : List AcceptedCall
+  pub exchanges : List Exchange
+  pub served : AreServed Takes readable writable trace 0 server entries changed after left events exchanges
   pub waits : IsWaitAfter (opens || changed) (map (λ e. true_end readable writable after e) left) wait
+  pub accepted : AreAccepted monitor v after (opening v opens ++ events)
+  pub exchanged : asks exchanges
 
 -- One turn in which no application responds.
-abbrev pub IsTurnOf : {W : Type 0} (readable writable : W → Option Bool) (trace : W → WireTrace) (told : List (DoorCall W) → Type 0) (v : ServerValue) (es : List (ℕ × Peer W)) (after : ServerValue) (left : List (ℕ × Peer W)) (wait : Wait) → Type 0
-IsTurnOf readable writable trace told v es after left wait = IsTurnBy IsTakenAlone readable writable trace told v es after left wait
+abbrev pub IsTurnOf : {W : Type 0} (readable writable : W → Option Bool) (trace : W → WireTrace) (told : List (DoorCall W) → Type 0) (monitor : List AcceptedCall → Type 0) (v : ServerValue) (es : List (ℕ × Peer W)) (after : ServerValue) (left : List (ℕ × Peer W)) (wait : Wait) → Type 0
+IsTurnOf readable writable trace told monitor v es after left wait = IsTurnBy IsTakenAlone readable writable trace told monitor (λ exchanges. Unit {0}) v es after left wait

@@ -37,7 +37,7 @@ due_sweep false idle second v all es = record { server = v; activities = all; en
 -- the time of the server. So a response that is due then keeps its connection until it was written. The first four
 -- indices are the times of the clock and of `uptime`, the time of the last sweep, and the activities of the
 -- connections. They are followed by the calls that the server accepted, the calls of the listener, the resulting server
--- and connections, and the wait that follows.
+-- and connections, and the wait that follows. The calls of a turn are those of the sweep, of the clock, and of `IsTurnOf`.
 --
 -- The sweep of a turn is determined by the activities. These are the `initial` ones at first, at the time `start`. Then
 -- they follow the calls: each call is recorded at the time of the last sweep before it. So a connection is released or
@@ -47,13 +47,12 @@ pub data AreTimedTurns {W : Type 0} (readable writable : W → Option Bool) (tra
   OneSoFar : (moments seconds : List ℕ) (last : ℕ) (all : List (ℕ × Activity)) (events : List AcceptedCall) (calls : List (DoorCall W)) (v : ServerValue) (es : List (ℕ × Peer W)) (wait : Wait) (moment second : ℕ) (sweep : Sweep W) (more : List AcceptedCall) (later : List (ℕ × Activity)) (asked : List (DoorCall W)) (after : ServerValue) (left : List (ℕ × Peer W)) (next : Wait)
       → AreTimedTurns readable writable trace c idle start initial moments seconds last all events calls v es wait
       → sweep ≡ due_sweep (is_sweep_due last second) idle second v all es
-      → IsTurnOf readable writable trace (λ calls. asked ≡ calls) (moved_to sweep.server moment) sweep.entries after left next
-      → HasTurned (λ calls. more ≡ calls) (moved_to sweep.server moment) after
+      → IsTurnOf readable writable trace (λ calls. asked ≡ calls) (λ all. more ≡ all) (moved_to sweep.server moment) sweep.entries after left next
       → AreWatchedCalls second sweep.activities more later
       → AreTimedTurns readable writable trace c idle start initial (moments ++ moment ∷ []) (seconds ++ second ∷ []) second later (((events ++ sweep.events) ++ moved_calls sweep.server moment) ++ more) ((calls ++ waited_behind (length moments) wait (is_none (open_refusal v))) ++ asked) after left (short_wait after.host.now left next)
 
--- Whole turns that match the traces of the clocks and the listener. The server shows the calls of these turns, and the
--- monitor received them.
+-- Whole turns that match the traces of the clocks and the listener. The monitor received exactly the calls of these
+-- turns, and the server shows them.
 pub record HasTimedTurns {W : Type 0} (readable writable : W → Option Bool) (trace : W → WireTrace) (c : ConfigValues) (idle start : ℕ) (initial : List (ℕ × Activity)) (clock uptime : List ℕ → Type 0) (door : List (DoorCall W) → Type 0) (monitor : List AcceptedCall → Type 0) (last : ℕ) (all : List (ℕ × Activity)) (v : ServerValue) (es : List (ℕ × Peer W)) (wait : Wait) : Type 0 where
   pub moments : List ℕ
   pub seconds : List ℕ

@@ -1,12 +1,13 @@
 -- Defined by this project: how a turn of the event loop serves one connection, and the work that remains afterwards.
-use Rattle.std.specs.Prelude.{◌≡◌, ◌≢◌, fold, ℕ, Bool, true, false, not, List, [], ◌∷◌, length, drop, Option, Some, None, nat_lt, ◌==◌, ◌&&◌, ◌||◌, if◌then◌else◌}
+use Rattle.std.specs.Prelude.{◌≡◌, ◌≢◌, fold, ℕ, Bool, true, false, not, List, [], ◌∷◌, ◌++◌, length, drop, Option, Some, None, nat_lt, ◌==◌, ◌&&◌, ◌||◌, if◌then◌else◌}
 use Rattle.std.specs.List.{AllByRecursion}
 use Rattle.coap_conn.specs.declared.reason.Reason.{Reason}
 use Rattle.coap_server_engine.specs.values.Servers.{ServerValue, session_of, server_ended, server_written}
 use Rattle.coap_server_engine.specs.values.ServerAnswers.{can_take_on, stop_on}
 use Rattle.coap_server_session.specs.values.Deadlines.{sooner}
-use Rattle.coap_server_engine.specs.values.InResults.{in_result}
-use Rattle.coap_server_engine.specs.values.Exchanges.{Answering, AnswersMore}
+use Rattle.coap_model.specs.world.Events.{AcceptedCall, Took, Wrote, Ended}
+use Rattle.coap_server_engine.specs.values.InResults.{in_result, took}
+use Rattle.coap_server_engine.specs.values.Exchanges.{Answering, AnswersMore, Exchange}
 use Rattle.coap_server_engine.specs.values.ApplicationCalls.{IsServed as IsServedWith}
 use Rattle.coap_server_engine.specs.values.ServerDeadlines.{outlook_of, stamp_of, same_stamp}
 use Rattle.coap_server_engine.specs.values.Flushes.{waiting_at}
@@ -46,6 +47,25 @@ server_wrote v id Later = v
 server_wrote v id End = v
 server_wrote v id Failed = v
 
+-- The event of a read with this result: if the read found the end, the input has ended.
+abbrev pub heard_events : ℕ → Got → List AcceptedCall
+heard_events id (Bytes n) = []
+heard_events id Later = []
+heard_events id End = Ended id ∷ []
+heard_events id Failed = []
+
+-- The event of a write with this result, if it accepted bytes.
+abbrev pub wrote_events : ℕ → Got → List AcceptedCall
+wrote_events id (Bytes n) = Wrote id n ∷ []
+wrote_events id Later = []
+wrote_events id End = []
+wrote_events id Failed = []
+
+-- The event of a take of bytes of which the connection accepts none. Without bytes, there is no take.
+abbrev pub refused_events : ℕ → List ℕ → List AcceptedCall
+refused_events id [] = []
+refused_events id (b ∷ bytes) = Took id [] ∷ []
+
 -- The bytes that are kept of those left: none if the connection processes no further message, otherwise all.
 abbrev pub left_behind : Option Reason → List ℕ → List ℕ
 left_behind None rest = rest
@@ -66,19 +86,20 @@ is_over_in (Some o) = o.finished
 
 -- ---- serving one connection
 
--- The effect of received bytes on a connection. The arguments are the server before, the number of the connection, the
--- bytes, the server after, and the number of bytes that it accepted.
+-- The effect of received bytes on a connection. The arguments are the server before, the number of the connection, and
+-- the bytes. They are followed by the server after, the number of bytes that it accepted, the events, and the exchanges
+-- with the application.
 abbrev pub Taking : Type 1
-Taking = ServerValue → ℕ → List ℕ → ServerValue → ℕ → Type 0
+Taking = ServerValue → ℕ → List ℕ → ServerValue → ℕ → List AcceptedCall → List Exchange → Type 0
 
 -- The connection accepts all that it accepts of the bytes, and no application responds.
 abbrev pub IsTakenAlone : Taking
-IsTakenAlone v id bytes after count = (after ≡ (in_result v id bytes).server) × (count ≡ (in_result v id bytes).count)
+IsTakenAlone v id bytes after count events exchanges = (after ≡ (in_result v id bytes).server) × (count ≡ (in_result v id bytes).count) × (events ≡ took v id bytes) × (exchanges ≡ [])
 
 -- The connection accepts all that it accepts of the bytes. An application with these statements is shown the requests
 -- that it answers, and responds to some of them at once.
 abbrev pub IsTakenWith : {A : Type 0} → (follows : A → Answering) → Taking
-IsTakenWith {A} follows v id bytes after count = IsServedWith v id bytes count after (λ events. Unit {0}) (λ exchanges. (one other : A) × AnswersMore (follows one) (follows other) exchanges)
+IsTakenWith {A} follows v id bytes after count events exchanges = IsServedWith v id bytes count after (λ all. events ≡ all) (λ all. (exchanges ≡ all) × (one other : A) × AnswersMore (follows one) (follows other) all)
 
 abbrev pub has_failed : Got → Bool
 has_failed (Bytes n) = false
@@ -96,10 +117,10 @@ abbrev pub IsLaidOut : (is_due : Bool) → List ℕ → WireTrace → Got → Li
 IsLaidOut true rest wire heard bytes after = IsReadOnce READ_SIZE wire after heard bytes
 IsLaidOut false rest wire heard bytes after = (heard ≡ Later) × (bytes ≡ rest) × (after ≡ wire)
 
--- The connection did with these bytes what `Takes` states, and these are kept of them.
-pub record IsTakenInPart (Takes : Taking) (v : ServerValue) (id : ℕ) (bytes : List ℕ) (taken : ServerValue) (left : List ℕ) : Type 0 where
+-- The connection did with these bytes what `Takes` states, with these events and exchanges. These bytes are kept.
+pub record IsTakenInPart (Takes : Taking) (v : ServerValue) (id : ℕ) (bytes : List ℕ) (taken : ServerValue) (left : List ℕ) (events : List AcceptedCall) (exchanges : List Exchange) : Type 0 where
   pub count : ℕ
-  pub took : Takes v id bytes taken count
+  pub took : Takes v id bytes taken count events exchanges
   pub rest : left ≡ rest_behind taken id count bytes
 
 -- If the bytes offered to a wire are not empty, the wire was written once. Otherwise it was not touched.
@@ -108,51 +129,55 @@ pub record IsOffered (bytes : List ℕ) (wire : WireTrace) (wrote : Got) (after 
   pub busy : bytes ≢ [] → IsWrittenOnce bytes wire after wrote
 
 -- The connection did with these bytes what `Takes` states. Then its queued bytes were offered to one write, if the wire
--- may be written.
-pub record IsTakenAndWritten (Takes : Taking) (may_write : Bool) (v : ServerValue) (id : ℕ) (bytes : List ℕ) (wire : WireTrace) (after : ServerValue) (left : List ℕ) (told : WireTrace) (course : PeerOutcome) : Type 0 where
+-- may be written. The event of the write follows those of the takes.
+pub record IsTakenAndWritten (Takes : Taking) (may_write : Bool) (v : ServerValue) (id : ℕ) (bytes : List ℕ) (wire : WireTrace) (after : ServerValue) (left : List ℕ) (told : WireTrace) (course : PeerOutcome) (events : List AcceptedCall) (exchanges : List Exchange) : Type 0 where
   pub taken : ServerValue
-  pub part : IsTakenInPart Takes v id bytes taken left
+  pub takes : List AcceptedCall
+  pub part : IsTakenInPart Takes v id bytes taken left takes exchanges
   pub wrote : Got
   pub offered : IsOffered (waiting_once may_write id taken) wire wrote told
   pub server : after ≡ server_wrote taken id wrote
   pub outcome : course ≡ course_of wrote (is_over_in (outlook_of after id))
+  pub all : events ≡ takes ++ wrote_events id wrote
 
 -- The steps that follow a read. If the read failed, there is none, and the outcome is `Over`.
-abbrev pub IsCarriedOn : Taking → (failed may_write : Bool) → ServerValue → ℕ → List ℕ → WireTrace → ServerValue → List ℕ → WireTrace → PeerOutcome → Type 0
-IsCarriedOn Takes true may_write v id bytes wire after left told course = (after ≡ v) × (told ≡ wire) × (course ≡ Over)
-IsCarriedOn Takes false may_write v id bytes wire after left told course = IsTakenAndWritten Takes may_write v id bytes wire after left told course
+abbrev pub IsCarriedOn : Taking → (failed may_write : Bool) → ServerValue → ℕ → List ℕ → WireTrace → ServerValue → List ℕ → WireTrace → PeerOutcome → List AcceptedCall → List Exchange → Type 0
+IsCarriedOn Takes true may_write v id bytes wire after left told course events exchanges = (after ≡ v) × (told ≡ wire) × (course ≡ Over) × (events ≡ []) × (exchanges ≡ [])
+IsCarriedOn Takes false may_write v id bytes wire after left told course events exchanges = IsTakenAndWritten Takes may_write v id bytes wire after left told course events exchanges
 
 -- One connection was served: a read if one is due, then processing, then a write if bytes are queued. `may_read` and
 -- `may_write` are the readiness of its wire. A failed read ends this. The wire was read and written at no other time,
--- and `told` is its trace afterwards.
-pub record IsServedOnceBy (Takes : Taking) (may_read may_write : Bool) (v : ServerValue) (id : ℕ) (rest : List ℕ) (wire : WireTrace) (after : ServerValue) (left : List ℕ) (told : WireTrace) (course : PeerOutcome) : Type 0 where
+-- and `told` is its trace afterwards. The events are those of the read, of the takes and of the write, in this order.
+pub record IsServedOnceBy (Takes : Taking) (may_read may_write : Bool) (v : ServerValue) (id : ℕ) (rest : List ℕ) (wire : WireTrace) (after : ServerValue) (left : List ℕ) (told : WireTrace) (course : PeerOutcome) (events : List AcceptedCall) (exchanges : List Exchange) : Type 0 where
   pub heard : Got
   pub bytes : List ℕ
   pub between : WireTrace
   pub laid : IsLaidOut (is_heard may_read v id rest) rest wire heard bytes between
-  pub carried : IsCarriedOn Takes (has_failed heard) may_write (server_heard v id heard) id bytes between after left told course
+  pub later : List AcceptedCall
+  pub carried : IsCarriedOn Takes (has_failed heard) may_write (server_heard v id heard) id bytes between after left told course later exchanges
+  pub all : events ≡ heard_events id heard ++ later
 
 -- One connection was served, and no application responds.
-abbrev pub IsServedOnce : (may_read may_write : Bool) (v : ServerValue) (id : ℕ) (rest : List ℕ) (wire : WireTrace) (after : ServerValue) (left : List ℕ) (told : WireTrace) (course : PeerOutcome) → Type 0
-IsServedOnce may_read may_write v id rest wire after left told course = IsServedOnceBy IsTakenAlone may_read may_write v id rest wire after left told course
+abbrev pub IsServedOnce : (may_read may_write : Bool) (v : ServerValue) (id : ℕ) (rest : List ℕ) (wire : WireTrace) (after : ServerValue) (left : List ℕ) (told : WireTrace) (course : PeerOutcome) (events : List AcceptedCall) → Type 0
+IsServedOnce may_read may_write v id rest wire after left told course events = IsServedOnceBy IsTakenAlone may_read may_write v id rest wire after left told course events []
 
 -- To serve the connection has no effect, whatever its wire does: the wire is neither read nor written. There is an
 -- outcome. Every outcome leaves the server, the bytes left from its reads and the trace of its wire unchanged, and the
--- connection open.
+-- connection open. The only event is a take that accepts none of the bytes left, if there are some.
 pub record IsNoOp (may_read may_write : Bool) (v : ServerValue) (id : ℕ) (rest : List ℕ) : Type 0 where
   pub unread : is_heard may_read v id rest ≡ false
   pub unwritten : waiting_once may_write id v ≡ []
-  pub there_is_one : (wire : WireTrace) → IsServedOnce may_read may_write v id rest wire v rest wire Open
-  pub always : (wire : WireTrace) (after : ServerValue) (left : List ℕ) (told : WireTrace) (course : PeerOutcome) → IsServedOnce may_read may_write v id rest wire after left told course → (after ≡ v) × (left ≡ rest) × (told ≡ wire) × (course ≡ Open)
+  pub there_is_one : (wire : WireTrace) → IsServedOnce may_read may_write v id rest wire v rest wire Open (refused_events id rest)
+  pub always : (wire : WireTrace) (after : ServerValue) (left : List ℕ) (told : WireTrace) (course : PeerOutcome) (events : List AcceptedCall) → IsServedOnce may_read may_write v id rest wire after left told course events → (after ≡ v) × (left ≡ rest) × (told ≡ wire) × (course ≡ Open) × (events ≡ refused_events id rest)
 
 -- The connection was served once, with the results of `may_read` and `may_write` of its wire. If the wire records them,
 -- they are `readable` and `writable`.
-pub record IsServed (Takes : Taking) (readable writable : Option Bool) (v : ServerValue) (id : ℕ) (rest : List ℕ) (wire : WireTrace) (after : ServerValue) (left : List ℕ) (told : WireTrace) (course : PeerOutcome) : Type 0 where
+pub record IsServed (Takes : Taking) (readable writable : Option Bool) (v : ServerValue) (id : ℕ) (rest : List ℕ) (wire : WireTrace) (after : ServerValue) (left : List ℕ) (told : WireTrace) (course : PeerOutcome) (events : List AcceptedCall) (exchanges : List Exchange) : Type 0 where
   pub may_read : Bool
   pub may_write : Bool
   pub read : MatchesTrace readable may_read
   pub write : MatchesTrace writable may_write
-  pub part : IsServedOnceBy Takes may_read may_write v id rest wire after left told course
+  pub part : IsServedOnceBy Takes may_read may_write v id rest wire after left told course events exchanges
 
 -- ---- remaining work
 

@@ -1,7 +1,8 @@
 //! Serves the connections of a listener for an application.
 
 ghost use Rattle.std.specs.Prelude.{◌≡◌, ◌++◌, ◌∷◌, [], ℕ, false, Some, List, is_none, IfOk, IfErr, OnErr, OnOk};
-ghost use Rattle.coap_server_listener.specs.Prelude.{AnswersMore, DoorCall, FollowsMore, HasRun, IsCutTurn, IsMemory};
+ghost use Rattle.coap_server_listener.specs.Prelude.{AcceptedCall, AnswersMore, DoorCall, FollowsMore, HasRun};
+ghost use Rattle.coap_server_listener.specs.Prelude.{Exchange, IsCutTurn, IsMemory, moved_calls};
 ghost use Rattle.coap_server_listener.specs.Prelude.{IsMemoryOrTurns, IsRunFor, IsTurnFor, TellsMore, moved_to};
 ghost use Rattle.coap_server_listener.specs.Prelude.{open_refusal, trace_by, wait_within as within};
 ghost use Rattle.coap_server_listener.specs.Prelude.{limit_for as limit_in, waited_behind};
@@ -81,12 +82,16 @@ fn run_turn<D: Door, C: Clock, A: Application, M: Monitor<D::Wire>>(
     requires { service.old.is_spent ≡ false }
     ensures ran { HasRun (FollowsMore (M.follows monitor.old) (M.follows monitor.new))
         (AnswersMore (A.follows application.old) (A.follows application.new)) service.old.server service.new.server }
-    ensures turn { IfOk result (λ next. (moment : ℕ) × (asked : List (DoorCall D.Wire)) ×
+    ensures turn { IfOk result (λ next. (moment : ℕ) × (asked : List (DoorCall D.Wire)) × (more : List AcceptedCall) ×
+        (others : List Exchange) ×
         TellsMore (C.moments clock.old) (C.moments clock.new) (moment ∷ []) ×
         TellsMore (D.calls door.old) (D.calls door.new)
         (waited_behind turns wait (is_none (open_refusal service.old.server)) ++ asked) ×
+        FollowsMore (M.follows monitor.old) (M.follows monitor.new) (moved_calls service.old.server moment ++ more) ×
+        AnswersMore (A.follows application.old) (A.follows application.new) others ×
         IsTurnFor A.follows A.idle D.Wire.readable D.Wire.writable
-        (trace_by D.Wire.given D.Wire.written D.Wire.answers D.Wire.rooms) (λ calls. asked ≡ calls)
+        (trace_by D.Wire.given D.Wire.written D.Wire.answers D.Wire.rooms) (λ calls. asked ≡ calls) (λ all. more ≡ all)
+        (λ all. others ≡ all)
         (moved_to service.old.server moment) service.old.peers.entries service.new.server service.new.peers.entries
         next) }
     ensures ready { OnOk result (service.new.is_spent ≡ false) }

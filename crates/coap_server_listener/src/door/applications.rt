@@ -75,6 +75,8 @@ impl<W: Wire + Ready + Drop> Service<W> {
             → IsAskedOnce (TellsMore (D.calls door.old) (D.calls door.new)) self.old.server }
         ensures turn { IfOk result (λ wait. IsTurnBy T.takes W.readable W.writable
             (trace_by W.given W.written W.answers W.rooms) (TellsMore (D.calls door.old) (D.calls door.new))
+            (FollowsMore (M.follows monitor.old) (M.follows monitor.new))
+            (AnswersMore (T.follows application.old) (T.follows application.new))
             self.old.server self.old.peers.entries self.new.server self.new.peers.entries wait) }
         ensures fault { IfErr result IsMemory }
         ensures ready { OnOk result (self.new.is_spent ≡ false) }
@@ -122,9 +124,13 @@ impl<W: Wire + Ready + Drop> Service<W> {
         ensures asks { self.old.is_spent ≡ false
             → IsAskedOnce (TellsMore (D.calls door.old) (D.calls door.new)) self.old.server }
         // At most one connection is opened. Then each connection in order is served, except those that are idle. Its
-        // wire is read and written at no other time. The clause also determines the result.
+        // wire is read and written at no other time. The monitor receives the calls of these steps, and the application has
+        // their exchanges, and no others. The wire of a dropped connection is gone: the clause states that a fitting one
+        // exists. It also determines the result.
         ensures turn { IfOk result (λ wait. IsTurnBy (IsTakenWith A.follows) W.readable W.writable
             (trace_by W.given W.written W.answers W.rooms) (TellsMore (D.calls door.old) (D.calls door.new))
+            (FollowsMore (M.follows monitor.old) (M.follows monitor.new))
+            (AnswersMore (A.follows application.old) (A.follows application.new))
             self.old.server self.old.peers.entries self.new.server self.new.peers.entries wait) }
         ensures fault { IfErr result IsMemory }
         ensures ready { OnOk result (self.new.is_spent ≡ false) }

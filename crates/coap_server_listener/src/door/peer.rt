@@ -1,8 +1,9 @@
 //! The transport side of a connection, and how a turn serves it.
 
 ghost use Rattle.std.specs.Prelude.{◌≡◌, ◌≢◌, false, [], length, is_some, OnOk, OnErr, IfOk, IfErr};
-ghost use Rattle.coap_server_listener.specs.Prelude.{AddsBytes, AnswersMore, But, FollowsMore, GoesOnSparing};
-ghost use Rattle.coap_server_listener.specs.Prelude.{HasServedBy, IsTakenInPart, NoneTaken, TellsMore};
+ghost use Rattle.coap_server_listener.specs.Prelude.{AddsBytes, AnswersMore, AreAccepted, But, FollowsMore};
+ghost use Rattle.coap_server_listener.specs.Prelude.{GoesOnSparing, HasAccepted, HasServedBy, IsTakenInPart, TellsMore};
+ghost use Rattle.coap_server_listener.specs.Prelude.{heard_events, wrote_events};
 ghost use Rattle.coap_server_listener.specs.Prelude.{IsServedOnceBy, trace_by, IsLaidOut, is_heard, server_heard};
 ghost use Rattle.coap_server_listener.specs.Prelude.{server_wrote, waiting_once, is_over_in, has_failed};
 ghost use Rattle.coap_server_listener.specs.Prelude.{course_of, wants_of, IsWithin, IsMemory, IsOneWrite, bytes_passed};
@@ -93,10 +94,12 @@ pub(super) fn serve_peer<W: Wire, A, T: Taker<A>, M: Monitor<W>>(
     monitor: &mut M,
 ) -> Result<PeerOutcome, IoFault>
     // The wire is read once if a read is due, and written once if bytes are queued and `may_write` is `true`. Otherwise
-    // it is not touched.
-    ensures part { IfOk result (λ course. IsServedOnceBy T.takes may_read may_write server.old id peer.old.rest
-        (trace_by W.given W.written W.answers W.rooms peer.old.wire) server.new peer.new.rest
-        (trace_by W.given W.written W.answers W.rooms peer.new.wire) course) }
+    // it is not touched. The monitor receives the calls of these steps, and no others.
+    ensures part { IfOk result (λ course. HasAccepted (IsServedOnceBy T.takes may_read may_write server.old id
+        peer.old.rest (trace_by W.given W.written W.answers W.rooms peer.old.wire) server.new peer.new.rest
+        (trace_by W.given W.written W.answers W.rooms peer.new.wire) course)
+        (FollowsMore (M.follows monitor.old) (M.follows monitor.new))
+        (AnswersMore (T.follows application.old) (T.follows application.new)) server.old server.new) }
     ensures shows { HasServedBy T.steps (FollowsMore (M.follows monitor.old) (M.follows monitor.new))
         (AnswersMore (T.follows application.old) (T.follows application.new)) server.old server.new }
     // The other connections are spared.
@@ -140,7 +143,6 @@ fn outcome(wrote: Got, is_over: bool) -> PeerOutcome
 
 /// Reads once if `may_read` is `true`, all bytes of earlier reads were accepted, and the connection accepts bytes.
 /// Returns the result of the read, or `Later` if there was none. The end of input is reported to the connection.
-#[tactic(auto, using(crate::proofs::streams::ServingLemmas::none_taken))]
 fn read_wire<W: Wire, M: Monitor<W>>(
     server: &mut Server,
     id: ConnId,
@@ -149,8 +151,8 @@ fn read_wire<W: Wire, M: Monitor<W>>(
     monitor: &mut M,
 ) -> Got
     ensures server { server.new ≡ server_heard server.old id result }
-    ensures shows { HasServedBy NoneTaken (FollowsMore (M.follows monitor.old) (M.follows monitor.new))
-        (λ exchanges. exchanges ≡ []) server.old server.new }
+    ensures accepted { AreAccepted (FollowsMore (M.follows monitor.old) (M.follows monitor.new)) server.old server.new
+        (heard_events id result) }
     // If a read is due, the wire is read once, into a buffer of 16,384 bytes, and `peer.rest` has the bytes of that
     // read.
     ensures laid { IsLaidOut (is_heard may_read server.old id peer.old.rest) peer.old.rest
@@ -186,7 +188,9 @@ fn take_buffered<W, A, T: Taker<A>, M: Monitor<W>>(
     response: &mut Vec<u8>,
     monitor: &mut M,
 ) -> Result<(), IoFault>
-    ensures taken { OnOk result (IsTakenInPart T.takes server.old id rest.old server.new rest.new) }
+    ensures taken { OnOk result (HasAccepted (IsTakenInPart T.takes server.old id rest.old server.new rest.new)
+        (FollowsMore (M.follows monitor.old) (M.follows monitor.new))
+        (AnswersMore (T.follows application.old) (T.follows application.new)) server.old server.new) }
     ensures spared { OnOk result (GoesOnSparing (But id) server.old server.new) }
     ensures shows { HasServedBy T.steps (FollowsMore (M.follows monitor.old) (M.follows monitor.new))
         (AnswersMore (T.follows application.old) (T.follows application.new)) server.old server.new }
@@ -205,7 +209,7 @@ fn take_buffered<W, A, T: Taker<A>, M: Monitor<W>>(
 
 /// Writes queued bytes of a connection once, from the first, if some are queued and `may_write` is `true`. Returns the
 /// result of the write, or `Later` if there was none. The result `End` of a write is returned as `Failed`.
-#[tactic(auto, using(crate::proofs::streams::ServingLemmas::none_taken, coap_conn::proofs::NextPartLemmas::few_written))]
+#[tactic(auto, using(coap_conn::proofs::NextPartLemmas::few_written))]
 fn write_once<W: Wire, M: Monitor<W>>(
     server: &mut Server,
     id: ConnId,
@@ -214,8 +218,8 @@ fn write_once<W: Wire, M: Monitor<W>>(
     monitor: &mut M,
 ) -> Got
     ensures server { server.new ≡ server_wrote server.old id result }
-    ensures shows { HasServedBy NoneTaken (FollowsMore (M.follows monitor.old) (M.follows monitor.new))
-        (λ exchanges. exchanges ≡ []) server.old server.new }
+    ensures accepted { AreAccepted (FollowsMore (M.follows monitor.old) (M.follows monitor.new)) server.old server.new
+        (wrote_events id result) }
     ensures within { IsWithin (length (waiting_once may_write id server.old)) result }
     ensures idle { waiting_once may_write id server.old ≡ [] → (wire.new ≡ wire.old) × (result ≡ Later) }
     ensures wrote { waiting_once may_write id server.old ≢ [] →

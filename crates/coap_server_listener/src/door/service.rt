@@ -369,6 +369,7 @@ impl<W: Wire + Ready + Drop> Service<W> {
         // wire is read and written at no other time. The clause also determines the result.
         ensures turn { IfOk result (λ wait. IsTurnOf W.readable W.writable
             (trace_by W.given W.written W.answers W.rooms) (TellsMore (D.calls door.old) (D.calls door.new))
+            Unrecorded
             self.old.server self.old.peers.entries self.new.server self.new.peers.entries wait) }
         ensures fault { IfErr result IsMemory }
         ensures ready { OnOk result (self.new.is_spent ≡ false) }
@@ -395,9 +396,12 @@ impl<W: Wire + Ready + Drop> Service<W> {
         ensures asks { self.old.is_spent ≡ false
             → IsAskedOnce (TellsMore (D.calls door.old) (D.calls door.new)) self.old.server }
         // At most one connection is opened. Then each connection in order is served, except those that are idle. Its
-        // wire is read and written at no other time. The clause also determines the result.
+        // wire is read and written at no other time. The monitor receives the calls of these steps, and no others. The
+        // wire of a dropped connection is gone: the clause states that a fitting one exists. It also determines the
+        // result.
         ensures turn { IfOk result (λ wait. IsTurnOf W.readable W.writable
             (trace_by W.given W.written W.answers W.rooms) (TellsMore (D.calls door.old) (D.calls door.new))
+            (FollowsMore (M.follows monitor.old) (M.follows monitor.new))
             self.old.server self.old.peers.entries self.new.server self.new.peers.entries wait) }
         ensures fault { IfErr result IsMemory }
         ensures ready { OnOk result (self.new.is_spent ≡ false) }

@@ -2,8 +2,8 @@
 
 ghost use Rattle.std.specs.Prelude.{◌≡◌, ◌≤◌, ℕ, List, [], ◌∷◌, length, IfOk, OnOk};
 ghost use Rattle.coap_server_listener.specs.Prelude.{AnswersMore, Answering, AreTakenAlone, AreTakenWith, FollowsMore};
-ghost use Rattle.coap_server_listener.specs.Prelude.{But, GoesOnSparing, Gone, HasServedBy, IsTakenAlone, IsTakenWith};
-ghost use Rattle.coap_server_listener.specs.Prelude.{Taking, TakingSteps};
+ghost use Rattle.coap_server_listener.specs.Prelude.{But, GoesOnSparing, Gone, HasAccepted, HasServedBy, IsTakenAlone};
+ghost use Rattle.coap_server_listener.specs.Prelude.{IsTakenWith, Taking, TakingSteps};
 
 use coap_model::ConnId;
 use coap_server_engine::{Application, Monitor, NoApplication, Server};
@@ -35,7 +35,10 @@ pub(super) trait Taker<A> {
         monitor: &mut M,
     ) -> Result<usize, AllocError>
         ensures within { IfOk result (λ n. n ≤ length bytes.now) }
-        ensures taken { IfOk result (λ n. takes server.old id bytes.now server.new n) }
+        // The monitor receives the calls that accept these bytes, and no others. The application has their exchanges.
+        ensures taken { IfOk result (λ n. HasAccepted (takes server.old id bytes.now server.new n)
+            (FollowsMore (M.follows monitor.old) (M.follows monitor.new))
+            (AnswersMore (follows application.old) (follows application.new)) server.old server.new) }
         // The other connections are spared.
         ensures spared { OnOk result (GoesOnSparing (But id) server.old server.new) }
         ensures shows { HasServedBy steps (FollowsMore (M.follows monitor.old) (M.follows monitor.new))
@@ -56,7 +59,7 @@ impl Taker<NoApplication> for Alone {
 
     ghost steps = { AreTakenAlone };
 
-    #[tactic(auto, using(crate::proofs::streams::NoteLemmas::alone_spares, crate::proofs::streams::ServingLemmas::takes_served, crate::proofs::streams::ServingLemmas::part_served))]
+    #[tactic(auto, using(crate::proofs::streams::NoteLemmas::alone_spares, crate::proofs::streams::ServingLemmas::alone_accepted, crate::proofs::streams::ServingLemmas::takes_served, crate::proofs::streams::ServingLemmas::part_served))]
     fn take_all<W, M: Monitor<W>>(
         server: &mut Server,
         id: ConnId,
@@ -82,7 +85,7 @@ impl<A: Application> Taker<A> for ForApplication {
 
     ghost steps = { AreTakenWith };
 
-    #[tactic(auto, using(crate::proofs::streams::NoteLemmas::with_spares, crate::proofs::streams::ServingLemmas::with_taken, crate::proofs::streams::ServingLemmas::with_served, crate::proofs::streams::ServingLemmas::with_part_served))]
+    #[tactic(auto, using(crate::proofs::streams::NoteLemmas::with_spares, crate::proofs::streams::ServingLemmas::with_accepted, crate::proofs::streams::ServingLemmas::with_served, crate::proofs::streams::ServingLemmas::with_part_served))]
     fn take_all<W, M: Monitor<W>>(
         server: &mut Server,
         id: ConnId,

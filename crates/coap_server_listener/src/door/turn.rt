@@ -4,7 +4,8 @@ ghost use Rattle.std.specs.Prelude.{◌≡◌, ◌≢◌, ℕ, ◌<◌, ◌≤�
 ghost use Rattle.std.specs.Prelude.{map, remove, slice_get, take, IfSome, IfOk, IfErr, OnOk, OnErr};
 ghost use Rattle.coap_server_listener.specs.Prelude.{keys_of, AreNoted, HasGoneOn, IsRound};
 ghost use Rattle.coap_server_listener.specs.Prelude.{IsOpening, IsAskedOnce, asked_by, TellsMore};
-ghost use Rattle.coap_server_listener.specs.Prelude.{FollowsMore, trace_by};
+ghost use Rattle.coap_server_listener.specs.Prelude.{AreAccepted, FollowsMore, HasAccepted, dropped_events, opening};
+ghost use Rattle.coap_server_listener.specs.Prelude.{gone_exchanges, trace_by};
 ghost use Rattle.coap_server_listener.specs.Prelude.{IsServed, IsAgendaOf, concerns_earlier, end_of, wants_of};
 ghost use Rattle.coap_server_listener.specs.Prelude.{IsMemory, stamp_of, open_refusal, AreSettled, server_dropped};
 ghost use Rattle.coap_server_listener.specs.Prelude.{AnswersMore, AreAsleep, HasOpened, HasServedBy, HasTurnedBy};
@@ -42,11 +43,13 @@ pub(super) fn take_turn<D: Door, A, T: Taker<A>, M: Monitor<D::Wire>>(
         (AnswersMore (T.follows application.old) (T.follows application.new)) server.old server.new }
     // The listener is asked once if another connection may be opened, and not otherwise.
     ensures asks { IsAskedOnce (TellsMore (D.calls door.old) (D.calls door.new)) server.old }
-    // Each connection is served, and the result is the time that the listener may wait.
+    // Each connection is served, and the result is the time that the listener may wait. The monitor receives the calls of
+    // this turn, and no others.
     ensures turn { IfOk result (λ wait. IsTurnBy T.takes D.Wire.readable D.Wire.writable
         (trace_by D.Wire.given D.Wire.written D.Wire.answers D.Wire.rooms)
-        (TellsMore (D.calls door.old) (D.calls door.new)) server.old peers.old.entries server.new peers.new.entries
-        wait) }
+        (TellsMore (D.calls door.old) (D.calls door.new)) (FollowsMore (M.follows monitor.old) (M.follows monitor.new))
+        (AnswersMore (T.follows application.old) (T.follows application.new)) server.old peers.old.entries server.new
+        peers.new.entries wait) }
     ensures noted { OnOk result (AreNoted server.new peers.new.entries) }
     ensures asleep { OnOk result (AreAsleep D.Wire.readable D.Wire.writable awake.new peers.new.entries) }
     ensures settled { OnOk result (AreSettled server.new.host server.new.sessions) }
@@ -70,7 +73,7 @@ pub(super) fn take_turn<D: Door, A, T: Taker<A>, M: Monitor<D::Wire>>(
 /// # Errors
 ///
 /// - `Memory`: an allocation failed.
-#[tactic(auto, using(crate::proofs::streams::ServingLemmas::none_opened, crate::proofs::streams::ServingLemmas::one_opened))]
+#[tactic(auto, using(crate::proofs::streams::ServingLemmas::none_opened, crate::proofs::streams::ServingLemmas::one_opened, crate::proofs::streams::ServingLemmas::opening_accepted))]
 fn accept<D: Door, M: Monitor<D::Wire>>(
     alloc: Global,
     server: &mut Server,
@@ -91,6 +94,8 @@ fn accept<D: Door, M: Monitor<D::Wire>>(
     ensures opened { IfOk result (λ opens. IsOpening (TellsMore (D.calls door.old) (D.calls door.new)) server.old
         peers.old.entries server.new peers.new.entries opens) }
     ensures passes { is_none (open_refusal server.old) ≡ false → (door.new ≡ door.old) × (result ≡ Ok false) }
+    ensures accepted { IfOk result (λ opens. AreAccepted (FollowsMore (M.follows monitor.old) (M.follows monitor.new))
+        server.old server.new (opening server.old opens)) }
     // An allocation fails only for a wire that the listener returned.
     ensures refused { OnErr result ((wire : D.Wire) ×
         TellsMore (D.calls door.old) (D.calls door.new) (asked_by server.old (Some wire))) }
@@ -135,9 +140,10 @@ fn serve_each<W: Wire + Ready + Drop, A, T: Taker<A>, M: Monitor<W>>(
     ensures shows { HasServedBy T.steps (FollowsMore (M.follows monitor.old) (M.follows monitor.new))
         (AnswersMore (T.follows application.old) (T.follows application.new)) server.old server.new }
     // Each connection in order is served, except those that are idle, and the result is the work that remains.
-    ensures round { IfOk result (λ agenda. IsRound T.takes W.readable W.writable
+    ensures round { IfOk result (λ agenda. HasAccepted (IsRound T.takes W.readable W.writable
         (trace_by W.given W.written W.answers W.rooms) server.old peers.old.entries agenda server.new
-        peers.new.entries) }
+        peers.new.entries) (FollowsMore (M.follows monitor.old) (M.follows monitor.new))
+        (AnswersMore (T.follows application.old) (T.follows application.new)) server.old server.new) }
     ensures noted { OnOk result (AreNoted server.new peers.new.entries) }
     ensures asleep { OnOk result (AreAsleep W.readable W.writable awake.new peers.new.entries) }
     ensures settled { OnOk result (AreSettled server.new.host server.new.sessions) }
@@ -180,9 +186,10 @@ fn serve_next<W: Wire + Ready + Drop, A, T: Taker<A>, M: Monitor<W>>(
     ensures shows { HasServedBy T.steps (FollowsMore (M.follows monitor.old) (M.follows monitor.new))
         (AnswersMore (T.follows application.old) (T.follows application.new)) server.old server.new }
     // The connection was served, and the others are unchanged.
-    ensures part { IfOk result (λ later. HasGoneOn T.takes W.readable W.writable
+    ensures part { IfOk result (λ later. HasAccepted (HasGoneOn T.takes W.readable W.writable
         (trace_by W.given W.written W.answers W.rooms) server.old peers.old.entries seen.at server.new
-        peers.new.entries later.at) }
+        peers.new.entries later.at) (FollowsMore (M.follows monitor.old) (M.follows monitor.new))
+        (AnswersMore (T.follows application.old) (T.follows application.new)) server.old server.new) }
     ensures noted { OnOk result (AreNoted server.new peers.new.entries) }
     ensures asleep { OnOk result (AreAsleep W.readable W.writable awake.new peers.new.entries) }
     // The work that remains on it is added to that of the connections before it.
@@ -241,9 +248,11 @@ fn serve_at<W: Wire + Ready, A, T: Taker<A>, M: Monitor<W>>(
         (AnswersMore (T.follows application.old) (T.follows application.new)) server.old server.new }
     ensures part { IfSome (slice_get peers.old.entries at)
         (λ was. IfSome (slice_get peers.new.entries at)
-        (λ is. IfOk result (λ course. IsServed T.takes (W.readable was.1.wire) (W.writable was.1.wire) server.old was.0
-        was.1.rest (trace_by W.given W.written W.answers W.rooms was.1.wire) server.new is.1.rest
-        (trace_by W.given W.written W.answers W.rooms is.1.wire) course))) }
+        (λ is. IfOk result (λ course. HasAccepted (IsServed T.takes (W.readable was.1.wire) (W.writable was.1.wire)
+        server.old was.0 was.1.rest (trace_by W.given W.written W.answers W.rooms was.1.wire) server.new is.1.rest
+        (trace_by W.given W.written W.answers W.rooms is.1.wire) course)
+        (FollowsMore (M.follows monitor.old) (M.follows monitor.new))
+        (AnswersMore (T.follows application.old) (T.follows application.new)) server.old server.new))) }
     ensures wants { IfSome (slice_get peers.new.entries at)
         (λ is. IfOk result (λ course. course ≡ Open → is.1.wants ≡ wants_of server.new is.0 is.1.rest)) }
     // The recorded interests of the others are still correct, and so is that of this connection if it stays open.
@@ -290,6 +299,11 @@ fn drop_at<W: Wire + Drop, A, T: Taker<A>, M: Monitor<W>>(
     ensures host { server.new.host ≡ server.old.host }
     ensures server { IfSome (slice_get (keys_of peers.old.entries) at)
         (λ id. server.new ≡ server_dropped server.old id) }
+    ensures accepted { IfSome (slice_get (keys_of peers.old.entries) at)
+        (λ id. AreAccepted (FollowsMore (M.follows monitor.old) (M.follows monitor.new)) server.old server.new
+        (dropped_events server.old id)) }
+    ensures exchanged { IfSome (slice_get (keys_of peers.old.entries) at)
+        (λ id. AnswersMore (T.follows application.old) (T.follows application.new) (gone_exchanges server.old id)) }
 {
     if let Some((id, _)) = peers.shift_remove_index(at) {
         match server.drop_conn(id) {

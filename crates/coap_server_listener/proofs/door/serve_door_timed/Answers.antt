@@ -47,8 +47,8 @@ loop-turn-preserved g c =
     c.end_silent_after.new.watch.activities.entries c.tick_with.new.monitor.activities.entries c.end_silent_after.new.service.peers.entries c.tick_with.new.self.peers.entries events
     c.end_silent_after.ensures.swept c.end_silent_after.ensures.entries c.tick_with.ensures.moved (ap (λ peers. peers.entries) c.tick_with.ensures.peers) ticked in
     let second = ticked.1 ∙ c.end_silent_after.ensures.now in
-    let turned = turn_heard moved (g.M.Monitor.follows c.turn_with.new.monitor.monitor) (g.M.Monitor.follows c.turn_ended.new.self.monitor) c.tick_with.new.monitor.now c.turn_with.new.monitor.now c.tick_with.new.monitor.activities.entries c.turn_with.new.monitor.activities.entries
-    c.tick_with.new.self.server c.turn_with.new.self.server c.turn_with.ensures.shows c.turn_ended.ensures.told in
+    let turned = turn_heard g.D.Wire.Ready.readable g.D.Wire.Ready.writable trace _ moved (g.M.Monitor.follows c.turn_with.new.monitor.monitor) (g.M.Monitor.follows c.turn_ended.new.self.monitor) c.tick_with.new.monitor.now c.turn_with.new.monitor.now c.tick_with.new.monitor.activities.entries c.turn_with.new.monitor.activities.entries
+    c.tick_with.new.self.server c.tick_with.new.self.peers.entries c.turn_with.new.self.server c.turn_with.new.self.peers.entries c.in_ok-asked.asked c.in_ok-asked.ensures.turn c.turn_ended.ensures.told in
     let time = same_time_after moved (g.M.Monitor.follows c.turn_with.new.monitor.monitor) c.tick_with.new.monitor.now c.turn_with.new.monitor.now c.tick_with.new.monitor.activities.entries c.turn_with.new.monitor.activities.entries
     c.tick_with.new.self.server c.turn_with.new.self.server c.turn_with.ensures.shows ∙ second in
     rw (c.turn_ended.ensures.activities, c.turn_ended.ensures.now, time) (
@@ -61,7 +61,7 @@ loop-turn-preserved g c =
     c.can_open.result c.can_open.ensures c.wait_after_turn.ensures c.now.result c.now.ensures c.now-second.result c.now-second.ensures
     c.tick_with.new.self.server c.tick_with.new.self.peers.entries c.tick_with.new.monitor.activities.entries begun
     (g.M.Monitor.follows c.turn_ended.new.self.monitor) c.turn_with.new.self.server c.turn_with.new.self.peers.entries c.turn_with.new.monitor.activities.entries c.turn_with.new.self.is_spent c.in_ok-asked.asked c.at_most_a_second-wait.result
-    c.in_ok-asked.ensures.turn (rw second at turned) c.in_ok-asked.ensures.ready c.at_most_a_second-wait.ensures)
+    (rw second at turned) c.in_ok-asked.ensures.ready c.at_most_a_second-wait.ensures)
 
 pub returns-in_err-asked-clause-run : goal.returns-in_err-asked-clause-run
 returns-in_err-asked-clause-run g c =

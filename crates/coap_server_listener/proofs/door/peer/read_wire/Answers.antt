@@ -1,5 +1,17 @@
-use Rattle.coap_server_listener.proofs.streams.ServingLemmas.{ended_served}
+use Rattle.std.proofs.Common.{◌≡◌, ◌≢◌, refl, rules}
+use Rattle.coap_server_listener.specs.Prelude.{End}
+use Rattle.coap_server_listener.proofs.streams.ServingLemmas.{none_accepted, read_accepted}
 use Rattle.coap_server_listener.proofs.door.peer.read_wire.Goals as goal
 
-pub returns-in-Ok-clause-shows : goal.returns-in-Ok-clause-shows
-returns-in-Ok-clause-shows g c = ended_served (g.M.Monitor.follows c.args.monitor.now) (g.M.Monitor.follows c.accepted.new.self) c.args.server.now c.ended.new.self c.args.id c.in-Ok.ensures.ok c.in-Ok.ensures.shows c.accepted.ensures
+pub returns-then-not-may_read-clause-accepted : goal.returns-then-not-may_read-clause-accepted
+returns-then-not-may_read-clause-accepted g c = none_accepted (g.M.Monitor.follows c.args.monitor.now) c.args.server.now c.args.server.now refl
+
+pub returns-else-eq-clause-accepted : goal.returns-else-eq-clause-accepted
+returns-else-eq-clause-accepted g c =
+    let apart : c.read-got.result ≢ End = search rules in
+    read_accepted (g.M.Monitor.follows c.args.monitor.now) c.args.server.now c.args.server.now c.args.id c.read-got.result apart refl
+
+pub returns-in-Ok-clause-accepted : goal.returns-in-Ok-clause-accepted
+returns-in-Ok-clause-accepted g c =
+    let is : c.read-got.result ≡ End = search rules in
+    rw is (c.in-Ok.ensures.shows, c.accepted.ensures)

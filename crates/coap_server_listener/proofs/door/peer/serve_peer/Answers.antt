@@ -1,12 +1,12 @@
 use Rattle.std.proofs.Common.{sym, ap, ◌∙◌}
 use Rattle.coap_server_listener.specs.Prelude.{trace_by, course_of, is_over_in}
-use Rattle.coap_server_listener.proofs.streams.PeerLemmas.{steps_are_a_part}
+use Rattle.coap_server_listener.proofs.streams.PeerLemmas.{failed_read_is_a_part, steps_are_a_part}
 use Rattle.coap_server_listener.proofs.streams.NoteLemmas.{part_spares, heard_spares}
-use Rattle.coap_server_listener.proofs.streams.ServingLemmas.{served_aside, served_further}
+use Rattle.coap_server_listener.proofs.streams.ServingLemmas.{heard_served, served_aside, served_further, wrote_served}
 use Rattle.coap_server_listener.proofs.door.peer.serve_peer.Goals as goal
 
 pub returns-then-failed-clause-shows : goal.returns-then-failed-clause-shows
-returns-then-failed-clause-shows g c = served_aside g.T.Taker.steps (g.M.Monitor.follows c.args.monitor.now) (g.M.Monitor.follows c.read_wire-heard.new.monitor) (g.T.Taker.follows c.args.application.now) c.read_wire-heard.ensures.shows
+returns-then-failed-clause-shows g c = served_aside g.T.Taker.steps (g.M.Monitor.follows c.args.monitor.now) (g.M.Monitor.follows c.read_wire-heard.new.monitor) (g.T.Taker.follows c.args.application.now) (heard_served (g.M.Monitor.follows c.args.monitor.now) (g.M.Monitor.follows c.read_wire-heard.new.monitor) c.args.server.now c.read_wire-heard.new.server c.args.id c.read_wire-heard.result c.read_wire-heard.ensures.server c.read_wire-heard.ensures.accepted)
 
 pub returns-in_err-take_buffered-clause-shows : goal.returns-in_err-take_buffered-clause-shows
 returns-in_err-take_buffered-clause-shows g c =
@@ -14,7 +14,7 @@ returns-in_err-take_buffered-clause-shows g c =
     let first = g.M.Monitor.follows c.args.monitor.now in
     let heard = g.M.Monitor.follows c.read_wire-heard.new.monitor in
     served_further g.T.Taker.steps first heard (g.M.Monitor.follows c.take_buffered.new.monitor) idle idle (g.T.Taker.follows c.take_buffered.new.application)
-    (served_aside g.T.Taker.steps first heard idle c.read_wire-heard.ensures.shows) c.take_buffered.ensures.shows
+    (served_aside g.T.Taker.steps first heard idle (heard_served (g.M.Monitor.follows c.args.monitor.now) (g.M.Monitor.follows c.read_wire-heard.new.monitor) c.args.server.now c.read_wire-heard.new.server c.args.id c.read_wire-heard.result c.read_wire-heard.ensures.server c.read_wire-heard.ensures.accepted)) c.take_buffered.ensures.shows
 
 pub returns-clause-shows : goal.returns-clause-shows
 returns-clause-shows g c =
@@ -25,8 +25,8 @@ returns-clause-shows g c =
     let taken = g.M.Monitor.follows c.take_buffered.new.monitor in
     let wrote = g.M.Monitor.follows c.write_once-wrote.new.monitor in
     served_further g.T.Taker.steps first taken wrote idle answered answered
-    (served_further g.T.Taker.steps first heard taken idle idle answered (served_aside g.T.Taker.steps first heard idle c.read_wire-heard.ensures.shows) c.take_buffered.ensures.shows)
-    (served_aside g.T.Taker.steps taken wrote answered c.write_once-wrote.ensures.shows)
+    (served_further g.T.Taker.steps first heard taken idle idle answered (served_aside g.T.Taker.steps first heard idle (heard_served (g.M.Monitor.follows c.args.monitor.now) (g.M.Monitor.follows c.read_wire-heard.new.monitor) c.args.server.now c.read_wire-heard.new.server c.args.id c.read_wire-heard.result c.read_wire-heard.ensures.server c.read_wire-heard.ensures.accepted)) c.take_buffered.ensures.shows)
+    (served_aside g.T.Taker.steps taken wrote answered (wrote_served taken wrote c.take_buffered.new.server c.write_once-wrote.new.server c.args.id c.write_once-wrote.result c.write_once-wrote.ensures.server c.write_once-wrote.ensures.accepted))
 
 pub returns-clause-part : goal.returns-clause-part
 returns-clause-part g c =
@@ -35,6 +35,8 @@ returns-clause-part g c =
     steps_are_a_part g.T.Taker.takes c.args.may_read c.args.may_write c.args.server.now c.read_wire-heard.new.server c.take_buffered.new.server c.write_once-wrote.new.server c.args.id
     c.args.peer.now.rest c.read_wire-heard.new.peer.rest c.take_buffered.new.rest
     (trace c.args.peer.now.wire) (trace c.read_wire-heard.new.peer.wire) (trace c.write_once-wrote.new.wire) c.read_wire-heard.result c.write_once-wrote.result c.outcome.result
+    (g.M.Monitor.follows c.args.monitor.now) (g.M.Monitor.follows c.read_wire-heard.new.monitor) (g.M.Monitor.follows c.take_buffered.new.monitor) (g.M.Monitor.follows c.write_once-wrote.new.monitor)
+    (g.T.Taker.follows c.args.application.now) (g.T.Taker.follows c.take_buffered.new.application)
     c.read_wire-heard.ensures.server c.read_wire-heard.ensures.laid (sym c.failed.ensures ∙ c.if-failed.false)
     c.in_ok-take_buffered.ensures.taken
     (record {
@@ -42,9 +44,19 @@ returns-clause-part g c =
       busy = λ some. record { within = wrote.within; took = wrote.wrote some; gave = wrote.gave some; answered = wrote.answered some; no_read = wrote.no_read some };
     })
     wrote.server (c.outcome.ensures ∙ ap (course_of c.write_once-wrote.result) (c.is_over.ensures ∙ ap is_over_in c.outlook-outlook.ensures))
+    c.read_wire-heard.ensures.accepted wrote.accepted
 
 pub returns-clause-spared : goal.returns-clause-spared
 returns-clause-spared g c = part_spares c.args.server.now c.read_wire-heard.new.server c.take_buffered.new.server c.write_once-wrote.new.server c.args.id c.read_wire-heard.result c.write_once-wrote.result c.read_wire-heard.ensures.server c.in_ok-take_buffered.ensures.spared c.write_once-wrote.ensures.server
 
 pub returns-then-failed-clause-spared : goal.returns-then-failed-clause-spared
 returns-then-failed-clause-spared g c = heard_spares c.args.server.now c.read_wire-heard.new.server c.args.id c.read_wire-heard.result c.read_wire-heard.ensures.server
+
+pub returns-then-failed-clause-part : goal.returns-then-failed-clause-part
+returns-then-failed-clause-part g c =
+    let trace = trace_by g.W.Wire.given g.W.Wire.written g.W.Wire.answers g.W.Wire.rooms in
+    failed_read_is_a_part g.T.Taker.takes c.args.may_read c.args.may_write c.args.server.now c.read_wire-heard.new.server c.args.id
+    c.args.peer.now.rest c.read_wire-heard.new.peer.rest c.read_wire-heard.new.peer.rest
+    (trace c.args.peer.now.wire) (trace c.read_wire-heard.new.peer.wire) c.read_wire-heard.result
+    (g.M.Monitor.follows c.args.monitor.now) (g.M.Monitor.follows c.read_wire-heard.new.monitor) (g.T.Taker.follows c.args.application.now)
+    c.read_wire-heard.ensures.server c.read_wire-heard.ensures.laid (sym c.failed.ensures ∙ c.if-failed.true) c.read_wire-heard.ensures.accepted

@@ -1,9 +1,9 @@
-use Rattle.std.proofs.Common.{rules, refl, sym, add-zero}
+use Rattle.std.proofs.Common.{refl, sym, add-zero}
 use Rattle.std.proofs.lemmas.List.{length-take-le}
 use Rattle.coap_server_listener.specs.Prelude.{Answered, waiting_at, Bytes, Later, End, Failed}
 use Rattle.coap_server_listener.proofs.streams.NextPartLemmas.{none_refused}
 use Rattle.coap_io.proofs.streams.DeviceLemmas.{part_written}
-use Rattle.coap_server_listener.proofs.streams.ServingLemmas.{written_served}
+use Rattle.coap_server_listener.proofs.streams.ServingLemmas.{none_accepted}
 use Rattle.coap_server_listener.proofs.door.peer.write_once.Goals as goal
 
 pub unreachable-requires : goal.unreachable-requires
@@ -17,10 +17,9 @@ returns-in-Ok-clause-wrote g c = λ _.
     (part_written (waiting_at c.args.id c.args.server.now) c.first_part-part.result.now (Bytes c.in-Bytes.count) (g.W.Wire.written c.args.wire.now) (g.W.Wire.written c.write.new.self)
     (rw c.in-Some.ensures.parts at c.first_part-part.ensures).front c.in-Bytes.ensures.within c.in-Bytes.ensures.wrote)
 
-pub returns-in-Ok-clause-shows : goal.returns-in-Ok-clause-shows
-returns-in-Ok-clause-shows g c =
-    written_served (g.M.Monitor.follows c.args.monitor.now) (g.M.Monitor.follows c.accepted.new.self) c.args.server.now _ c.written.new.self c.args.id c.in-Bytes.count (search rules) c.in-Ok.ensures.ok c.in-Ok.ensures.shows
-    (rw (length-take-le c.in-Bytes.count c.first_part-part.result.now c.in-Bytes.ensures.within.1, add-zero) at c.accepted.ensures)
+pub returns-in-Ok-clause-accepted : goal.returns-in-Ok-clause-accepted
+returns-in-Ok-clause-accepted g c =
+    (c.in-Ok.ensures.shows, rw (length-take-le c.in-Bytes.count c.first_part-part.result.now c.in-Bytes.ensures.within.1, add-zero) at c.accepted.ensures)
 
 -- The wire was written once, and the result of that write is the result of the function.
 pub returns-in-Ok-clause-answered : goal.returns-in-Ok-clause-answered
@@ -34,3 +33,22 @@ returns-in-End-clause-answered g c = λ _. Answered End c.in-End.ensures.answere
 
 pub returns-in-Failed-clause-answered : goal.returns-in-Failed-clause-answered
 returns-in-Failed-clause-answered g c = λ _. Answered Failed c.in-Failed.ensures.answered refl
+
+-- Nothing was written.
+pub returns-then-not-may_write-clause-accepted : goal.returns-then-not-may_write-clause-accepted
+returns-then-not-may_write-clause-accepted g c = none_accepted (g.M.Monitor.follows c.args.monitor.now) c.args.server.now c.args.server.now refl
+
+pub returns-in_default-clause-accepted : goal.returns-in_default-clause-accepted
+returns-in_default-clause-accepted g c = none_accepted (g.M.Monitor.follows c.args.monitor.now) c.args.server.now c.args.server.now refl
+
+pub returns-then-is_empty-clause-accepted : goal.returns-then-is_empty-clause-accepted
+returns-then-is_empty-clause-accepted g c = none_accepted (g.M.Monitor.follows c.args.monitor.now) c.args.server.now c.args.server.now refl
+
+pub returns-in-Later-clause-accepted : goal.returns-in-Later-clause-accepted
+returns-in-Later-clause-accepted g c = none_accepted (g.M.Monitor.follows c.args.monitor.now) c.args.server.now c.args.server.now refl
+
+pub returns-in-End-clause-accepted : goal.returns-in-End-clause-accepted
+returns-in-End-clause-accepted g c = none_accepted (g.M.Monitor.follows c.args.monitor.now) c.args.server.now c.args.server.now refl
+
+pub returns-in-Failed-clause-accepted : goal.returns-in-Failed-clause-accepted
+returns-in-Failed-clause-accepted g c = none_accepted (g.M.Monitor.follows c.args.monitor.now) c.args.server.now c.args.server.now refl

@@ -14,7 +14,13 @@ returns g c =
       part =
           rw (c.pair_mut-peer.ensures.value, written)
           (IfOk-weaker c.serve_peer.result _ _
-          (λ course part. record { may_read = _; may_write = _; read = c.may_read-may_read.ensures; write = c.may_write-may_write.ensures; part = part })
+          (λ course part. record {
+            events = part.events;
+            exchanges = part.exchanges;
+            made = record { may_read = _; may_write = _; read = c.may_read-may_read.ensures; write = c.may_write-may_write.ensures; part = part.made };
+            accepted = part.accepted;
+            exchanged = part.exchanged;
+          })
           c.serve_peer.ensures.part);
       wants = rw written c.serve_peer.ensures.wants;
       others =
