@@ -81,7 +81,7 @@ pub use Rattle.coap_server_listener.specs.streams.RecordedInterests.{WhilePassed
 pub use Rattle.coap_server_listener.specs.streams.RecordedInterests.{IsNoted, Served}
 pub use Rattle.coap_server_listener.specs.streams.Serving.{HasTurned, IsAskedOnce, IsTurnOf, IsTurnBy, HasGoneOn, AreServed}
 pub use Rattle.coap_server_listener.specs.streams.Serving.{asked_by, HadItsPart, HasOneMore, IsOpening, IsRound, IsServing}
-pub use Rattle.coap_server_listener.specs.streams.Serving.{AreAccepted, HasAccepted, HasServedBy, HasTurnedBy, HasOpened, dropped_events, events_left, exchanges_left, gone_exchanges, gone_on, TakingSteps, AreTakenAlone, AreTakenWith, NoneTaken, AreStepsBy, opened_if, NoMore, PassedOver, opening, Unrecorded}
+pub use Rattle.coap_server_listener.specs.streams.Serving.{AreCallsBetween, HasAccepted, HasServedBy, HasTurnedBy, HasOpened, dropped_events, events_left, exchanges_left, gone_exchanges, gone_on, TakingSteps, AreTakenAlone, AreTakenWith, NoneTaken, AreStepsBy, opened_if, NoMore, PassedOver, opening, Unrecorded}
 pub use Rattle.coap_server_listener.specs.streams.Sleepers.{AreAsleep, IsOutside, MaySleep, bit_of, is_known_ready, known}
 pub use Rattle.coap_server_listener.specs.streams.Turns.{end_of, agenda_past, IsIdle, IsInTurn, agenda_with, wait_of}
 pub use Rattle.coap_server_listener.specs.streams.Turns.{Taking, IsTakenAlone, IsTakenWith, IsTakenInPart, rest_behind, IsServedOnce, IsServedOnceBy, IsLaidOut, is_heard, heard_events, refused_events, server_heard, server_wrote, wrote_events}

@@ -31,9 +31,9 @@ pub fn stamps_do_not_repeat()
     ensures same { (one other : ChangeStamp) → IsNoEarlier one other → IsNoEarlier other one → one ≡ other }
     ensures back { (one other third : ChangeStamp) → IsNoEarlier one other → IsNoEarlier other third → third ≡ one →
         other ≡ one }
-    ensures served { (v after : ServerValue) (id : ℕ) (rest left : List ℕ) (wire told : WireTrace)
+    ensures served { (v after : ServerValue) (id : ℕ) (rest left : List ℕ) (wire wire_after : WireTrace)
         (may_read may_write : Bool) (course : PeerOutcome) (events : List AcceptedCall) →
-        IsServedOnce may_read may_write v id rest wire after left told course events →
+        IsServedOnce may_read may_write v id rest wire after left wire_after course events →
         IsNoEarlier (stamp_of v.host) (stamp_of after.host) }
     ensures dropped { (v : ServerValue) (id : ℕ) → stamp_of (server_dropped v id).host ≡ stamp_of v.host }
     ensures opened { (v : ServerValue) → stamp_of (server_opened v).host ≡ stamp_of v.host }
@@ -48,9 +48,9 @@ pub fn stamps_do_not_repeat()
 /// is the same, the whole server is unchanged. The interest is also the same after any sequence of these. An idle
 /// connection may therefore be skipped without a look at the server: to serve it would have no effect.
 pub fn recorded_interests_stay_valid()
-    ensures served { (v after : ServerValue) (id : ℕ) (rest left : List ℕ) (wire told : WireTrace)
+    ensures served { (v after : ServerValue) (id : ℕ) (rest left : List ℕ) (wire wire_after : WireTrace)
         (may_read may_write : Bool) (course : PeerOutcome) (events : List AcceptedCall) →
-        AreSettled v.host v.sessions → IsServedOnce may_read may_write v id rest wire after left told course events →
+        AreSettled v.host v.sessions → IsServedOnce may_read may_write v id rest wire after left wire_after course events →
         KeepsNotes id v after }
     ensures dropped { (v : ServerValue) (id : ℕ) → AreSettled v.host v.sessions →
         KeepsNotes id v (server_dropped v id) }

@@ -6,7 +6,7 @@ use Rattle.coap_server_listener.specs.Prelude.{ChangeStamp, sooner, stamp_of, ou
 use Rattle.coap_server_listener.specs.Prelude.{server_dropped, PeerStatus, agenda_with, agenda_past, IsAsked, IsServed, Taking, CanGoOn}
 use Rattle.coap_server_listener.specs.Prelude.{IsIdle, IsInTurn, IsAgendaOf, least_with, wants_in, wants_of, end_of}
 use Rattle.coap_server_listener.specs.Prelude.{insert_entry, Peer, open_refusal, HasGoneOn, HasOneMore, AreServed, NoMore}
-use Rattle.coap_server_listener.specs.Prelude.{AcceptedCall, AreAccepted, Following, FollowsMore, HasAccepted, Answering, AnswersMore, Exchange, dropped_events, events_left, exchanges_left, gone_exchanges}
+use Rattle.coap_server_listener.specs.Prelude.{AcceptedCall, AreCallsBetween, Following, FollowsMore, HasAccepted, Answering, AnswersMore, Exchange, dropped_events, events_left, exchanges_left, gone_exchanges}
 use Rattle.coap_server_listener.proofs.streams.ServingLemmas.{accepted_then, answered_then}
 use Rattle.coap_server_listener.specs.Prelude.{PassedOver, HadItsPart, CanAnyGoOn, WireTrace, concerns_earlier}
 use Rattle.std.proofs.lemmas.List.{map-append, length-map, length-append, length-take, length-take-le, append-nil, append_cancel_left, take_all, take_at, take_more, take-take, take-append-drop, drop_all, drop_at, drop_more, drop-append-le}
@@ -31,10 +31,10 @@ none_or_same i stamp later e = grind (arith, nat_tests)
 -- ---- readiness
 
 -- A possible result of asking a wire for its readiness.
-pub an_answer : (wanted : Bool) (told : Option Bool) → (answer : Bool) × IsAsked wanted told answer
+pub an_answer : (wanted : Bool) (recorded : Option Bool) → (answer : Bool) × IsAsked wanted recorded answer
 an_answer true None = (false, tt)
-an_answer true (Some told) = (told, refl)
-an_answer false told = (false, refl)
+an_answer true (Some recorded) = (recorded, refl)
+an_answer false recorded = (false, refl)
 
 -- The readiness of a connection whose wire returned `reads` for a read.
 pub can_with : (e : PeerStatus) (reads : Bool) → IsAsked e.wants.read e.readable reads → CanGoOn e (e.wants.take || reads || (an_answer e.wants.write e.writable).0)
@@ -293,7 +293,7 @@ module _ {W : Type 0} (Takes : Taking) (readable writable : W → Option Bool) (
       }
 
       pub one_over : (c : Following) (r : Answering) (after : ServerValue) (now : List (ℕ × Peer W)) → course ≡ Over → now ≡ remove mid i → IfSome (slice_get (keys_of mid) i) (λ id. after ≡ server_dropped between id)
-          → IfSome (slice_get (keys_of mid) i) (λ id. AreAccepted (FollowsMore b c) between after (dropped_events between id)) → IfSome (slice_get (keys_of mid) i) (λ id. AnswersMore q r (gone_exchanges between id)) → HasAccepted (HasGoneOn Takes readable writable trace v es i after now i) (FollowsMore a c) (AnswersMore p r) v after
+          → IfSome (slice_get (keys_of mid) i) (λ id. AreCallsBetween (FollowsMore b c) between after (dropped_events between id)) → IfSome (slice_get (keys_of mid) i) (λ id. AnswersMore q r (gone_exchanges between id)) → HasAccepted (HasGoneOn Takes readable writable trace v es i after now i) (FollowsMore a c) (AnswersMore p r) v after
       one_over c r after now over removed dropped accepted gone = record {
         events = its_part.events ++ dropped_events between entry_was_there.0.0;
         exchanges = its_part.exchanges ++ gone_exchanges between entry_was_there.0.0;
@@ -308,7 +308,7 @@ module _ {W : Type 0} (Takes : Taking) (readable writable : W → Option Bool) (
           back = rw (removed, add-one i) (drop_at (take i mid) (drop (suc i) mid) i (length-take-le i mid (omega (arith, still_within))) ∙ back_same);
         };
         accepted =
-            let last : AreAccepted (FollowsMore b c) between after (dropped_events between entry_was_there.0.0) = rw (keys, slice_get-map, entry_was_there.1) at accepted in
+            let last : AreCallsBetween (FollowsMore b c) between after (dropped_events between entry_was_there.0.0) = rw (keys, slice_get-map, entry_was_there.1) at accepted in
             accepted_then a b c v between after its_part.events (dropped_events between entry_was_there.0.0) its_part.accepted last;
         exchanged =
             let last : AnswersMore q r (gone_exchanges between entry_was_there.0.0) = rw (keys, slice_get-map, entry_was_there.1) at gone in

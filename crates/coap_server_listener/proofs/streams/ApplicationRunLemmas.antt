@@ -39,15 +39,15 @@ ran_then a b c p q r {u} {v} {w} one two = record {
 -- The time was set, or it was earlier and nothing changed.
 pub time_ran : {T E M : Type 0} (calls : M → Following) (m n : M) (p : Answering) (r : Result T E) (v w : ServerValue) (moment : ℕ) → is_ok r ≡ nat_le v.host.now moment → w ≡ moved_to v moment
     → OnOk r (ShowsMore v w (ticked_calls v moment)) → OnOk r (FollowsMore (calls m) (calls n) (ticked_calls v moment)) → OnErr r ((w ≡ v) × (n ≡ m)) → HasRun (FollowsMore (calls m) (calls n)) (AnswersMore p p) v w
-time_ran calls m n p (Ok x) v w moment answer moved shows told err = record {
+time_ran calls m n p (Ok x) v w moment answer moved shows received err = record {
   events = moved_calls v moment;
   exchanges = [];
   steps = rw moved (TimeSet v [] [] moment NoneRun);
   shows = rw (← answer) shows;
-  tells = rw (← answer) told;
+  tells = rw (← answer) received;
   exchanged = answered_none p;
 }
-time_ran calls m n p (Err e) v w moment answer moved shows told err = record {
+time_ran calls m n p (Err e) v w moment answer moved shows received err = record {
   events = moved_calls v moment;
   exchanges = [];
   steps = rw moved (TimeSet v [] [] moment NoneRun);
@@ -57,10 +57,10 @@ time_ran calls m n p (Err e) v w moment answer moved shows told err = record {
 }
 
 -- The event of the clock.
-pub time_told : {T E M : Type 0} (calls : M → Following) (m n : M) (r : Result T E) (v w : ServerValue) (moment : ℕ) → is_ok r ≡ nat_le v.host.now moment
+pub time_received : {T E M : Type 0} (calls : M → Following) (m n : M) (r : Result T E) (v w : ServerValue) (moment : ℕ) → is_ok r ≡ nat_le v.host.now moment
     → OnOk r (FollowsMore (calls m) (calls n) (ticked_calls v moment)) → OnErr r ((w ≡ v) × (n ≡ m)) → FollowsMore (calls m) (calls n) (moved_calls v moment)
-time_told calls m n (Ok x) v w moment answer told err = rw (← answer) told
-time_told calls m n (Err e) v w moment answer told err = rw (← answer, err.1) (followed_none (calls m))
+time_received calls m n (Ok x) v w moment answer received err = rw (← answer) received
+time_received calls m n (Err e) v w moment answer received err = rw (← answer, err.1) (followed_none (calls m))
 
 -- Later responses were given.
 pub later_ran : (a b : Following) (p q : Answering) (v w : ServerValue) (is_full : Bool) → AreAskedLater v 256 is_full w (FollowsMore a b) (AnswersMore p q) → HasRun (FollowsMore a b) (AnswersMore p q) v w
@@ -100,10 +100,10 @@ ran_to_end a b c asks v w one ends = record {
 
 module _ {A W : Type 0} (follows : A → Answering) (idle : A → Type 0) (readable writable : W → Option Bool) (trace : W → WireTrace) where
   -- A turn whose calls of the listener are named.
-  pub turn_named : (told : List (DoorCall W) → Type 0) (monitor : List AcceptedCall → Type 0) (asks : List Exchange → Type 0) (v answered : ServerValue) (es kept : List (ℕ × Peer W)) (after : ServerValue) (left : List (ℕ × Peer W)) (is_full : Bool) (limit next wait : Wait) (one other : A) (asked : List AcceptedCall → Type 0)
-      → (given : AreAskedLater v 256 is_full answered asked (AnswersMore (follows one) (follows other))) → (is_full ≡ false → idle other) → AreRecorded es kept → wait ≡ wait_within (limit_for is_full limit) next → (turn : IsTurnBy (IsTakenWith follows) readable writable trace told monitor asks answered kept after left next)
+  pub turn_named : (door : List (DoorCall W) → Type 0) (monitor : List AcceptedCall → Type 0) (asks : List Exchange → Type 0) (v answered : ServerValue) (es kept : List (ℕ × Peer W)) (after : ServerValue) (left : List (ℕ × Peer W)) (is_full : Bool) (limit next wait : Wait) (one other : A) (asked : List AcceptedCall → Type 0)
+      → (given : AreAskedLater v 256 is_full answered asked (AnswersMore (follows one) (follows other))) → (is_full ≡ false → idle other) → AreRecorded es kept → wait ≡ wait_within (limit_for is_full limit) next → (turn : IsTurnBy (IsTakenWith follows) readable writable trace door monitor asks answered kept after left next)
       → IsTurnFor follows idle readable writable trace (λ calls. asked_by answered turn.opened.handed ≡ calls) (λ all. given.events ++ (opening answered turn.opens ++ turn.events) ≡ all) (λ all. given.exchanges ++ turn.exchanges ≡ all) v es after left wait
-  turn_named told monitor asks v answered es kept after left is_full limit next wait one other asked given is_idle recorded waits turn = record {
+  turn_named door monitor asks v answered es kept after left is_full limit next wait one other asked given is_idle recorded waits turn = record {
     answered = answered;
     kept = kept;
     is_full = is_full;
@@ -136,7 +136,7 @@ module _ {A W : Type 0} (follows : A → Answering) (idle : A → Type 0) (reada
         → FollowsMore b d (moved_calls v moment ++ more) → AnswersMore q r others
         → IsTurnFor follows idle readable writable trace (λ calls. called ≡ calls) (λ all. more ≡ all) (λ all. others ≡ all) (moved_to v moment) es after left next
         → HasMadeTurns follows idle readable writable trace c (TellsMore first now) (TellsMore start asked) (FollowsMore a d) (AnswersMore p r) (turns + 1) after left next
-    made_once_more first before now start came asked a b d p q r turns v es wait moment called more others after left next so_far tells calls told answered turn =
+    made_once_more first before now start came asked a b d p q r turns v es wait moment called more others after left next so_far tells calls door answered turn =
         let behind : List (DoorCall W) = waited_behind (length so_far.moments) wait (is_none (open_refusal v)) in
         record {
           moments = so_far.moments ++ moment ∷ [];
@@ -147,7 +147,7 @@ module _ {A W : Type 0} (follows : A → Answering) (idle : A → Type 0) (reada
           counted = length-append so_far.moments (moment ∷ []) ∙ ap (λ n. n + 1) so_far.counted;
           clock_tells = told_then first before now so_far.moments (moment ∷ []) so_far.clock_tells tells;
           door_tells = rw append_assoc (told_then start came asked so_far.calls (behind ++ called) so_far.door_tells (rw so_far.counted calls));
-          monitor_tells = rw append_assoc (followed_then a b d so_far.events (moved_calls v moment ++ more) so_far.monitor_tells told);
+          monitor_tells = rw append_assoc (followed_then a b d so_far.events (moved_calls v moment ++ more) so_far.monitor_tells door);
           exchanged = answered_then p q r so_far.exchanges others so_far.exchanged answered;
         }
 

@@ -18,10 +18,10 @@ use Rattle.coap_server_listener.proofs.streams.ServingLemmas.{served_serving}
 -- ---- the calls that a monitor received
 
 -- The server shows these calls of a run, and a monitor received them.
-pub record IsHeard (told : List AcceptedCall → Type 0) (v : ServerValue) (events : List AcceptedCall) : Type 0 where
+pub record IsHeard (monitor : List AcceptedCall → Type 0) (v : ServerValue) (events : List AcceptedCall) : Type 0 where
   pub each : All IsDoorCall events
   pub shows : Shows v events
-  pub tells : told events
+  pub tells : monitor events
 
 -- After one more part of the run, the server shows the calls of both.
 pub heard_further : (a b c : Following) (v w : ServerValue) (events more : List AcceptedCall) → IsHeard (FollowsMore a b) v events → All IsDoorCall more → ShowsMore v w more → FollowsMore b c more → IsHeard (FollowsMore a c) w (events ++ more)
@@ -59,21 +59,21 @@ opening_is_made : (v : ServerValue) (opens : Bool) → All IsDoorCall (opening v
 opening_is_made v true = All-cons IsDoorCall (Opened (v.ids + 1)) [] tt (All-nil IsDoorCall)
 opening_is_made v false = All-nil IsDoorCall
 
-pub turns_are_made : (told : List AcceptedCall → Type 0) (v w : ServerValue) (turned : HasTurned told v w) → All IsDoorCall (opening v turned.opens ++ turned.events)
-turns_are_made told v w turned = All-append IsDoorCall (opening v turned.opens) turned.events (opening_is_made v turned.opens) (serving_is_made turned.events turned.serving)
+pub turns_are_made : (monitor : List AcceptedCall → Type 0) (v w : ServerValue) (turned : HasTurned monitor v w) → All IsDoorCall (opening v turned.opens ++ turned.events)
+turns_are_made monitor v w turned = All-append IsDoorCall (opening v turned.opens) turned.events (opening_is_made v turned.opens) (serving_is_made turned.events turned.serving)
 
-pub whole_turns_are_made : {W : Type 0} (readable writable : W → Option Bool) (trace : W → WireTrace) (told : List (DoorCall W) → Type 0) (monitor : List AcceptedCall → Type 0) (v : ServerValue) (es : List (ℕ × Peer W)) (after : ServerValue) (left : List (ℕ × Peer W)) (wait : Wait)
-    → (turn : IsTurnOf readable writable trace told monitor v es after left wait) → All IsDoorCall (opening v turn.opens ++ turn.events)
-whole_turns_are_made readable writable trace told monitor v es after left wait turn =
+pub whole_turns_are_made : {W : Type 0} (readable writable : W → Option Bool) (trace : W → WireTrace) (door : List (DoorCall W) → Type 0) (monitor : List AcceptedCall → Type 0) (v : ServerValue) (es : List (ℕ × Peer W)) (after : ServerValue) (left : List (ℕ × Peer W)) (wait : Wait)
+    → (turn : IsTurnOf readable writable trace door monitor v es after left wait) → All IsDoorCall (opening v turn.opens ++ turn.events)
+whole_turns_are_made readable writable trace door monitor v es after left wait turn =
     All-append IsDoorCall (opening v turn.opens) turn.events (opening_is_made v turn.opens) (serving_is_made turn.events (served_serving readable writable trace turn.served))
 
 -- The time was set, or it was earlier and nothing changed.
 pub moved_heard : {T E M : Type 0} (calls : M → Following) (m n : M) (r : Result T E) (a : Following) (v w : ServerValue) (events : List AcceptedCall) (moment : ℕ)
     → IsHeard (FollowsMore a (calls m)) v events → is_ok r ≡ nat_le v.host.now moment → OnOk r (ShowsMore v w (ticked_calls v moment))
     → OnOk r (FollowsMore (calls m) (calls n) (ticked_calls v moment)) → OnErr r ((w ≡ v) × (n ≡ m)) → IsHeard (FollowsMore a (calls n)) w (events ++ moved_calls v moment)
-moved_heard calls m n (Ok x) a v w events moment heard answer shows told err =
-    rw (← answer) (heard_further a (calls m) (calls n) v w events (ticked_calls v moment) heard (ticks_are_made v moment) shows told)
-moved_heard calls m n (Err e) a v w events moment heard answer shows told err = rw (← answer, append-nil, err.0, err.1) heard
+moved_heard calls m n (Ok x) a v w events moment heard answer shows received err =
+    rw (← answer) (heard_further a (calls m) (calls n) v w events (ticked_calls v moment) heard (ticks_are_made v moment) shows received)
+moved_heard calls m n (Err e) a v w events moment heard answer shows received err = rw (← answer, append-nil, err.0, err.1) heard
 
 -- The server has this time already.
 pub same_time : (v : ServerValue) (now : ℕ) → AreSettled v.host v.sessions → now ≡ v.host.now → v ≡ moved_to v now
@@ -86,14 +86,14 @@ none_ticked v now is = grind (arith, nat_tests)
 
 -- A turn was cut.
 pub turn_cut : (a b c : Following) (v w : ServerValue) (events : List AcceptedCall) → All IsDoorCall events → FollowsMore a b events → HasTurned (FollowsMore b c) v w → HasTurned (λ more. All IsDoorCall (events ++ more) × FollowsMore a c (events ++ more)) v w
-turn_cut a b c v w events each told turned =
+turn_cut a b c v w events each received turned =
     let more : List AcceptedCall = opening v turned.opens ++ turned.events in
     record {
       opens = turned.opens;
       events = turned.events;
       serving = turned.serving;
       shows = turned.shows;
-      tells = (All-append IsDoorCall events more each (turns_are_made (FollowsMore b c) v w turned), followed_then a b c events more told turned.tells);
+      tells = (All-append IsDoorCall events more each (turns_are_made (FollowsMore b c) v w turned), followed_then a b c events more received turned.tells);
     }
 
 -- ---- progress of a run

@@ -12,12 +12,12 @@ use Rattle.coap_server_listener.proofs.streams.RemovalLemmas.{all_recorded}
 use Rattle.coap_server_listener.proofs.streams.ServingLemmas.{answered_none, answered_then}
 
 -- This number of later responses was given, with these events and exchanges.
-pub record HasGivenLater (v : ServerValue) (number : ℕ) (after : ServerValue) (told : List AcceptedCall → Type 0) (asks : List Exchange → Type 0) : Type 0 where
+pub record HasGivenLater (v : ServerValue) (number : ℕ) (after : ServerValue) (monitor : List AcceptedCall → Type 0) (asks : List Exchange → Type 0) : Type 0 where
   pub events : List AcceptedCall
   pub exchanges : List Exchange
   pub given : AreGivenLater v number after events exchanges
   pub shows : ShowsMore v after events
-  pub tells : told events
+  pub tells : monitor events
   pub exchanged : asks exchanges
 
 pub none_given : (a : Following) (p : Answering) (v : ServerValue) → HasGivenLater v 0 v (FollowsMore a a) (AnswersMore p p)
@@ -53,8 +53,8 @@ no_more_given a b c p q r v u w n most None is_one so_far is asked none within =
 }
 
 -- As many as are asked for were given.
-pub all_given : (v w : ServerValue) (n most : ℕ) (told : List AcceptedCall → Type 0) (asks : List Exchange → Type 0) → HasGivenLater v n w told asks → n ≡ most → AreAskedLater v most (n == most) w told asks
-all_given v w n most told asks so_far all = record {
+pub all_given : (v w : ServerValue) (n most : ℕ) (monitor : List AcceptedCall → Type 0) (asks : List Exchange → Type 0) → HasGivenLater v n w monitor asks → n ≡ most → AreAskedLater v most (n == most) w monitor asks
+all_given v w n most monitor asks so_far all = record {
   number = n;
   events = so_far.events;
   exchanges = so_far.exchanges;
@@ -81,8 +81,8 @@ pub recorded_once : {W : Type 0} (v : ServerValue) (id : ℕ) (es now : List (�
 recorded_once v id es now is = rw is (recorded_aside v id es)
 
 -- The interest of the connection with a later response was recorded anew, and all others stay correct.
-pub noted_where_given : {W : Type 0} (told : List AcceptedCall → Type 0) (asks : List Exchange → Type 0) (v after : ServerValue) (id : ℕ) (es now : List (ℕ × Peer W)) → AreSettled v.host v.sessions → IsAskedLater v (Some id) after told asks → now ≡ recorded_on after id es
+pub noted_where_given : {W : Type 0} (monitor : List AcceptedCall → Type 0) (asks : List Exchange → Type 0) (v after : ServerValue) (id : ℕ) (es now : List (ℕ × Peer W)) → AreSettled v.host v.sessions → IsAskedLater v (Some id) after monitor asks → now ≡ recorded_on after id es
     → All (IsNoted v) es → All (IsNoted after) now
-noted_where_given told asks v after id es now settled asked is noted =
+noted_where_given monitor asks v after id es now settled asked is noted =
     rw is (All-from_recursion (IsNoted after) (recorded_on after id es)
     (all_recorded v after id (stays_noted (offers_sparing v after id asked.bytes asked.server) settled) es (recursion_from_All (IsNoted v) es noted)))

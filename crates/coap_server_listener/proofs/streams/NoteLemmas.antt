@@ -182,21 +182,21 @@ serves_sparing v id bytes [] = nothing_happens
 serves_sparing v id bytes (response ∷ responses) =
     one_then_another (serves_sparing v id bytes responses) (asks_once (served v id bytes responses).fed.server id (drop (served v id bytes responses).fed.count bytes) response)
 
-pub with_spares : (told : List AcceptedCall → Type 0) (asks : List Exchange → Type 0) (v after : ServerValue) (id count : ℕ) (bytes : List ℕ) → IsServedWith v id bytes count after told asks → GoesOnSparing (But id) v after
-with_spares told asks v after id count bytes took = rw took.server (serves_sparing v id bytes took.responses)
+pub with_spares : (monitor : List AcceptedCall → Type 0) (asks : List Exchange → Type 0) (v after : ServerValue) (id count : ℕ) (bytes : List ℕ) → IsServedWith v id bytes count after monitor asks → GoesOnSparing (But id) v after
+with_spares monitor asks v after id count bytes took = rw took.server (serves_sparing v id bytes took.responses)
 
 -- A later response spares the other connections.
 pub offers_sparing : (v after : ServerValue) (id : ℕ) (bytes : List ℕ) → after ≡ server_offered v id bytes → GoesOnSparing (But id) v after
 offers_sparing v after id bytes is = rw is (gives_once v id bytes)
 
-is_carried_on : (failed may_write : Bool) (v : ServerValue) (id : ℕ) (bytes : List ℕ) (wire : WireTrace) (after : ServerValue) (left : List ℕ) (told : WireTrace) (course : PeerOutcome) (events : List AcceptedCall) (exchanges : List Exchange) → IsCarriedOn IsTakenAlone failed may_write v id bytes wire after left told course events exchanges → GoesOnSparing (But id) v after
-is_carried_on true may_write v id bytes wire after left told course events exchanges carried = rw carried.0 nothing_happens
-is_carried_on false may_write v id bytes wire after left told course events exchanges carried =
+is_carried_on : (failed may_write : Bool) (v : ServerValue) (id : ℕ) (bytes : List ℕ) (wire : WireTrace) (after : ServerValue) (left : List ℕ) (wire_after : WireTrace) (course : PeerOutcome) (events : List AcceptedCall) (exchanges : List Exchange) → IsCarriedOn IsTakenAlone failed may_write v id bytes wire after left wire_after course events exchanges → GoesOnSparing (But id) v after
+is_carried_on true may_write v id bytes wire after left wire_after course events exchanges carried = rw carried.0 nothing_happens
+is_carried_on false may_write v id bytes wire after left wire_after course events exchanges carried =
     rw carried.server (one_then_another (alone_spares v carried.taken id bytes carried.part.took.0) (writes carried.taken id carried.wrote))
 
-served_on : (may_read may_write : Bool) (v : ServerValue) (id : ℕ) (rest : List ℕ) {wire : WireTrace} (after : ServerValue) (left : List ℕ) {told : WireTrace} (course : PeerOutcome) {events : List AcceptedCall} → IsServedOnce may_read may_write v id rest wire after left told course events → GoesOnSparing (But id) v after
-served_on may_read may_write v id rest after left {told} course part =
-    one_then_another (takes_input v id part.heard) (is_carried_on (has_failed part.heard) may_write _ id part.bytes part.between after left told course part.later [] part.carried)
+served_on : (may_read may_write : Bool) (v : ServerValue) (id : ℕ) (rest : List ℕ) {wire : WireTrace} (after : ServerValue) (left : List ℕ) {wire_after : WireTrace} (course : PeerOutcome) {events : List AcceptedCall} → IsServedOnce may_read may_write v id rest wire after left wire_after course events → GoesOnSparing (But id) v after
+served_on may_read may_write v id rest after left {wire_after} course part =
+    one_then_another (takes_input v id part.heard) (is_carried_on (has_failed part.heard) may_write _ id part.bytes part.between after left wire_after course part.later [] part.carried)
 
 -- A read that did not fail, then bytes that are passed, then a write.
 pub part_spares : (v heard_by taken after : ServerValue) (id : ℕ) (heard wrote : Got) → heard_by ≡ server_heard v id heard → GoesOnSparing (But id) heard_by taken → after ≡ server_wrote taken id wrote → GoesOnSparing (But id) v after
@@ -207,7 +207,7 @@ part_spares v heard_by taken after id heard wrote heard_so spared wrote_so =
 pub heard_spares : (v after : ServerValue) (id : ℕ) (heard : Got) → after ≡ server_heard v id heard → GoesOnSparing (But id) v after
 heard_spares v after id heard is = rw is (takes_input v id heard)
 
-pub served_no_earlier : (may_read may_write : Bool) (v : ServerValue) (id : ℕ) (rest : List ℕ) {wire : WireTrace} (after : ServerValue) (left : List ℕ) {told : WireTrace} (course : PeerOutcome) {events : List AcceptedCall} → IsServedOnce may_read may_write v id rest wire after left told course events → IsNoEarlier (stamp_of v.host) (stamp_of after.host)
+pub served_no_earlier : (may_read may_write : Bool) (v : ServerValue) (id : ℕ) (rest : List ℕ) {wire : WireTrace} (after : ServerValue) (left : List ℕ) {wire_after : WireTrace} (course : PeerOutcome) {events : List AcceptedCall} → IsServedOnce may_read may_write v id rest wire after left wire_after course events → IsNoEarlier (stamp_of v.host) (stamp_of after.host)
 served_no_earlier may_read may_write v id rest after left course part = (served_on may_read may_write v id rest after left course part).follows.no_earlier
 
 -- ---- opening, dropping, and the time
@@ -252,7 +252,7 @@ keeps_notes : {id : ℕ} {v after : ServerValue} → AreSettled v.host v.session
 keeps_notes settled on =
     record { settled = on.settled settled; no_earlier = on.follows.no_earlier; noted = λ other rest apart same. wants_stay on settled other apart same rest }
 
-pub noted_where_served : (may_read may_write : Bool) (v : ServerValue) (id : ℕ) (rest : List ℕ) {wire : WireTrace} (after : ServerValue) (left : List ℕ) {told : WireTrace} (course : PeerOutcome) {events : List AcceptedCall} → AreSettled v.host v.sessions → IsServedOnce may_read may_write v id rest wire after left told course events → KeepsNotes id v after
+pub noted_where_served : (may_read may_write : Bool) (v : ServerValue) (id : ℕ) (rest : List ℕ) {wire : WireTrace} (after : ServerValue) (left : List ℕ) {wire_after : WireTrace} (course : PeerOutcome) {events : List AcceptedCall} → AreSettled v.host v.sessions → IsServedOnce may_read may_write v id rest wire after left wire_after course events → KeepsNotes id v after
 noted_where_served may_read may_write v id rest after left course settled part = keeps_notes settled (served_on may_read may_write v id rest after left course part)
 
 pub noted_where_dropped : (v : ServerValue) (id : ℕ) → AreSettled v.host v.sessions → KeepsNotes id v (server_dropped v id)
@@ -272,7 +272,7 @@ spares_one id other apart on = record { follows = on.follows; settled = on.settl
 
 passed_on_sparing : {id : ℕ} {v after : ServerValue} → WhilePassedOver id v after → GoesOnSparing (Only id) v after
 passed_on_sparing AtFirst = nothing_happens
-passed_on_sparing {id} (Served before now other rest left wire told may_read may_write course events so_far apart part) =
+passed_on_sparing {id} (Served before now other rest left wire received may_read may_write course events so_far apart part) =
     one_then_another (passed_on_sparing so_far) (spares_one id other apart (served_on may_read may_write before other rest now left course part))
 passed_on_sparing {id} (Dropped before other so_far apart) = one_then_another (passed_on_sparing so_far) (spares_one id other apart (dropped_on before other))
 passed_on_sparing {id} (Opened before so_far apart) = one_then_another (passed_on_sparing so_far) (spares_one id (before.ids + 1) apart (opened_on before))

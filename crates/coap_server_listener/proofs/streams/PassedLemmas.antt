@@ -94,10 +94,10 @@ not_written : (may_write : Bool) (waiting : List ℕ) → (nat_lt 0 (length wait
 not_written may_write waiting e = grind (arith, nat_tests, nil_from_length)
 
 -- If nothing is accepted and nothing is queued, nothing changes.
-nothing_carried : (may_write : Bool) (v : ServerValue) (id : ℕ) (rest : List ℕ) (wire : WireTrace) (after : ServerValue) (left : List ℕ) (told : WireTrace) (course : PeerOutcome) (events : List AcceptedCall)
+nothing_carried : (may_write : Bool) (v : ServerValue) (id : ℕ) (rest : List ℕ) (wire : WireTrace) (after : ServerValue) (left : List ℕ) (wire_after : WireTrace) (course : PeerOutcome) (events : List AcceptedCall)
     → (in_result v id rest).server ≡ v → took v id rest ≡ refused_events id rest → rest_left v id rest ≡ rest → waiting_once may_write id v ≡ [] → is_over_in (outlook_of v id) ≡ false
-    → IsTakenAndWritten IsTakenAlone may_write v id rest wire after left told course events [] → (after ≡ v) × (left ≡ rest) × (told ≡ wire) × (course ≡ Open) × (events ≡ refused_events id rest)
-nothing_carried may_write v id rest wire after left told course events same refused left_so unwritten on carried =
+    → IsTakenAndWritten IsTakenAlone may_write v id rest wire after left wire_after course events [] → (after ≡ v) × (left ≡ rest) × (wire_after ≡ wire) × (course ≡ Open) × (events ≡ refused_events id rest)
+nothing_carried may_write v id rest wire after left wire_after course events same refused left_so unwritten on carried =
     let took = carried.part.took in
     let taken_so : carried.taken ≡ v = took.0 ∙ same in
     let wrote = carried.offered.idle (ap (λ w. waiting_once may_write id w) taken_so ∙ unwritten) in
@@ -144,11 +144,11 @@ nothing_done v id i s rest may_read may_write lies here settled idle on =
         };
         all = refl;
       };
-      always = λ wire after left told course events part.
+      always = λ wire after left received course events part.
           let laid : (part.heard ≡ Later) × (part.bytes ≡ rest) × (part.between ≡ wire) = rw unread at part.laid in
-          let carried : IsTakenAndWritten IsTakenAlone may_write v id rest wire after left told course part.later [] = rw (laid.0, laid.1, laid.2) at part.carried in
+          let carried : IsTakenAndWritten IsTakenAlone may_write v id rest wire after left received course part.later [] = rw (laid.0, laid.1, laid.2) at part.carried in
           let same_events : events ≡ part.later = part.all ∙ ap (λ got. heard_events id got ++ part.later) laid.0 in
-          rw same_events (nothing_carried may_write v id rest wire after left told course part.later same.server refused left_so unwritten on carried);
+          rw same_events (nothing_carried may_write v id rest wire after left received course part.later same.server refused left_so unwritten on carried);
     }
 
 -- A connection on which nothing can be done may be skipped.

@@ -3,18 +3,18 @@ use Rattle.std.proofs.Common.{◌≡◌, ℕ, zero, suc, Bool, true, false, List
 use Rattle.coap_server_listener.specs.Prelude.{set_value_at, ServerValue, WireTrace, Got, PeerOutcome, Taking, IsTakenInPart, is_heard}
 use Rattle.coap_server_listener.specs.Prelude.{server_heard, server_wrote, has_failed, course_of, is_over_in, outlook_of}
 use Rattle.coap_server_listener.specs.Prelude.{waiting_once, IsLaidOut, IsOffered, IsServedOnceBy}
-use Rattle.coap_server_listener.specs.Prelude.{Answering, AnswersMore, AreAccepted, Following, FollowsMore, HasAccepted, Over, heard_events, wrote_events}
+use Rattle.coap_server_listener.specs.Prelude.{Answering, AnswersMore, AreCallsBetween, Following, FollowsMore, HasAccepted, Over, heard_events, wrote_events}
 use Rattle.std.proofs.lemmas.List.{append-nil}
 use Rattle.coap_server_listener.proofs.streams.ServingLemmas.{accepted_then, answered_none}
 
 -- A read that did not fail, then the processing of its bytes, then a write.
-pub steps_are_a_part : (Takes : Taking) (may_read may_write : Bool) (v heard_by taken after : ServerValue) (id : ℕ) (rest bytes left : List ℕ) (wire between told : WireTrace) (heard wrote : Got) (course : PeerOutcome) (a b c d : Following) (p q : Answering)
+pub steps_are_a_part : (Takes : Taking) (may_read may_write : Bool) (v heard_by taken after : ServerValue) (id : ℕ) (rest bytes left : List ℕ) (wire between wire_after : WireTrace) (heard wrote : Got) (course : PeerOutcome) (a b c d : Following) (p q : Answering)
     → heard_by ≡ server_heard v id heard → IsLaidOut (is_heard may_read v id rest) rest wire heard bytes between → has_failed heard ≡ false
-    → HasAccepted (IsTakenInPart Takes heard_by id bytes taken left) (FollowsMore b c) (AnswersMore p q) heard_by taken → IsOffered (waiting_once may_write id taken) between wrote told
+    → HasAccepted (IsTakenInPart Takes heard_by id bytes taken left) (FollowsMore b c) (AnswersMore p q) heard_by taken → IsOffered (waiting_once may_write id taken) between wrote wire_after
     → after ≡ server_wrote taken id wrote → course ≡ course_of wrote (is_over_in (outlook_of after id))
-    → AreAccepted (FollowsMore a b) v heard_by (heard_events id heard) → AreAccepted (FollowsMore c d) taken after (wrote_events id wrote)
-    → HasAccepted (IsServedOnceBy Takes may_read may_write v id rest wire after left told course) (FollowsMore a d) (AnswersMore p q) v after
-steps_are_a_part Takes may_read may_write v heard_by taken after id rest bytes left wire between told heard wrote course a b c d p q heard_so laid works part offered wrote_so outcome heard_accepted wrote_accepted = record {
+    → AreCallsBetween (FollowsMore a b) v heard_by (heard_events id heard) → AreCallsBetween (FollowsMore c d) taken after (wrote_events id wrote)
+    → HasAccepted (IsServedOnceBy Takes may_read may_write v id rest wire after left wire_after course) (FollowsMore a d) (AnswersMore p q) v after
+steps_are_a_part Takes may_read may_write v heard_by taken after id rest bytes left wire between wire_after heard wrote course a b c d p q heard_so laid works part offered wrote_so outcome heard_accepted wrote_accepted = record {
   events = heard_events id heard ++ (part.events ++ wrote_events id wrote);
   exchanges = part.exchanges;
   made = record {
@@ -42,7 +42,7 @@ steps_are_a_part Takes may_read may_write v heard_by taken after id rest bytes l
 
 -- A read that failed.
 pub failed_read_is_a_part : (Takes : Taking) (may_read may_write : Bool) (v after : ServerValue) (id : ℕ) (rest bytes left : List ℕ) (wire between : WireTrace) (heard : Got) (a b : Following) (p : Answering)
-    → after ≡ server_heard v id heard → IsLaidOut (is_heard may_read v id rest) rest wire heard bytes between → has_failed heard ≡ true → AreAccepted (FollowsMore a b) v after (heard_events id heard)
+    → after ≡ server_heard v id heard → IsLaidOut (is_heard may_read v id rest) rest wire heard bytes between → has_failed heard ≡ true → AreCallsBetween (FollowsMore a b) v after (heard_events id heard)
     → HasAccepted (IsServedOnceBy Takes may_read may_write v id rest wire after left between Over) (FollowsMore a b) (AnswersMore p p) v after
 failed_read_is_a_part Takes may_read may_write v after id rest bytes left wire between heard a b p heard_so laid fails accepted = record {
   events = heard_events id heard ++ [];

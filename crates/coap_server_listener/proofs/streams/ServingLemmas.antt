@@ -5,7 +5,7 @@ use Rattle.coap_server_listener.specs.Prelude.{AllByRecursion, InResult, fed_tur
 use Rattle.coap_server_listener.specs.Prelude.{TellsPartlyFed, FollowsMore, Following, IsServing, HasTurned, opening, ServerValue, session_of}
 use Rattle.coap_server_listener.specs.Prelude.{SessionValue, AcceptedCall, Opened, Took, Ended, Wrote, Dropped, server_dropped, server_opened}
 use Rattle.coap_server_listener.specs.Prelude.{Answering, AnswersMore, Exchange, Gone, HasServedBy, HasTurnedBy, HasOpened, TakingSteps, AreTakenAlone, AreTakenWith, NoneTaken, AreStepsBy, IsTakenWith}
-use Rattle.coap_server_listener.specs.Prelude.{AreAccepted, HasAccepted, IsTakenAlone, Got, Bytes, End, Failed, Later, dropped_events, gone_exchanges, gone_on, heard_events, is_ok, is_there, server_heard, server_wrote, wrote_events}
+use Rattle.coap_server_listener.specs.Prelude.{AreCallsBetween, HasAccepted, IsTakenAlone, Got, Bytes, End, Failed, Later, dropped_events, gone_exchanges, gone_on, heard_events, is_ok, is_there, server_heard, server_wrote, wrote_events}
 use Rattle.coap_server_listener.specs.Prelude.{AreServed, HadItsPart, IsCarriedOn, IsServedOnceBy, NoMore, Over, PassedOver, Peer, PeerOutcome, WireTrace, events_left, has_failed}
 use Rattle.coap_server_listener.specs.declared.door.peer.PeerOutcome.TheVariants.{Open}
 use Rattle.coap_server_listener.specs.streams.Serving.{NoStep, OneTaken, OneEnded, OneWrote, OneDropped}
@@ -74,36 +74,36 @@ module _ (S : TakingSteps) where
 
   -- The connection was dropped.
   pub dropped_served : (a b : Following) (p q : Answering) (v after : ServerValue) (id : ℕ) → after ≡ server_dropped v id → ShowsMore v after (Dropped id ∷ []) → FollowsMore a b (Dropped id ∷ []) → AnswersMore p q (Gone id ∷ []) → HasServedBy S (FollowsMore a b) (AnswersMore p q) v after
-  dropped_served a b p q v after id is shows told gone =
-      record { events = Dropped id ∷ []; exchanges = Gone id ∷ []; steps = rw is (OneDropped v [] [] id NoStep); shows = shows; tells = told; exchanged = gone }
+  dropped_served a b p q v after id is shows received gone =
+      record { events = Dropped id ∷ []; exchanges = Gone id ∷ []; steps = rw is (OneDropped v [] [] id NoStep); shows = shows; tells = received; exchanged = gone }
 
 -- ---- calls one after the other
 
-pub none_accepted : (a : Following) (v after : ServerValue) → after ≡ v → AreAccepted (FollowsMore a a) v after []
+pub none_accepted : (a : Following) (v after : ServerValue) → after ≡ v → AreCallsBetween (FollowsMore a a) v after []
 none_accepted a v after is = (shows_same v after is, followed_none a)
 
-pub accepted_then : (a b c : Following) (u v w : ServerValue) (xs ys : List AcceptedCall) → AreAccepted (FollowsMore a b) u v xs → AreAccepted (FollowsMore b c) v w ys → AreAccepted (FollowsMore a c) u w (xs ++ ys)
+pub accepted_then : (a b c : Following) (u v w : ServerValue) (xs ys : List AcceptedCall) → AreCallsBetween (FollowsMore a b) u v xs → AreCallsBetween (FollowsMore b c) v w ys → AreCallsBetween (FollowsMore a c) u w (xs ++ ys)
 accepted_then a b c u v w xs ys one two = (shows_then u v w xs ys one.0 two.0, followed_then a b c xs ys one.1 two.1)
 
 -- ---- reads and writes
 
 -- A read that did not find the end.
-pub read_accepted : (a : Following) (v after : ServerValue) (id : ℕ) (heard : Got) → heard ≢ End → after ≡ v → AreAccepted (FollowsMore a a) v after (heard_events id heard)
+pub read_accepted : (a : Following) (v after : ServerValue) (id : ℕ) (heard : Got) → heard ≢ End → after ≡ v → AreCallsBetween (FollowsMore a a) v after (heard_events id heard)
 read_accepted a v after id (Bytes n) apart is = none_accepted a v after is
 read_accepted a v after id Later apart is = none_accepted a v after is
 read_accepted a v after id End apart is = absurd (apart refl)
 read_accepted a v after id Failed apart is = none_accepted a v after is
 
-nothing_served : (a b : Following) (v after : ServerValue) → after ≡ v → AreAccepted (FollowsMore a b) v after [] → HasServedBy NoneTaken (FollowsMore a b) (λ xs. xs ≡ []) v after
+nothing_served : (a b : Following) (v after : ServerValue) → after ≡ v → AreCallsBetween (FollowsMore a b) v after [] → HasServedBy NoneTaken (FollowsMore a b) (λ xs. xs ≡ []) v after
 nothing_served a b v after is accepted = record { events = []; exchanges = []; steps = rw is NoStep; shows = accepted.0; tells = accepted.1; exchanged = refl }
 
-pub heard_served : (a b : Following) (v after : ServerValue) (id : ℕ) (heard : Got) → after ≡ server_heard v id heard → AreAccepted (FollowsMore a b) v after (heard_events id heard) → HasServedBy NoneTaken (FollowsMore a b) (λ xs. xs ≡ []) v after
+pub heard_served : (a b : Following) (v after : ServerValue) (id : ℕ) (heard : Got) → after ≡ server_heard v id heard → AreCallsBetween (FollowsMore a b) v after (heard_events id heard) → HasServedBy NoneTaken (FollowsMore a b) (λ xs. xs ≡ []) v after
 heard_served a b v after id (Bytes n) is accepted = nothing_served a b v after is accepted
 heard_served a b v after id Later is accepted = nothing_served a b v after is accepted
 heard_served a b v after id End is accepted = record { events = Ended id ∷ []; exchanges = []; steps = rw is (OneEnded v [] [] id NoStep); shows = accepted.0; tells = accepted.1; exchanged = refl }
 heard_served a b v after id Failed is accepted = nothing_served a b v after is accepted
 
-pub wrote_served : (a b : Following) (v after : ServerValue) (id : ℕ) (wrote : Got) → after ≡ server_wrote v id wrote → AreAccepted (FollowsMore a b) v after (wrote_events id wrote) → HasServedBy NoneTaken (FollowsMore a b) (λ xs. xs ≡ []) v after
+pub wrote_served : (a b : Following) (v after : ServerValue) (id : ℕ) (wrote : Got) → after ≡ server_wrote v id wrote → AreCallsBetween (FollowsMore a b) v after (wrote_events id wrote) → HasServedBy NoneTaken (FollowsMore a b) (λ xs. xs ≡ []) v after
 wrote_served a b v after id (Bytes n) is accepted = record { events = Wrote id n ∷ []; exchanges = []; steps = rw is (OneWrote v [] [] id n NoStep); shows = accepted.0; tells = accepted.1; exchanged = refl }
 wrote_served a b v after id Later is accepted = nothing_served a b v after is accepted
 wrote_served a b v after id End is accepted = nothing_served a b v after is accepted
@@ -120,8 +120,8 @@ not_there_called call None there = refl
 not_there_called call (Some s) there = absurd cc
 
 -- The connection existed, or it did not.
-pub drop_accepted : {T E : Type 0} (a b : Following) (v after : ServerValue) (id : ℕ) (r : Result T E) → is_ok r ≡ is_there (session_of id v.sessions) → is_ok r ≡ true → ShowsMore v after (Dropped id ∷ []) → FollowsMore a b (Dropped id ∷ []) → AreAccepted (FollowsMore a b) v after (dropped_events v id)
-drop_accepted a b v after id r answer ok shows told = rw (there_called (Dropped id) (session_of id v.sessions) (sym answer ∙ ok)) (shows, told)
+pub drop_accepted : {T E : Type 0} (a b : Following) (v after : ServerValue) (id : ℕ) (r : Result T E) → is_ok r ≡ is_there (session_of id v.sessions) → is_ok r ≡ true → ShowsMore v after (Dropped id ∷ []) → FollowsMore a b (Dropped id ∷ []) → AreCallsBetween (FollowsMore a b) v after (dropped_events v id)
+drop_accepted a b v after id r answer ok shows received = rw (there_called (Dropped id) (session_of id v.sessions) (sym answer ∙ ok)) (shows, received)
 
 there_gone : (id : ℕ) (o : Option SessionValue) → is_there o ≡ true → gone_on o id ≡ Gone id ∷ []
 there_gone id None there = absurd cc
@@ -137,7 +137,7 @@ gone_answered p q v id r answer ok gone = rw (there_gone id (session_of id v.ses
 pub none_gone_answered : {T E : Type 0} (p : Answering) (v : ServerValue) (id : ℕ) (r : Result T E) → is_ok r ≡ is_there (session_of id v.sessions) → is_ok r ≡ false → AnswersMore p p (gone_exchanges v id)
 none_gone_answered p v id r answer err = rw (not_there_gone id (session_of id v.sessions) (sym answer ∙ err)) (answered_none p)
 
-pub no_drop_accepted : {T E : Type 0} (a : Following) (v after : ServerValue) (id : ℕ) (r : Result T E) → is_ok r ≡ is_there (session_of id v.sessions) → is_ok r ≡ false → after ≡ v → AreAccepted (FollowsMore a a) v after (dropped_events v id)
+pub no_drop_accepted : {T E : Type 0} (a : Following) (v after : ServerValue) (id : ℕ) (r : Result T E) → is_ok r ≡ is_there (session_of id v.sessions) → is_ok r ≡ false → after ≡ v → AreCallsBetween (FollowsMore a a) v after (dropped_events v id)
 no_drop_accepted a v after id r answer err is = rw (not_there_called (Dropped id) (session_of id v.sessions) (sym answer ∙ err)) (none_accepted a v after is)
 
 -- ---- calls of take
@@ -158,18 +158,18 @@ one_taken : (S : TakingSteps) (v after : ServerValue) (es : List AcceptedCall) (
 one_taken S v after es xs step = OneTaken v after [] es [] xs NoStep step
 
 pub takes_served : (a b : Following) (p : Answering) (v after : ServerValue) (id : ℕ) (bytes : List ℕ) → ShowsMore v after (took v id bytes) → FollowsMore a b (took v id bytes) → HasServedBy AreTakenAlone (FollowsMore a b) (AnswersMore p p) v after
-takes_served a b p v after id bytes shows told = record {
+takes_served a b p v after id bytes shows received = record {
   events = took v id bytes;
   exchanges = [];
   steps = one_taken AreTakenAlone v after (took v id bytes) [] (takes_serving (length bytes) v id bytes);
   shows = shows;
-  tells = told;
+  tells = received;
   exchanged = answered_none p;
 }
 
 pub alone_accepted : (a b : Following) (p : Answering) (v after : ServerValue) (id count : ℕ) (bytes : List ℕ) → count ≡ (in_result v id bytes).count → after ≡ (in_result v id bytes).server → ShowsMore v after (took v id bytes) → FollowsMore a b (took v id bytes) → HasAccepted (IsTakenAlone v id bytes after count) (FollowsMore a b) (AnswersMore p p) v after
-alone_accepted a b p v after id count bytes counted is shows told =
-    record { events = took v id bytes; exchanges = []; made = (is, counted, refl, refl); accepted = (shows, told); exchanged = answered_none p }
+alone_accepted a b p v after id count bytes counted is shows received =
+    record { events = took v id bytes; exchanges = []; made = (is, counted, refl, refl); accepted = (shows, received); exchanged = answered_none p }
 
 pub part_served : (a b : Following) (p : Answering) (v after : ServerValue) (id : ℕ) (bytes : List ℕ) → TellsPartlyFed (FollowsMore a b) v id bytes after → HasServedBy AreTakenAlone (FollowsMore a b) (AnswersMore p p) v after
 part_served a b p v after id bytes part =
@@ -259,10 +259,10 @@ pub none_opened : (a : Following) (v after : ServerValue) → after ≡ v → Ha
 none_opened a v after is = record { opens = false; server = is; shows = shows_same v after is; tells = followed_none a }
 
 pub one_opened : (a b : Following) (v after : ServerValue) (id : ℕ) → id ≡ v.ids + 1 → after ≡ server_opened v → ShowsMore v after (Opened id ∷ []) → FollowsMore a b (Opened id ∷ []) → HasOpened (FollowsMore a b) v after
-one_opened a b v after id is opened shows told = record { opens = true; server = opened; shows = rw is at shows; tells = rw is at told }
+one_opened a b v after id is opened shows received = record { opens = true; server = opened; shows = rw is at shows; tells = rw is at received }
 
-pub opening_accepted : (a b : Following) (v after : ServerValue) (id : ℕ) → id ≡ v.ids + 1 → ShowsMore v after (Opened id ∷ []) → FollowsMore a b (Opened id ∷ []) → AreAccepted (FollowsMore a b) v after (opening v true)
-opening_accepted a b v after id is shows told = (rw is at shows, rw is at told)
+pub opening_accepted : (a b : Following) (v after : ServerValue) (id : ℕ) → id ≡ v.ids + 1 → ShowsMore v after (Opened id ∷ []) → FollowsMore a b (Opened id ∷ []) → AreCallsBetween (FollowsMore a b) v after (opening v true)
+opening_accepted a b v after id is shows received = (rw is at shows, rw is at received)
 
 pub turned_further : (S : TakingSteps) (a b c : Following) (p q : Answering) {u v w : ServerValue} → HasOpened (FollowsMore a b) u v → HasServedBy S (FollowsMore b c) (AnswersMore p q) v w → HasTurnedBy S (FollowsMore a c) (AnswersMore p q) u w
 turned_further S a b c p q {u} {v} {w} one two = record {
@@ -298,8 +298,8 @@ alone_serving (OneEnded w events exchanges id so_far) = all_append IsServing eve
 alone_serving (OneWrote w events exchanges id n so_far) = all_append IsServing events (Wrote id n ∷ []) (alone_serving so_far) (tt, tt)
 alone_serving (OneDropped w events exchanges id so_far) = all_append IsServing events (Dropped id ∷ []) (alone_serving so_far) (tt, tt)
 
-pub turned_alone : (told : List AcceptedCall → Type 0) (asks : List Exchange → Type 0) (v w : ServerValue) → HasTurnedBy AreTakenAlone told asks v w → HasTurned told v w
-turned_alone told asks v w one = record { opens = one.opens; events = one.events; serving = alone_serving one.steps; shows = one.shows; tells = one.tells }
+pub turned_alone : (monitor : List AcceptedCall → Type 0) (asks : List Exchange → Type 0) (v w : ServerValue) → HasTurnedBy AreTakenAlone monitor asks v w → HasTurned monitor v w
+turned_alone monitor asks v w one = record { opens = one.opens; events = one.events; serving = alone_serving one.steps; shows = one.shows; tells = one.tells }
 
 -- ---- the events of a turn in which no application responds
 
@@ -323,15 +323,15 @@ left_serving : (course : PeerOutcome) (v : ServerValue) (id : ℕ) → AllByRecu
 left_serving Open v id = tt
 left_serving Over v id = dropped_serving id (session_of id v.sessions)
 
-carried_serving : (failed may_write : Bool) (v : ServerValue) (id : ℕ) (bytes : List ℕ) (wire : WireTrace) (after : ServerValue) (left : List ℕ) (told : WireTrace) (course : PeerOutcome) (events : List AcceptedCall) (exchanges : List Exchange) → IsCarriedOn IsTakenAlone failed may_write v id bytes wire after left told course events exchanges → AllByRecursion IsServing events
-carried_serving true may_write v id bytes wire after left told course events exchanges carried = rw carried.3 tt
-carried_serving false may_write v id bytes wire after left told course events exchanges carried =
+carried_serving : (failed may_write : Bool) (v : ServerValue) (id : ℕ) (bytes : List ℕ) (wire : WireTrace) (after : ServerValue) (left : List ℕ) (wire_after : WireTrace) (course : PeerOutcome) (events : List AcceptedCall) (exchanges : List Exchange) → IsCarriedOn IsTakenAlone failed may_write v id bytes wire after left wire_after course events exchanges → AllByRecursion IsServing events
+carried_serving true may_write v id bytes wire after left wire_after course events exchanges carried = rw carried.3 tt
+carried_serving false may_write v id bytes wire after left wire_after course events exchanges carried =
     rw (carried.all, carried.part.took.2) (all_append IsServing (took v id bytes) (wrote_events id carried.wrote) (takes_serving (length bytes) v id bytes) (wrote_serving id carried.wrote))
 
-once_serving : (may_read may_write : Bool) (v : ServerValue) (id : ℕ) (rest : List ℕ) (wire : WireTrace) (after : ServerValue) (left : List ℕ) (told : WireTrace) (course : PeerOutcome) (events : List AcceptedCall) (exchanges : List Exchange) → IsServedOnceBy IsTakenAlone may_read may_write v id rest wire after left told course events exchanges → AllByRecursion IsServing events
-once_serving may_read may_write v id rest wire after left told course events exchanges part =
+once_serving : (may_read may_write : Bool) (v : ServerValue) (id : ℕ) (rest : List ℕ) (wire : WireTrace) (after : ServerValue) (left : List ℕ) (wire_after : WireTrace) (course : PeerOutcome) (events : List AcceptedCall) (exchanges : List Exchange) → IsServedOnceBy IsTakenAlone may_read may_write v id rest wire after left wire_after course events exchanges → AllByRecursion IsServing events
+once_serving may_read may_write v id rest wire after left wire_after course events exchanges part =
     rw part.all (all_append IsServing (heard_events id part.heard) part.later (heard_serving id part.heard)
-    (carried_serving (has_failed part.heard) may_write (server_heard v id part.heard) id part.bytes part.between after left told course part.later exchanges part.carried))
+    (carried_serving (has_failed part.heard) may_write (server_heard v id part.heard) id part.bytes part.between after left wire_after course part.later exchanges part.carried))
 
 module _ {W : Type 0} (readable writable : W → Option Bool) (trace : W → WireTrace) where
   pub served_serving : {n : ℕ} {v after : ServerValue} {es left : List (ℕ × Peer W)} {changed : Bool} {events : List AcceptedCall} {exchanges : List Exchange} → AreServed IsTakenAlone readable writable trace n v es changed after left events exchanges → AllByRecursion IsServing events

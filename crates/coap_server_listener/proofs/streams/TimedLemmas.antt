@@ -45,20 +45,20 @@ pub time_heard : {T E M : Type 0} (calls : M → Following) (now : M → ℕ) (a
     → IsHeard (FollowsMore a (calls m)) v events → is_ok r ≡ nat_le v.host.now moment → OnOk r (ShowsMore v w (ticked_calls v moment))
     → OnOk r (FollowsMore (watched (calls m) (now m) (all m)) (watched (calls n) (now n) (all n)) (ticked_calls v moment)) → OnErr r ((w ≡ v) × (n ≡ m))
     → IsHeard (FollowsMore a (calls n)) w (events ++ moved_calls v moment) × (now n ≡ now m) × (all n ≡ all m)
-time_heard calls now all m n (Ok x) a v w events moment heard answer shows told err =
-    let own = watch_followed (calls m) (calls n) (now m) (now n) (all m) (all n) (ticked_calls v moment) told in
+time_heard calls now all m n (Ok x) a v w events moment heard answer shows received err =
+    let own = watch_followed (calls m) (calls n) (now m) (now n) (all m) (all n) (ticked_calls v moment) received in
     (rw (← answer) (heard_further a (calls m) (calls n) v w events (ticked_calls v moment) heard (ticks_are_made v moment) shows own.0), own.1, ticks_recorded (now m) (all m) (all n) v moment own.2)
-time_heard calls now all m n (Err e) a v w events moment heard answer shows told err =
+time_heard calls now all m n (Err e) a v w events moment heard answer shows received err =
     (rw (← answer, append-nil, err.0, err.1) heard, ap now err.1, ap all err.1)
 
 -- A turn, its calls, and the activities after them.
-pub record IsTurnHeard {W : Type 0} (readable writable : W → Option Bool) (trace : W → WireTrace) (door : List (DoorCall W) → Type 0) (told : List AcceptedCall → Type 0) (v : ServerValue) (es : List (ℕ × Peer W)) (after : ServerValue) (left : List (ℕ × Peer W)) (next : Wait) (now : ℕ) (all later : List (ℕ × Activity)) : Type 0 where
+pub record IsTurnHeard {W : Type 0} (readable writable : W → Option Bool) (trace : W → WireTrace) (door : List (DoorCall W) → Type 0) (monitor : List AcceptedCall → Type 0) (v : ServerValue) (es : List (ℕ × Peer W)) (after : ServerValue) (left : List (ℕ × Peer W)) (next : Wait) (now : ℕ) (all later : List (ℕ × Activity)) : Type 0 where
   pub more : List AcceptedCall
   pub turn : IsTurnOf readable writable trace door (λ calls. more ≡ calls) v es after left next
   pub followed : AreWatchedCalls now all more later
   pub each : All IsDoorCall more
   pub shows : ShowsMore v after more
-  pub tells : told more
+  pub tells : monitor more
 
 pub turn_heard : {W : Type 0} (readable writable : W → Option Bool) (trace : W → WireTrace) (door : List (DoorCall W) → Type 0) (a b c : Following) (now later : ℕ) (all acts : List (ℕ × Activity)) (v : ServerValue) (es : List (ℕ × Peer W)) (after : ServerValue) (left : List (ℕ × Peer W)) (next : Wait)
     → IsTurnOf readable writable trace door (FollowsMore (watched a now all) (watched b later acts)) v es after left next → FollowsMore b c [] → IsTurnHeard readable writable trace door (FollowsMore a c) v es after left next now all acts
@@ -93,16 +93,16 @@ same_time_after a b now later all after v w turned = (watch_followed a b now lat
 -- The calls of a turn that was cut.
 cut_heard : (a b c : Following) (now later : ℕ) (all after : List (ℕ × Activity)) (v w : ServerValue) (events : List AcceptedCall) → All IsDoorCall events → FollowsMore a b events → HasTurned (FollowsMore (watched b now all) (watched c later after)) v w
     → HasTurned (λ more. All IsDoorCall (events ++ more) × FollowsMore a c (events ++ more)) v w
-cut_heard a b c now later all after v w events each told turned =
+cut_heard a b c now later all after v w events each received turned =
     let own = watch_followed b c now later all after (opening v turned.opens ++ turned.events) turned.tells in
-    turn_cut a b c v w events each told (record { opens = turned.opens; events = turned.events; serving = turned.serving; shows = turned.shows; tells = own.0 })
+    turn_cut a b c v w events each received (record { opens = turned.opens; events = turned.events; serving = turned.serving; shows = turned.shows; tells = own.0 })
 
 -- The calls of a sweep, if there was one, after those before it. Then the time of the server was set.
-pub record IsBegun {W : Type 0} (told : List AcceptedCall → Type 0) (sweep : Sweep W) (moment : ℕ) (events : List AcceptedCall) (moved : ServerValue) (rest : List (ℕ × Peer W)) (acts : List (ℕ × Activity)) : Type 0 where
+pub record IsBegun {W : Type 0} (monitor : List AcceptedCall → Type 0) (sweep : Sweep W) (moment : ℕ) (events : List AcceptedCall) (moved : ServerValue) (rest : List (ℕ × Peer W)) (acts : List (ℕ × Activity)) : Type 0 where
   pub server : moved ≡ moved_to sweep.server moment
   pub entries : rest ≡ sweep.entries
   pub activities : acts ≡ sweep.activities
-  pub heard : IsHeard told (moved_to sweep.server moment) ((events ++ sweep.events) ++ moved_calls sweep.server moment)
+  pub heard : IsHeard monitor (moved_to sweep.server moment) ((events ++ sweep.events) ++ moved_calls sweep.server moment)
 
 -- The calls of a sweep after those before it.
 pub sweep_heard : {W : Type 0} (a b c : Following) (idle second last : ℕ) (v between : ServerValue) (all acts : List (ℕ × Activity)) (es : List (ℕ × Peer W)) (events : List AcceptedCall)

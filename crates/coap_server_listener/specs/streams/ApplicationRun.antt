@@ -32,13 +32,13 @@ pub data AreRunSteps (v : ServerValue) : ServerValue → List AcceptedCall → L
       → AreStepsBy AreTakenWith (opened_if w opens) after more others → AreRunSteps v after (events ++ (opening w opens ++ more)) (exchanges ++ others)
 
 -- These steps were made, and nothing else happened. If the server showed some events before, it now shows them followed
--- by those of the steps. `told` holds of these events, and `asks` of the exchanges.
-pub record HasRun (told : List AcceptedCall → Type 0) (asks : List Exchange → Type 0) (v after : ServerValue) : Type 0 where
+-- by those of the steps. `monitor` holds of these events, and `asks` of the exchanges.
+pub record HasRun (monitor : List AcceptedCall → Type 0) (asks : List Exchange → Type 0) (v after : ServerValue) : Type 0 where
   pub events : List AcceptedCall
   pub exchanges : List Exchange
   pub steps : AreRunSteps v after events exchanges
   pub shows : ShowsMore v after events
-  pub tells : told events
+  pub tells : monitor events
   pub exchanged : asks exchanges
 
 -- ---- whole turns
@@ -54,9 +54,9 @@ abbrev pub limit_for : (is_full : Bool) → Wait → Wait
 limit_for is_full limit = if is_full then No else limit
 
 -- One turn for an application. Later responses are given first, so the turn writes their connections. The application is
--- asked for them until it has none (`idle`), or until it has given 256. `told` states which calls the listener had.
+-- asked for them until it has none (`idle`), or until it has given 256. `door` states which calls the listener had.
 -- `monitor` holds of the events, and `asks` of the exchanges: those of the later responses, then those of `IsTurnBy`.
-pub record IsTurnFor {A W : Type 0} (follows : A → Answering) (idle : A → Type 0) (readable writable : W → Option Bool) (trace : W → WireTrace) (told : List (DoorCall W) → Type 0) (monitor : List AcceptedCall → Type 0) (asks : List Exchange → Type 0) (v : ServerValue) (es : List (ℕ × Peer W)) (after : ServerValue) (left : List (ℕ × Peer W)) (wait : Wait) : Type 0 where
+pub record IsTurnFor {A W : Type 0} (follows : A → Answering) (idle : A → Type 0) (readable writable : W → Option Bool) (trace : W → WireTrace) (door : List (DoorCall W) → Type 0) (monitor : List AcceptedCall → Type 0) (asks : List Exchange → Type 0) (v : ServerValue) (es : List (ℕ × Peer W)) (after : ServerValue) (left : List (ℕ × Peer W)) (wait : Wait) : Type 0 where
   pub answered : ServerValue
   pub kept : List (ℕ × Peer W)
   pub is_full : Bool
@@ -66,7 +66,7 @@ pub record IsTurnFor {A W : Type 0} (follows : A → Answering) (idle : A → Ty
   pub recorded : AreRecorded es kept
   pub limit : Wait
   pub next : Wait
-  pub turn : IsTurnBy (IsTakenWith follows) readable writable trace told (λ all. monitor (later ++ all)) (λ all. asks (exchanges ++ all)) answered kept after left next
+  pub turn : IsTurnBy (IsTakenWith follows) readable writable trace door (λ all. monitor (later ++ all)) (λ all. asks (exchanges ++ all)) answered kept after left next
   pub waits : wait ≡ wait_within (limit_for is_full limit) next
 
 -- Whole turns on a new server, as `AreTurns` defines them, for an application. The events of a turn are those of the

@@ -61,7 +61,7 @@ pub record KeepsNotes (id : ℕ) (v after : ServerValue) : Type 0 where
 -- Then, in any order, other connections are served, dropped and opened, and the time advances.
 pub data WhilePassedOver (id : ℕ) (v : ServerValue) : ServerValue → Type 0 where
   AtFirst : WhilePassedOver id v v
-  Served : (before after : ServerValue) (other : ℕ) (rest left : List ℕ) (wire told : WireTrace) (may_read may_write : Bool) (course : PeerOutcome) (events : List AcceptedCall) → WhilePassedOver id v before → id ≢ other → IsServedOnce may_read may_write before other rest wire after left told course events → WhilePassedOver id v after
+  Served : (before after : ServerValue) (other : ℕ) (rest left : List ℕ) (wire wire_after : WireTrace) (may_read may_write : Bool) (course : PeerOutcome) (events : List AcceptedCall) → WhilePassedOver id v before → id ≢ other → IsServedOnce may_read may_write before other rest wire after left wire_after course events → WhilePassedOver id v after
   Dropped : (before : ServerValue) (other : ℕ) → WhilePassedOver id v before → id ≢ other → WhilePassedOver id v (server_dropped before other)
   Opened : (before : ServerValue) → WhilePassedOver id v before → id ≢ before.ids + 1 → WhilePassedOver id v (server_opened before)
   Ticked : (before : ServerValue) (later : ℕ) → WhilePassedOver id v before → before.host.now ≤ later → WhilePassedOver id v (server_ticked before later)

@@ -41,17 +41,17 @@ IsServing (Responded id m) = ⊥
 IsServing (Dropped id) = Unit {0}
 
 -- The server accepted the calls of these events. If it showed some events before, it now shows them followed by these.
--- `told` holds of these events.
-abbrev pub AreAccepted : (told : List AcceptedCall → Type 0) (v after : ServerValue) → List AcceptedCall → Type 0
-AreAccepted told v after events = ShowsMore v after events × told events
+-- `monitor` holds of these events.
+abbrev pub AreCallsBetween : (monitor : List AcceptedCall → Type 0) (v after : ServerValue) → List AcceptedCall → Type 0
+AreCallsBetween monitor v after events = ShowsMore v after events × monitor events
 
 -- The server accepted the calls of some events, and had some exchanges with the application. `Made` holds of both, and
 -- `asks` of the exchanges.
-pub record HasAccepted (Made : List AcceptedCall → List Exchange → Type 0) (told : List AcceptedCall → Type 0) (asks : List Exchange → Type 0) (v after : ServerValue) : Type 0 where
+pub record HasAccepted (Made : List AcceptedCall → List Exchange → Type 0) (monitor : List AcceptedCall → Type 0) (asks : List Exchange → Type 0) (v after : ServerValue) : Type 0 where
   pub events : List AcceptedCall
   pub exchanges : List Exchange
   pub made : Made events exchanges
-  pub accepted : AreAccepted told v after events
+  pub accepted : AreCallsBetween monitor v after events
   pub exchanged : asks exchanges
 
 -- Facts on a call that passes bytes to a connection: the server before and after, its events, and the exchanges
@@ -83,13 +83,13 @@ pub data AreStepsBy (Steps : TakingSteps) (v : ServerValue) : ServerValue → Li
   OneDropped : (w : ServerValue) (events : List AcceptedCall) (exchanges : List Exchange) (id : ℕ) → AreStepsBy Steps v w events exchanges → AreStepsBy Steps v (server_dropped w id) (events ++ Dropped id ∷ []) (exchanges ++ Gone id ∷ [])
 
 -- Connections were served in these steps, and nothing else happened. If the server showed some events before, it now
--- shows them followed by those of the steps. `told` holds of these events, and `asks` of the exchanges.
-pub record HasServedBy (Steps : TakingSteps) (told : List AcceptedCall → Type 0) (asks : List Exchange → Type 0) (v after : ServerValue) : Type 0 where
+-- shows them followed by those of the steps. `monitor` holds of these events, and `asks` of the exchanges.
+pub record HasServedBy (Steps : TakingSteps) (monitor : List AcceptedCall → Type 0) (asks : List Exchange → Type 0) (v after : ServerValue) : Type 0 where
   pub events : List AcceptedCall
   pub exchanges : List Exchange
   pub steps : AreStepsBy Steps v after events exchanges
   pub shows : ShowsMore v after events
-  pub tells : told events
+  pub tells : monitor events
   pub exchanged : asks exchanges
 
 -- The event that opens a connection with the next number, or no event.
@@ -98,13 +98,13 @@ opening v true = Opened (v.ids + 1) ∷ []
 opening v false = []
 
 -- A turn was made in full or in part. At most one connection was opened, then connections were served, and nothing else
--- happened. `told` holds of the events.
-pub record HasTurned (told : List AcceptedCall → Type 0) (v after : ServerValue) : Type 0 where
+-- happened. `monitor` holds of the events.
+pub record HasTurned (monitor : List AcceptedCall → Type 0) (v after : ServerValue) : Type 0 where
   pub opens : Bool
   pub events : List AcceptedCall
   pub serving : AllByRecursion IsServing events
   pub shows : ShowsMore v after (opening v opens ++ events)
-  pub tells : told (opening v opens ++ events)
+  pub tells : monitor (opening v opens ++ events)
 
 -- The server after a connection was opened, if one was.
 abbrev pub opened_if : ServerValue → Bool → ServerValue
@@ -112,20 +112,20 @@ opened_if v true = server_opened v
 opened_if v false = v
 
 -- At most one connection was opened, and nothing else happened.
-pub record HasOpened (told : List AcceptedCall → Type 0) (v after : ServerValue) : Type 0 where
+pub record HasOpened (monitor : List AcceptedCall → Type 0) (v after : ServerValue) : Type 0 where
   pub opens : Bool
   pub server : after ≡ opened_if v opens
   pub shows : ShowsMore v after (opening v opens)
-  pub tells : told (opening v opens)
+  pub tells : monitor (opening v opens)
 
 -- A turn was made in full or in part, with these steps after at most one connection was opened.
-pub record HasTurnedBy (Steps : TakingSteps) (told : List AcceptedCall → Type 0) (asks : List Exchange → Type 0) (v after : ServerValue) : Type 0 where
+pub record HasTurnedBy (Steps : TakingSteps) (monitor : List AcceptedCall → Type 0) (asks : List Exchange → Type 0) (v after : ServerValue) : Type 0 where
   pub opens : Bool
   pub events : List AcceptedCall
   pub exchanges : List Exchange
   pub steps : AreStepsBy Steps (opened_if v opens) after events exchanges
   pub shows : ShowsMore v after (opening v opens ++ events)
-  pub tells : told (opening v opens ++ events)
+  pub tells : monitor (opening v opens ++ events)
   pub exchanged : asks exchanges
 
 -- ---- each connection in order
@@ -226,35 +226,35 @@ AreOpened None v es after left = (after ≡ v) × (left ≡ es)
 abbrev pub asked_by : {W : Type 0} → ServerValue → (handed : Option W) → List (DoorCall W)
 asked_by v handed = if is_none (open_refusal v) then (Asked handed ∷ []) else []
 
-abbrev pub IsAskedOnce : {W : Type 0} → (told : List (DoorCall W) → Type 0) → ServerValue → Type 0
-IsAskedOnce {W} told v = (handed : Option W) × told (asked_by v handed)
+abbrev pub IsAskedOnce : {W : Type 0} → (door : List (DoorCall W) → Type 0) → ServerValue → Type 0
+IsAskedOnce {W} door v = (handed : Option W) × door (asked_by v handed)
 
--- The listener was asked, and a connection was opened for the wire that it returned, or none was. `told` states which
+-- The listener was asked, and a connection was opened for the wire that it returned, or none was. `door` states which
 -- calls the listener had.
-pub record IsOpening {W : Type 0} (told : List (DoorCall W) → Type 0) (v : ServerValue) (es : List (ℕ × Peer W)) (after : ServerValue) (left : List (ℕ × Peer W)) (opens : Bool) : Type 0 where
+pub record IsOpening {W : Type 0} (door : List (DoorCall W) → Type 0) (v : ServerValue) (es : List (ℕ × Peer W)) (after : ServerValue) (left : List (ℕ × Peer W)) (opens : Bool) : Type 0 where
   pub handed : Option W
-  pub asked : told (asked_by v handed)
+  pub asked : door (asked_by v handed)
   pub opened : AreOpened handed v es after left
   pub is : opens ≡ is_some handed
 
--- One turn of a server with its connections. `told` states which calls the listener had. If another connection may be
+-- One turn of a server with its connections. `door` states which calls the listener had. If another connection may be
 -- opened, the listener is asked once, and a connection is opened for the wire that it returns. Then each connection is
 -- served. The wait is zero if and only if a connection was opened, a change may affect one served earlier, or one is
 -- ready. The events of the turn are those of the opened connection and of the served ones, in order. The server accepted
 -- their calls, and `monitor` holds of them. `asks` holds of the exchanges with the application.
-pub record IsTurnBy {W : Type 0} (Takes : Taking) (readable writable : W → Option Bool) (trace : W → WireTrace) (told : List (DoorCall W) → Type 0) (monitor : List AcceptedCall → Type 0) (asks : List Exchange → Type 0) (v : ServerValue) (es : List (ℕ × Peer W)) (after : ServerValue) (left : List (ℕ × Peer W)) (wait : Wait) : Type 0 where
+pub record IsTurnBy {W : Type 0} (Takes : Taking) (readable writable : W → Option Bool) (trace : W → WireTrace) (door : List (DoorCall W) → Type 0) (monitor : List AcceptedCall → Type 0) (asks : List Exchange → Type 0) (v : ServerValue) (es : List (ℕ × Peer W)) (after : ServerValue) (left : List (ℕ × Peer W)) (wait : Wait) : Type 0 where
   pub opens : Bool
   pub server : ServerValue
   pub entries : List (ℕ × Peer W)
-  pub opened : IsOpening told v es server entries opens
+  pub opened : IsOpening door v es server entries opens
   pub changed : Bool
   pub events : List AcceptedCall
   pub exchanges : List Exchange
   pub served : AreServed Takes readable writable trace 0 server entries changed after left events exchanges
   pub waits : IsWaitAfter (opens || changed) (map (λ e. true_end readable writable after e) left) wait
-  pub accepted : AreAccepted monitor v after (opening v opens ++ events)
+  pub accepted : AreCallsBetween monitor v after (opening v opens ++ events)
   pub exchanged : asks exchanges
 
 -- One turn in which no application responds.
-abbrev pub IsTurnOf : {W : Type 0} (readable writable : W → Option Bool) (trace : W → WireTrace) (told : List (DoorCall W) → Type 0) (monitor : List AcceptedCall → Type 0) (v : ServerValue) (es : List (ℕ × Peer W)) (after : ServerValue) (left : List (ℕ × Peer W)) (wait : Wait) → Type 0
-IsTurnOf readable writable trace told monitor v es after left wait = IsTurnBy IsTakenAlone readable writable trace told monitor (λ exchanges. Unit {0}) v es after left wait
+abbrev pub IsTurnOf : {W : Type 0} (readable writable : W → Option Bool) (trace : W → WireTrace) (door : List (DoorCall W) → Type 0) (monitor : List AcceptedCall → Type 0) (v : ServerValue) (es : List (ℕ × Peer W)) (after : ServerValue) (left : List (ℕ × Peer W)) (wait : Wait) → Type 0
+IsTurnOf readable writable trace door monitor v es after left wait = IsTurnBy IsTakenAlone readable writable trace door monitor (λ exchanges. Unit {0}) v es after left wait

@@ -155,15 +155,15 @@ unfoldable pub swept : {W : Type 0} (idle now : ℕ) → ServerValue → List (�
 swept idle now v all [] = record { server = v; activities = all; entries = []; events = []; exchanges = [] }
 swept idle now v all (e ∷ es) = swept_both (swept_one idle now v all e) (swept idle now (swept_one idle now v all e).server (swept_one idle now v all e).activities es)
 
--- The calls of a sweep were made, and they had this effect on the server and on the activities. `told` holds of them.
-pub record HasSwept {W : Type 0} (told : List AcceptedCall → Type 0) (s : Sweep W) (v after : ServerValue) (all : List (ℕ × Activity)) : Type 0 where
+-- The calls of a sweep were made, and they had this effect on the server and on the activities. `monitor` holds of them.
+pub record HasSwept {W : Type 0} (monitor : List AcceptedCall → Type 0) (s : Sweep W) (v after : ServerValue) (all : List (ℕ × Activity)) : Type 0 where
   pub server : after ≡ s.server
   pub activities : all ≡ s.activities
   pub shows : ShowsMore v after s.events
-  pub tells : told s.events
+  pub tells : monitor s.events
 
 -- The connection at an index was swept, and the sweep continues at the index `at`. The others are unchanged.
-pub record HasSweptAt {W : Type 0} (told : List AcceptedCall → Type 0) (s : Sweep W) (v : ServerValue) (es : List (ℕ × Peer W)) (i : ℕ) (after : ServerValue) (all : List (ℕ × Activity)) (left : List (ℕ × Peer W)) (at : ℕ) : Type 0 where
-  pub has : HasSwept told s v after all
+pub record HasSweptAt {W : Type 0} (monitor : List AcceptedCall → Type 0) (s : Sweep W) (v : ServerValue) (es : List (ℕ × Peer W)) (i : ℕ) (after : ServerValue) (all : List (ℕ × Activity)) (left : List (ℕ × Peer W)) (at : ℕ) : Type 0 where
+  pub has : HasSwept monitor s v after all
   pub front : take at left ≡ take i es ++ s.entries
   pub back : drop at left ≡ drop (i + 1) es

@@ -18,7 +18,7 @@ pub record IsOutside (words : List ℕ) (i : ℕ) : Type 0 where
 -- The recorded readiness of a wire, or `false` if it records none.
 abbrev pub known : Option Bool → Bool
 known None = false
-known (Some told) = told
+known (Some ready) = ready
 
 -- Something can be done at once on the connection, as far as its wire records its readiness.
 abbrev pub is_known_ready : PeerStatus → Bool

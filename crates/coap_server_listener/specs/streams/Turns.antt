@@ -130,36 +130,36 @@ pub record IsOffered (bytes : List ℕ) (wire : WireTrace) (wrote : Got) (after 
 
 -- The connection did with these bytes what `Takes` states. Then its queued bytes were offered to one write, if the wire
 -- may be written. The event of the write follows those of the takes.
-pub record IsTakenAndWritten (Takes : Taking) (may_write : Bool) (v : ServerValue) (id : ℕ) (bytes : List ℕ) (wire : WireTrace) (after : ServerValue) (left : List ℕ) (told : WireTrace) (course : PeerOutcome) (events : List AcceptedCall) (exchanges : List Exchange) : Type 0 where
+pub record IsTakenAndWritten (Takes : Taking) (may_write : Bool) (v : ServerValue) (id : ℕ) (bytes : List ℕ) (wire : WireTrace) (after : ServerValue) (left : List ℕ) (wire_after : WireTrace) (course : PeerOutcome) (events : List AcceptedCall) (exchanges : List Exchange) : Type 0 where
   pub taken : ServerValue
   pub takes : List AcceptedCall
   pub part : IsTakenInPart Takes v id bytes taken left takes exchanges
   pub wrote : Got
-  pub offered : IsOffered (waiting_once may_write id taken) wire wrote told
+  pub offered : IsOffered (waiting_once may_write id taken) wire wrote wire_after
   pub server : after ≡ server_wrote taken id wrote
   pub outcome : course ≡ course_of wrote (is_over_in (outlook_of after id))
   pub all : events ≡ takes ++ wrote_events id wrote
 
 -- The steps that follow a read. If the read failed, there is none, and the outcome is `Over`.
 abbrev pub IsCarriedOn : Taking → (failed may_write : Bool) → ServerValue → ℕ → List ℕ → WireTrace → ServerValue → List ℕ → WireTrace → PeerOutcome → List AcceptedCall → List Exchange → Type 0
-IsCarriedOn Takes true may_write v id bytes wire after left told course events exchanges = (after ≡ v) × (told ≡ wire) × (course ≡ Over) × (events ≡ []) × (exchanges ≡ [])
-IsCarriedOn Takes false may_write v id bytes wire after left told course events exchanges = IsTakenAndWritten Takes may_write v id bytes wire after left told course events exchanges
+IsCarriedOn Takes true may_write v id bytes wire after left received course events exchanges = (after ≡ v) × (received ≡ wire) × (course ≡ Over) × (events ≡ []) × (exchanges ≡ [])
+IsCarriedOn Takes false may_write v id bytes wire after left received course events exchanges = IsTakenAndWritten Takes may_write v id bytes wire after left received course events exchanges
 
 -- One connection was served: a read if one is due, then processing, then a write if bytes are queued. `may_read` and
 -- `may_write` are the readiness of its wire. A failed read ends this. The wire was read and written at no other time,
--- and `told` is its trace afterwards. The events are those of the read, of the takes and of the write, in this order.
-pub record IsServedOnceBy (Takes : Taking) (may_read may_write : Bool) (v : ServerValue) (id : ℕ) (rest : List ℕ) (wire : WireTrace) (after : ServerValue) (left : List ℕ) (told : WireTrace) (course : PeerOutcome) (events : List AcceptedCall) (exchanges : List Exchange) : Type 0 where
+-- and `wire_after` is its trace afterwards. The events are those of the read, of the takes and of the write, in this order.
+pub record IsServedOnceBy (Takes : Taking) (may_read may_write : Bool) (v : ServerValue) (id : ℕ) (rest : List ℕ) (wire : WireTrace) (after : ServerValue) (left : List ℕ) (wire_after : WireTrace) (course : PeerOutcome) (events : List AcceptedCall) (exchanges : List Exchange) : Type 0 where
   pub heard : Got
   pub bytes : List ℕ
   pub between : WireTrace
   pub laid : IsLaidOut (is_heard may_read v id rest) rest wire heard bytes between
   pub later : List AcceptedCall
-  pub carried : IsCarriedOn Takes (has_failed heard) may_write (server_heard v id heard) id bytes between after left told course later exchanges
+  pub carried : IsCarriedOn Takes (has_failed heard) may_write (server_heard v id heard) id bytes between after left wire_after course later exchanges
   pub all : events ≡ heard_events id heard ++ later
 
 -- One connection was served, and no application responds.
-abbrev pub IsServedOnce : (may_read may_write : Bool) (v : ServerValue) (id : ℕ) (rest : List ℕ) (wire : WireTrace) (after : ServerValue) (left : List ℕ) (told : WireTrace) (course : PeerOutcome) (events : List AcceptedCall) → Type 0
-IsServedOnce may_read may_write v id rest wire after left told course events = IsServedOnceBy IsTakenAlone may_read may_write v id rest wire after left told course events []
+abbrev pub IsServedOnce : (may_read may_write : Bool) (v : ServerValue) (id : ℕ) (rest : List ℕ) (wire : WireTrace) (after : ServerValue) (left : List ℕ) (wire_after : WireTrace) (course : PeerOutcome) (events : List AcceptedCall) → Type 0
+IsServedOnce may_read may_write v id rest wire after left wire_after course events = IsServedOnceBy IsTakenAlone may_read may_write v id rest wire after left wire_after course events []
 
 -- To serve the connection has no effect, whatever its wire does: the wire is neither read nor written. There is an
 -- outcome. Every outcome leaves the server, the bytes left from its reads and the trace of its wire unchanged, and the
@@ -168,16 +168,16 @@ pub record IsNoOp (may_read may_write : Bool) (v : ServerValue) (id : ℕ) (rest
   pub unread : is_heard may_read v id rest ≡ false
   pub unwritten : waiting_once may_write id v ≡ []
   pub there_is_one : (wire : WireTrace) → IsServedOnce may_read may_write v id rest wire v rest wire Open (refused_events id rest)
-  pub always : (wire : WireTrace) (after : ServerValue) (left : List ℕ) (told : WireTrace) (course : PeerOutcome) (events : List AcceptedCall) → IsServedOnce may_read may_write v id rest wire after left told course events → (after ≡ v) × (left ≡ rest) × (told ≡ wire) × (course ≡ Open) × (events ≡ refused_events id rest)
+  pub always : (wire : WireTrace) (after : ServerValue) (left : List ℕ) (wire_after : WireTrace) (course : PeerOutcome) (events : List AcceptedCall) → IsServedOnce may_read may_write v id rest wire after left wire_after course events → (after ≡ v) × (left ≡ rest) × (wire_after ≡ wire) × (course ≡ Open) × (events ≡ refused_events id rest)
 
 -- The connection was served once, with the results of `may_read` and `may_write` of its wire. If the wire records them,
 -- they are `readable` and `writable`.
-pub record IsServed (Takes : Taking) (readable writable : Option Bool) (v : ServerValue) (id : ℕ) (rest : List ℕ) (wire : WireTrace) (after : ServerValue) (left : List ℕ) (told : WireTrace) (course : PeerOutcome) (events : List AcceptedCall) (exchanges : List Exchange) : Type 0 where
+pub record IsServed (Takes : Taking) (readable writable : Option Bool) (v : ServerValue) (id : ℕ) (rest : List ℕ) (wire : WireTrace) (after : ServerValue) (left : List ℕ) (wire_after : WireTrace) (course : PeerOutcome) (events : List AcceptedCall) (exchanges : List Exchange) : Type 0 where
   pub may_read : Bool
   pub may_write : Bool
   pub read : MatchesTrace readable may_read
   pub write : MatchesTrace writable may_write
-  pub part : IsServedOnceBy Takes may_read may_write v id rest wire after left told course events exchanges
+  pub part : IsServedOnceBy Takes may_read may_write v id rest wire after left wire_after course events exchanges
 
 -- ---- remaining work
 
@@ -212,9 +212,9 @@ abbrev pub end_of : {W : Type 0} (readable writable : W → Option Bool) → Pee
 end_of readable writable p = record { readable = readable p.wire; writable = writable p.wire; wants = p.wants }
 
 -- `answer` is the readiness of a wire if that is wanted, and otherwise `false`.
-abbrev pub IsAsked : (wanted : Bool) (told : Option Bool) (answer : Bool) → Type 0
-IsAsked true told answer = MatchesTrace told answer
-IsAsked false told answer = answer ≡ false
+abbrev pub IsAsked : (wanted : Bool) (recorded : Option Bool) (answer : Bool) → Type 0
+IsAsked true recorded answer = MatchesTrace recorded answer
+IsAsked false recorded answer = answer ≡ false
 
 -- `result` is `true` if something can be done at once. The connection has bytes to accept or to discard, its wire must
 -- be read and may be, or it must be written and may be.

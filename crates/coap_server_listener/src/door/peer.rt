@@ -1,7 +1,7 @@
 //! The transport side of a connection, and how a turn serves it.
 
 ghost use Rattle.std.specs.Prelude.{◌≡◌, ◌≢◌, false, [], length, is_some, OnOk, OnErr, IfOk, IfErr};
-ghost use Rattle.coap_server_listener.specs.Prelude.{AddsBytes, AnswersMore, AreAccepted, But, FollowsMore};
+ghost use Rattle.coap_server_listener.specs.Prelude.{AddsBytes, AnswersMore, AreCallsBetween, But, FollowsMore};
 ghost use Rattle.coap_server_listener.specs.Prelude.{GoesOnSparing, HasAccepted, HasServedBy, IsTakenInPart, TellsMore};
 ghost use Rattle.coap_server_listener.specs.Prelude.{heard_events, wrote_events};
 ghost use Rattle.coap_server_listener.specs.Prelude.{IsServedOnceBy, trace_by, IsLaidOut, is_heard, server_heard};
@@ -151,7 +151,7 @@ fn read_wire<W: Wire, M: Monitor<W>>(
     monitor: &mut M,
 ) -> Got
     ensures server { server.new ≡ server_heard server.old id result }
-    ensures accepted { AreAccepted (FollowsMore (M.follows monitor.old) (M.follows monitor.new)) server.old server.new
+    ensures accepted { AreCallsBetween (FollowsMore (M.follows monitor.old) (M.follows monitor.new)) server.old server.new
         (heard_events id result) }
     // If a read is due, the wire is read once, into a buffer of 16,384 bytes, and `peer.rest` has the bytes of that
     // read.
@@ -218,7 +218,7 @@ fn write_once<W: Wire, M: Monitor<W>>(
     monitor: &mut M,
 ) -> Got
     ensures server { server.new ≡ server_wrote server.old id result }
-    ensures accepted { AreAccepted (FollowsMore (M.follows monitor.old) (M.follows monitor.new)) server.old server.new
+    ensures accepted { AreCallsBetween (FollowsMore (M.follows monitor.old) (M.follows monitor.new)) server.old server.new
         (wrote_events id result) }
     ensures within { IsWithin (length (waiting_once may_write id server.old)) result }
     ensures idle { waiting_once may_write id server.old ≡ [] → (wire.new ≡ wire.old) × (result ≡ Later) }

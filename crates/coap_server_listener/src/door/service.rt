@@ -397,8 +397,8 @@ impl<W: Wire + Ready + Drop> Service<W> {
             → IsAskedOnce (TellsMore (D.calls door.old) (D.calls door.new)) self.old.server }
         // At most one connection is opened. Then each connection in order is served, except those that are idle. Its
         // wire is read and written at no other time. The monitor receives the calls of these steps, and no others. The
-        // wire of a dropped connection is gone: the clause states that a fitting one exists. It also determines the
-        // result.
+        // clause also determines the result. The wire of a dropped connection is gone, so only the existence of a
+        // fitting one is stated.
         ensures turn { IfOk result (λ wait. IsTurnOf W.readable W.writable
             (trace_by W.given W.written W.answers W.rooms) (TellsMore (D.calls door.old) (D.calls door.new))
             (FollowsMore (M.follows monitor.old) (M.follows monitor.new))

@@ -4,8 +4,8 @@ ghost use Rattle.std.specs.Prelude.{◌≡◌, ◌≢◌, ℕ, ◌<◌, ◌≤�
 ghost use Rattle.std.specs.Prelude.{map, remove, slice_get, take, IfSome, IfOk, IfErr, OnOk, OnErr};
 ghost use Rattle.coap_server_listener.specs.Prelude.{keys_of, AreNoted, HasGoneOn, IsRound};
 ghost use Rattle.coap_server_listener.specs.Prelude.{IsOpening, IsAskedOnce, asked_by, TellsMore};
-ghost use Rattle.coap_server_listener.specs.Prelude.{AreAccepted, FollowsMore, HasAccepted, dropped_events, opening};
-ghost use Rattle.coap_server_listener.specs.Prelude.{gone_exchanges, trace_by};
+ghost use Rattle.coap_server_listener.specs.Prelude.{AreCallsBetween, FollowsMore, HasAccepted, dropped_events};
+ghost use Rattle.coap_server_listener.specs.Prelude.{gone_exchanges, opening, trace_by};
 ghost use Rattle.coap_server_listener.specs.Prelude.{IsServed, IsAgendaOf, concerns_earlier, end_of, wants_of};
 ghost use Rattle.coap_server_listener.specs.Prelude.{IsMemory, stamp_of, open_refusal, AreSettled, server_dropped};
 ghost use Rattle.coap_server_listener.specs.Prelude.{AnswersMore, AreAsleep, HasOpened, HasServedBy, HasTurnedBy};
@@ -94,7 +94,7 @@ fn accept<D: Door, M: Monitor<D::Wire>>(
     ensures opened { IfOk result (λ opens. IsOpening (TellsMore (D.calls door.old) (D.calls door.new)) server.old
         peers.old.entries server.new peers.new.entries opens) }
     ensures passes { is_none (open_refusal server.old) ≡ false → (door.new ≡ door.old) × (result ≡ Ok false) }
-    ensures accepted { IfOk result (λ opens. AreAccepted (FollowsMore (M.follows monitor.old) (M.follows monitor.new))
+    ensures accepted { IfOk result (λ opens. AreCallsBetween (FollowsMore (M.follows monitor.old) (M.follows monitor.new))
         server.old server.new (opening server.old opens)) }
     // An allocation fails only for a wire that the listener returned.
     ensures refused { OnErr result ((wire : D.Wire) ×
@@ -300,7 +300,7 @@ fn drop_at<W: Wire + Drop, A, T: Taker<A>, M: Monitor<W>>(
     ensures server { IfSome (slice_get (keys_of peers.old.entries) at)
         (λ id. server.new ≡ server_dropped server.old id) }
     ensures accepted { IfSome (slice_get (keys_of peers.old.entries) at)
-        (λ id. AreAccepted (FollowsMore (M.follows monitor.old) (M.follows monitor.new)) server.old server.new
+        (λ id. AreCallsBetween (FollowsMore (M.follows monitor.old) (M.follows monitor.new)) server.old server.new
         (dropped_events server.old id)) }
     ensures exchanged { IfSome (slice_get (keys_of peers.old.entries) at)
         (λ id. AnswersMore (T.follows application.old) (T.follows application.new) (gone_exchanges server.old id)) }

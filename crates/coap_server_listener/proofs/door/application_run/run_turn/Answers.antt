@@ -4,7 +4,7 @@ use Rattle.coap_server_engine.proofs.scripting.FollowLemmas.{followed_then}
 use Rattle.coap_io.proofs.streams.DeviceLemmas.{told_then}
 use Rattle.coap_io.proofs.streams.WriteLemmas.{on_any_fault}
 use Rattle.coap_server_listener.specs.Prelude.{opening, trace_by, wait_within}
-use Rattle.coap_server_listener.proofs.streams.ApplicationRunLemmas.{ran_then, time_ran, time_told, later_ran, turn_ran, ran_to_end, turn_named, cut_asked}
+use Rattle.coap_server_listener.proofs.streams.ApplicationRunLemmas.{ran_then, time_ran, time_received, later_ran, turn_ran, ran_to_end, turn_named, cut_asked}
 use Rattle.coap_server_listener.proofs.streams.ServingLemmas.{answered_then}
 use Rattle.coap_server_listener.proofs.door.application_run.run_turn.Goals as goal
 
@@ -46,7 +46,7 @@ returns-clause-turn g c =
       c.now-moment.ensures,
       told_then (g.D.Door.calls c.args.door.now) (g.D.Door.calls c.wait_after_turn.new.door) (g.D.Door.calls c.turn_for.new.door) _ _ (rw c.can_open.ensures at c.wait_after_turn.ensures) turn.opened.asked,
       followed_then (m c.args.monitor.now) (m c.tick_with.new.monitor) (m c.turn_ended.new.self) _ (given.events ++ more)
-          (time_told m c.args.monitor.now c.tick_with.new.monitor c.tick_with.result c.args.service.now.server c.tick_with.new.self.server c.now-moment.result c.tick_with.ensures.answer c.tick_with.ensures.told c.tick_with.ensures.err)
+          (time_received m c.args.monitor.now c.tick_with.new.monitor c.tick_with.result c.args.service.now.server c.tick_with.new.self.server c.now-moment.result c.tick_with.ensures.answer c.tick_with.ensures.told c.tick_with.ensures.err)
           (followed_then (m c.tick_with.new.monitor) (m c.answer_later-is_full.new.monitor) (m c.turn_ended.new.self) given.events more given.tells
           (rw append-nil at (followed_then (m c.answer_later-is_full.new.monitor) (m c.turn_for.new.monitor) (m c.turn_ended.new.self) more [] turn.accepted.1 c.turn_ended.ensures))),
       answered_then (g.A.Application.follows c.args.application.now) (g.A.Application.follows c.answer_later-is_full.new.application) (g.A.Application.follows c.turn_for.new.application) given.exchanges turn.exchanges given.exchanged turn.exchanged,
