@@ -6,9 +6,12 @@ ghost use Rattle.coap_print.specs.declared.line.TheConstants.{LINE_LENGTH};
 ghost use Rattle.coap_client_main.specs.Ends as spec;
 
 use crate::{PROGRAM, print_end, run_over};
-use coap_client::{Cause, ClientFault, ClientPlan, Line, Reason, RequestFault, RunEnd, explain};
+use coap_client_engine::{Cause, ClientFault, RunEnd, explain};
+use coap_conn::{Reason, RequestFault};
 use coap_log::{LineWriter, Log, LoggedWire, Stderr};
+use coap_print::Line;
 use coap_program::FAULT;
+use coap_request::ClientPlan;
 use coap_sockets::{ClientWire, RunClock};
 use std::io::Write;
 use std::net::Net;

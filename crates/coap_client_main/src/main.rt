@@ -1,7 +1,7 @@
 //! The program `coap-client`: one request over a reliable transport (RFC 8323).
 //!
-//! The arguments are those of `coap_client::client_words`. The program reads the payload file of `-f`, connects to the
-//! host of the URI, opens the response file of `-o`, and then runs `coap_client::run_to_end`. If the run has a cause for
+//! The arguments are those of `coap_command_line::client_words`. The program reads the payload file of `-f`, connects to the
+//! host of the URI, opens the response file of `-o`, and then runs `coap_client_engine::run_to_end`. If the run has a cause for
 //! its end, a last line on standard error gives it in words.
 #![tactic(auto)]
 
@@ -11,12 +11,12 @@ ghost use Rattle.coap_client_engine.specs.Prelude.{IsStatus};
 
 mod logged;
 
-use coap_client::{
-    ClientFault, ClientPlan, Line, RunEnd, Target, client_reason, client_words, explain, run_to_end,
-};
+use coap_client_engine::{ClientFault, RunEnd, explain, run_to_end};
+use coap_command_line::{client_reason, client_words};
 use coap_io::{Wire, WriteOutlet};
-use coap_print::LogLevel;
+use coap_print::{Line, LogLevel};
 use coap_program::{FAULT, FileError, Program, USAGE, occupy_standard_descriptors, read_whole};
+use coap_request::{ClientPlan, Target};
 use coap_sockets::{ClientWire, ConnectError, ConnectFault, RunClock};
 use coap_wire::LARGEST_MESSAGE;
 use logged::run_logged;

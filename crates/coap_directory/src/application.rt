@@ -4,8 +4,9 @@ ghost use Rattle.std.specs.Prelude.{◌<◌, ◌^◌};
 
 use coap_conn::Reply as Queued;
 use coap_directory_core::{Directory, Reply, write_response};
+use coap_io::Clock;
 use coap_model::{ConnId, ResponseFault};
-use coap_serve::{Application, Clock};
+use coap_server_engine::Application;
 use coap_wire::{MessageRef, Token, TokenRef};
 
 /// Largest size of a response without its token and its payload, in bytes: the head, Content-Format and the marker.

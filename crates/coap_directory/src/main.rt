@@ -7,11 +7,16 @@
 mod application;
 
 use application::DirectoryApplication;
+use coap_application::Applications;
 use coap_command_line::{DirectoryPlan, directory_reason, directory_words};
 use coap_directory_core::Directory;
+use coap_io::Clock;
+use coap_model::{Config, Starts};
+use coap_path::PathKey;
 use coap_program::{FAULT, Program, USAGE, occupy_standard_descriptors};
-use coap_serve::{Applications, Clock, Config, NoMonitor, PathKey, Starts, serve_door_for};
 use coap_server_common::print_listen_fault;
+use coap_server_engine::NoMonitor;
+use coap_server_listener::serve_door_for;
 use coap_sockets::{RunClock, SocketDoor, SystemClock};
 use coap_wire::{Code, LARGEST_SENT_MESSAGE};
 use std::alloc::{AllocError, Global};

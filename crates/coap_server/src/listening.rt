@@ -1,25 +1,22 @@
 //! Listens at an address and serves the connections that clients open.
 
 ghost use Rattle.std.specs.Prelude.{◌≡◌, ◌∷◌, ℕ, [], true, is_some, IfSome, IfNone};
-ghost use Rattle.coap_serve.specs.Configs.{config_refusal};
-ghost use Rattle.coap_serve.specs.Prelude.{TellsMore};
+ghost use Rattle.coap_model.specs.Configs.{config_refusal};
+ghost use Rattle.coap_io.specs.streams.DeviceTraces.{TellsMore};
 ghost use Rattle.std.specs.Prelude.{IsErr};
 ghost use Rattle.coap_server_common.specs.Planned.{planned, starts_of};
 
 use crate::PROGRAM;
-use crate::failures::MarkedDoor;
-use crate::lent::Lent;
-use crate::log::ServerLog;
-use crate::record::{ServerRecord, open_record};
+use coap_io::{Clock, Door, Outlet};
+use coap_model::{Config, Starts};
 use coap_print::LogLevel;
 use coap_program::{FAULT, USAGE};
 use coap_record::MonitorPair;
 use coap_request::ServerPlan;
-use coap_serve::{
-    Clock, Config, Door, IoFault, Monitor, NoMonitor, Outlet, SilenceWatch, Starts,
-    serve_door_timed, serve_door_with,
-};
 use coap_server_common::{config_of, print_listen_fault};
+use coap_server_engine::{IoFault, Monitor, NoMonitor};
+use coap_server_listener::{SilenceWatch, serve_door_timed, serve_door_with};
+use coap_server_monitors::{Lent, MarkedDoor, ServerLog, ServerRecord, open_record};
 use coap_sockets::{RunClock, SocketDoor, SystemClock};
 use std::alloc::AllocError;
 use std::cell::Cell;
@@ -54,7 +51,7 @@ pub(crate) fn run(
     let Some(config) = config_now(&mut clock, plan) else {
         return PROGRAM.print_fault(rt, "a limit is out of its range", USAGE);
     };
-    let record = match open_record(rt, plan) {
+    let record = match open_record(rt, &PROGRAM, plan) {
         Ok(record) => record,
         Err(status) => return status,
     };

@@ -9,12 +9,7 @@
 
 ghost use Rattle.std.specs.Prelude.{◌<◌, ◌+◌, ◌^◌};
 
-mod failures;
-mod header;
-mod lent;
 mod listening;
-mod log;
-mod record;
 mod script;
 mod standard;
 

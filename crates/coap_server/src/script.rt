@@ -1,10 +1,12 @@
 //! Runs scripts of events.
 
 use crate::PROGRAM;
+use coap_application::Applications;
+use coap_io::WriteOutlet;
+use coap_model::Config;
 use coap_program::{ENDED, FAULT, FileError, USAGE, read_whole};
-use coap_serve::{
-    Applications, Config, Event, ReplayFault, ScriptFault, Server, WriteOutlet, script,
-};
+use coap_script::{Event, ScriptFault, script};
+use coap_server_engine::{ReplayFault, Server};
 use std::alloc::{AllocError, Global};
 use std::io;
 use std::rt::Files;

@@ -3,16 +3,15 @@
 ghost use Rattle.std.specs.Prelude.{◌<◌, ◌+◌, ◌^◌};
 
 use crate::PROGRAM;
-use crate::lent::Lent;
-use crate::log::ServerLog;
-use crate::record::{ServerRecord, open_record};
+use coap_io::{Outlet, ReadSource, WriteOutlet};
+use coap_model::Config;
 use coap_print::LogLevel;
 use coap_program::{ENDED, FAULT};
 use coap_record::MonitorPair;
 use coap_request::ServerPlan;
-use coap_serve::{
-    Config, IoFault, Monitor, Outlet, ReadSource, Report, WriteOutlet, serve_one, serve_one_with,
-};
+use coap_server_engine::{IoFault, Monitor};
+use coap_server_monitors::{Lent, ServerLog, ServerRecord, open_record};
+use coap_server_streams::{Report, serve_one, serve_one_with};
 use std::rt::Files;
 use std::{io, time};
 
@@ -25,7 +24,7 @@ pub(crate) fn run(
 ) -> u8
     requires { config.now.starts.ids + 1 < 2 ^ 64 }
 {
-    let served = match open_record(rt, plan) {
+    let served = match open_record(rt, &PROGRAM, plan) {
         Ok(Some(record)) => serve_recorded(rt, config, plan.log, record),
         Ok(None) => serve_unrecorded(rt, config, plan.log),
         Err(status) => return status,

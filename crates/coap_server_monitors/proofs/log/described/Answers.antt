@@ -1,6 +1,6 @@
 use Rattle.std.proofs.Common.{sym, arith}
 use Rattle.std.proofs.lemmas.List.{take_all, length-take, length-take-le}
-use Rattle.coap_server.proofs.log.described.Goals as goal
+use Rattle.coap_server_monitors.proofs.log.described.Goals as goal
 
 pub slice_bounds-result-end : goal.slice_bounds-result-end
 slice_bounds-result-end c = sym (length-take-le 2048 c.args.head.now (omega arith))

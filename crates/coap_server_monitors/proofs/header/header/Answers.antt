@@ -2,8 +2,8 @@ use Rattle.std.proofs.Common.{◌≡◌, List, ℕ, ◌∷◌, ◌++◌, append_
 use Rattle.coap_command_line.specs.declared.arguments.help.TheConstants.{VERSION}
 use Rattle.coap_record.specs.Prelude.{SaysNoEvent}
 use Rattle.coap_server_common.specs.RecordHeaders.{header_text}
-use Rattle.coap_server.proofs.HeaderLemmas.{header_says_nothing}
-use Rattle.coap_server.proofs.header.header.Goals as goal
+use Rattle.coap_server_monitors.proofs.HeaderLemmas.{header_says_nothing}
+use Rattle.coap_server_monitors.proofs.header.header.Goals as goal
 
 pub returns-clause-text : goal.returns-clause-text
 unfolding header_text

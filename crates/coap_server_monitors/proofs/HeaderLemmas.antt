@@ -9,7 +9,7 @@ use Rattle.coap_print.proofs.TextLaws.{decimal_is_text, text_of_both}
 use Rattle.coap_record.specs.Prelude.{ScriptEventValue, SaysNoEvent, is_printable, newline, script_of}
 use Rattle.coap_record.proofs.WordLaws.{all_pass}
 use Rattle.coap_record.proofs.LineLaws.{comment_read_back}
-use Rattle.coap_serve.specs.Configs.{ConfigValues}
+use Rattle.coap_model.specs.Configs.{ConfigValues}
 use Rattle.coap_server_common.specs.RecordHeaders.{header_text, is_plain, is_word, options_line, options_text, shown_name}
 
 -- Words and a number after printable text.

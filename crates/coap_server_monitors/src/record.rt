@@ -5,17 +5,18 @@ ghost use Rattle.coap_command_line.specs.declared.arguments.help.TheConstants.{V
 ghost use Rattle.coap_print.specs.Lines.{appended};
 ghost use Rattle.coap_print.specs.declared.line.TheConstants.{LINE_LENGTH};
 ghost use Rattle.coap_record.specs.Prelude.{FollowsMore};
-ghost use Rattle.coap_server.specs.RecordEnds.{end_text, title_text};
+ghost use Rattle.coap_server_monitors.specs.RecordEnds.{end_text, title_text};
 ghost use Rattle.coap_server_common.specs.RecordHeaders.{header_text};
 
-use crate::PROGRAM;
 use crate::header::header;
 use coap_log::{LineWriter, LogWriter, Stderr};
 use coap_print::Line;
-use coap_program::{FAULT, FileError};
+use coap_io::{Outlet, WriteOutlet};
+use coap_model::{Config, ConnId};
+use coap_program::{FAULT, FileError, Program};
 use coap_record::{BufferedOutlet, Recorder};
 use coap_request::ServerPlan;
-use coap_serve::{Call, Config, ConnId, Monitor, Outlet, Server, WriteOutlet};
+use coap_server_engine::{Call, Monitor, Server};
 use coap_text::is_hyphen;
 use std::alloc::{AllocError, Global};
 use std::fs::OpenOptions;
@@ -32,7 +33,7 @@ const PERMISSIONS: u32 = 0o600;
 
 /// Writer of a record.
 #[derive(Drop)]
-pub(crate) enum RecordWriter<F, O> {
+pub enum RecordWriter<F, O> {
     /// File that was created for the record.
     File(F),
     /// Standard output.
@@ -40,7 +41,7 @@ pub(crate) enum RecordWriter<F, O> {
 }
 
 impl<F: Write, O: Write> Write for RecordWriter<F, O> {
-    ghost use Rattle.coap_server.specs.declared.record.RecordWriter.TheVariants.{File, Output};
+    ghost use Rattle.coap_server_monitors.specs.declared.record.RecordWriter.TheVariants.{File, Output};
 
     ghost contents = { elim [ File f ↦ F.contents f | Output o ↦ O.contents o ] };
 
@@ -60,12 +61,12 @@ impl<F: Write, O: Write> Write for RecordWriter<F, O> {
 }
 
 /// Outlet of the record of a program with this runtime.
-pub(crate) type RecordOutlet<'a, R> = WriteOutlet<RecordWriter<<R as Files>::File, Printer<'a, R>>>;
+pub type RecordOutlet<'a, R> = WriteOutlet<RecordWriter<<R as Files>::File, Printer<'a, R>>>;
 
 /// Record of a server, which writes a line for each call that the server accepts. If it has ended, because a write
 /// failed or its limit is reached, it reports that once, and ignores all further calls.
 #[derive(Drop)]
-pub(crate) struct ServerRecord<'a, O> {
+pub struct ServerRecord<'a, O> {
     recorder: Recorder<O>,
     name: &'a str,
     limit: u64,
@@ -79,8 +80,9 @@ pub(crate) struct ServerRecord<'a, O> {
 /// # Errors
 ///
 /// The exit status of the program. The error was written to standard error. A file that exists is left as it is.
-pub(crate) fn open_record<'a, R: Files + Print + Eprint + AllocGlobal>(
+pub fn open_record<'a, R: Files + Print + Eprint + AllocGlobal>(
     rt: &'a R,
+    program: &Program,
     plan: &'a ServerPlan,
 ) -> Result<Option<ServerRecord<'a, RecordOutlet<'a, R>>>, u8>
     ensures { IfErr result (λ status. status ≡ 3) }
@@ -91,12 +93,12 @@ pub(crate) fn open_record<'a, R: Files + Print + Eprint + AllocGlobal>(
     let name = name.as_str();
     let writer = match create(rt, name) {
         Ok(writer) => writer,
-        Err(error) => return Err(print_open_fault(rt, name, &error)),
+        Err(error) => return Err(print_open_fault(rt, program, name, &error)),
     };
     let outlet = WriteOutlet::new(writer);
     match ServerRecord::new(rt.alloc(), outlet, name, plan.record_limit) {
         Ok(record) => Ok(Some(record)),
-        Err(_) => Err(PROGRAM.print_fault(rt, "no memory", FAULT)),
+        Err(_) => Err(program.print_fault(rt, "no memory", FAULT)),
     }
 }
 
@@ -118,32 +120,32 @@ fn create<'a, R: Files + Print>(
 
 /// Reports that the program cannot create the file of a record, with the reason and a remedy, and returns the exit
 /// status.
-fn print_open_fault(rt: &impl Eprint, name: &str, error: &Error) -> u8
+fn print_open_fault(rt: &impl Eprint, program: &Program, name: &str, error: &Error) -> u8
     ensures { result ≡ 3 }
 {
     let FileError::Open = FileError::of_opening(error) else {
-        return PROGRAM.print_fault(rt, "no memory", FAULT);
+        return program.print_fault(rt, "no memory", FAULT);
     };
-    let status = PROGRAM.print_fault(rt, format_args!("cannot open {name}"), FAULT);
+    let status = program.print_fault(rt, format_args!("cannot open {name}"), FAULT);
     match error.kind() {
-        ErrorKind::AlreadyExists => PROGRAM.print_fault(
+        ErrorKind::AlreadyExists => program.print_fault(
             rt,
             format_args!("{name} exists already; choose another name"),
             status,
         ),
-        ErrorKind::PermissionDenied => PROGRAM.print_fault(
+        ErrorKind::PermissionDenied => program.print_fault(
             rt,
             format_args!(
                 "permission denied for {name}; choose a directory in which you may create files"
             ),
             status,
         ),
-        ErrorKind::NotFound => PROGRAM.print_fault(
+        ErrorKind::NotFound => program.print_fault(
             rt,
             format_args!("no such directory for {name}; create it or choose another name"),
             status,
         ),
-        _ => PROGRAM.print_fault(rt, format_args!("{name}: {error}"), status),
+        _ => program.print_fault(rt, format_args!("{name}: {error}"), status),
     }
 }
 
@@ -180,7 +182,7 @@ impl<'a, O: Outlet + Drop> ServerRecord<'a, O> {
     ///
     /// Returns `AllocError` if allocation fails.
     #[tactic(auto, unfolding(coap_record::specs::Prelude::FollowsMore))]
-    pub(crate) fn begin(&mut self, alloc: Global, config: &Config) -> Result<(), AllocError>
+    pub fn begin(&mut self, alloc: Global, config: &Config) -> Result<(), AllocError>
         ensures header { OnOk result (⟦<Recorder<O> as Monitor<()>>⟧.follows self.old.recorder [] [] →
             ⟦<Recorder<O> as Monitor<()>>⟧.follows self.new.recorder
             (header_text VERSION.now self.old.name.now config.now) []) }

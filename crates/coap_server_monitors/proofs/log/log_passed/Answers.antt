@@ -1,7 +1,7 @@
 use Rattle.std.proofs.Common.{arith}
 use Rattle.std.proofs.lemmas.List.{length-drop}
 use Rattle.coap_io.proofs.streams.WriteLemmas.{rest_of}
-use Rattle.coap_server.proofs.log.log_passed.Goals as goal
+use Rattle.coap_server_monitors.proofs.log.log_passed.Goals as goal
 
 pub loop-left-smaller : goal.loop-left-smaller
 loop-left-smaller c =

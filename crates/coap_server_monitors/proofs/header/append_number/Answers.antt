@@ -1,6 +1,6 @@
 use Rattle.std.proofs.Common.{◌∙◌}
-use Rattle.coap_server.proofs.HeaderLemmas.{number_is_text}
-use Rattle.coap_server.proofs.header.append_number.Goals as goal
+use Rattle.coap_server_monitors.proofs.HeaderLemmas.{number_is_text}
+use Rattle.coap_server_monitors.proofs.header.append_number.Goals as goal
 
 pub returns-clause-printable : goal.returns-clause-printable
 returns-clause-printable c =

@@ -1,10 +1,11 @@
 //! A monitor that belongs to the caller of a run.
 
-use coap_serve::{Call, ConnId, Monitor, Server};
+use coap_model::ConnId;
+use coap_server_engine::{Call, Monitor, Server};
 
 /// Monitor that passes each call on to a monitor of its caller.
 #[derive(Drop)]
-pub(crate) struct Lent<'a, M>(pub(crate) &'a mut M);
+pub struct Lent<'a, M>(pub &'a mut M);
 
 #[tactic(auto, unfolding(coap_record::specs::Prelude::FollowsMore))]
 impl<W, M: Monitor<W>> Monitor<W> for Lent<'_, M> {

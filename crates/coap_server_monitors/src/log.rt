@@ -1,16 +1,18 @@
 //! The log of a serving server: warnings, connections and messages, up to a level.
 
 ghost use Rattle.std.specs.Prelude.{◌≡◌, ◌≤◌, length, take};
-ghost use Rattle.coap_server.specs.ConnectionEnds.{end_text};
-ghost use Rattle.coap_server.specs.Refusals.{is_refusal};
+ghost use Rattle.coap_server_monitors.specs.ConnectionEnds.{end_text};
+ghost use Rattle.coap_server_monitors.specs.Refusals.{is_refusal};
 
 use crate::failures::MarkedWire;
+use coap_conn::Reason;
 use coap_log::{
     COUNTED, DESCRIBED, LineWriter, Log, Stderr, Tap, append_counts, describe_head, head_code,
 };
+use coap_model::{Config, ConnId, Handled};
 use coap_print::{Line, LogLevel};
-use coap_serve::{Call, Config, ConnId, Handled, Monitor, Reason, Server};
 use coap_server_common::text_of;
+use coap_server_engine::{Call, Monitor, Server};
 use coap_sockets::DoorTroubles;
 use coap_wire::Code;
 use indexmap::IndexMap;
@@ -40,7 +42,7 @@ struct Followed {
 /// - The last connection that the limit of connections allows, and each connection that failed.
 /// - System calls of the listener that failed.
 #[derive(Drop)]
-pub(crate) struct ServerLog<'a, R> {
+pub struct ServerLog<'a, R> {
     rt: &'a R,
     alloc: Global,
     log: Log<LineWriter<Stderr>>,
@@ -95,7 +97,7 @@ impl<'a, R: time::Clock> ServerLog<'a, R> {
     /// # Errors
     ///
     /// Returns `AllocError` if allocation fails.
-    pub(crate) fn new(
+    pub fn new(
         rt: &'a R,
         alloc: Global,
         level: LogLevel,
@@ -242,7 +244,7 @@ impl<'a, R: time::Clock> ServerLog<'a, R> {
     }
 
     /// Ends the log, with the last line of this connection if it is still open. The lines left out are reported first.
-    pub(crate) fn finish(&mut self, id: Option<ConnId>) {
+    pub fn finish(&mut self, id: Option<ConnId>) {
         let line = match id {
             Some(id) => self.last_line(id),
             None => None,

@@ -13,14 +13,14 @@ use std::time;
 ///
 /// The event loop removes a connection as soon as its wire has failed, before it uses another wire.
 #[derive(Drop)]
-pub(crate) struct MarkedWire<'a> {
+pub struct MarkedWire<'a> {
     wire: SocketWire,
     has_failed: &'a Cell<bool>,
 }
 
 impl MarkedWire<'_> {
     /// Returns the address of the peer.
-    pub(crate) fn peer(&self) -> SocketAddr {
+    pub fn peer(&self) -> SocketAddr {
         self.wire.peer()
     }
 }
@@ -64,14 +64,14 @@ impl Ready for MarkedWire<'_> {
 
 /// Listener whose wires set a cell to `true` if they fail.
 #[derive(Drop)]
-pub(crate) struct MarkedDoor<'a, 'r, R> {
+pub struct MarkedDoor<'a, 'r, R> {
     door: &'a mut SocketDoor<'r, R>,
     has_failed: &'a Cell<bool>,
 }
 
 impl<'a, 'r, R> MarkedDoor<'a, 'r, R> {
     /// Returns a listener over another one.
-    pub(crate) fn new(
+    pub fn new(
         door: &'a mut SocketDoor<'r, R>,
         has_failed: &'a Cell<bool>,
     ) -> MarkedDoor<'a, 'r, R> {

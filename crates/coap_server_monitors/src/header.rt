@@ -9,7 +9,7 @@ ghost use Rattle.coap_server_common.specs.RecordHeaders.{header_text, options_te
 ghost use Rattle.coap_server_common.specs.RecordHeaders as spec;
 
 use coap_command_line::VERSION;
-use coap_serve::Config;
+use coap_model::Config;
 use coap_text::decimal_digits;
 use std::alloc::{AllocError, Global};
 
@@ -19,7 +19,7 @@ use std::alloc::{AllocError, Global};
 ///
 /// Returns `AllocError` if allocation fails.
 #[tactic(auto, unfolding(coap_server_common::specs::RecordHeaders::header_text))]
-pub(crate) fn header(alloc: Global, name: &str, config: &Config) -> Result<Vec<u8>, AllocError>
+pub fn header(alloc: Global, name: &str, config: &Config) -> Result<Vec<u8>, AllocError>
     ensures text { IfOk result (λ text. text.items ≡ header_text VERSION.now name.now config.now) }
     ensures comments { IfOk result (λ text. SaysNoEvent text.items) }
 {
