@@ -1,12 +1,12 @@
 #!/usr/bin/env python3
-"""Checks that crates and files stay small, and that modules do not import each other in a circle:
+"""Checks that source files stay small, and that modules do not import each other in a circle:
 
     tests/tools/crate_limits.py          a line for each limit that is exceeded; the last line is 'N passed, M failed'
     tests/tools/crate_limits.py --all    and a table of all crates
     tests/tools/crate_limits.py --split  first splits each ghost import that is too long into several of the same module
 
-A crate may have 160 functions and 2,600 lines of source, a source file 450 lines, and a line of a ghost import 120 columns.
-Modules of a crate that import each other, directly or through others, form a circle.
+A source file may have 450 lines, and a line of a ghost import 120 columns. Modules of a crate that import each other, directly or through
+others, form a circle. The size of a crate is limited by the time of its proof after an edit (bench/edits).
 """
 
 import os
@@ -16,7 +16,7 @@ import sys
 sys.path.insert(0, os.path.join(os.path.dirname(os.path.abspath(__file__)), "..", "harness"))
 from workspace import ROOT, listed  # noqa: E402
 
-FUNCTIONS, LINES, FILE_LINES, COLUMNS = 160, 2_600, 450, 120
+FILE_LINES, COLUMNS = 450, 120
 
 FUNCTION = re.compile(r"^ *(?:pub(?:\([a-z ]+\))? )?(?:const )?(?:extern \S+ )?fn \w+", re.M)
 GHOST = re.compile(r"^( *)(ghost use [\w.]+)\.\{(.*)\};$")
@@ -59,12 +59,6 @@ def circles(edges):
 
 def exceeded(crate, modules):
     """Yields a line for each limit that a crate exceeds."""
-    functions = sum(len(FUNCTION.findall(it)) for it in modules.values())
-    lines = sum(it.count("\n") for it in modules.values())
-    if functions > FUNCTIONS:
-        yield f"{functions} functions, at most {FUNCTIONS}"
-    if lines > LINES:
-        yield f"{lines:,} lines of source, at most {LINES:,}"
     for name, text in modules.items():
         if text.count("\n") > FILE_LINES:
             yield f"{name or 'the root'}: {text.count(chr(10))} lines, at most {FILE_LINES}"
