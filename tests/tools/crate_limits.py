@@ -5,8 +5,9 @@
     tests/tools/crate_limits.py --all    and a table of all crates
     tests/tools/crate_limits.py --split  first splits each ghost import that is too long into several of the same module
 
-A source file may have 450 lines, and a line of a ghost import 120 columns. Modules of a crate that import each other, directly or through
-others, form a circle. The size of a crate is limited by the time of its proof after an edit (bench/edits).
+A source file may have 450 lines, and a line of a ghost import 120 columns. Modules of a crate that import each other,
+directly or through others, form a circle. The size of a crate is limited by the time of its proof after an edit
+(bench/edits).
 """
 
 import os
