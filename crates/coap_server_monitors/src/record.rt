@@ -9,10 +9,10 @@ ghost use Rattle.coap_server_monitors.specs.RecordEnds.{end_text, title_text};
 ghost use Rattle.coap_server_common.specs.RecordHeaders.{header_text};
 
 use crate::header::header;
-use coap_log::{LineWriter, LogWriter, Stderr};
-use coap_print::Line;
 use coap_io::{Outlet, WriteOutlet};
+use coap_log::{LineWriter, LogWriter, Stderr};
 use coap_model::{Config, ConnId};
+use coap_print::Line;
 use coap_program::{FAULT, FileError, Program};
 use coap_record::{BufferedOutlet, Recorder};
 use coap_request::ServerPlan;
