@@ -1,4 +1,6 @@
-"""Counts checks, and has the bytes that many tests expect: the CSM of the server, each Abort, and the greeting."""
+"""Counts checks, chooses those of a part, and has the bytes that many tests expect: the CSM of the server, each Abort, and the greeting."""
+
+from concurrent.futures import ThreadPoolExecutor
 
 CSM = "60e1230100004140"
 
@@ -30,3 +32,30 @@ class Checks:
         else:
             self.failed += 1
             print("FAILED %s: got %r, wanted %r" % (name, got, wanted))
+
+    def add(self, other):
+        self.passed, self.failed = self.passed + other.passed, self.failed + other.failed
+
+
+def side_by_side(runs, count):
+    """Makes runs, `count` at a time, and returns their checks together. A run is a function of checks, followed by its other arguments."""
+    def made(run):
+        checks = Checks()
+        run[0](checks, *run[1:])
+        return checks
+    total = Checks()
+    with ThreadPoolExecutor(count) as pool:
+        for checks in pool.map(made, runs):
+            total.add(checks)
+    return total
+
+
+def part_of(checks, words):
+    """Removes `--part K/N` from the words of a command line, and returns the K-th of N parts of a list: every N-th check. Without it, returns all."""
+    if "--part" not in words:
+        return checks
+    at = words.index("--part")
+    _, part = words[at : at + 2]
+    del words[at : at + 2]
+    number, count = map(int, part.split("/"))
+    return checks[number - 1 :: count]

@@ -1,5 +1,7 @@
 """Installs Debian packages whose programs or files are missing."""
 
+import contextlib
+import fcntl
 import os
 import shutil
 import subprocess
@@ -7,6 +9,17 @@ import sys
 
 # HAProxy is in a directory that is not in every user's PATH.
 os.environ["PATH"] += os.pathsep + "/usr/sbin"
+
+
+@contextlib.contextmanager
+def alone():
+    """Waits until no other script of these tests changes the installed packages, and prevents them from it for the time of its block."""
+    folder = os.open("/var/lib/dpkg", os.O_RDONLY)
+    try:
+        fcntl.flock(folder, fcntl.LOCK_EX)
+        yield
+    finally:
+        os.close(folder)
 
 
 def apt(words):
@@ -21,17 +34,22 @@ def exists(name):
     return os.path.isfile(name) if name.startswith("/") else bool(shutil.which(name))
 
 
+def missing_of(packages):
+    """Returns the packages whose programs or files are missing."""
+    return [package for name, package in packages.items() if not exists(name)]
+
+
 def install(packages):
     """Installs the missing programs and files, each from its package, and returns true if all exist afterwards."""
-    missing = [package for name, package in packages.items() if not exists(name)]
-    if not missing:
+    if not missing_of(packages):
         return True
-    words = ["install", "--no-install-recommends"] + missing
-    done = apt(words)
-    if done.returncode:
-        # The package lists may be missing or old.
-        apt(["update"])
+    with alone():
+        words = ["install", "--no-install-recommends", *missing_of(packages)]
         done = apt(words)
+        if done.returncode:
+            # The package lists may be missing or old.
+            apt(["update"])
+            done = apt(words)
     if done.returncode:
         sys.stdout.write(done.stdout.decode(errors="replace"))
-    return all(exists(name) for name in packages)
+    return not missing_of(packages)

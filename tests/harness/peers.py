@@ -1,6 +1,7 @@
 """Helpers of the tests over sockets: free ports, servers, and functions that read from and end connections."""
 
 import contextlib
+import errno
 import os
 import resource
 import select
@@ -28,17 +29,35 @@ def authority(host, port):
 HELD = []
 
 
-def free_port(host=LOCAL):
-    """Returns a port at which no program listens. The system gives it to nothing else while this process runs.
-
-    The socket that holds it never listens, so that a program that sets SO_REUSEADDR can. A listening socket that is closed at once would not do. A
-    process that another thread is starting has a copy of it until it runs its program.
-    """
+def held(host, port):
+    """Returns a socket that holds a port, or a free one if `port` is 0."""
     it = socket.socket(family_of(host))
     it.setsockopt(socket.SOL_SOCKET, socket.SO_REUSEADDR, 1)
-    it.bind((host, 0))
-    HELD.append(it)
-    return it.getsockname()[1]
+    try:
+        it.bind((host, port))
+    except OSError:
+        it.close()
+        raise
+    return it
+
+
+def free_port(host=LOCAL, others=()):
+    """Returns a port at which no program listens, at none of these addresses. The system gives it to nothing else while this process runs.
+
+    The sockets that hold it never listen, so that a program that sets SO_REUSEADDR can. A listening socket that is closed at once would not do. A
+    process that another thread is starting has a copy of them until it runs its program.
+    """
+    while True:
+        first = held(host, 0)
+        port = first.getsockname()[1]
+        try:
+            HELD.extend([first, *(held(it, port) for it in others)])
+            return port
+        except OSError as trouble:
+            # Another program may have this port at another address.
+            first.close()
+            if trouble.errno != errno.EADDRINUSE:
+                raise
 
 
 def line_of(stream):

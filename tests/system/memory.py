@@ -20,7 +20,7 @@ import sys
 import tempfile
 
 sys.path.insert(0, os.path.join(os.path.dirname(os.path.abspath(__file__)), "..", "harness"))
-from checks import CSM, GREETING, Checks  # noqa: E402
+from checks import CSM, GREETING, side_by_side  # noqa: E402
 from packages import install  # noqa: E402
 from workspace import ROOT  # noqa: E402
 
@@ -211,27 +211,28 @@ def queueing(checks, server):
         checks.same("bytes of a queue of %d beside one of %d" % (size, sizes[0]), bytes_of_all - first, size - sizes[0])
 
 
+def runs(server):
+    """Returns all runs, which are independent of each other."""
+    storing, script = [server, "-d", "1000"], [server, "--script", "-"]
+    return [
+        *((flat, [server, "--stdio"], ("", ""), kind) for kind in KINDS),
+        *((flat, [*storing, "--stdio"], STORED, kind) for kind in STORED_KINDS),
+        (replacing, storing),
+        *((scripted, script, ("", ""), kind) for kind in KINDS),
+        *((scripted, [*storing, "--script", "-"], STORED_BEFORE, kind) for kind in STORED_KINDS),
+        (drained, script),
+        *((telling, storing, *observed) for observed in OBSERVING),
+        (putting, server, storing),
+        (raising,),
+        (queueing, server),
+    ]
+
+
 def main(programs):
-    server, storing = programs[0], [programs[0], "-d", "1000"]
-    checks = Checks()
     if not install(PACKAGES):
         print("FAILED memory: valgrind cannot be installed")
         return 1
-    for kind in KINDS:
-        flat(checks, [server, "--stdio"], ("", ""), kind)
-    for kind in STORED_KINDS:
-        flat(checks, storing + ["--stdio"], STORED, kind)
-    replacing(checks, storing)
-    for kind in KINDS:
-        scripted(checks, [server, "--script", "-"], ("", ""), kind)
-    for kind in STORED_KINDS:
-        scripted(checks, storing + ["--script", "-"], STORED_BEFORE, kind)
-    drained(checks, [server, "--script", "-"])
-    for word, request in OBSERVING:
-        telling(checks, storing, word, request)
-    putting(checks, server, storing)
-    raising(checks)
-    queueing(checks, server)
+    checks = side_by_side(runs(programs[0]), len(os.sched_getaffinity(0)))
     print("memory: %d passed, %d failed" % (checks.passed, checks.failed))
     return 1 if checks.failed else 0
 

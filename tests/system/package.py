@@ -27,7 +27,7 @@ import time
 sys.path.insert(0, os.path.join(os.path.dirname(os.path.abspath(__file__)), "..", "harness"))
 from c_library import check_example  # noqa: E402
 from checks import Checks  # noqa: E402
-from packages import install  # noqa: E402
+from packages import alone, install  # noqa: E402
 from peers import LOCAL, Server, free_port  # noqa: E402
 from workspace import ROOT, crates, listed  # noqa: E402
 
@@ -576,6 +576,20 @@ def hindrance():
     return "%s already exists" % found[0] if found else ""
 
 
+def check_lives(checks, built, library, gateway, client):
+    """Installs, upgrades, removes and purges each package, and compares the files before and after."""
+    before = files_in_places()
+    try:
+        check_library_life(checks, *library, client)
+        check_gateway_life(checks, *gateway)
+        check_life(checks, *built)
+        after = files_in_places()
+        checks.same("files after the purge", sorted(after - before), [])
+        checks.same("missing files after the purge", sorted(before - after), [])
+    finally:
+        clean_up()
+
+
 def check(programs, archive):
     checks = Checks()
     check_versions(checks, programs)
@@ -583,20 +597,12 @@ def check(programs, archive):
     check_copyright(checks)
     check_scripts(checks)
     with tempfile.TemporaryDirectory() as folder:
-        built, library, gateway = check_packages(checks, folder, programs, archive)
-        reason = hindrance()
-        checks.same("obstacle to the installation of the packages", reason, "")
-        if not reason:
-            before = files_in_places()
-            try:
-                check_library_life(checks, *library, programs[1])
-                check_gateway_life(checks, *gateway)
-                check_life(checks, *built)
-                after = files_in_places()
-                checks.same("files after the purge", sorted(after - before), [])
-                checks.same("missing files after the purge", sorted(before - after), [])
-            finally:
-                clean_up()
+        packages = check_packages(checks, folder, programs, archive)
+        with alone():
+            reason = hindrance()
+            checks.same("obstacle to the installation of the packages", reason, "")
+            if not reason:
+                check_lives(checks, *packages, programs[1])
     print("package: %d passed, %d failed" % (checks.passed, checks.failed))
     return 1 if checks.failed else 0
 

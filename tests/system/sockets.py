@@ -25,7 +25,7 @@ import time
 sys.path.insert(0, os.path.join(os.path.dirname(os.path.abspath(__file__)), "..", "harness"))
 import messages  # noqa: E402
 from checks import ABORTS, CSM, GREETING, Checks  # noqa: E402
-from peers import LIMIT, LOCAL, Server, authority, free_port, is_silent, line_of, processor_time, read_bytes, read_to_end, reset  # noqa: E402
+from peers import LIMIT, LOCAL, Server, authority, free_port, held, is_silent, line_of, processor_time, read_bytes, read_to_end, reset  # noqa: E402
 from rows import HARNESS  # noqa: E402
 
 # The number of the option ETag.
@@ -409,14 +409,12 @@ def check_close(checks, programs):
         checks.same("no reset", peer.getsockopt(socket.SOL_SOCKET, socket.SO_ERROR), 0)
 
 
-def silent_port(stack, hosts):
-    """Returns a port at which these addresses listen and respond to no further connection, since their backlogs are full."""
-    port = 0
+def silent_port(stack, hosts, other):
+    """Returns a port at which these addresses listen and respond to no further connection, since their backlogs are full. Nothing listens at `other`."""
+    port = free_port(other, hosts)
     for host in hosts:
-        listener = stack.enter_context(socket.socket())
-        listener.bind((host, port))
+        listener = stack.enter_context(held(host, port))
         listener.listen(0)
-        port = listener.getsockname()[1]
         while True:
             waiting = stack.enter_context(socket.socket())
             waiting.settimeout(0.3)
@@ -432,7 +430,7 @@ def check_addresses(checks, programs):
     silent = ["127.0.0.%d" % number for number in range(2, 5)]
     good, unreachable = "127.0.0.5", "127.0.0.6"
     with Waits("names", at_most=200, UNREACHABLE=unreachable) as waits, contextlib.ExitStack() as stack:
-        port = silent_port(stack, silent)
+        port = silent_port(stack, silent, good)
         stack.enter_context(Server(programs.server, host=good, port=port))
         rows = [
             # The addresses, -B, the result, and the seconds after which it must come.
@@ -455,7 +453,7 @@ def check_timeouts(checks, programs):
     """Checks that -B is the timeout of connecting, and that of the response. The clock of the client is advanced, so that hours pass at once."""
     silent, mute = "127.0.0.2", LOCAL
     with Waits("names", at_most=5, NAMES="%s %s" % (silent, mute)) as waits, contextlib.ExitStack() as stack:
-        port = silent_port(stack, [silent])
+        port = silent_port(stack, [silent], mute)
         # A silent peer at the same port, at an address that connects.
         stack.enter_context(socket.create_server((mute, port)))
         unconnected = (3, b"", cannot_connect("timed out"))

@@ -23,6 +23,7 @@ import sys
 
 sys.path.insert(0, os.path.join(os.path.dirname(os.path.abspath(__file__)), "..", "harness"))
 from contract_diff import promises  # noqa: E402
+from steps import STEPS  # noqa: E402
 from workspace import ROOT, listed  # noqa: E402
 
 DOCUMENT = "docs/CONFORMANCE.md"
@@ -150,7 +151,7 @@ def wrong_tests(cell, gate):
         if text is None:
             yield f"no test {names[0] if names else named}"
             continue
-        if names[0].endswith(".py") and f'"{names[0]}"' not in gate:
+        if names[0].endswith(".py") and names[0] not in gate:
             yield f"the gate does not run {names[0]}"
         form = test_file(names[0])[1]
         yield from (f"{names[0]} does not have {it}" for it in re.findall(r"`([^`]+)`", named) if not re.search(form.format(re.escape(it)), text))
@@ -178,7 +179,7 @@ def tell_counts(rows):
 
 def main(words):
     rows, wrong, outside = rows_in(read(DOCUMENT) or "")
-    functions, gate, passed = Functions(), read("tests/gate") or "", 0
+    functions, gate, passed = Functions(), {word for step in STEPS for word in step.words}, 0
     if outside > WORDS:
         wrong.append(f"{outside} words outside of the tables, at most {WORDS}")
     for row in rows:

@@ -10,8 +10,6 @@ last column, tests/harness/rows.py --refuse and tests/vectors/segmentation.py mu
 The last line is 'N passed, M failed' for the places of the list, and the status is 0 if M is 0.
 """
 
-import importlib.machinery
-import importlib.util
 import os
 import re
 import sys
@@ -19,6 +17,7 @@ from dataclasses import dataclass
 
 sys.path.insert(0, os.path.join(os.path.dirname(os.path.abspath(__file__)), "..", "harness"))
 import rows  # noqa: E402
+from steps import STEPS  # noqa: E402
 from workspace import ROOT, is_program, listed  # noqa: E402
 
 LIST = rows.ROWS / "README.md"
@@ -47,10 +46,7 @@ def is_line(wanted, text):
 
 def steps_of_the_gate():
     """Returns the steps of the gate, each with its words."""
-    loader = importlib.machinery.SourceFileLoader("gate", f"{ROOT}/tests/gate")
-    gate = importlib.util.module_from_spec(importlib.util.spec_from_loader("gate", loader))
-    loader.exec_module(gate)
-    return [gate.PROOFS, *gate.STEPS, gate.BESIDE]
+    return [["rt", "ci"], *(it.words for it in STEPS)]
 
 
 def places():

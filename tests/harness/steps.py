@@ -1,0 +1,201 @@
+"""The steps of the tests of built programs, and a runner that runs them side by side.
+
+A step has ports, folders and names of its own, so any other step can run beside it. Its estimates decide the order: the longest one starts first, if
+the processors that it keeps busy are free. After a failure no further step starts, and the running ones run to their ends.
+"""
+
+import collections
+import contextlib
+import os
+import re
+import select
+import signal
+import subprocess
+import tempfile
+import time
+from dataclasses import dataclass
+
+from workspace import ROOT
+
+PROCESSORS = len(os.sched_getaffinity(0))
+
+# Conditions that a step may need. Programs as their proofs built them: unproved ones allocate and compute more.
+PROVED = "proved programs"
+
+# The probes that play rows, by LLVM and by Rattle's own compiler.
+PROBES, BY_RATTLE = "probes", "probes by Rattle"
+
+# bin/libcoap_proved.a, and bin/coap-mqtt.
+ARCHIVE, GATEWAY = "archive", "gateway"
+
+# The rights of root, to install packages.
+ROOT_RIGHTS = "root"
+
+# Number of last lines of a failed step that are printed again at the end.
+LAST = 40
+
+# Seconds in which a step that is ended may clean up.
+PATIENCE = 20
+
+
+@dataclass(frozen=True)
+class Step:
+    """A command of the tests. `seconds` and `used` estimate its elapsed time and its processor time, alone on an idle machine."""
+
+    words: list
+    seconds: float
+    used: float
+    needs: tuple = ()
+    makes: str = ""
+
+    def load(self):
+        """Returns the number of processors that the step keeps busy."""
+        return min(self.used / self.seconds, PROCESSORS)
+
+
+def parts(words, estimates, needs=()):
+    """Returns steps that together run all checks of a script, one for each estimate. The script itself divides its list of checks (`chosen`)."""
+    count = len(estimates)
+    return [Step([*words, "--part", f"{at}/{count}"], *estimate, needs) for at, estimate in enumerate(estimates, 1)]
+
+
+SERVER, CLIENT, EXPLAIN, DIRECTORY, EXAMPLE_GATEWAY, EXAMPLE_OBSERVER, LIBRARY, MQTT = (
+    f"{ROOT}/bin/{it}" for it in ("coap-server", "coap-client", "coap-explain", "coap-directory", "example-gateway", "example-observer", "libcoap_proved.a", "coap-mqtt")
+)
+
+# The proof of the C library, over what `rt ci` keeps.
+BUILD_ARCHIVE = Step(["python3", "tests/system/c_library.py", "--archive"], 200, 200, (PROVED,), ARCHIVE)
+
+STEPS = [
+    Step(["python3", "tests/harness/rows.py"], 10, 20, (PROBES,)),
+    Step(["python3", "tests/harness/rows.py", "--by-rattle"], 10, 20, (BY_RATTLE,)),
+    Step(["python3", "tests/harness/rows.py", "--refuse"], 60, 200, (PROVED, PROBES)),
+    Step(["python3", "tests/vectors/row_list.py"], 1, 1),
+    Step(["python3", "tests/tools/crate_limits.py"], 2, 2),
+    Step(["python3", "tests/tools/conformance.py"], 3, 3),
+    Step(["python3", "tests/tools/examples.py"], 2, 2),
+    Step(["python3", "tests/tools/prose.py"], 5, 5),
+    Step(["python3", "tests/vectors/segmentation.py"], 20, 60, (PROBES,)),
+    Step(["python3", "tests/vectors/scripts.py", SERVER], 3, 3),
+    Step(["python3", "tests/vectors/stdio.py", SERVER], 3, 3),
+    Step(["python3", "tests/vectors/bytes.py", SERVER], 30, 100),
+    Step(["python3", "tests/system/devices.py", SERVER, CLIENT], 10, 3),
+    Step(["python3", "tests/system/alloc_failures.py", SERVER, CLIENT], 30, 60, (PROVED,)),
+    Step(["python3", "tests/system/program.py", SERVER, CLIENT], 10, 10),
+    Step(["python3", "tests/system/libcoap.py", SERVER], 5, 3),
+    Step(["python3", "tests/system/sockets.py", SERVER, CLIENT], 60, 20),
+    Step(["python3", "tests/system/log.py", SERVER, CLIENT], 60, 50),
+    Step(["python3", "tests/system/record.py", SERVER, CLIENT], 60, 60),
+    Step(["python3", "tests/system/explain.py", SERVER, EXPLAIN], 60, 60, (PROVED,)),
+    Step(["python3", "tests/system/directory.py", DIRECTORY, CLIENT], 30, 20),
+    Step(["python3", "tests/system/idle.py", SERVER], 22, 1),
+    Step(["python3", "tests/system/clocks.py", SERVER, CLIENT], 15, 1),
+    Step(["python3", "tests/system/interop.py", SERVER, CLIENT], 30, 10),
+    Step(["python3", "tests/system/haproxy.py", SERVER], 90, 20),
+    Step(["python3", "tests/system/embedding.py", EXAMPLE_GATEWAY, CLIENT, EXAMPLE_OBSERVER, SERVER], 10, 2),
+    Step(["python3", "tests/system/c_library.py", SERVER, CLIENT, LIBRARY], 60, 60, (PROVED, ARCHIVE)),
+    Step(["python3", "tests/system/mqtt.py"], 200, 100, (ARCHIVE,)),
+    Step(["python3", "tests/system/hostile.py", SERVER], 15, 10),
+    Step(["python3", "tests/system/flood.py", SERVER], 20, 15),
+    Step(["python3", "tests/system/manuals.py", SERVER, CLIENT, EXPLAIN, DIRECTORY], 20, 5),
+    Step(["python3", "tests/system/install.py", SERVER, CLIENT, EXPLAIN, DIRECTORY], 5, 3, (ARCHIVE,)),
+    Step(["python3", "tests/system/package.py", SERVER, CLIENT, EXPLAIN, DIRECTORY], 60, 40, (ARCHIVE, ROOT_RIGHTS)),
+    Step(["python3", "tests/system/memory.py", SERVER], 60, 60, (PROVED,)),
+    Step(["bench/directory", "--quick"], 60, 200, (PROVED,)),
+    Step(["bench/throughput", "--quick"], 20, 30, (PROVED,)),
+]
+
+
+def cost(elapsed, used):
+    return f"{elapsed:.0f} s, processor time {used:.0f} s"
+
+
+class Result:
+    """Result of a step: its counts, and its last lines if it failed. A step that prints no counts counts as one check, by its status."""
+
+    def __init__(self, words, status, output):
+        counts, self.last = None, collections.deque(maxlen=LAST)
+        for line in output:
+            self.last.append(line.rstrip())
+            counted = re.fullmatch(r"(?:.*: )?(\d+) passed, (\d+) failed", line.strip())
+            counts = (int(counted[1]), int(counted[2])) if counted else counts
+        self.words, self.status = words, status
+        self.passed, self.failed = counts or (int(not status), 0)
+        self.failed = max(self.failed, int(status != 0))
+
+    def show_failure(self):
+        """Prints the last lines again, if the step failed."""
+        if self.failed:
+            print(f"== {' '.join(self.words)}: status {self.status}, last lines:", *self.last, sep="\n", flush=True)
+
+
+class Running:
+    """A command that runs. Its output goes to a file."""
+
+    def __init__(self, words):
+        self.words, self.started, self.output = words, time.monotonic(), tempfile.TemporaryFile("w+", errors="replace")
+        how = {"stdin": subprocess.DEVNULL, "stdout": self.output, "stderr": subprocess.STDOUT}
+        # A group, and no session: priorities count within a session alone.
+        self.process = subprocess.Popen(words, cwd=ROOT, process_group=0, **how)
+        self.end_of = os.pidfd_open(self.process.pid)
+
+    def fileno(self):
+        """Returns a descriptor that is readable once the command has ended."""
+        return self.end_of
+
+    def kill(self):
+        """Kills the command, and all processes that it has started."""
+        with contextlib.suppress(ProcessLookupError):
+            os.killpg(self.process.pid, signal.SIGKILL)
+
+    def result(self):
+        """Waits for the command, prints its output with its elapsed time and its own processor time, and returns its result."""
+        select.select([self], [], [])
+        elapsed = time.monotonic() - self.started
+        # Before the wait, so that the number of the group is not used again.
+        self.kill()
+        _, status, used = os.wait4(self.process.pid, 0)
+        self.process.returncode = os.waitstatus_to_exitcode(status)
+        self.output.seek(0)
+        print(f"== {' '.join(self.words)}", self.output.read(), sep="\n", end="")
+        print(f"== {cost(elapsed, used.ru_utime + used.ru_stime)}", flush=True)
+        self.output.seek(0)
+        return Result(self.words, self.process.returncode, self.output)
+
+    def end(self):
+        """Ends the command, if it has not ended. It may clean up first."""
+        if self.process.poll() is None:
+            self.process.terminate()
+            select.select([self], [], [], PATIENCE)
+            self.kill()
+            self.process.wait()
+
+
+def next_step(waiting, made, running):
+    """Returns the first step that can start, or None. Steps wait in the order of their estimates."""
+    load = sum(it.load() for it in running)
+    return next((it for it in waiting if made.issuperset(it.needs) and (not running or load + it.load() <= PROCESSORS)), None)
+
+
+def run_steps(steps, made):
+    """Runs steps side by side, and yields the result of each when it ends. `made` are the conditions that hold at first."""
+    waiting, made, running = sorted(steps, key=lambda it: it.seconds, reverse=True), set(made), {}
+    if unmet := [it.words for it in steps if not made.union(other.makes for other in steps).issuperset(it.needs)]:
+        raise LookupError(f"no step makes what these need: {unmet}")
+    try:
+        while True:
+            while step := next_step(waiting, made, running.values()):
+                waiting.remove(step)
+                running[Running(step.words)] = step
+            if not running:
+                break
+            for ended in select.select(list(running), [], [])[0]:
+                step, result = running.pop(ended), ended.result()
+                made |= {step.makes} - {""}
+                waiting = [] if result.failed else waiting
+                yield result
+    finally:
+        for it in running:
+            it.process.terminate()
+        for it in running:
+            it.end()
