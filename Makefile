@@ -3,7 +3,7 @@
 # and valgrind if they are missing. `make bench` installs gcc, gnuplot-nox, haproxy, libc6-dev, libcoap3-bin and valgrind. `make lib` needs binutils,
 # `make gateway` gcc and libmosquitto-dev too, and `make deb` dpkg-dev too.
 
-.PHONY: all lib gateway run test mutants faults bench try install install-lib install-gateway uninstall deb clean
+.PHONY: all lib gateway run check test mutants faults bench try install install-lib install-gateway uninstall deb clean
 
 # Prefix under which `make install` puts the programs, their manuals, the systemd unit and the configuration of HAProxy. DESTDIR
 # is put before the prefix, for packaging.
@@ -52,6 +52,11 @@ run:
 	    wait $$tried && exit $$built; exit 1; }
 	@python3 tests/vectors/demo.py bin/coap-server
 
+# UNPROVED: builds all programs without proofs, in bin/unproved, and runs all rows and most tests on them, in minutes. Its
+# success shows less than that of the gate.
+check:
+	tests/check
+
 # Runs the gate: all proofs and programs from scratch, all rows and tests, and a quarter of the mutants.
 test:
 	tests/gate
@@ -74,7 +79,7 @@ bench: bin/coap-server bin/coap-directory bin/libcoap_proved.a bin/coap-mqtt
 	bench/throughput; missed=$$?; bench/record || missed=1; bench/front || missed=1; bench/gateway || missed=1; tests/system/flood.py bin/coap-server observers || missed=1; \
 	bench/asymptotics || missed=1; bench/directory || missed=1; bench/instructions && exit $$missed
 
-# UNPROVED: runs the source on the recorded streams before any proof, in up to a minute, for work in progress.
+# UNPROVED: runs the source on the recorded streams before any proof, in about a minute, for work in progress.
 try:
 	python3 tests/vectors/demo.py --try
 

@@ -1,13 +1,13 @@
 #!/usr/bin/env python3
 """Plays files of rows on the two probes, which are proved programs, and compares the results.
 
-    tests/harness/rows.py [--by-rattle] [--refuse] [FILE..]
+    tests/harness/rows.py [--by-rattle | --unproved=FOLDER | --refuse] [FILE..]
 
 A file is tests/vectors/rows/LAYER/NAME.rows. Its lines are rows `EVENT => WANTED`. A line `= OPENING` creates the value that the rows after it
 use. A line `#` is a comment. The module tests/harness/layers/LAYER.py describes the words of the rows of a layer, and converts them for the
 probe. Bytes may be written as text and as messages in words (tests/harness/message_syntax.py).
 
---by-rattle plays the rows on the programs as Rattle's own compiler made them.
+--by-rattle plays the rows on the programs as Rattle's own compiler made them, and --unproved on those that tests/harness/unproved.py built in a folder.
 
 --refuse makes each allocation of each file fail in turn. The row in which the allocation fails must report `memory`. All queries (`LOOKS` of
 the layer) must return the same results as before. The row is then repeated, and from there on all results must be as in the file. A failure
@@ -38,6 +38,8 @@ import tempfile
 from collections import Counter
 from concurrent.futures import ThreadPoolExecutor
 from dataclasses import dataclass, field
+
+from workspace import program_name
 
 HARNESS = pathlib.Path(__file__).resolve().parent
 ROOT = HARNESS.parent.parent
@@ -86,10 +88,15 @@ def read(path):
     return file
 
 
-def probe_of(file, ending=""):
-    """Returns the path of the probe that plays the rows of a file, for one compiler."""
+def folder_of(flags):
+    """Returns the folder of the unproved programs that `--unproved=FOLDER` names, or an empty text."""
+    return next((it.partition("=")[2] for it in flags if it.startswith("--unproved=")), "")
+
+
+def probe_of(file, ending="", folder=""):
+    """Returns the path of the probe that plays the rows of a file: as proved, for one compiler, or as built unproved in a folder."""
     crate = file.layer().PROBE
-    return f"{ROOT}/crates/{crate}/out/{crate}{ending}"
+    return f"{folder}/{program_name(crate)}" if folder else f"{ROOT}/crates/{crate}/out/{crate}{ending}"
 
 
 @dataclass
@@ -122,10 +129,10 @@ def differences(found, steps):
     return wrong + [f"{step.event[:120]}\n    no line" for step in steps[len(found) :]]
 
 
-def play(file, ending):
-    """Plays a file, and returns the number of its rows and the differences."""
+def play(file, probe):
+    """Plays a file on a probe, and returns the number of its rows and the differences."""
     steps = file.steps()
-    return len(steps), differences(run(probe_of(file, ending), [step.event for step in steps]).lines, steps)
+    return len(steps), differences(run(probe, [step.event for step in steps]).lines, steps)
 
 
 def looks_of(file):
@@ -214,8 +221,8 @@ def main(words):
     files = [read(pathlib.Path(it).resolve()) for it in named] or [read(it) for it in sorted(ROWS.glob("*/*.rows"))]
     with tempfile.TemporaryDirectory(prefix="rows-") as room, ThreadPoolExecutor(len(os.sched_getaffinity(0))) as pool:
         shim = compiled_shim(room) if "--refuse" in flags else ""
-        ending = ".by-rattle" if "--by-rattle" in flags else ""
-        results = pool.map(lambda file: refuse(file, shim) if shim else (*play(file, ending), Counter()), files)
+        ending, folder = ".by-rattle" if "--by-rattle" in flags else "", folder_of(flags)
+        results = pool.map(lambda file: refuse(file, shim) if shim else (*play(file, probe_of(file, ending, folder)), Counter()), files)
         count, failed, calls = 0, 0, Counter()
         for file, (rows, wrong, refused) in zip(files, results):
             count, failed, calls = count + rows, failed + len(wrong), calls + refused

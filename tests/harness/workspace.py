@@ -41,6 +41,11 @@ def is_program(crate):
     return os.path.isfile(f"{ROOT}/crates/{crate}/src/main.rt")
 
 
+def program_name(crate):
+    """Returns the name of the program that a crate is built as."""
+    return crate.removesuffix("_main").replace("_", "-")
+
+
 def is_static(crate):
     """Returns true if the crate is built as a static library. No other crate depends on one."""
     with open(f"{ROOT}/crates.txt", encoding="utf-8") as lines:

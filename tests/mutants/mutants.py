@@ -28,11 +28,11 @@ well typed. For this check, all edits of a crate are put into one copy of the cr
 copy for each. The copy of the crate also gets one type error, so that the compiler reports all type errors and proves nothing.
 
 An edit of the layer `rows` is detected if a row of the file that it names has another result. The probe is built unproved with the edit
-(`rt try`). --all tries these too, each in its own build; --rows tries them alone.
+(tests/harness/unproved.py). --all tries these too, each in its own build; --rows tries them alone.
 
 An edit of the layer `server` or `client` is detected if its test fails with that program built unproved with the edit. The test must pass with the
-program built in the same way without the edit (tests/mutants/unproved.py). --all tries these too, in one to three minutes each; --tests tries them
-alone.
+program built in the same way without the edit (tests/mutants/program_tests.py). --all tries these too, in one to three minutes each; --tests tries
+them alone.
 
 Edits of different functions go into one copy of the crate, called a round. A round is checked once, on top of the incremental data of earlier
 checks. These are the data of the crate's own check in out/incremental. If there are none, a folder of this run is used. The first round of the
@@ -56,8 +56,7 @@ data of coap_serve, which was then one crate with its engine. On that machine th
 from scratch. With all functions instead of the changed ones and those that they call, they take 108 s. A build for an edit of another layer takes about two minutes. The check of all quotes takes about 2 s, and a copy of a crate
 for the type errors about 4 s.
 
-`rt try` keeps 1 MiB of output, so the output of the rows of an edit must stay below that with the edit. A program that `rt try` builds is slow. A
-test that measures processor time may fail for that reason, and then says nothing about the edit.
+A test that measures processor time may fail with an unproved program without any edit, and then says nothing about the edit.
 """
 
 import os
@@ -74,8 +73,9 @@ from dataclasses import dataclass, field, replace
 sys.path.insert(0, os.path.join(os.path.dirname(os.path.abspath(__file__)), "..", "harness"))
 import quotes  # noqa: E402
 import rows  # noqa: E402
-from workspace import PARTS, ROOT, crates, furnish, is_program, is_static, rattle_words, rlib  # noqa: E402
-from unproved import Unproved  # noqa: E402
+from workspace import PARTS, ROOT, crates, is_program, is_static, rattle_words, rlib  # noqa: E402
+from program_tests import ProgramTests  # noqa: E402
+from unproved import build  # noqa: E402
 
 # Number of rounds of a crate without incremental data that run in turn on its folder. After two, nearly every function was proved once.
 IN_TURN = 2
@@ -605,17 +605,12 @@ def judge(edits):
 def is_told(edit):
     """Returns true if the rows that an edit names detect it: a probe built unproved with the edit gives other results."""
     file = rows.read(pathlib.Path(ROOT, edit.refusal.removeprefix(" told by ")))
-    steps, probe = file.steps(), file.layer().PROBE
-    sent = "".join(step.event + "\n" for step in steps)
+    steps = file.steps()
     with tempfile.TemporaryDirectory(prefix="edits-", ignore_cleanup_errors=True) as room:
-        furnish(room, probe, [], kept=False)
-        for name, text in edit.applied({}).items():
-            with open(f"{room}/crates/{edit.crate}/{name}", "w", encoding="utf-8") as it:
-                it.write(text)
-        how = {"cwd": f"{room}/crates/{probe}", "input": sent, "capture_output": True, "text": True, "errors": "replace"}
-        ran = subprocess.run(["rt", "try"], **how)
-    # A missing line detects nothing, because the build may have failed.
-    lines = ran.stdout.splitlines()[: len(steps)]
+        if build([file.layer().PROBE], room, {edit.crate: edit.applied({})}, level=0):
+            return False
+        lines = rows.run(rows.probe_of(file, folder=room), [step.event for step in steps]).lines[: len(steps)]
+    # A missing line detects nothing.
     return bool(rows.differences(lines, steps[: len(lines)]))
 
 
@@ -629,8 +624,8 @@ def judge_by_tests(edits):
     if not edits:
         return {}
     with tempfile.TemporaryDirectory(prefix="edits-", ignore_cleanup_errors=True) as room:
-        unproved = Unproved(room)
-        whys = ((it, unproved.missed(it)) for it in edits)
+        tests = ProgramTests(room)
+        whys = ((it, tests.missed(it)) for it in edits)
         return {(it.crate, it.name): tell(it, not why, why or "by a test") for it, why in whys}
 
 

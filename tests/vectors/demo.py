@@ -2,11 +2,9 @@
 through `coap-server --script -`, with the meaning of each line.
 
     tests/vectors/demo.py bin/coap-server
-    tests/vectors/demo.py --try                 the first stream alone, by `rt try`, which runs the same source before any proof
+    tests/vectors/demo.py --try                 the first stream alone, on the same source, built without proofs
 """
 
-import contextlib
-import io
 import os
 import subprocess
 import sys
@@ -14,7 +12,7 @@ import tempfile
 
 sys.path.insert(0, os.path.join(os.path.dirname(os.path.abspath(__file__)), "..", "harness"))
 import messages  # noqa: E402
-from workspace import furnish  # noqa: E402
+from unproved import build  # noqa: E402
 
 # An empty CSM, Empty, a Ping with the token 07 and Custody. Then GETs of the root, of /time, of the listing and of an absent path.
 RECORDED = bytes.fromhex(
@@ -70,12 +68,12 @@ def show(title, stream):
         print("    %-26s (unfinished)" % rest.hex())
 
 
-def run(command, title, stream, folder=None):
+def run(command, title, stream):
     print(title, flush=True)
     with tempfile.TemporaryFile() as source:
         source.write(stream)
         source.seek(0)
-        done = subprocess.run(command, stdin=source, capture_output=True, cwd=folder)
+        done = subprocess.run(command, stdin=source, capture_output=True)
     show("input: ", stream)
     show("output:", done.stdout)
     sys.stdout.flush()
@@ -111,14 +109,12 @@ def run_script(command):
 
 def main(words):
     if words == ["--try"]:
-        print("First, the server UNPROVED: `rt try` runs the same source before any proof, in up to a minute.", flush=True)
+        print("First, the server UNPROVED: the same source, built without proofs in about a minute.", flush=True)
         with tempfile.TemporaryDirectory(prefix="try-") as room:
-            # A copy, since proofs may run at the same time. Their lines must not come between the lines of the demonstration.
-            furnish(room, "coap_server", [], kept=False)
-            with contextlib.redirect_stdout(io.StringIO()) as shown:
-                status = run(["rt", "try", "--", "--stdio"], *STREAMS[0], folder=f"{room}/crates/coap_server")
-        print(shown.getvalue(), end="", flush=True)
-        return status
+            if said := build(["coap_server"], room, level=0):
+                print(said, end="")
+                return 1
+            return run([f"{room}/coap-server", "--stdio"], *STREAMS[0])
     print(f"Now {words[0]}, built from the proved crates:")
     statuses = []
     for number, (title, stream) in enumerate(STREAMS):

@@ -1,12 +1,13 @@
 #!/usr/bin/env python3
 """Replays the rows of servers with each `in` split in two at every place.
 
-    tests/vectors/segmentation.py [FILE..]
+    tests/vectors/segmentation.py [--unproved=FOLDER] [FILE..]
 
 A file is tests/vectors/rows/serve/NAME.rows or tests/vectors/rows/calls/NAME.rows. Every line must be as in the file, except those of the two
-parts. For these, the sum of their counts, the stop of the last one and the lines of requests must be as in the file. All splits of an `in` are made in one run of the probe. A file
-with a line `cuts:` is left out for the reason in that line. Events that share a row with others are left out too. The last line is 'N passed, M
-failed' for the replays, and the status is 0 if M is 0.
+parts. For these, the sum of their counts, the stop of the last one and the lines of requests must be as in the file. All splits of an `in` are made
+in one run of the probe; with --unproved, of the one that tests/harness/unproved.py built in a folder. A file with a line `cuts:` is left out for the
+reason in that line. Events that share a row with others are left out too. The last line is 'N passed, M failed' for the replays, and the status is 0
+if M is 0.
 """
 
 import os
@@ -40,12 +41,12 @@ def wrong_of(steps, at, found):
     return wrong
 
 
-def replay(file, steps, at):
-    """Replays a section with the event at this index split at every place. Returns the number of replays and the differences."""
+def replay(probe, steps, at):
+    """Replays a section on a probe, with the event at this index split at every place. Returns the number of replays and the differences."""
     events = [step.event for step in steps]
     cuts = list(cuts_of(events[at]))
     sent = [event for cut in cuts for event in events[:at] + cut + events[at + 1 :]]
-    found = rows.run(rows.probe_of(file), sent).lines if cuts else []
+    found = rows.run(probe, sent).lines if cuts else []
     size, wrong = len(events) + 1, []
     for number, cut in enumerate(cuts):
         told = wrong_of(steps, at, found[number * size : (number + 1) * size])
@@ -53,7 +54,8 @@ def replay(file, steps, at):
     return len(cuts), wrong
 
 
-def main(named):
+def main(words):
+    named, folder = [it for it in words if not it.startswith("--")], rows.folder_of(words)
     files = [rows.read(pathlib.Path(it).resolve()) for it in named] or [
         rows.read(it) for layer in ("serve", "calls") for it in sorted(rows.ROWS.glob(f"{layer}/*.rows"))
     ]
@@ -61,7 +63,7 @@ def main(named):
     places = [(file, steps, at) for file, steps in sections for at in range(len(steps))]
     count = failed = 0
     with ThreadPoolExecutor(len(os.sched_getaffinity(0))) as pool:
-        for (file, _, _), (replays, wrong) in zip(places, pool.map(lambda place: replay(*place), places)):
+        for (file, _, _), (replays, wrong) in zip(places, pool.map(lambda place: replay(rows.probe_of(place[0], folder=folder), *place[1:]), places)):
             count, failed = count + replays, failed + len(wrong)
             for text in wrong[:3]:
                 print(f"{file.name()}: {text}")
