@@ -20,7 +20,7 @@ from peers import free_port  # noqa: E402
 PACKAGES = {"cc": "gcc", "gencat": "libc6-dev"}
 
 # Seconds: until a server must accept, until it must have ended, and for one run of the load program.
-STARTS, ENDS, LIMIT = 5, 5, 60
+STARTS, ENDS, LIMIT = 30, 30, 60
 
 # Seconds of a measurement and its repetitions, the same for --quick, and the minimum seconds of a run that determines the number of requests.
 USUAL, QUICK, SAMPLE = (1.5, 3), (0.3, 1), 0.05

@@ -18,7 +18,7 @@ from workspace import ROOT
 CONFIGURATION = os.path.join(ROOT, "install", "mosquitto.conf")
 
 # Seconds that a step may take, and within which a change reaches the other gateway.
-LIMIT, SOON = 30, 1
+LIMIT, SOON = 60, 1
 
 GET, POST, PUT, DELETE = 1, 2, 3, 4
 CREATED, DELETED, VALID, CHANGED, CONTENT = 0x41, 0x42, 0x43, 0x44, 0x45

@@ -11,7 +11,7 @@ import subprocess
 import time
 
 # Timeout of each wait, in seconds.
-LIMIT = 15
+LIMIT = 30
 
 LOCAL = "127.0.0.1"
 

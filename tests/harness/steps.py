@@ -1,7 +1,7 @@
 """The steps of the tests of built programs, and a runner that runs them side by side.
 
-A step has ports, folders and names of its own, so any other step can run beside it. Its estimates decide the order: the longest one starts first, if
-the processors that it keeps busy are free. After a failure no further step starts, and the running ones run to their ends.
+A step has ports, folders and names of its own, so any other step can run beside it. Estimates decide the order: the longest step starts first, if the
+processors that it keeps busy are free. After a failure no further step starts, and the running ones run to their ends.
 """
 
 import collections
@@ -18,6 +18,9 @@ from dataclasses import dataclass
 from workspace import ROOT
 
 PROCESSORS = len(os.sched_getaffinity(0))
+
+# Maximum load of all running steps. Those that mostly wait need little more than the others.
+CAPACITY = PROCESSORS + 1
 
 # Conditions that a step may need. Programs as their proofs built them: unproved ones allocate and compute more.
 PROVED = "proved programs"
@@ -49,8 +52,8 @@ class Step:
     makes: str = ""
 
     def load(self):
-        """Returns the number of processors that the step keeps busy."""
-        return min(self.used / self.seconds, PROCESSORS)
+        """Returns the number of processors that the step keeps busy. One with a process for each processor counts as half of them."""
+        return min(self.used / self.seconds, PROCESSORS / 2)
 
 
 def parts(words, estimates, needs=()):
@@ -94,7 +97,8 @@ STEPS = [
     Step(["python3", "tests/system/haproxy.py", SERVER], 90, 20),
     Step(["python3", "tests/system/embedding.py", EXAMPLE_GATEWAY, CLIENT, EXAMPLE_OBSERVER, SERVER], 10, 2),
     Step(["python3", "tests/system/c_library.py", SERVER, CLIENT, LIBRARY], 60, 60, (PROVED, ARCHIVE)),
-    Step(["python3", "tests/system/mqtt.py"], 200, 100, (ARCHIVE,)),
+    Step(["python3", "tests/system/mqtt.py", "--build"], 5, 5, (ARCHIVE,), GATEWAY),
+    *parts(["python3", "tests/system/mqtt.py", MQTT], [(90, 30), (90, 30), (90, 30)], (GATEWAY,)),
     Step(["python3", "tests/system/hostile.py", SERVER], 15, 10),
     Step(["python3", "tests/system/flood.py", SERVER], 20, 15),
     Step(["python3", "tests/system/manuals.py", SERVER, CLIENT, EXPLAIN, DIRECTORY], 20, 5),
@@ -155,12 +159,13 @@ class Running:
         # Before the wait, so that the number of the group is not used again.
         self.kill()
         _, status, used = os.wait4(self.process.pid, 0)
+        os.close(self.end_of)
         self.process.returncode = os.waitstatus_to_exitcode(status)
-        self.output.seek(0)
-        print(f"== {' '.join(self.words)}", self.output.read(), sep="\n", end="")
-        print(f"== {cost(elapsed, used.ru_utime + used.ru_stime)}", flush=True)
-        self.output.seek(0)
-        return Result(self.words, self.process.returncode, self.output)
+        with self.output:
+            self.output.seek(0)
+            lines = self.output.readlines()
+        print(f"== {' '.join(self.words)}\n{''.join(lines)}== {cost(elapsed, used.ru_utime + used.ru_stime)}", flush=True)
+        return Result(self.words, self.process.returncode, lines)
 
     def end(self):
         """Ends the command, if it has not ended. It may clean up first."""
@@ -174,7 +179,7 @@ class Running:
 def next_step(waiting, made, running):
     """Returns the first step that can start, or None. Steps wait in the order of their estimates."""
     load = sum(it.load() for it in running)
-    return next((it for it in waiting if made.issuperset(it.needs) and (not running or load + it.load() <= PROCESSORS)), None)
+    return next((it for it in waiting if made.issuperset(it.needs) and (not running or load + it.load() <= CAPACITY)), None)
 
 
 def run_steps(steps, made):

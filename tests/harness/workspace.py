@@ -56,9 +56,9 @@ def rlib(library):
     return f"{ROOT}/crates/{library}/out/rlib/{library}.rlib"
 
 
-def rattle_words(verb, crate):
-    """Returns the command line by which Rattle itself checks or builds a crate with one job, over the libraries in out/rlib. It writes none of them,
-    so it can run beside other checks."""
+def rattle_words(verb, crate, jobs=1):
+    """Returns the command line by which Rattle itself checks or builds a crate, over the libraries in out/rlib. It writes none of them, so it can run
+    beside other checks."""
     libraries = listed()
     words = [f"{KIT}/bin/rattle", verb, "--crate-name", crate, "src/main.rt" if is_program(crate) else "src/lib.rt"]
     for it in ["std", *libraries[crate]]:
@@ -67,7 +67,7 @@ def rattle_words(verb, crate):
         words += ["-L", f"dependency={folder}"]
     words += ["--antt-project", f"{KIT}/rattle/logic/antt-project.json", "--logic-built", f"{KIT}/logic_built"]
     words += ["--crate-type", "staticlib"] if is_static(crate) else []
-    return [*words, "--links", f"{crate}=", "--jobs", "1"]
+    return [*words, "--links", f"{crate}=", "--jobs", str(jobs)]
 
 
 def linked(source, target):

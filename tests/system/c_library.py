@@ -37,7 +37,10 @@ from layers import serve, stdio  # noqa: E402
 from peers import free_port  # noqa: E402
 from workspace import KIT, ROOT, rattle_words  # noqa: E402
 
-LIMIT = 60
+LIMIT = 300
+
+# Jobs of the proof of the archive. One processor is left for the tests beside it.
+JOBS = max(1, len(os.sched_getaffinity(0)) - 1)
 
 PACKAGES = {"coap-client-notls": "libcoap3-bin", "coap-server-notls": "libcoap3-bin", "g++": "g++", "gcc": "gcc", "/usr/include/coap3/coap.h": "libcoap3-dev", "pkg-config": "pkg-config", "valgrind": "valgrind"}
 
@@ -73,7 +76,7 @@ def build_archive():
     os.makedirs(os.path.dirname(kept), exist_ok=True)
     # In the same folder, so that the data appear there at once.
     with tempfile.TemporaryDirectory(prefix="archive-", dir=os.path.dirname(kept)) as room:
-        words = [*rattle_words("build", "coap_c"), "--incremental", f"{room}/kept", "--toolchain", f"{KIT}/toolchain", "--backend", "llvm", "-o", f"{room}/libcoap_c.a"]
+        words = [*rattle_words("build", "coap_c", JOBS), "--incremental", f"{room}/kept", "--toolchain", f"{KIT}/toolchain", "--backend", "llvm", "-o", f"{room}/libcoap_c.a"]
         built = subprocess.run(words, cwd=f"{ROOT}/crates/coap_c", stdout=subprocess.PIPE, stderr=subprocess.STDOUT, text=True, errors="replace")
         if built.returncode:
             sys.exit(f"{built.stdout}coap_c is not built\n0 passed, 1 failed")

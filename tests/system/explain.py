@@ -28,7 +28,7 @@ SERVER, EXPLAIN = sys.argv[1:3]
 NAME = "coap-explain"
 
 # Timeout of each run in seconds.
-LIMIT = 60
+LIMIT = 300
 
 # Maximum number of bytes of a line of the record without its newline, and of a line of the output.
 LONGEST, WIDEST = 2_101_248, 1_024

@@ -37,7 +37,7 @@ LIBRARY = {
 # Maximum exposure of the unit, of 10, as systemd-analyze reports it. The rest is the access to all networks.
 EXPOSURE = 1.1
 
-LIMIT = 60
+LIMIT = 300
 
 
 def wanted_files(has_library):

@@ -33,7 +33,7 @@ USAGE = 1
 # responds; the longest observes for ten seconds. LIMIT is for all others, which end by themselves.
 EXAMPLE_LASTS = 1
 ANSWERED_LASTS = 30
-LIMIT = 30
+LIMIT = 120
 
 # Sources of the programs that are in libraries with error texts.
 LIBRARIES = ["coap_io/src/*.rt", "coap_program/src/*.rt", "coap_sockets/src/*.rt", "coap_command_line/src/arguments.rt"]

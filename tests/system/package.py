@@ -187,7 +187,7 @@ COMPLETED = [
 ]
 
 # Timeout of each command in seconds.
-LIMIT = 120
+LIMIT = 300
 
 # Arguments of the server after its address and port.
 STORES = ["-d", "100"]

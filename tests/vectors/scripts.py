@@ -51,7 +51,7 @@ def play(program, options, section):
     """Plays a section, and returns the number of its lines and the differences."""
     pairs = list(lines_of(section))
     script = "".join(event + "\n" for event, _ in pairs if event).encode()
-    ran = subprocess.run([program, "--script", "-", *options], input=script, capture_output=True, timeout=60)
+    ran = subprocess.run([program, "--script", "-", *options], input=script, capture_output=True, timeout=300)
     found = ran.stdout.decode().splitlines()
     steps = [Step(event, line) for event, line in pairs]
     wrong = rows.differences(found, steps)
