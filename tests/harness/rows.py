@@ -1,7 +1,7 @@
 #!/usr/bin/env python3
 """Plays files of rows on the two probes, which are proved programs, and compares the results.
 
-    tests/harness/rows.py [--by-rattle | --unproved=FOLDER | --refuse] [FILE..]
+    tests/harness/rows.py [--by-rattle | --unproved=FOLDER] [--refuse] [FILE..]
 
 A file is tests/vectors/rows/LAYER/NAME.rows. Its lines are rows `EVENT => WANTED`. A line `= OPENING` creates the value that the rows after it
 use. A line `#` is a comment. The module tests/harness/layers/LAYER.py describes the words of the rows of a layer, and converts them for the
@@ -169,9 +169,9 @@ def struck_again(file, probe, steps, found, index, shim, number):
     return again, wrong + differences(rest, steps)
 
 
-def refuse_each(file, shim):
+def refuse_each(file, probe, shim):
     """Makes each allocation of the rows of a file fail in turn. Returns their number, the differences, and the count for each call."""
-    probe, steps, wrong, count, calls = probe_of(file), file.steps(), [], 0, Counter()
+    steps, wrong, count, calls = file.steps(), [], 0, Counter()
     events = [step.event for step in steps]
     usual = run(probe, events).lines
     # The first allocations are those of the probe itself, before the first row.
@@ -191,11 +191,11 @@ def refuse_each(file, shim):
         count += 1
 
 
-def refuse(file, shim):
+def refuse(file, probe, shim):
     """Makes each allocation of a file fail, and checks their number against the line `allocations:`."""
     if not file.allocations.isdigit():
         return 0, [] if file.allocations else ["the line `allocations:` is missing"], Counter()
-    count, wrong, calls = refuse_each(file, shim)
+    count, wrong, calls = refuse_each(file, probe, shim)
     if count != int(file.allocations):
         wrong.append(f"{count} allocations, but `allocations: {file.allocations}`")
     return count, wrong, calls
@@ -222,7 +222,8 @@ def main(words):
     with tempfile.TemporaryDirectory(prefix="rows-") as room, ThreadPoolExecutor(len(os.sched_getaffinity(0))) as pool:
         shim = compiled_shim(room) if "--refuse" in flags else ""
         ending, folder = ".by-rattle" if "--by-rattle" in flags else "", folder_of(flags)
-        results = pool.map(lambda file: refuse(file, shim) if shim else (*play(file, probe_of(file, ending, folder)), Counter()), files)
+        played = [(file, probe_of(file, ending, folder)) for file in files]
+        results = pool.map(lambda it: refuse(*it, shim) if shim else (*play(*it), Counter()), played)
         count, failed, calls = 0, 0, Counter()
         for file, (rows, wrong, refused) in zip(files, results):
             count, failed, calls = count + rows, failed + len(wrong), calls + refused
