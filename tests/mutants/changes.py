@@ -86,9 +86,9 @@ def unchanged_head():
     return head[0] if head and differ == [] else ""
 
 
-def record(commit, result, cost):
+def record(commit, failed, result, cost):
     """Writes the file that names the commit of a whole run, if no edit failed and no file has changed since it began."""
-    why = "an edit failed" if not result.endswith(" 0 failed") else "" if commit else "files differed from HEAD when it began"
+    why = "an edit failed" if failed else "" if commit else "files differed from HEAD when it began"
     if not why and commit != unchanged_head():
         why = "files have changed since it began"
     if why:

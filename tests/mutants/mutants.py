@@ -90,7 +90,7 @@ BLOCK = re.compile(r"(?:pub(?:\([a-z]+\))? )?(?:impl\b *(.*?)|trait (\w+).*?) ?\
 PROGRAMS = ("server", "client")
 MODES = {"--all", "--control", "--list", "--rows", "--tests", "--types"}
 # Maximum number of edits that the gate tries beside the control.
-MOST_IN_GATE = 100
+MOST_IN_GATE = 50
 FIRST_LINE = re.compile(
     r"(?:clause|open|control): \S.*|rows: tests/vectors/rows/\S+\.rows|(?:server|client): tests/system/\w+\.py(?: \w+)+"
 )
@@ -710,7 +710,8 @@ def cost():
 
 
 def conclude(plan, verdicts, wrong):
-    """Prints the edits that are open, and the cost. Returns the last line of a run with this number of errors in quotes and types."""
+    """Prints wrong verdicts, the edits that are open, and the cost. `wrong` is the number of errors in quotes and types. Returns the number of all
+    errors, and the last line of the run."""
     failed = [it for it, refused in verdicts.items() if is_wrong(it, refused)]
     for it in failed:
         print(f"wrong verdict on {it.crate}/{it.name} ({it.layer}: {it.detected_by})")
@@ -719,7 +720,8 @@ def conclude(plan, verdicts, wrong):
         print(f"{len(opened)} open, which no clause rejects yet: {', '.join(f'{it.crate}/{it.name}' for it in opened)}")
     print(cost())
     passed = (len(verdicts) or len(plan.typed)) - len(opened)
-    return f"{max(passed - len(failed) - wrong, 0)} passed, {len(failed) + wrong} failed"
+    errors = len(failed) + wrong
+    return errors, f"{max(passed - errors, 0)} passed, {errors} failed"
 
 
 def main(words):
@@ -743,11 +745,12 @@ def main(words):
     if plan.control:
         print("The edits named harmless_ are a control, and must be reported as NOT REFUSED.", flush=True)
     verdicts = plan.run(is_proved_first="--all" in modes)
-    result = conclude(plan, verdicts, unquoted + untyped)
+    failed, result = conclude(plan, verdicts, unquoted + untyped)
     if is_whole:
-        changes.record(commit, result, cost())
+        opened = sum(it.layer == "open" for it in verdicts)
+        changes.record(commit, failed, f"{result}, {opened} open", cost())
     print(result)
-    return 0 if result.endswith(" 0 failed") else 1
+    return 1 if failed else 0
 
 
 if __name__ == "__main__":
