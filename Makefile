@@ -57,11 +57,13 @@ run:
 check:
 	tests/check
 
-# Runs the gate: all proofs and programs from scratch, all rows and tests, and a quarter of the mutants.
+# Runs the gate: all proofs and programs from scratch, all rows and tests, and the mutants of crates that differ from the
+# last whole run.
 test:
 	tests/gate
 
-# Tries all mutants, of which the gate tries a quarter, or those of some crates: make mutants CRATES="coap_conn coap_wire".
+# Tries all mutants: a whole run, which writes tests/mutants/whole_run. Or tries those of some crates:
+# make mutants CRATES="coap_conn coap_wire".
 mutants:
 	tests/mutants/mutants.py --all $(CRATES)
 

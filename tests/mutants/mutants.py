@@ -2,25 +2,30 @@
 """Tries mutants of the code, several in one check: the prover must reject each.
 
     tests/mutants/mutants.py               the edits of the gate, and the control, which has harmless edits too
-    tests/mutants/mutants.py --all         all edits, and the control
-    tests/mutants/mutants.py [--all] CRATE ..  those of these crates
+    tests/mutants/mutants.py --all [CRATE ..]  all edits, and the control; or all edits of these crates
+    tests/mutants/mutants.py CRATE ..      those of these crates that the prover must reject
     tests/mutants/mutants.py --control     the control alone
     tests/mutants/mutants.py --rows [CRATE ..]  those alone that rows detect
     tests/mutants/mutants.py --tests [CRATE ..]  those alone that tests of the programs detect
     tests/mutants/mutants.py --types [CRATE ..]  tries no edit; checks that all edits are well typed
     tests/mutants/mutants.py --list [CRATE ..]  tries no edit; prints for each its function, the clause that rejects it, and its name
 
-An edit is a file tests/mutants/edits/CRATE/NAME.edit. Its first line has the clause that rejects it, and whether the gate tries it. Each of its
-parts has four lines:
+An edit is a file tests/mutants/edits/CRATE/NAME.edit. Its first line has what detects it. Each of its parts has four lines:
 
-    gate: refused by 'after' of Link::on      or `all: refused by ..`, if the gate does not try it; or
-    rows: told by tests/vectors/rows/script/a_mebibyte.rows     if no clause rejects it, because the edit only reports allocation failures
-    server: told by tests/system/sockets.py files     or `client: ..`, if no clause can reject it: the program that has it, and the test
+    clause: 'after' of Link::on  the clause that rejects it; or, if no clause can reject it,
+    rows: tests/vectors/rows/script/a_mebibyte.rows    the rows that detect it, because it only reports allocation failures; or
+    server: tests/system/sockets.py files      or `client: ..`: the program that has it, and the test that then fails; or
+    open: Server::status states nothing of it  no clause rejects it yet, and the reason
     file: src/limits.rt          a file of the crate
     in: Limits::queue            a function of that file, as a check names it without crate and module (the impl of a trait
                                  for a type is both names in one, as SliceSinkSink::push), or `const NAME`
     old: self.queue              a text that is exactly once in the function's body, or in the constant
     new: self.max_sent           the text in its place
+
+The gate tries the control, and the edits of crates that differ from the last whole run, `make mutants` without an error
+(changes.py). If these are more than MOST_IN_GATE, it tries that number, one of each crate in turn: first those of files
+that differ. So a whole run is due after a change of many crates, or of definitions far below. The gate fails if the last
+one is more than 200 commits back. Before the first one, all crates count as different.
 
 In every mode, two checks are made of all edits. First, the first line must quote a clause of the function that it names (tests/mutants/quotes.py
 has the forms). That function must be one that the edit changes, or one that names a constant that the edit changes. Second, every edit must be
@@ -34,27 +39,23 @@ An edit of the layer `server` or `client` is detected if its test fails with tha
 program built in the same way without the edit (tests/mutants/program_tests.py). --all tries these too, in one to three minutes each; --tests tries
 them alone.
 
+An edit of the layer `open` is a known gap: it is tried with those of `clause`, and must not be rejected. The open edits are listed at the end, and do
+not count as passed. If a clause rejects one, the run fails until its first line quotes that clause.
+
 Edits of different functions go into one copy of the crate, called a round. A round is checked once, on top of the incremental data of earlier
-checks. These are the data of the crate's own check in out/incremental. If there are none, a folder of this run is used. The first round of the
-crate fills it from scratch, and the second one completes it. So a crate is proved once by this script, with edits in it.
+checks. These are the data of the crate's own check in out/incremental. If there are none, --all proves the crate first, and keeps the data there.
+Otherwise a folder of this run is used. The first round of the crate fills it from scratch, and the second one completes it.
 
 An edit is rejected if a goal of a function that it changes is not proved; this goal is printed. Two kinds of errors do not count:
 
 - The function calls another one that is not proved.
-- An error in a proof file is outside of the answers to goals, or only reports that a name is missing. Such an error says
+- An error in a proof file is outside of the answers to goals, or only reports that a name is missing (verdicts.py). Such an error says
   nothing about the contract, so the edit is reported as NOT REFUSED.
 
 If a function that no edit of a round changes has an unproved goal of its own, the round is split in two. An edit that no round rejected is tried
 alone. So is an edit of a constant, for which a goal of any function counts, and any lemma. Rounds run in parallel, one for each processor, those
 of the largest crates first. The libraries below a crate are taken from out/rlib, and proved if they are missing or older than their files.
 The last line is 'N passed, M failed', and the status is 0 if M is 0.
-
-Costs, in processor time: a round takes about 15 s before its first edit. Each edit adds 3 to 4 s, and one of a long function (`fill`) 20 s. With
-incremental data, the 26 edits of coap_wire took 117 s, and one alone 19 to 34 s. The edits of the gate should therefore change different functions:
-most crates then need one or two rounds. All edits of both layers took 51 rounds, those of the gate 17. The gate's took 4,592 s without incremental
-data of coap_serve, which was then one crate with its engine. On that machine the proof of coap_wire takes 253 s. The edits of coap_frame take 89 s
-from scratch. With all functions instead of the changed ones and those that they call, they take 108 s. A build for an edit of another layer takes about two minutes. The check of all quotes takes about 2 s, and a copy of a crate
-for the type errors about 4 s.
 
 A test that measures processor time may fail with an unproved program without any edit, and then says nothing about the edit.
 """
@@ -69,10 +70,13 @@ import sys
 import tempfile
 from concurrent.futures import FIRST_COMPLETED, ThreadPoolExecutor, wait
 from dataclasses import dataclass, field, replace
+from itertools import zip_longest
 
 sys.path.insert(0, os.path.join(os.path.dirname(os.path.abspath(__file__)), "..", "harness"))
+import changes  # noqa: E402
 import quotes  # noqa: E402
 import rows  # noqa: E402
+from verdicts import all_functions, goal_at, is_real, messages, open_functions, told  # noqa: E402
 from workspace import PARTS, ROOT, crates, is_program, is_static, rattle_words, rlib  # noqa: E402
 from program_tests import ProgramTests  # noqa: E402
 from unproved import build  # noqa: E402
@@ -83,12 +87,12 @@ FUNCTION = re.compile(r"( *)(?:pub(?:\([a-z ]+\))? )?(?:const )?(?:extern \S+ )?
 BLOCK = re.compile(r"(?:pub(?:\([a-z]+\))? )?(?:impl\b *(.*?)|trait (\w+).*?) ?\{?$")
 # The layers of the edits that tests of a program detect.
 PROGRAMS = ("server", "client")
-VERDICT = re.compile(r"fn (\w+)::(.*?): (no proof|not proved)(.*)")
-# Matches an error in a proof file that names a missing thing, or cites a thing that was rejected for that reason.
-GONE = re.compile(r"has no field|is not in scope|has no `|was not admitted")
-# The place of an error in the proofs of a crate, and the statement at that place: an answer to a goal, or a lemma.
-PLACE = re.compile(r"\./(proofs/[^:]+\.antt):(\d+)\b.*: error: ")
-STATED = re.compile(r"(?:pub |abbrev |unfoldable )*(\S+) : (?:goal\.(\S+))?")
+MODES = {"--all", "--control", "--list", "--rows", "--tests", "--types"}
+# Maximum number of edits that the gate tries beside the control.
+MOST_IN_GATE = 50
+FIRST_LINE = re.compile(
+    r"(?:clause|open|control): \S.*|rows: tests/vectors/rows/\S+\.rows|(?:server|client): tests/system/\w+\.py(?: \w+)+"
+)
 
 
 class BadEdit(Exception):
@@ -178,20 +182,6 @@ def body_of(text, name):
     return place.begin, place.end
 
 
-def told(path):
-    """Returns the name of a function that is unique in its crate.
-
-    For a function of a type, this is the name of the type and its own name. (A check names it by the module of the type, not by that of the
-    impl.) For another function it is its path, and for a closure that of the function around it.
-    """
-    path = [it for it in path if it]
-    if "fn" in path:
-        inside = path.index("fn")
-        path = path[:inside] + path[inside + 1 : inside + 2]
-    is_method = len(path) > 1 and path[-2][0].isupper()
-    return "::".join(path[-2:] if is_method else path)
-
-
 @dataclass
 class Part:
     """One replacement in the body of one function."""
@@ -214,25 +204,34 @@ class Part:
         return text[:begin] + body.replace(self.old, self.new) + text[end:]
 
 
-@dataclass
+@dataclass(eq=False)
 class Edit:
     """A mutant, as its edit file describes it."""
 
     crate: str
     name: str
     layer: str = ""
-    refusal: str = ""
+    # The rest of the first line: the clause that rejects the edit, or the rows or the test that detect it.
+    detected_by: str = ""
     parts: list = field(default_factory=list)
 
     def row(self):
         """Returns the function whose clause rejects the edit, that clause, and the edit. Without one such function, the first one edited."""
-        clause, _, function = self.refusal.rpartition(" of ")
+        clause, _, function = self.detected_by.rpartition(" of ")
         if not clause or " " in function:
-            clause, function = self.refusal, self.parts[0].function
+            clause, function = self.detected_by, self.parts[0].function
         return f"{self.crate} {function}", clause, f"{self.name} ({self.layer})"
 
     def functions(self):
         return {it.path() for it in self.parts}
+
+    def path(self):
+        """Returns the file of the edit, in the form of git."""
+        return f"tests/mutants/edits/{self.crate}/{self.name}.edit"
+
+    def files(self):
+        """Returns the files that the edit changes, in the form of git."""
+        return {f"crates/{self.crate}/{it.file}" for it in self.parts}
 
     def is_constant(self):
         return any(it.function.startswith("const ") for it in self.parts)
@@ -250,8 +249,8 @@ def read_edit(crate, file):
     with open(file, encoding="utf-8") as lines:
         for number, line in enumerate(lines.read().splitlines()):
             word, colon, text = line.partition(":")
-            if number == 0 and re.fullmatch(r"(gate|all): refused by \S.*|rows: told by tests/vectors/rows/\S+\.rows|(server|client): told by tests/system/\w+\.py( \w+)+|control: \S.*", line):
-                edit.layer, edit.refusal = word, text.removeprefix(" refused by ")
+            if number == 0 and FIRST_LINE.fullmatch(line):
+                edit.layer, edit.detected_by = word, text.strip()
                 continue
             if not colon or word not in ("file", "in", "old", "new"):
                 raise BadEdit(f"{file}: not understood: {line}")
@@ -259,7 +258,7 @@ def read_edit(crate, file):
             if word == "new":
                 edit.parts.append(Part(said["file"], said["in"], said["old"], said["new"]))
     if not edit.layer:
-        raise BadEdit(f"{file}: its first line has no clause that refuses it")
+        raise BadEdit(f"{file}: its first line does not say what detects it")
     if not edit.parts:
         raise BadEdit(f"{file}: nothing is edited")
     return edit
@@ -268,9 +267,9 @@ def read_edit(crate, file):
 def wrong_quote(edit):
     """Returns the error in the clause that the first line of an edit quotes, or an empty text."""
     said, files = quotes.Quotes(edit.crate, block_name), {it.file for it in edit.parts}
-    if wrong := said.why_not(edit.refusal, files):
+    if wrong := said.why_not(edit.detected_by, files):
         return wrong
-    name = re.search(r"([\w:]+)$", edit.refusal)[1]
+    name = re.search(r"([\w:]+)$", edit.detected_by)[1]
     named = said.contracts(name, files)
     for part in edit.parts:
         constant = part.function.removeprefix("const ")
@@ -286,21 +285,21 @@ def wrong_quote(edit):
 
 def tell_wrong_quotes(edits):
     """Prints each edit whose quote is no clause of what it changes, and returns their number."""
-    wrong = {f"{it.crate}/{it.name}": wrong_quote(it) for it in edits if it.layer in ("gate", "all")}
+    wrong = {f"{it.crate}/{it.name}": wrong_quote(it) for it in edits if it.layer == "clause"}
     for name, why in wrong.items():
         if why:
             print(f"edit {name}: {why}", flush=True)
     return sum(map(bool, wrong.values()))
 
 
-def edits_of(folder, names, layers):
-    """Returns the edits of these layers in a folder with one folder for each crate."""
+def edits_of(folder, names):
+    """Returns the edits in a folder with one folder for each crate."""
     found = []
     for crate in names:
         if os.path.isdir(f"{folder}/{crate}"):
             for name in sorted(os.listdir(f"{folder}/{crate}")):
                 found.append(read_edit(crate, f"{folder}/{crate}/{name}"))
-    return [it for it in found if it.layer in layers]
+    return found
 
 
 def rounds_of(edits):
@@ -341,7 +340,7 @@ def check_texts(name, texts, more):
                 it.write(text)
         how = {"cwd": room, "stdin": subprocess.DEVNULL, "stdout": subprocess.PIPE, "stderr": subprocess.STDOUT}
         ran = subprocess.run([*rattle_words("check", name), *more], text=True, errors="replace", **how)
-    return ran.stdout.splitlines()
+    return messages(ran.stdout.splitlines())
 
 
 def source(crate, file):
@@ -440,50 +439,6 @@ def tell_wrong_types(edits):
     return len(wrong)
 
 
-def is_real(line):
-    """Returns true if the line is an error that is not merely caused by a missing or rejected name."""
-    return ": error: " in line and not GONE.search(line)
-
-
-def goal_at(name, line):
-    """Returns the goal whose answer has an error of a crate's proofs, or the lemma whose proof has it. Returns an empty text for an error
-    elsewhere, such as in an import of a missing name."""
-    at = PLACE.match(line)
-    if not at:
-        return ""
-    with open(f"{ROOT}/crates/{name}/{at[1]}", encoding="utf-8") as it:
-        above = it.read().splitlines()[: int(at[2])]
-    if above[-1].startswith("use "):
-        return ""
-    stated = next((found for it in reversed(above) if (found := STATED.match(it))), None)
-    return (stated[2] or stated[1]) if stated else ""
-
-
-def open_functions(name, lines):
-    """Returns the functions that have an unproved goal of their own, each with the goals that are named. Also returns those whose only error
-    is a missing name in a proof file. A goal of a closure counts for the function around it."""
-    goals, cites = {}, set()
-    for line in lines:
-        at = VERDICT.match(line)
-        if not at:
-            continue
-        answers = "./proofs/" + at[2].replace("::", "/") + "/"
-        said = [it for it in lines if it.startswith(answers) and ": error: " in it]
-        unproved = re.findall(r"`([^`]+)`", at[4].partition("did not prove")[2])
-        named = unproved + [goal for it in filter(is_real, said) if (goal := goal_at(name, it))]
-        if named:
-            goals.setdefault(told(at[2].split("::")), []).extend(named)
-        elif said:
-            cites.add(told(at[2].split("::")))
-    return goals, cites - goals.keys()
-
-
-def all_functions(lines):
-    """Returns the functions that the check names."""
-    found = (re.match(r"fn \w+::(.*?): ", it) for it in lines)
-    return {told(it[1].split("::")) for it in found if it}
-
-
 @dataclass
 class Outcome:
     """Result of a round: the edits that it rejected, those still to be tried, and the reason why an edit cannot be tried. `cited` has the
@@ -512,6 +467,8 @@ def try_round(name, kept, is_own, edits):
     except (BadEdit, OSError, shutil.Error) as why:
         # A smaller round may need fewer resources.
         return Outcome([], edits, str(why) or repr(why))
+    if not edits:
+        return Outcome([], [], "" if any(it.startswith("logic=proved") for it in lines) else f"{name} is not proved: {lines[-1:]}")
     judged = any(it.startswith(("logic=not-proved", "logic=proved", "only=")) for it in lines)
     if not judged:
         return Outcome([], edits, next((it for it in lines if "error" in it), f"the check gave no verdict: {lines[-1:]}"))
@@ -531,7 +488,9 @@ def try_round(name, kept, is_own, edits):
 
 
 def tell(edit, refused, how):
-    print(f"edit {edit.crate}/{edit.name}: {'refused' if refused else 'NOT REFUSED'} ({how})", flush=True)
+    """Prints the verdict on an edit, and returns it. It is None if the edit could not be tried."""
+    verdict = "refused" if refused else "open" if refused is False and edit.layer == "open" else "NOT REFUSED"
+    print(f"edit {edit.crate}/{edit.name}: {verdict} ({how})", flush=True)
     return refused
 
 
@@ -541,6 +500,8 @@ class Work:
 
     crate: str
     rounds: list
+    # Whether the crate is proved first if it has no incremental data, by a round without edits. Its data are then kept.
+    is_proved_first: bool
     kept: str = ""
     # Number of further rounds that run in turn on the folder itself.
     in_turn: int = 0
@@ -551,9 +512,14 @@ class Work:
         if self.kept:
             return
         self.kept = f"{ROOT}/crates/{self.crate}/out/incremental"
-        if not os.path.isdir(self.kept) or not os.listdir(self.kept):
+        if os.path.isdir(self.kept) and os.listdir(self.kept):
+            return
+        if self.is_proved_first:
+            self.rounds.insert(0, [])
+            self.in_turn = 1
+        else:
             self.kept, self.in_turn = f"{room}/{self.crate}", IN_TURN
-            os.mkdir(self.kept)
+        os.makedirs(self.kept, exist_ok=True)
 
     def may_start(self):
         return self.rounds and not (self.in_turn and self.is_busy)
@@ -566,7 +532,7 @@ def size_of(crate):
 
 def left_of(one, outcome):
     """Returns the rounds that try the edits that this round left."""
-    if len(one) == 1 or not outcome.left:
+    if len(one) <= 1 or not outcome.left:
         return []
     if outcome.refused or outcome.cited:
         return [[it] for it in outcome.left]
@@ -574,13 +540,22 @@ def left_of(one, outcome):
     return [outcome.left[:half], outcome.left[half:]]
 
 
-def judge(edits):
+def verdicts_of(one, outcome):
+    """Prints and returns the verdicts on the edits of a round for which it is the last one."""
+    found = {it: tell(it, True, f"{outcome.goal(it)}one of {len(one)} in a check") for it in outcome.refused}
+    found |= {it: tell(it, False, "only a name that its proof cites is missing") for it in outcome.cited}
+    if len(one) == 1 and outcome.left:
+        found[one[0]] = tell(one[0], None if outcome.bad else False, outcome.bad or "alone")
+    return found
+
+
+def judge(edits, is_proved_first):
     """Tries all edits, with rounds in parallel, and returns for each whether it was rejected."""
     verdicts, running, lanes = {}, {}, len(os.sched_getaffinity(0))
     with tempfile.TemporaryDirectory(prefix="edits-", ignore_cleanup_errors=True) as room, ThreadPoolExecutor(lanes) as pool:
         # A static library comes last, because a build of its archive may run beside and keep what it proves.
         names = sorted(dict.fromkeys(it.crate for it in edits), key=lambda it: (is_static(it), -size_of(it)))
-        works = [Work(it, rounds_of([edit for edit in edits if edit.crate == it])) for it in names]
+        works = [Work(it, rounds_of([edit for edit in edits if edit.crate == it]), is_proved_first) for it in names]
         while running or any(it.rounds for it in works):
             for work in works:
                 while len(running) < lanes and work.may_start():
@@ -592,19 +567,16 @@ def judge(edits):
                 (work, one, is_own), outcome = running.pop(done), done.result()
                 if is_own:
                     work.is_busy, work.in_turn = False, work.in_turn - (not outcome.bad)
-                for edit in outcome.refused:
-                    verdicts[edit.crate, edit.name] = tell(edit, True, f"{outcome.goal(edit)}one of {len(one)} in a check")
-                for edit in outcome.cited:
-                    verdicts[edit.crate, edit.name] = tell(edit, False, "only a name that its proof cites is missing")
-                if len(one) == 1 and outcome.left:
-                    verdicts[one[0].crate, one[0].name] = tell(one[0], False, outcome.bad or "alone")
+                if outcome.bad and not one:
+                    raise SystemExit(f"{outcome.bad}\n0 passed, 1 failed")
+                verdicts |= verdicts_of(one, outcome)
                 work.rounds += left_of(one, outcome)
     return verdicts
 
 
-def is_told(edit):
+def is_detected(edit):
     """Returns true if the rows that an edit names detect it: a probe built unproved with the edit gives other results."""
-    file = rows.read(pathlib.Path(ROOT, edit.refusal.removeprefix(" told by ")))
+    file = rows.read(pathlib.Path(ROOT, edit.detected_by))
     steps = file.steps()
     with tempfile.TemporaryDirectory(prefix="edits-", ignore_cleanup_errors=True) as room:
         if build([file.layer().PROBE], room, {edit.crate: edit.applied({})}, level=0):
@@ -616,7 +588,7 @@ def is_told(edit):
 
 def judge_by_rows(edits):
     """Tries the edits that rows detect, and returns for each whether they did."""
-    return {(it.crate, it.name): tell(it, is_told(it), "by rows") for it in edits}
+    return {it: tell(it, is_detected(it), "by rows") for it in edits}
 
 
 def judge_by_tests(edits):
@@ -626,7 +598,7 @@ def judge_by_tests(edits):
     with tempfile.TemporaryDirectory(prefix="edits-", ignore_cleanup_errors=True) as room:
         tests = ProgramTests(room)
         whys = ((it, tests.missed(it)) for it in edits)
-        return {(it.crate, it.name): tell(it, not why, why or "by a test") for it, why in whys}
+        return {it: tell(it, not why, why or "by a test") for it, why in whys}
 
 
 def files_of(crate):
@@ -658,50 +630,122 @@ def make_libraries(names, below):
             raise SystemExit(f"{ran.stdout}{library} is not proved\n0 passed, 1 failed")
 
 
-def wrong_in(control, verdicts):
-    """Returns the number of control edits with a wrong verdict: those named harmless_ must not be rejected, and the others must."""
-    wrong = [it for it in control if verdicts[it.crate, it.name] == it.name.startswith("harmless_")]
-    for edit in wrong:
-        print(f"control {edit.name}: wrong verdict")
-    return len(wrong)
+def is_wrong(edit, refused):
+    """Returns true if this verdict on an edit is wrong. Those of the control named harmless_, and those that are open, must not be rejected, and
+    all others must. An open edit must also be one that could be tried."""
+    if edit.layer == "open":
+        return refused is not False
+    return bool(refused) == (edit.layer == "control" and edit.name.startswith("harmless_"))
+
+
+@dataclass
+class Plan:
+    """The edits that a run tries: the control, and others by what detects them. It checks the types of `typed`."""
+
+    control: list = field(default_factory=list)
+    by_clauses: list = field(default_factory=list)
+    by_rows: list = field(default_factory=list)
+    by_tests: list = field(default_factory=list)
+    typed: list = field(default_factory=list)
+
+    def run(self, is_proved_first):
+        """Tries the edits, and returns the verdict on each."""
+        verdicts = judge(self.control + self.by_clauses, is_proved_first)
+        return {**verdicts, **judge_by_rows(self.by_rows), **judge_by_tests(self.by_tests)}
+
+
+def in_turn_from_each(edits, files):
+    """Returns the edits, one of each crate in turn. In a crate, edits of different functions come first; among them those that are in these
+    files, or that change one of them."""
+    order, names = {}, dict.fromkeys(it.crate for it in edits)
+    for name in names:
+        own = [it for it in edits if it.crate == name]
+        own.sort(key=lambda it: (it.path() not in files, files.isdisjoint(it.files())))
+        order[name] = [it for one in rounds_of(own) for it in one]
+    return [it for one in zip_longest(*order.values()) for it in one if it]
+
+
+def gate_edits(edits):
+    """Returns the edits that the gate tries: those of crates that differ from the last whole run, up to MOST_IN_GATE."""
+    try:
+        commit = changes.last_commit()
+    except changes.NoWholeRun as why:
+        raise SystemExit(f"{changes.WHOLE_RUN} {why}: run `make mutants`, and commit that file\n0 passed, 1 failed") from None
+    names = changes.differing(commit)
+    differing = [it for it in edits if it.crate in names]
+    chosen = in_turn_from_each(differing, changes.changed_files(commit))[:MOST_IN_GATE]
+    since = f"crates that differ from {commit:.10}" if commit else "all crates, since there was no whole run yet,"
+    print(f"{len(chosen)} of the {len(differing)} edits of {since} are tried; `make mutants` tries all", flush=True)
+    return chosen
+
+
+def planned(modes, names, whole):
+    """Returns the plan of a run with these modes, for these crates or for all."""
+    control = [] if names else edits_of(f"{ROOT}/tests/mutants/edits/control", crates())
+    alone = modes & {"--control", "--rows", "--tests", "--types"}
+    plan = Plan()
+    if not alone - {"--control"}:
+        plan.control = control
+    if not alone:
+        rejected = [it for it in whole if it.layer in ("clause", "open")]
+        plan.by_clauses = rejected if modes or names else gate_edits([it for it in rejected if it.layer == "clause"])
+    if "--all" in modes or "--rows" in modes:
+        plan.by_rows = [it for it in whole if it.layer == "rows"]
+    if "--all" in modes or "--tests" in modes:
+        plan.by_tests = [it for it in whole if it.layer in PROGRAMS]
+    if not alone - {"--types"}:
+        plan.typed = whole + [it for it in control if it.detected_by != "does not compile"]
+    return plan
+
+
+def cost():
+    """Returns a text with the cost of the processes that have ended."""
+    used = resource.getrusage(resource.RUSAGE_CHILDREN)
+    return f"{used.ru_utime + used.ru_stime:.0f} s of processor time, and at most {used.ru_maxrss // 1000} MB in a process"
+
+
+def conclude(plan, verdicts, wrong):
+    """Prints wrong verdicts, the edits that are open, and the cost. `wrong` is the number of errors in quotes and types. Returns the number of all
+    errors, and the last line of the run."""
+    failed = [it for it, refused in verdicts.items() if is_wrong(it, refused)]
+    for it in failed:
+        print(f"wrong verdict on {it.crate}/{it.name} ({it.layer}: {it.detected_by})")
+    opened = [it for it in verdicts if it.layer == "open" and it not in failed]
+    if opened:
+        print(f"{len(opened)} open, which no clause rejects yet: {', '.join(f'{it.crate}/{it.name}' for it in opened)}")
+    print(cost())
+    passed = (len(verdicts) or len(plan.typed)) - len(opened)
+    errors = len(failed) + wrong
+    return errors, f"{max(passed - errors, 0)} passed, {errors} failed"
 
 
 def main(words):
-    below, is_all = crates(), "--all" in words
-    names = [it for it in words if not it.startswith("--")]
-    unknown = [it for it in words if it not in below and it not in ("--all", "--control", "--list", "--rows", "--tests", "--types")]
-    if unknown:
-        raise SystemExit(f"no crate {unknown[0]}\n0 passed, 1 failed")
-    whole = edits_of(f"{ROOT}/tests/mutants/edits", names or below, ["gate", "all", "rows", *PROGRAMS])
-    unquoted = tell_wrong_quotes(whole)
-    if "--list" in words:
-        print("\n".join("  ".join(it) for it in sorted(it.row() for it in whole)))
+    below = crates()
+    modes, names = {it for it in words if it.startswith("--")}, [it for it in words if not it.startswith("--")]
+    if unknown := (modes - MODES) | (set(names) - below.keys()):
+        raise SystemExit(f"no crate {min(unknown)}\n0 passed, 1 failed")
+    every = edits_of(f"{ROOT}/tests/mutants/edits", names or below)
+    unquoted = tell_wrong_quotes(every)
+    if "--list" in modes:
+        print("\n".join("  ".join(it) for it in sorted(it.row() for it in every)))
         return 1 if unquoted else 0
-    control = [] if names else edits_of(f"{ROOT}/tests/mutants/edits/control", below, ["control"])
-    compiling = [it for it in control if it.refusal.strip() != "does not compile"]
-    edits = edits_of(f"{ROOT}/tests/mutants/edits", names or below, ["gate", "all"] if is_all else ["gate"])
-    by_rows = [it for it in whole if it.layer == "rows"] if is_all or "--rows" in words else []
-    by_tests = [it for it in whole if it.layer in PROGRAMS] if is_all or "--tests" in words else []
-    if {"--control", "--types"} & set(words):
-        edits = []
-    if {"--rows", "--tests", "--types"} & set(words):
-        control, edits = [], []
-    typed = [] if {"--control", "--rows", "--tests"} & set(words) else whole + compiling
-    make_libraries(dict.fromkeys(it.crate for it in control + edits + typed), below)
-    untyped = tell_wrong_types(typed)
-    told_of = f", and {len(typed) - untyped} of {len(typed)} are well typed" if typed else ""
-    quoting = sum(it.layer in ("gate", "all") for it in whole)
+    is_whole = modes == {"--all"} and not names
+    commit = changes.unchanged_head() if is_whole else ""
+    plan = planned(modes, names, every)
+    make_libraries(dict.fromkeys(it.crate for it in plan.control + plan.by_clauses + plan.typed), below)
+    untyped = tell_wrong_types(plan.typed)
+    quoting = sum(it.layer == "clause" for it in every)
+    told_of = f", and {len(plan.typed) - untyped} of {len(plan.typed)} are well typed" if plan.typed else ""
     print(f"{quoting - unquoted} of {quoting} edits quote a clause{told_of}", flush=True)
-    if control:
+    if plan.control:
         print("The edits named harmless_ are a control, and must be reported as NOT REFUSED.", flush=True)
-    verdicts = {**judge(control + edits), **judge_by_rows(by_rows), **judge_by_tests(by_tests)}
-    edits += by_rows + by_tests
-    wrong = wrong_in(control, verdicts) + sum(not verdicts[it.crate, it.name] for it in edits)
-    used = resource.getrusage(resource.RUSAGE_CHILDREN)
-    print(f"{used.ru_utime + used.ru_stime:.0f} s of processor time, and at most {used.ru_maxrss // 1000} MB in a process")
-    tried = len(typed) if "--types" in words else len(control) + len(edits)
-    print(f"{max(tried - wrong - unquoted - untyped, 0)} passed, {wrong + unquoted + untyped} failed")
-    return 1 if wrong or unquoted or untyped else 0
+    verdicts = plan.run(is_proved_first="--all" in modes)
+    failed, result = conclude(plan, verdicts, unquoted + untyped)
+    if is_whole:
+        opened = sum(it.layer == "open" for it in verdicts)
+        changes.record(commit, failed, f"{result}, {opened} open", cost())
+    print(result)
+    return 1 if failed else 0
 
 
 if __name__ == "__main__":

@@ -30,7 +30,7 @@ class ProgramTests:
 
     def missed(self, edit):
         """Returns why a test does not detect an edit, or an empty text if it does."""
-        test = edit.refusal.strip().removeprefix("told by ")
+        test = edit.detected_by
         if not self.are_built:
             return "the programs are not built"
         if test not in self.passing:

@@ -67,19 +67,40 @@ def clauses_of(lines):
     return {re.sub(r"\s*;\s*(?=})|\s+", " ", it.removesuffix(";")).strip() for it in found}
 
 
-def promises(revision, crate):
-    """Returns the clauses of each public function and each function of a trait, by its type and name."""
-    found = {}
+def signature_of(lines):
+    """Returns the head of a function without its clauses and its body, with white space normalized."""
+    end = next(number for number, line in enumerate(lines) if CLAUSE.match(line.strip()) or line.strip().endswith(("{", "}", ";")))
+    own = lines[: end + (not CLAUSE.match(lines[end].strip()))]
+    return " ".join(" ".join(own).rstrip(" {}").split())
+
+
+def functions(revision, crate):
+    """Yields the functions of a crate that are public or of a trait, and those of an impl of a trait. For each, yields its type and name,
+    whether it is of an impl of a trait, and the lines that begin with its head."""
     for text in files_at(revision, crate):
-        block, is_trait, lines = "", False, re.sub(r"^\s*//.*\n", "", text, flags=re.M).splitlines()
+        block, is_trait, is_of_trait, lines = "", False, False, re.sub(r"^\s*//.*\n", "", text, flags=re.M).splitlines()
         for number, line in enumerate(lines):
             if line.startswith("}"):
-                block, is_trait = "", False
+                block, is_trait, is_of_trait = "", False, False
             elif (head := BLOCK.match(line)) and not line.startswith(" "):
-                block, is_trait = type_of(head[1]), "trait " in line
-            elif (head := FUNCTION.match(line)) and (head[1] or is_trait):
-                found[block, head[2]] = clauses_of([] if line.endswith(("{", "}")) else lines[number + 1 :])
-    return found
+                block, is_trait, is_of_trait = type_of(head[1]), "trait " in line, " for " in line
+            elif (head := FUNCTION.match(line)) and (head[1] or is_trait or is_of_trait):
+                yield (block, head[2]), is_of_trait, lines[number:]
+
+
+def clauses_after(lines):
+    """Returns the clauses of the function whose head begins these lines."""
+    return clauses_of([] if lines[0].endswith(("{", "}")) else lines[1:])
+
+
+def promises(revision, crate):
+    """Returns the clauses of each public function and each function of a trait, by its type and name."""
+    return {name: clauses_after(lines) for name, is_of_trait, lines in functions(revision, crate) if not is_of_trait}
+
+
+def contracts(revision, crate):
+    """Returns the functions that other crates can call, with their signatures and clauses, to compare those of two revisions."""
+    return {(name, signature_of(lines), frozenset(clauses_after(lines))) for name, _, lines in functions(revision, crate)}
 
 
 def libraries(revision):
