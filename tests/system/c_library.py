@@ -78,7 +78,8 @@ def build_archive():
     os.makedirs(os.path.dirname(kept), exist_ok=True)
     # In the same folder, so that the data appear there at once.
     with tempfile.TemporaryDirectory(prefix="archive-", dir=os.path.dirname(kept)) as room:
-        words = [*rattle_words("build", "coap_c", JOBS), "--incremental", f"{room}/kept", "--toolchain", f"{KIT}/toolchain", "--backend", "llvm", "-o", f"{room}/libcoap_c.a"]
+        words = [*rattle_words("build", "coap_c", JOBS), "--incremental", f"{room}/kept"]
+        words += ["--toolchain", f"{KIT}/toolchain", "--backend", "llvm", "-o", f"{room}/libcoap_c.a"]
         built = subprocess.run(words, cwd=f"{ROOT}/crates/coap_c", stdout=subprocess.PIPE, stderr=subprocess.STDOUT, text=True, errors="replace")
         if built.returncode:
             sys.exit(f"{built.stdout}coap_c is not built\n0 passed, 1 failed")
@@ -291,10 +292,10 @@ def wait_for(port):
 
 def check_client(checks, clients, server, example):
     """Runs the client of examples/c against the example, the program and libcoap's server."""
-    def observe(name, words, path, **how):
+    def observe(name, words, path):
         port = free_port("127.0.0.1")
-        running = subprocess.Popen([*words, *how.get("options", ("-A", "127.0.0.1", "-p", str(port))), *([str(port), str(LIMIT)] if words == [example] else [])],
-                                   stdout=subprocess.DEVNULL, stderr=subprocess.DEVNULL)
+        address = [str(port), str(LIMIT)] if words == [example] else ["-A", "127.0.0.1", "-p", str(port)]
+        running = subprocess.Popen([*words, *address], stdout=subprocess.DEVNULL, stderr=subprocess.DEVNULL)
         wait_for(port)
         for client in clients:
             ran = run([*client, f"coap+tcp://127.0.0.1:{port}/{path}", "2"])
@@ -302,7 +303,7 @@ def check_client(checks, clients, server, example):
             checks.same(f"{client[0]} observes {name}: {ran.stderr!r}", (ran.returncode, [it[:5] for it in lines], len(set(lines))), (0, ["2.05 "] * 2, 2))
         running.terminate()
         running.wait()
-    observe("the example", [example], "inside", options=())
+    observe("the example", [example], "inside")
     observe("the program", [server], "time")
     observe("libcoap", ["coap-server-notls"], "time")
     for client in clients:
@@ -365,30 +366,42 @@ def check_libcoap(checks, archive, driver, room):
 
 def check_names(checks, archive):
     """Checks the names that the archive exports, the header, and the lengths of the examples."""
-    names = [line.split() for line in run(["nm", "--defined-only", "--extern-only", archive]).stdout.decode().splitlines() if len(line.split()) == 3]
-    checks.same("exported names", [it[2] for it in names if not it[2].startswith(PREFIX)], [])
+    listed = run(["nm", "--defined-only", "--extern-only", archive]).stdout.decode().splitlines()
+    names = [line.split()[2] for line in listed if len(line.split()) == 3]
+    checks.same("exported names", [it for it in names if not it.startswith(PREFIX)], [])
     header = pathlib.Path(f"{ROOT}/include/coap_proved.h").read_text(encoding="utf-8")
-    checks.same("names in the header", [it[2] for it in names if f"{it[2]}(" not in header], [])
-    checks.same("header in C++", run(["g++", "-fsyntax-only", *STRICT, "-x", "c++", f"{ROOT}/include/coap_proved.h"]).returncode, 0)
+    checks.same("names in the header", [it for it in names if f"{it}(" not in header], [])
+    compiles = run(["g++", "-fsyntax-only", *STRICT, "-x", "c++", f"{ROOT}/include/coap_proved.h"])
+    checks.same("header in C++", compiles.returncode, 0)
     check_numbers(checks, header)
     for path in sorted(pathlib.Path(f"{ROOT}/examples/c").glob("*.c")):
         checks.same(f"{path.name} has less than 150 lines", path.read_text(encoding="utf-8").count("\n") < 150, True)
 
 
-# The programs: the source, in which the tests' own begin with `c_`, and the ways in which it is compiled.
-SOURCES = {"driver": ("c_library.c", 3), "pair": ("c_client.c", 3), "script": ("c_script.c", 2), "server": ("server.c", 2), "client": ("client.c", 2)}
+# The programs: their sources, and the ways in which they are compiled.
+EXAMPLES, USUAL = f"{ROOT}/examples/c", ("plain", "sanitized")
+SOURCES = {
+    "driver": (f"{rows.HARNESS}/c_library.c", (*USUAL, "failing")),
+    "pair": (f"{rows.HARNESS}/c_client.c", (*USUAL, "failing")),
+    "script": (f"{rows.HARNESS}/c_script.c", USUAL),
+    "server": (f"{EXAMPLES}/server.c", USUAL),
+    "client": (f"{EXAMPLES}/client.c", USUAL),
+}
 
 
 def build(checks, archive, room):
-    """Compiles the programs: as they are, to run under valgrind, with sanitizers, and those of three ways also with failing allocations. Returns the
-    commands by the name of the program and of the way."""
+    """Compiles the programs. Returns the commands that run them, by the names of the program and of the way; `valgrind`
+    runs the plain one."""
+    kinds = {
+        "plain": ([archive], ()), "sanitized": ([archive], SANITIZED),
+        "failing": ([f"{rows.HARNESS}/fail_malloc.c", archive], [*SANITIZED, *FAILING]),
+    }
     found, jobs = {}, []
     for name, (source, ways) in SOURCES.items():
-        path = f"{rows.HARNESS}/{source}" if source.startswith("c_") else f"{ROOT}/examples/c/{source}"
-        kinds = {"plain": ([archive], ()), "sanitized": ([archive], SANITIZED), "failing": ([f"{rows.HARNESS}/fail_malloc.c", archive], [*SANITIZED, *FAILING])}
-        for way, (libraries, flags) in list(kinds.items())[:ways]:
+        for way in ways:
+            libraries, flags = kinds[way]
             found[name, way] = [f"{room}/{name}-{way}"]
-            jobs.append((compiled, path, libraries, f"{room}/{name}-{way}", flags))
+            jobs.append((compiled, source, libraries, f"{room}/{name}-{way}", flags))
         found[name, "valgrind"] = [*VALGRIND, f"{room}/{name}-plain"]
     checks.add(side_by_side(jobs, PROCESSORS))
     return found
@@ -406,14 +419,16 @@ def check_changes(checks, words):
 
 def check_pair(checks, words):
     ran = run(words)
-    checks.same(f"a client and a server {words[0]}", (ran.returncode, ran.stdout.decode(), ran.stderr), (0, EVENTS, b""))
+    got = ran.returncode, ran.stdout.decode(), ran.stderr
+    checks.same(f"a client and a server {words[0]}", got, (0, EVENTS, b""))
 
 
 def runs(made, server, client, archive, room):
     """Returns all runs of the built programs, which are independent of each other."""
     def both(name):
         return [made[name, "sanitized"], made[name, "valgrind"]]
-    large = ["stdio", "65536", "65536", "131072", "16", "65536"]
+    large, modes = ["stdio", "65536", "65536", "131072", "16", "65536"], ("application", "changes", "lists", "wrong")
+    pairs = (("sanitized", "1"), ("valgrind", "7"), ("sanitized", "60000"))
     return [
         (check_client, both("client"), server, *made["server", "sanitized"]),
         (check_example, both("server"), client),
@@ -423,8 +438,8 @@ def runs(made, server, client, archive, room):
         (check_allocations, [*made["driver", "failing"], "application"], b""),
         (check_allocations, [*made["pair", "failing"], "pair", "9"], b""),
         (check_messages, both("pair")),
-        *((check_pair, [*made["pair", way], "pair", size]) for way, size in (("sanitized", "1"), ("valgrind", "7"), ("sanitized", "60000"))),
-        *((check_ended, [*words, mode]) for mode in ("application", "changes", "lists", "wrong") for words in both("driver")),
+        *((check_pair, [*made["pair", way], "pair", size]) for way, size in pairs),
+        *((check_ended, [*words, mode]) for mode in modes for words in both("driver")),
         *((check_ended, [*words, "wrong"]) for words in both("pair")),
         (check_changes, made["driver", "valgrind"]),
         (check_libcoap, archive, *made["driver", "plain"], room),
