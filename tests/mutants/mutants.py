@@ -15,7 +15,7 @@ An edit is a file tests/mutants/edits/CRATE/NAME.edit. Its first line has what d
     clause: 'after' of Link::on  the clause that rejects it; or, if no clause can reject it,
     rows: tests/vectors/rows/script/a_mebibyte.rows    the rows that detect it, because it only reports allocation failures; or
     server: tests/system/sockets.py files      or `client: ..`: the program that has it, and the test that then fails; or
-    open: Server::status states nothing of it  no clause rejects it yet, and the reason
+    open: Server::status states nothing of it  no clause is known to reject it, and the reason
     file: src/limits.rt          a file of the crate
     in: Limits::queue            a function of that file, as a check names it without crate and module (the impl of a trait
                                  for a type is both names in one, as SliceSinkSink::push), or `const NAME`
@@ -38,8 +38,9 @@ An edit of the layer `server` or `client` is detected if its test fails with tha
 program built in the same way without the edit (tests/mutants/unproved.py). --all tries these too, in one to three minutes each; --tests tries them
 alone.
 
-An edit of the layer `open` is a known gap: it is tried with those of `clause`, and must not be rejected. The open edits are listed at the end, and do
-not count as passed. If a clause rejects one, the run fails until its first line quotes that clause.
+An edit of the layer `open` is a known gap: the contract is too weak, or the edit takes away a name that the proof cites. --all tries it with those of
+`clause`. It must not be rejected. The open edits are listed at the end, and do not count as passed. If a clause rejects one, the run fails until its
+first line quotes that clause.
 
 Edits of different functions go into one copy of the crate, called a round. A round is checked once, on top of the incremental data of earlier
 checks. These are the data of the crate's own check in out/incremental. If there are none, --all proves the crate first, and keeps the data there.
@@ -716,8 +717,8 @@ def conclude(plan, verdicts, wrong):
     for it in failed:
         print(f"wrong verdict on {it.crate}/{it.name} ({it.layer}: {it.detected_by})")
     opened = [it for it in verdicts if it.layer == "open" and it not in failed]
-    if opened:
-        print(f"{len(opened)} open, which no clause rejects yet: {', '.join(f'{it.crate}/{it.name}' for it in opened)}")
+    for it in opened:
+        print(f"open: {it.crate}/{it.name}: {it.detected_by}")
     print(cost())
     passed = (len(verdicts) or len(plan.typed)) - len(opened)
     errors = len(failed) + wrong
