@@ -38,9 +38,9 @@ An edit of the layer `server` or `client` is detected if its test fails with tha
 program built in the same way without the edit (tests/mutants/unproved.py). --all tries these too, in one to three minutes each; --tests tries them
 alone.
 
-An edit of the layer `open` is a known gap: the contract is too weak, or the edit takes away a name that the proof cites. --all tries it with those of
-`clause`. It must not be rejected. The open edits are listed at the end, and do not count as passed. If a clause rejects one, the run fails until its
-first line quotes that clause.
+An edit of the layer `open` is a known gap. Either the contract is too weak, or the edit takes away a name that the proof cites. --all tries it with
+those of `clause`. It must not be rejected. The open edits are listed at the end, and do not count as passed. If a clause rejects one, the run fails
+until its first line quotes that clause.
 
 Edits of different functions go into one copy of the crate, called a round. A round is checked once, on top of the incremental data of earlier
 checks. These are the data of the crate's own check in out/incremental. If there are none, --all proves the crate first, and keeps the data there.
@@ -57,7 +57,11 @@ alone. So is an edit of a constant, for which a goal of any function counts, and
 of the largest crates first. The libraries below a crate are taken from out/rlib, and proved if they are missing or older than their files.
 The last line is 'N passed, M failed', and the status is 0 if M is 0.
 
-COSTS
+Costs, in processor time: a round takes about 15 s before its first edit. Each edit adds 3 to 4 s, and up to 15 s in coap_server_listener. The control
+takes 140 s. The check of all quotes takes 2 s, and that of the types 4 to 8 s for each of 40 copies of crates. A build for an edit of another layer
+takes about two minutes. In a clone without incremental data, the first round of a crate also proves the functions that it changes, and those that they
+call. There 343 edits of 17 crates took 2,500 to 2,950 s, with the control and the types: 7 s an edit. By that figure, MOST_IN_GATE edits of a few crates
+take 350 s. One or two edits of each crate take about 900 s, because each crate needs a round. The proof of coap_wire takes 160 s on that machine.
 
 `rt try` keeps 1 MiB of output, so the output of the rows of an edit must stay below that with the edit. A program that `rt try` builds is slow. A
 test that measures processor time may fail for that reason, and then says nothing about the edit.
