@@ -15,7 +15,7 @@ An edit is a file tests/mutants/edits/CRATE/NAME.edit. Its first line has what d
     clause: 'after' of Link::on  the clause that rejects it; or, if no clause can reject it,
     rows: tests/vectors/rows/script/a_mebibyte.rows    the rows that detect it, because it only reports allocation failures; or
     server: tests/system/sockets.py files      or `client: ..`: the program that has it, and the test that then fails; or
-    open: Server::status states nothing of it  no clause rejects it yet, and the reason
+    open: Server::status states nothing of it  no clause is known to reject it, and the reason
     file: src/limits.rt          a file of the crate
     in: Limits::queue            a function of that file, as a check names it without crate and module (the impl of a trait
                                  for a type is both names in one, as SliceSinkSink::push), or `const NAME`
@@ -39,8 +39,9 @@ An edit of the layer `server` or `client` is detected if its test fails with tha
 program built in the same way without the edit (tests/mutants/program_tests.py). --all tries these too, in one to three minutes each; --tests tries
 them alone.
 
-An edit of the layer `open` is a known gap: it is tried with those of `clause`, and must not be rejected. The open edits are listed at the end, and do
-not count as passed. If a clause rejects one, the run fails until its first line quotes that clause.
+An edit of the layer `open` is a known gap. Either the contract is too weak, or the edit takes away a name that the proof cites. --all tries it with
+those of `clause`. It must not be rejected. The open edits are listed at the end, and do not count as passed. If a clause rejects one, the run fails
+until its first line quotes that clause.
 
 Edits of different functions go into one copy of the crate, called a round. A round is checked once, on top of the incremental data of earlier
 checks. These are the data of the crate's own check in out/incremental. If there are none, --all proves the crate first, and keeps the data there.
@@ -56,6 +57,12 @@ If a function that no edit of a round changes has an unproved goal of its own, t
 alone. So is an edit of a constant, for which a goal of any function counts, and any lemma. Rounds run in parallel, one for each processor, those
 of the largest crates first. The libraries below a crate are taken from out/rlib, and proved if they are missing or older than their files.
 The last line is 'N passed, M failed', and the status is 0 if M is 0.
+
+Costs, in processor time: a round takes about 15 s before its first edit. Each edit adds 3 to 4 s, and up to 15 s in coap_server_listener. The control
+takes 140 s. The check of all quotes takes 2 s, and that of the types 4 to 8 s for each of 40 copies of crates. A build for an edit of another layer
+takes about two minutes. In a clone without incremental data, the first round of a crate also proves the functions that it changes, and those that they
+call. There 343 edits of 17 crates took 2,500 to 2,950 s, with the control and the types: 7 s an edit. By that figure, MOST_IN_GATE edits of a few crates
+take 350 s. One or two edits of each crate take about 900 s, because each crate needs a round. The proof of coap_wire takes 160 s on that machine.
 
 A test that measures processor time may fail with an unproved program without any edit, and then says nothing about the edit.
 """
@@ -711,8 +718,8 @@ def conclude(plan, verdicts, wrong):
     for it in failed:
         print(f"wrong verdict on {it.crate}/{it.name} ({it.layer}: {it.detected_by})")
     opened = [it for it in verdicts if it.layer == "open" and it not in failed]
-    if opened:
-        print(f"{len(opened)} open, which no clause rejects yet: {', '.join(f'{it.crate}/{it.name}' for it in opened)}")
+    for it in opened:
+        print(f"open: {it.crate}/{it.name}: {it.detected_by}")
     print(cost())
     passed = (len(verdicts) or len(plan.typed)) - len(opened)
     errors = len(failed) + wrong

@@ -1,4 +1,11 @@
-"""Reads the output of a check: the goals of each function that are not proved."""
+"""Reads the output of a check: the goals of each function that are not proved.
+
+An answer to a goal may fail because the edited code lacks a name that the answer cites. The prover reports this in several forms (GONE). None of them
+says anything about the contract. The control has an edit for each form, which means the same as the code.
+
+An answer may also fail because a name now means another value: if the first of two calls is removed, its name means the second. This looks like any
+other error. So an edit keeps the number and the order of calls, or its clause is checked by hand.
+"""
 
 import os
 import re
