@@ -41,8 +41,8 @@ def git(*words):
 
 
 def last_commit():
-    """Returns the commit of the last whole run, which must be one of the last MOST_COMMITS of this history, or None if
-    there was no such run yet."""
+    """Returns the commit of the last whole run, or None if there was none yet. It must be one of the last MOST_COMMITS of
+    this history."""
     try:
         with open(f"{ROOT}/{WHOLE_RUN}", encoding="utf-8") as it:
             found = re.search(r"^commit: (\w+)$", it.read(), re.M)
