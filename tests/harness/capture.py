@@ -116,7 +116,8 @@ def decode(conversations):
         for number, sent in enumerate(conversations):
             capture.write(packets_of(FIRST_CLIENT_PORT + number, sent))
         capture.flush()
-        done = subprocess.run(command + ["-r", capture.name], capture_output=True, encoding="utf-8", timeout=120, check=True)
+        how = {"capture_output": True, "encoding": "utf-8", "timeout": 120, "check": True}
+        done = subprocess.run(command + ["-r", capture.name], **how)
     rows = [dict(zip(FIELDS, line.split("\t"))) for line in done.stdout.splitlines()]
     ports = [str(FIRST_CLIENT_PORT + number) for number in range(len(conversations))]
     return [[row for row in rows if port in (row["tcp.srcport"], row["tcp.dstport"])] for port in ports]

@@ -1,4 +1,4 @@
-"""Counts checks, chooses those of a part, and has the bytes that many tests expect: the CSM of the server, each Abort, and the greeting."""
+"""Counts checks, and has the bytes that many tests expect: the CSM of the server, each Abort, and the greeting."""
 
 from concurrent.futures import ThreadPoolExecutor
 
@@ -38,7 +38,7 @@ class Checks:
 
 
 def side_by_side(runs, count):
-    """Makes runs, `count` at a time, and returns their checks together. A run is a function of checks, followed by its other arguments."""
+    """Makes runs, `count` at a time, and returns their checks together. A run is a function of checks with its arguments."""
     def made(run):
         checks = Checks()
         run[0](checks, *run[1:])
@@ -51,7 +51,10 @@ def side_by_side(runs, count):
 
 
 def part_of(checks, words):
-    """Removes `--part K/N` from the words of a command line, and returns the K-th of N parts of a list: every N-th check. Without it, returns all."""
+    """Returns a list of checks, or its part K of N if the command line has `--part K/N`. Removes this from the line.
+
+    Part K has every N-th check, so that the N parts together have all.
+    """
     if "--part" not in words:
         return checks
     at = words.index("--part")

@@ -13,7 +13,7 @@ os.environ["PATH"] += os.pathsep + "/usr/sbin"
 
 @contextlib.contextmanager
 def alone():
-    """Waits until no other script of these tests changes the installed packages, and prevents them from it for the time of its block."""
+    """Waits until no other script of these tests changes the installed packages. They wait until the block ends."""
     folder = os.open("/var/lib/dpkg", os.O_RDONLY)
     try:
         fcntl.flock(folder, fcntl.LOCK_EX)

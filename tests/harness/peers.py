@@ -42,10 +42,10 @@ def held(host, port):
 
 
 def free_port(host=LOCAL, others=()):
-    """Returns a port at which no program listens, at none of these addresses. The system gives it to nothing else while this process runs.
+    """Returns a port at which no program listens, at none of these addresses. It stays so while this process runs.
 
-    The sockets that hold it never listen, so that a program that sets SO_REUSEADDR can. A listening socket that is closed at once would not do. A
-    process that another thread is starting has a copy of them until it runs its program.
+    The sockets that hold it never listen, so that a program that sets SO_REUSEADDR can. A listening socket that is
+    closed at once would not do. A process that another thread is starting has a copy of them until it runs its program.
     """
     while True:
         first = held(host, 0)

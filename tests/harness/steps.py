@@ -1,7 +1,8 @@
 """The steps of the tests of built programs, and a runner that runs them side by side.
 
-A step has ports, folders and names of its own, so any other step can run beside it. Estimates decide the order: the longest step starts first, if the
-processors that it keeps busy are free. After a failure no further step starts, and the running ones run to their ends.
+A step has ports, folders and names of its own, so any other step can run beside it. Estimates decide the order: the
+longest step starts first, if the processors that it keeps busy are free. After a failure no further step starts, and
+the running ones run to their ends.
 """
 
 import collections
@@ -22,8 +23,7 @@ PROCESSORS = len(os.sched_getaffinity(0))
 # Maximum load of all running steps. Those that mostly wait need little more than the others.
 CAPACITY = PROCESSORS + 1
 
-# Conditions that a step may need. Programs as their proofs built them: those of tests/check execute more instructions,
-# and lie elsewhere.
+# Conditions that a step may need. Programs as their proofs built them: unproved ones allocate and compute more.
 PROVED = "proved programs"
 
 # The probes that play rows, by LLVM and by Rattle's own compiler.
@@ -44,7 +44,7 @@ PATIENCE = 20
 
 @dataclass(frozen=True)
 class Step:
-    """A command of the tests. `seconds` and `used` estimate its elapsed time and its processor time, alone on an idle machine."""
+    """A command of the tests. `seconds` and `used` estimate its elapsed and its processor time on an idle machine."""
 
     words: list
     seconds: float
@@ -53,61 +53,65 @@ class Step:
     makes: str = ""
 
     def load(self):
-        """Returns the number of processors that the step keeps busy. One with a process for each processor counts as half of them."""
+        """Returns the number of processors that the step keeps busy: half of them, if it has a process for each."""
         return min(self.used / self.seconds, PROCESSORS / 2)
 
 
 def parts(words, estimates, needs=()):
-    """Returns steps that together run all checks of a script, one for each estimate. The script itself divides its list of checks (`chosen`)."""
+    """Returns steps that together run all checks of a script, one for each estimate. `part_of` divides its checks."""
     count = len(estimates)
     return [Step([*words, "--part", f"{at}/{count}"], *estimate, needs) for at, estimate in enumerate(estimates, 1)]
 
 
-SERVER, CLIENT, EXPLAIN, DIRECTORY, EXAMPLE_GATEWAY, EXAMPLE_OBSERVER, LIBRARY, MQTT = (
-    f"{ROOT}/bin/{it}" for it in ("coap-server", "coap-client", "coap-explain", "coap-directory", "example-gateway", "example-observer", "libcoap_proved.a", "coap-mqtt")
-)
+def bin_of(*names):
+    return [f"{ROOT}/bin/{it}" for it in names]
+
+
+PROGRAMS = SERVER, CLIENT, EXPLAIN, DIRECTORY = bin_of("coap-server", "coap-client", "coap-explain", "coap-directory")
+EXAMPLE_GATEWAY, EXAMPLE_OBSERVER = bin_of("example-gateway", "example-observer")
+LIBRARY, MQTT = bin_of("libcoap_proved.a", "coap-mqtt")
 
 # The proof of the C library, over what `rt ci` keeps.
-BUILD_ARCHIVE = Step(["python3", "tests/system/c_library.py", "--archive"], 200, 200, (PROVED,), ARCHIVE)
+BUILD_ARCHIVE = Step(["python3", "tests/system/c_library.py", "--archive"], 180, 450, (PROVED,), ARCHIVE)
 
 STEPS = [
-    Step(["python3", "tests/harness/rows.py"], 10, 20, (PROBES,)),
-    Step(["python3", "tests/harness/rows.py", "--by-rattle"], 10, 20, (BY_RATTLE,)),
-    Step(["python3", "tests/harness/rows.py", "--refuse"], 60, 200, (PROBES,)),
+    Step(["python3", "tests/harness/rows.py"], 5, 8, (PROBES,)),
+    Step(["python3", "tests/harness/rows.py", "--by-rattle"], 5, 8, (BY_RATTLE,)),
+    Step(["python3", "tests/harness/rows.py", "--refuse"], 30, 60, (PROVED, PROBES)),
     Step(["python3", "tests/vectors/row_list.py"], 1, 1),
-    Step(["python3", "tests/tools/crate_limits.py"], 2, 2),
-    Step(["python3", "tests/tools/conformance.py"], 3, 3),
-    Step(["python3", "tests/tools/examples.py"], 2, 2),
+    Step(["python3", "tests/tools/crate_limits.py"], 1, 1),
+    Step(["python3", "tests/tools/conformance.py"], 1, 1),
+    Step(["python3", "tests/tools/examples.py"], 1, 1),
     Step(["python3", "tests/tools/prose.py"], 5, 5),
-    Step(["python3", "tests/vectors/segmentation.py"], 20, 60, (PROBES,)),
-    Step(["python3", "tests/vectors/scripts.py", SERVER], 3, 3),
-    Step(["python3", "tests/vectors/stdio.py", SERVER], 3, 3),
-    Step(["python3", "tests/vectors/bytes.py", SERVER], 30, 100),
-    Step(["python3", "tests/system/devices.py", SERVER, CLIENT], 10, 3),
-    Step(["python3", "tests/system/alloc_failures.py", SERVER, CLIENT], 30, 60),
-    Step(["python3", "tests/system/program.py", SERVER, CLIENT], 10, 10),
-    Step(["python3", "tests/system/libcoap.py", SERVER], 5, 3),
-    Step(["python3", "tests/system/sockets.py", SERVER, CLIENT], 60, 20),
-    Step(["python3", "tests/system/log.py", SERVER, CLIENT], 60, 50),
-    Step(["python3", "tests/system/record.py", SERVER, CLIENT], 60, 60),
-    Step(["python3", "tests/system/explain.py", SERVER, EXPLAIN], 60, 60),
+    Step(["python3", "tests/vectors/segmentation.py"], 10, 25, (PROBES,)),
+    Step(["python3", "tests/vectors/scripts.py", SERVER], 2, 1),
+    Step(["python3", "tests/vectors/stdio.py", SERVER], 12, 12),
+    Step(["python3", "tests/vectors/bytes.py", SERVER], 20, 70),
+    Step(["python3", "tests/system/devices.py", SERVER, CLIENT], 2, 1),
+    Step(["python3", "tests/system/alloc_failures.py", SERVER, CLIENT], 3, 1, (PROVED,)),
+    Step(["python3", "tests/system/program.py", SERVER, CLIENT], 3, 1),
+    Step(["python3", "tests/system/libcoap.py", SERVER], 2, 1),
+    Step(["python3", "tests/system/sockets.py", SERVER, CLIENT], 38, 2),
+    Step(["python3", "tests/system/log.py", SERVER, CLIENT], 60, 13),
+    Step(["python3", "tests/system/record.py", SERVER, CLIENT], 18, 2),
+    Step(["python3", "tests/system/explain.py", SERVER, EXPLAIN], 30, 20, (PROVED,)),
     Step(["python3", "tests/system/directory.py", DIRECTORY, CLIENT], 30, 20),
-    Step(["python3", "tests/system/idle.py", SERVER], 22, 1),
-    Step(["python3", "tests/system/clocks.py", SERVER, CLIENT], 15, 1),
-    Step(["python3", "tests/system/interop.py", SERVER, CLIENT], 30, 10),
-    Step(["python3", "tests/system/haproxy.py", SERVER], 90, 20),
-    Step(["python3", "tests/system/embedding.py", EXAMPLE_GATEWAY, CLIENT, EXAMPLE_OBSERVER, SERVER], 10, 2),
-    Step(["python3", "tests/system/c_library.py", SERVER, CLIENT, LIBRARY], 60, 60, (PROVED, ARCHIVE)),
-    Step(["python3", "tests/system/mqtt.py", "--build"], 5, 5, (ARCHIVE,), GATEWAY),
-    *parts(["python3", "tests/system/mqtt.py", MQTT], [(90, 30), (90, 30), (90, 30)], (GATEWAY,)),
-    Step(["python3", "tests/system/hostile.py", SERVER], 15, 10),
-    Step(["python3", "tests/system/flood.py", SERVER], 20, 15),
-    Step(["python3", "tests/system/manuals.py", SERVER, CLIENT, EXPLAIN, DIRECTORY], 20, 5),
-    Step(["python3", "tests/system/install.py", SERVER, CLIENT, EXPLAIN, DIRECTORY], 5, 3, (ARCHIVE,)),
-    Step(["python3", "tests/system/package.py", SERVER, CLIENT, EXPLAIN, DIRECTORY], 60, 40, (ARCHIVE, ROOT_RIGHTS)),
-    Step(["python3", "tests/system/memory.py", SERVER], 60, 60, (PROVED,)),
-    Step(["bench/directory", "--quick"], 60, 200, (PROVED,)),
-    Step(["bench/throughput", "--quick"], 20, 30, (PROVED,)),
+    Step(["python3", "tests/system/idle.py", SERVER], 17, 1),
+    Step(["python3", "tests/system/clocks.py", SERVER, CLIENT], 14, 1),
+    Step(["python3", "tests/system/interop.py", SERVER, CLIENT], 17, 1),
+    Step(["python3", "tests/system/haproxy.py", SERVER], 36, 2),
+    Step(["python3", "tests/system/embedding.py", EXAMPLE_GATEWAY, CLIENT, EXAMPLE_OBSERVER, SERVER], 5, 1),
+    Step(["python3", "tests/system/c_library.py", SERVER, CLIENT, LIBRARY], 40, 35, (PROVED, ARCHIVE)),
+    Step(["python3", "tests/system/mqtt.py", "--build"], 3, 2, (ARCHIVE,), GATEWAY),
+    *parts(["python3", "tests/system/mqtt.py", MQTT], [(55, 7), (30, 3), (45, 9)], (GATEWAY,)),
+    Step(["python3", "tests/system/hostile.py", SERVER], 8, 1),
+    Step(["python3", "tests/system/flood.py", SERVER], 4, 1),
+    Step(["python3", "tests/system/manuals.py", *PROGRAMS], 15, 1),
+    Step(["python3", "tests/system/install.py", *PROGRAMS], 4, 1, (ARCHIVE,)),
+    Step(["python3", "tests/system/package.py", *PROGRAMS], 55, 46, (ARCHIVE, ROOT_RIGHTS)),
+    Step(["python3", "tests/system/memory.py", SERVER], 30, 105, (PROVED, PROBES)),
+    Step(["bench/directory", "--quick"], 30, 100, (PROVED,)),
+    Step(["bench/throughput", "--quick"], 17, 7, (PROVED,)),
 ]
 
 
@@ -116,7 +120,7 @@ def cost(elapsed, used):
 
 
 class Result:
-    """Result of a step: its counts, and its last lines if it failed. A step that prints no counts counts as one check, by its status."""
+    """Result of a step: its counts and its last lines. One that prints no counts counts as one check, by its status."""
 
     def __init__(self, words, status, output):
         counts, self.last = None, collections.deque(maxlen=LAST)
@@ -154,7 +158,7 @@ class Running:
             os.killpg(self.process.pid, signal.SIGKILL)
 
     def result(self):
-        """Waits for the command, prints its output with its elapsed time and its own processor time, and returns its result."""
+        """Waits for the command, prints its output, its elapsed and its processor time, and returns its result."""
         select.select([self], [], [])
         elapsed = time.monotonic() - self.started
         # Before the wait, so that the number of the group is not used again.
@@ -165,7 +169,8 @@ class Running:
         with self.output:
             self.output.seek(0)
             lines = self.output.readlines()
-        print(f"== {' '.join(self.words)}\n{''.join(lines)}== {cost(elapsed, used.ru_utime + used.ru_stime)}", flush=True)
+        spent = cost(elapsed, used.ru_utime + used.ru_stime)
+        print(f"== {' '.join(self.words)}\n{''.join(lines)}== {spent}", flush=True)
         return Result(self.words, self.process.returncode, lines)
 
     def end(self):
@@ -180,11 +185,12 @@ class Running:
 def next_step(waiting, made, running):
     """Returns the first step that can start, or None. Steps wait in the order of their estimates."""
     load = sum(it.load() for it in running)
-    return next((it for it in waiting if made.issuperset(it.needs) and (not running or load + it.load() <= CAPACITY)), None)
+    able = (it for it in waiting if made.issuperset(it.needs))
+    return next((it for it in able if not running or load + it.load() <= CAPACITY), None)
 
 
 def run_steps(steps, made):
-    """Runs steps side by side, and yields the result of each when it ends. `made` are the conditions that hold at first."""
+    """Runs steps side by side, and yields the result of each when it ends. The conditions `made` hold at first."""
     waiting, made, running = sorted(steps, key=lambda it: it.seconds, reverse=True), set(made), {}
     if unmet := [it.words for it in steps if not made.union(other.makes for other in steps).issuperset(it.needs)]:
         raise LookupError(f"no step makes what these need: {unmet}")

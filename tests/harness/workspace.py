@@ -57,8 +57,8 @@ def rlib(library):
 
 
 def rattle_words(verb, crate, jobs=1):
-    """Returns the command line by which Rattle itself checks or builds a crate, over the libraries in out/rlib. It writes none of them, so it can run
-    beside other checks."""
+    """Returns the command line by which Rattle itself checks or builds a crate, over the libraries in out/rlib. It
+    writes none of them, so it can run beside other checks."""
     libraries = listed()
     words = [f"{KIT}/bin/rattle", verb, "--crate-name", crate, "src/main.rt" if is_program(crate) else "src/lib.rt"]
     for it in ["std", *libraries[crate]]:

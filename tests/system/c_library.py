@@ -32,15 +32,17 @@ sys.path.insert(0, os.path.join(os.path.dirname(os.path.abspath(__file__)), ".."
 import messages  # noqa: E402
 import packages  # noqa: E402
 import rows  # noqa: E402
-from checks import CSM, GREETING, Checks  # noqa: E402
+from checks import CSM, GREETING, Checks, side_by_side  # noqa: E402
 from layers import serve, stdio  # noqa: E402
 from peers import free_port  # noqa: E402
 from workspace import KIT, ROOT, rattle_words  # noqa: E402
 
 LIMIT = 300
 
+PROCESSORS = len(os.sched_getaffinity(0))
+
 # Jobs of the proof of the archive. One processor is left for the tests beside it.
-JOBS = max(1, len(os.sched_getaffinity(0)) - 1)
+JOBS = max(1, PROCESSORS - 1)
 
 PACKAGES = {"coap-client-notls": "libcoap3-bin", "coap-server-notls": "libcoap3-bin", "g++": "g++", "gcc": "gcc", "/usr/include/coap3/coap.h": "libcoap3-dev", "pkg-config": "pkg-config", "valgrind": "valgrind"}
 
@@ -76,7 +78,8 @@ def build_archive():
     os.makedirs(os.path.dirname(kept), exist_ok=True)
     # In the same folder, so that the data appear there at once.
     with tempfile.TemporaryDirectory(prefix="archive-", dir=os.path.dirname(kept)) as room:
-        words = [*rattle_words("build", "coap_c", JOBS), "--incremental", f"{room}/kept", "--toolchain", f"{KIT}/toolchain", "--backend", "llvm", "-o", f"{room}/libcoap_c.a"]
+        words = [*rattle_words("build", "coap_c", JOBS), "--incremental", f"{room}/kept"]
+        words += ["--toolchain", f"{KIT}/toolchain", "--backend", "llvm", "-o", f"{room}/libcoap_c.a"]
         built = subprocess.run(words, cwd=f"{ROOT}/crates/coap_c", stdout=subprocess.PIPE, stderr=subprocess.STDOUT, text=True, errors="replace")
         if built.returncode:
             sys.exit(f"{built.stdout}coap_c is not built\n0 passed, 1 failed")
@@ -279,20 +282,28 @@ def check_messages(checks, programs):
         checks.same("messages that are accepted", wrong[:5], [])
 
 
+def wait_for(port):
+    """Waits until a program accepts connections at a port."""
+    for _ in range(10 * LIMIT):
+        with contextlib.suppress(OSError), socket.create_connection(("127.0.0.1", port)):
+            break
+        time.sleep(0.1)
+
+
 def check_client(checks, clients, server, example):
     """Runs the client of examples/c against the example, the program and libcoap's server."""
-    def observe(name, words, path, **how):
+    def observe(name, words, path):
         port = free_port("127.0.0.1")
-        running = subprocess.Popen([*words, *how.get("options", ("-A", "127.0.0.1", "-p", str(port))), *([str(port), "8"] if words == [example] else [])],
-                                   stdout=subprocess.DEVNULL, stderr=subprocess.DEVNULL)
-        time.sleep(1)
+        address = [str(port), str(LIMIT)] if words == [example] else ["-A", "127.0.0.1", "-p", str(port)]
+        running = subprocess.Popen([*words, *address], stdout=subprocess.DEVNULL, stderr=subprocess.DEVNULL)
+        wait_for(port)
         for client in clients:
             ran = run([*client, f"coap+tcp://127.0.0.1:{port}/{path}", "2"])
             lines = ran.stdout.decode().splitlines()
             checks.same(f"{client[0]} observes {name}: {ran.stderr!r}", (ran.returncode, [it[:5] for it in lines], len(set(lines))), (0, ["2.05 "] * 2, 2))
         running.terminate()
         running.wait()
-    observe("the example", [example], "inside", options=())
+    observe("the example", [example], "inside")
     observe("the program", [server], "time")
     observe("libcoap", ["coap-server-notls"], "time")
     for client in clients:
@@ -308,11 +319,8 @@ def use_example(words, client):
     """Runs the server of examples/c in this way. Observes values, also by libcoap's client, and changes another one. Returns the checks."""
     port = free_port("127.0.0.1")
     address = f"coap+tcp://127.0.0.1:{port}"
-    running = subprocess.Popen([*words, str(port), "10"], stdout=subprocess.PIPE, stderr=subprocess.STDOUT)
-    for _ in range(100):
-        with contextlib.suppress(OSError), socket.create_connection(("127.0.0.1", port)):
-            break
-        time.sleep(0.1)
+    running = subprocess.Popen([*words, str(port), "20"], stdout=subprocess.PIPE, stderr=subprocess.STDOUT)
+    wait_for(port)
     observers = [subprocess.Popen([*one, "-w", "-s", "3", f"{address}/{path}"], stdout=subprocess.PIPE, stderr=subprocess.STDOUT)
                  for one, path in (([client], "inside"), ([client], "outside"), (LIBCOAP, "inside"))]
     for one in observers:
@@ -356,6 +364,89 @@ def check_libcoap(checks, archive, driver, room):
         checks.same(f"with libcoap, {name}", (ran.returncode, ran.stdout, ran.stderr), (0, alone.stdout, b""))
 
 
+def check_names(checks, archive):
+    """Checks the names that the archive exports, the header, and the lengths of the examples."""
+    listed = run(["nm", "--defined-only", "--extern-only", archive]).stdout.decode().splitlines()
+    names = [line.split()[2] for line in listed if len(line.split()) == 3]
+    checks.same("exported names", [it for it in names if not it.startswith(PREFIX)], [])
+    header = pathlib.Path(f"{ROOT}/include/coap_proved.h").read_text(encoding="utf-8")
+    checks.same("names in the header", [it for it in names if f"{it}(" not in header], [])
+    compiles = run(["g++", "-fsyntax-only", *STRICT, "-x", "c++", f"{ROOT}/include/coap_proved.h"])
+    checks.same("header in C++", compiles.returncode, 0)
+    check_numbers(checks, header)
+    for path in sorted(pathlib.Path(f"{ROOT}/examples/c").glob("*.c")):
+        checks.same(f"{path.name} has less than 150 lines", path.read_text(encoding="utf-8").count("\n") < 150, True)
+
+
+# The programs: their sources, and the ways in which they are compiled.
+EXAMPLES, USUAL = f"{ROOT}/examples/c", ("plain", "sanitized")
+SOURCES = {
+    "driver": (f"{rows.HARNESS}/c_library.c", (*USUAL, "failing")),
+    "pair": (f"{rows.HARNESS}/c_client.c", (*USUAL, "failing")),
+    "script": (f"{rows.HARNESS}/c_script.c", USUAL),
+    "server": (f"{EXAMPLES}/server.c", USUAL),
+    "client": (f"{EXAMPLES}/client.c", USUAL),
+}
+
+
+def build(checks, archive, room):
+    """Compiles the programs. Returns the commands that run them, by the names of the program and of the way; `valgrind`
+    runs the plain one."""
+    kinds = {
+        "plain": ([archive], ()), "sanitized": ([archive], SANITIZED),
+        "failing": ([f"{rows.HARNESS}/fail_malloc.c", archive], [*SANITIZED, *FAILING]),
+    }
+    found, jobs = {}, []
+    for name, (source, ways) in SOURCES.items():
+        for way in ways:
+            libraries, flags = kinds[way]
+            found[name, way] = [f"{room}/{name}-{way}"]
+            jobs.append((compiled, source, libraries, f"{room}/{name}-{way}", flags))
+        found[name, "valgrind"] = [*VALGRIND, f"{room}/{name}-plain"]
+    checks.add(side_by_side(jobs, PROCESSORS))
+    return found
+
+
+def check_ended(checks, words):
+    ran = run(words)
+    checks.same(f"{words[-1]} {words[0]}", (ran.returncode, ran.stdout, ran.stderr), (0, b"", b""))
+
+
+def check_changes(checks, words):
+    ran = run([*words, "stdio", "65536", "65536", "131072", "16", "5"], CHANGES)
+    checks.same("changes under valgrind", (ran.returncode, ran.stderr), (0, b""))
+
+
+def check_pair(checks, words):
+    ran = run(words)
+    got = ran.returncode, ran.stdout.decode(), ran.stderr
+    checks.same(f"a client and a server {words[0]}", got, (0, EVENTS, b""))
+
+
+def runs(made, server, client, archive, room):
+    """Returns all runs of the built programs, which are independent of each other."""
+    def both(name):
+        return [made[name, "sanitized"], made[name, "valgrind"]]
+    large, modes = ["stdio", "65536", "65536", "131072", "16", "65536"], ("application", "changes", "lists", "wrong")
+    pairs = (("sanitized", "1"), ("valgrind", "7"), ("sanitized", "60000"))
+    return [
+        (check_client, both("client"), server, *made["server", "sanitized"]),
+        (check_example, both("server"), client),
+        (check_scripts, both("script"), server),
+        (check_streams, *made["driver", "sanitized"], server),
+        (check_allocations, [*made["driver", "failing"], *large], CHANGES),
+        (check_allocations, [*made["driver", "failing"], "application"], b""),
+        (check_allocations, [*made["pair", "failing"], "pair", "9"], b""),
+        (check_messages, both("pair")),
+        *((check_pair, [*made["pair", way], "pair", size]) for way, size in pairs),
+        *((check_ended, [*words, mode]) for mode in modes for words in both("driver")),
+        *((check_ended, [*words, "wrong"]) for words in both("pair")),
+        (check_changes, made["driver", "valgrind"]),
+        (check_libcoap, archive, *made["driver", "plain"], room),
+        (check_names, archive),
+    ]
+
+
 def main(server, client=None, archive=None):
     if server == "--archive":
         print(build_archive())
@@ -364,43 +455,8 @@ def main(server, client=None, archive=None):
     checks.same("packages can be installed", packages.install(PACKAGES), True)
     with tempfile.TemporaryDirectory(prefix="c-library-") as room:
         archive = archive or build_archive()
-        names = [line.split() for line in run(["nm", "--defined-only", "--extern-only", archive]).stdout.decode().splitlines() if len(line.split()) == 3]
-        checks.same("exported names", [it[2] for it in names if not it[2].startswith(PREFIX)], [])
-        header = pathlib.Path(f"{ROOT}/include/coap_proved.h").read_text(encoding="utf-8")
-        checks.same("names in the header", [it[2] for it in names if f"{it[2]}(" not in header], [])
-        checks.same("header in C++", run(["g++", "-fsyntax-only", *STRICT, "-x", "c++", f"{ROOT}/include/coap_proved.h"]).returncode, 0)
-        check_numbers(checks, header)
-        for path in sorted(pathlib.Path(f"{ROOT}/examples/c").glob("*.c")):
-            checks.same(f"{path.name} has less than 150 lines", path.read_text(encoding="utf-8").count("\n") < 150, True)
-        driver, example = f"{ROOT}/tests/harness/c_library.c", f"{ROOT}/examples/c/server.c"
-        plain = compiled(checks, driver, [archive], f"{room}/driver")
-        sanitized = compiled(checks, driver, [archive], f"{room}/driver-sanitized", SANITIZED)
-        both = f"{ROOT}/tests/harness/c_client.c"
-        pair, pair_sanitized = compiled(checks, both, [archive], f"{room}/pair"), compiled(checks, both, [archive], f"{room}/pair-sanitized", SANITIZED)
-        for words in ([sanitized, "application"], [*VALGRIND, plain, "application"], [sanitized, "changes"], [*VALGRIND, plain, "changes"], [sanitized, "lists"], [*VALGRIND, plain, "lists"],
-                      [sanitized, "wrong"], [*VALGRIND, plain, "wrong"], [pair_sanitized, "wrong"], [*VALGRIND, pair, "wrong"]):
-            ran = run(words)
-            checks.same(f"{words[-1]} {words[0]}", (ran.returncode, ran.stdout, ran.stderr), (0, b"", b""))
-        ran = run([*VALGRIND, plain, "stdio", "65536", "65536", "131072", "16", "5"], CHANGES)
-        checks.same("changes under valgrind", (ran.returncode, ran.stderr), (0, b""))
-        for words in ([pair_sanitized, "pair", "1"], [*VALGRIND, pair, "pair", "7"], [pair_sanitized, "pair", "60000"]):
-            ran = run(words)
-            checks.same(f"a client and a server {words[0]}", (ran.returncode, ran.stdout.decode(), ran.stderr), (0, EVENTS, b""))
-        check_messages(checks, ([pair_sanitized], [*VALGRIND, pair]))
-        check_streams(checks, sanitized, server)
-        script = f"{ROOT}/tests/harness/c_script.c"
-        check_scripts(checks, ([compiled(checks, script, [archive], f"{room}/script-sanitized", SANITIZED)], [*VALGRIND, compiled(checks, script, [archive], f"{room}/script")]), server)
-        failing = [f"{rows.HARNESS}/fail_malloc.c", archive]
-        refused = compiled(checks, driver, failing, f"{room}/driver-failing", [*SANITIZED, *FAILING])
-        check_allocations(checks, [refused, "stdio", "65536", "65536", "131072", "16", "65536"], CHANGES)
-        check_allocations(checks, [refused, "application"], b"")
-        check_allocations(checks, [compiled(checks, both, failing, f"{room}/pair-failing", [*SANITIZED, *FAILING]), "pair", "9"], b"")
-        served = compiled(checks, example, [archive], f"{room}/server-sanitized", SANITIZED)
-        check_example(checks, [[served], [*VALGRIND, compiled(checks, example, [archive], f"{room}/server")]], client)
-        observer = f"{ROOT}/examples/c/client.c"
-        observers = [[compiled(checks, observer, [archive], f"{room}/client-sanitized", SANITIZED)], [*VALGRIND, compiled(checks, observer, [archive], f"{room}/client")]]
-        check_client(checks, observers, server, served)
-        check_libcoap(checks, archive, plain, room)
+        made = build(checks, archive, room)
+        checks.add(side_by_side(runs(made, server, client, archive, room), PROCESSORS))
     print(f"{checks.passed} passed, {checks.failed} failed")
     return 1 if checks.failed else 0
 

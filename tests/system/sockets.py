@@ -25,7 +25,10 @@ import time
 sys.path.insert(0, os.path.join(os.path.dirname(os.path.abspath(__file__)), "..", "harness"))
 import messages  # noqa: E402
 from checks import ABORTS, CSM, GREETING, Checks  # noqa: E402
-from peers import LIMIT, LOCAL, Server, authority, free_port, held, is_silent, line_of, processor_time, read_bytes, read_to_end, reset  # noqa: E402
+from peers import (  # noqa: E402
+    LIMIT, LOCAL, Server, authority, free_port, held, is_silent, line_of, processor_time, read_bytes, read_to_end,
+    reset,
+)
 from rows import HARNESS  # noqa: E402
 
 # The number of the option ETag.
@@ -410,7 +413,8 @@ def check_close(checks, programs):
 
 
 def silent_port(stack, hosts, other):
-    """Returns a port at which these addresses listen and respond to no further connection, since their backlogs are full. Nothing listens at `other`."""
+    """Returns a port at which these addresses listen and respond to no further connection, since their backlogs are
+    full. Nothing listens at `other`."""
     port = free_port(other, hosts)
     for host in hosts:
         listener = stack.enter_context(held(host, port))
