@@ -23,7 +23,8 @@ PROCESSORS = len(os.sched_getaffinity(0))
 # Maximum load of all running steps. Those that mostly wait need little more than the others.
 CAPACITY = PROCESSORS + 1
 
-# Conditions that a step may need. Programs as their proofs built them: unproved ones allocate and compute more.
+# Conditions that a step may need. Programs as their proofs built them: those of tests/check execute more instructions,
+# and are in another folder.
 PROVED = "proved programs"
 
 # The probes that play rows, by LLVM and by Rattle's own compiler.
@@ -77,7 +78,7 @@ BUILD_ARCHIVE = Step(["python3", "tests/system/c_library.py", "--archive"], 180,
 STEPS = [
     Step(["python3", "tests/harness/rows.py"], 5, 8, (PROBES,)),
     Step(["python3", "tests/harness/rows.py", "--by-rattle"], 5, 8, (BY_RATTLE,)),
-    Step(["python3", "tests/harness/rows.py", "--refuse"], 30, 60, (PROVED, PROBES)),
+    Step(["python3", "tests/harness/rows.py", "--refuse"], 30, 60, (PROBES,)),
     Step(["python3", "tests/vectors/row_list.py"], 1, 1),
     Step(["python3", "tests/tools/crate_limits.py"], 1, 1),
     Step(["python3", "tests/tools/conformance.py"], 1, 1),
@@ -88,13 +89,13 @@ STEPS = [
     Step(["python3", "tests/vectors/stdio.py", SERVER], 12, 12),
     Step(["python3", "tests/vectors/bytes.py", SERVER], 20, 70),
     Step(["python3", "tests/system/devices.py", SERVER, CLIENT], 2, 1),
-    Step(["python3", "tests/system/alloc_failures.py", SERVER, CLIENT], 3, 1, (PROVED,)),
+    Step(["python3", "tests/system/alloc_failures.py", SERVER, CLIENT], 3, 1),
     Step(["python3", "tests/system/program.py", SERVER, CLIENT], 3, 1),
     Step(["python3", "tests/system/libcoap.py", SERVER], 2, 1),
     Step(["python3", "tests/system/sockets.py", SERVER, CLIENT], 38, 2),
     Step(["python3", "tests/system/log.py", SERVER, CLIENT], 60, 13),
     Step(["python3", "tests/system/record.py", SERVER, CLIENT], 18, 2),
-    Step(["python3", "tests/system/explain.py", SERVER, EXPLAIN], 30, 20, (PROVED,)),
+    Step(["python3", "tests/system/explain.py", SERVER, EXPLAIN], 30, 20),
     Step(["python3", "tests/system/directory.py", DIRECTORY, CLIENT], 30, 20),
     Step(["python3", "tests/system/idle.py", SERVER], 17, 1),
     Step(["python3", "tests/system/clocks.py", SERVER, CLIENT], 14, 1),
