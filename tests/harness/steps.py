@@ -24,7 +24,7 @@ PROCESSORS = len(os.sched_getaffinity(0))
 CAPACITY = PROCESSORS + 1
 
 # Conditions that a step may need. Programs as their proofs built them: those of tests/check execute more instructions,
-# and lie elsewhere.
+# and are in another folder.
 PROVED = "proved programs"
 
 # The probes that play rows, by LLVM and by Rattle's own compiler.
