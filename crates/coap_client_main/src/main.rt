@@ -1,8 +1,8 @@
 //! The program `coap-client`: one request over a reliable transport (RFC 8323).
 //!
-//! The arguments are those of `coap_command_line::client_words`. The program reads the payload file of `-f`, connects to the
-//! host of the URI, opens the response file of `-o`, and then runs `coap_client_engine::run_to_end`. If the run has a cause for
-//! its end, a last line on standard error gives it in words.
+//! The arguments are those of `coap_command_line::client_words`. The program reads the payload file of `-f`, connects
+//! to the host of the URI, opens the response file of `-o`, and then runs `coap_client_engine::run_to_end`. If the
+//! run has a cause for its end, a last line on standard error gives it in words.
 #![tactic(auto)]
 
 ghost use Rattle.std.specs.Prelude.{◌≡◌, ◌≤◌, IfOk, IfSome, IfNone};
