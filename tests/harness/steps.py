@@ -76,15 +76,15 @@ LIBRARY, MQTT = bin_of("libcoap_proved.a", "coap-mqtt")
 BUILD_ARCHIVE = Step(["python3", "tests/system/c_library.py", "--archive"], 180, 450, (PROVED,), ARCHIVE)
 
 STEPS = [
-    Step(["python3", "tests/harness/rows.py"], 5, 8, (PROBES,)),
-    Step(["python3", "tests/harness/rows.py", "--by-rattle"], 5, 8, (BY_RATTLE,)),
-    Step(["python3", "tests/harness/rows.py", "--refuse"], 30, 60, (PROBES,)),
+    Step(["python3", "tests/harness/rows.py"], 4, 8, (PROBES,)),
+    Step(["python3", "tests/harness/rows.py", "--by-rattle"], 4, 8, (BY_RATTLE,)),
+    Step(["python3", "tests/harness/rows.py", "--refuse"], 45, 160, (PROBES,)),
     Step(["python3", "tests/vectors/row_list.py"], 1, 1),
     Step(["python3", "tests/tools/crate_limits.py"], 1, 1),
     Step(["python3", "tests/tools/conformance.py"], 1, 1),
     Step(["python3", "tests/tools/examples.py"], 1, 1),
     Step(["python3", "tests/tools/prose.py"], 5, 5),
-    Step(["python3", "tests/vectors/segmentation.py"], 10, 25, (PROBES,)),
+    Step(["python3", "tests/vectors/segmentation.py"], 2, 2, (PROBES,)),
     Step(["python3", "tests/vectors/scripts.py", SERVER], 2, 1),
     Step(["python3", "tests/vectors/stdio.py", SERVER], 12, 12),
     Step(["python3", "tests/vectors/bytes.py", SERVER], 20, 70),
@@ -95,8 +95,8 @@ STEPS = [
     Step(["python3", "tests/system/sockets.py", SERVER, CLIENT], 38, 2),
     Step(["python3", "tests/system/log.py", SERVER, CLIENT], 60, 13),
     Step(["python3", "tests/system/record.py", SERVER, CLIENT], 18, 2),
-    Step(["python3", "tests/system/explain.py", SERVER, EXPLAIN], 30, 20),
-    Step(["python3", "tests/system/directory.py", DIRECTORY, CLIENT], 30, 20),
+    Step(["python3", "tests/system/explain.py", SERVER, EXPLAIN], 15, 5),
+    Step(["python3", "tests/system/directory.py", DIRECTORY, CLIENT], 5, 1),
     Step(["python3", "tests/system/idle.py", SERVER], 17, 1),
     Step(["python3", "tests/system/clocks.py", SERVER, CLIENT], 14, 1),
     Step(["python3", "tests/system/interop.py", SERVER, CLIENT], 17, 1),
@@ -111,7 +111,7 @@ STEPS = [
     Step(["python3", "tests/system/install.py", *PROGRAMS], 4, 1, (ARCHIVE,)),
     Step(["python3", "tests/system/package.py", *PROGRAMS], 55, 46, (ARCHIVE, ROOT_RIGHTS)),
     Step(["python3", "tests/system/memory.py", SERVER], 30, 105, (PROVED, PROBES)),
-    Step(["bench/directory", "--quick"], 30, 100, (PROVED,)),
+    Step(["bench/directory", "--quick"], 10, 27, (PROVED,)),
     Step(["bench/throughput", "--quick"], 17, 7, (PROVED,)),
 ]
 
