@@ -10,11 +10,11 @@
 use crate::client;
 use coap_client_engine::Client;
 use coap_limits::Limits;
-use coap_model::{Config, ConnId, Starts};
+use coap_model::{Config, ConnId};
 use coap_path::PathKey;
 use coap_server_engine::Server;
 use probe_support::{RowLine, cut, next_number, number, read_hex};
-use std::alloc::Global;
+use std::alloc::{AllocError, Global};
 
 /// Maximum number of outstanding requests of the client.
 const REQUESTS: usize = 3;
@@ -47,20 +47,37 @@ fn piece<'a>(front: &'a [u8], behind: usize, cut: usize, most: usize) -> &'a [u8
     front.get(..left.min(most)).unwrap_or(front)
 }
 
-/// Creates a client and a server, or returns `None` if allocation fails.
-pub(crate) fn opened(alloc: Global, text: &str) -> Option<ClientServerPair> {
-    let (most, cut) = next_number(text);
-    let limits = Limits::new(1_152, 1_152, 2_304, 2, 2, REQUESTS).ok()?;
-    let starts = Starts {
-        moment: 0,
-        versions: 0,
-        ids: 0,
+/// Creates a server with these limits of a connection.
+fn opened_server(alloc: Global, limits: Limits) -> Result<Server, AllocError> {
+    let config = Config::builder().limits(limits).dynamic_max(1).rep_max(100);
+    match config.connections(1).turns(1).build() {
+        Ok(config) => Server::new(alloc, config),
+        Err(_) => Err(AllocError),
+    }
+}
+
+/// Creates a client and a server that has the given connection. Each function owns one of them, since the proof of a
+/// function that drops both is long.
+pub(crate) fn opened(alloc: Global, text: &str) -> Result<ClientServerPair, AllocError> {
+    let Ok(limits) = Limits::new(1_152, 1_152, 2_304, 2, 2, REQUESTS) else {
+        return Err(AllocError);
     };
-    let config = Config::new(limits, 1, 1, 100, 1, starts).ok()?;
-    let mut server = Server::new(alloc, config).ok()?;
-    let id = server.open().ok()?;
-    Some(ClientServerPair {
-        client: Client::open(alloc, limits, 0).ok()?,
+    let server = opened_server(alloc, limits)?;
+    with_client(alloc, text, limits, server)
+}
+
+/// Creates a client for a new server.
+fn with_client(
+    alloc: Global,
+    text: &str,
+    limits: Limits,
+    mut server: Server,
+) -> Result<ClientServerPair, AllocError> {
+    let (most, cut) = next_number(text);
+    // A new server has room for a connection.
+    let id = server.open().unwrap_or(0);
+    Ok(ClientServerPair {
+        client: Client::open(alloc, limits, 0)?,
         server,
         id,
         most,

@@ -1,5 +1,8 @@
 //! Executes rows of text from standard input on values of all layers, from messages to servers, clients and the command
 //! lines of the programs. Prints a result line for each row (`probe_support`).
+//!
+//! One function creates a value and plays the rows of its layer (`play_rows`). So no type has the values of all layers:
+//! the proof of such a type, and of a function that drops it, is long.
 #![tactic(auto)]
 
 mod application;
@@ -11,160 +14,85 @@ mod config;
 mod directory;
 mod door;
 mod joined;
+mod layers;
 mod run;
 mod serve;
 mod stdio;
 mod target;
 mod wires;
 
-use coap_client_engine::Client;
-use coap_conn::{Link, OutQueue};
-use coap_directory_core::Directory;
-use coap_frame::Framer;
-use coap_model::Config;
-use coap_server_engine::Server;
-use coap_store::Store;
-use joined::ClientServerPair;
-use probe_support::{Layers, RowLine, cut, frame, link, print, queue, script, store, wire};
-use std::alloc::{AllocError, Global};
+use layers::{Plain, play_nothing, play_rows};
+use probe_support::{RowLine, cut, frame, link, queue, store};
+use std::io::Read;
 use std::process::ExitCode;
 
-/// Layer whose rows need no value.
-#[derive(Clone, Copy)]
-enum Plain {
-    /// Messages.
-    Wire,
-    /// Limits and configurations.
-    Limits,
-    /// Lines of text.
-    Print,
-    /// Texts of scripts.
-    Script,
-    /// Targets.
-    Target,
-    /// Command lines.
-    Words,
-    /// Runs of a client.
-    Run,
-}
+/// Maximum number of bytes that a row names.
+const ROOM: usize = 4_194_304;
 
-/// Current value, which the rows use.
-#[derive(Drop)]
-enum Value {
-    /// No value yet.
-    Nothing,
-    /// No value, since the layer needs none.
-    Plain(Plain),
-    /// A framer.
-    Frame(Framer),
-    /// A queue of output bytes.
-    Queue(OutQueue),
-    /// A link.
-    Link(Link),
-    /// A store.
-    Store(Store),
-    /// A server.
-    Serve(Server),
-    /// Configuration of runs over devices in memory.
-    Stdio(Config),
-    /// A resource directory.
-    Directory(Directory),
-    /// A client.
-    Client(Client),
-    /// A client and a server, connected in memory.
-    ClientServerPair(ClientServerPair),
-}
+/// Capacity of a result line, in bytes: `ROOM` bytes as hex digits, and some words.
+const LINE_ROOM: usize = 8_454_144;
 
-/// Returns the value that was created. Writes `memory` if allocation failed, and `refused` if the row is out of range.
-fn made<T: Drop>(answer: Option<Result<T, AllocError>>, told: &mut RowLine) -> Option<T> {
-    match answer {
-        Some(Ok(value)) => return Some(value),
-        Some(Err(AllocError)) => told.word("memory"),
-        None => told.word("refused"),
-    }
-    None
-}
+/// Capacity for the input, in bytes. One allocation reserves it, so that the number of allocations before the first row
+/// does not depend on the rows.
+const ROWS_ROOM: usize = 67_108_864;
 
-/// Returns the layer without a value that a word names.
-fn plain_layer(layer: &str) -> Option<Plain> {
-    match layer {
-        "wire" => Some(Plain::Wire),
-        "limits" => Some(Plain::Limits),
-        "print" => Some(Plain::Print),
-        "script" => Some(Plain::Script),
-        "target" => Some(Plain::Target),
-        "words" => Some(Plain::Words),
-        "run" => Some(Plain::Run),
-        _ => None,
-    }
-}
+/// Exit status if the rows cannot be read or allocation for them fails.
+const FAULT: u8 = 3;
 
-/// Creates the value that an opening row names. Returns `None` if the row is out of range or allocation fails.
-fn opened(alloc: Global, opening: &str, told: &mut RowLine) -> Option<Value> {
+/// Creates the value that an opening row names, and plays the rows after it.
+fn play(
+    rt: &(impl Print + AllocGlobal),
+    opening: &str,
+    rows: &str,
+    bytes: &mut Vec<u8>,
+    told: &mut RowLine,
+) {
     let (layer, rest) = cut(opening);
-    if let Some(layer) = plain_layer(layer) {
-        return Some(Value::Plain(layer));
-    }
+    let alloc = rt.alloc();
     match layer {
-        "frame" => Some(Value::Frame(made(frame::opened(alloc, rest), told)?)),
-        "queue" => Some(Value::Queue(made(queue::opened(alloc, rest), told)?)),
-        "link" => Some(Value::Link(made(link::opened(alloc, rest), told)?)),
-        "store" => Some(Value::Store(made(store::opened(alloc, rest), told)?)),
-        "serve" => Some(Value::Serve(made(serve::opened(alloc, rest), told)?)),
-        "application" => Some(Value::Serve(made(application::opened(alloc, rest), told)?)),
-        "directory" => Some(Value::Directory(made(directory::opened(alloc, rest), told)?)),
-        "client" => Some(Value::Client(made(client::opened(alloc, rest), told)?)),
-        "stdio" => Some(Value::Stdio(made(config::configured(rest).map(Ok), told)?)),
-        "joined" => match joined::opened(alloc, rest) {
-            Some(joined) => Some(Value::ClientServerPair(joined)),
-            None => {
-                told.word("memory");
-                None
-            }
+        "frame" => play_rows(rt, frame::opened(alloc, rest), rows, bytes, told),
+        "queue" => play_rows(rt, queue::opened(alloc, rest), rows, bytes, told),
+        "link" => play_rows(rt, link::opened(alloc, rest), rows, bytes, told),
+        "store" => play_rows(rt, store::opened(alloc, rest), rows, bytes, told),
+        "serve" => play_rows(rt, serve::opened(alloc, rest), rows, bytes, told),
+        "application" => play_rows(rt, application::opened(alloc, rest), rows, bytes, told),
+        "directory" => play_rows(rt, directory::opened(alloc, rest), rows, bytes, told),
+        "client" => play_rows(rt, client::opened(alloc, rest), rows, bytes, told),
+        "joined" => play_rows(rt, Some(joined::opened(alloc, rest)), rows, bytes, told),
+        "stdio" => play_rows(rt, stdio::opened(rest), rows, bytes, told),
+        _ => match Plain::named(layer) {
+            Some(plain) => play_rows(rt, Some(Ok(plain)), rows, bytes, told),
+            None => play_nothing(rt, "strange", rows, told),
         },
-        _ => {
-            told.word("strange");
-            None
-        }
     }
 }
 
-/// Executes an event of a layer without a value, and writes its result.
-fn play(alloc: Global, layer: Plain, event: &str, bytes: &mut Vec<u8>, told: &mut RowLine) {
-    match layer {
-        Plain::Wire => wire::play(event, bytes, told),
-        Plain::Limits => config::play(event, told),
-        Plain::Print => print::play(event, bytes, told),
-        Plain::Script => script::play(alloc, event, bytes, told),
-        Plain::Target => target::play(alloc, event, told),
-        Plain::Words => command_line::play(alloc, event, told),
-        Plain::Run => run::play(alloc, event, bytes, told),
+/// Plays each opening row of a text with the rows after it.
+fn play_all(rt: &(impl Print + AllocGlobal), text: &str, bytes: &mut Vec<u8>, told: &mut RowLine) {
+    let text = text.strip_prefix("= ").unwrap_or(text);
+    for section in text.split("\n= ") {
+        let (opening, rows) = section.split_once('\n').unwrap_or((section, ""));
+        play(rt, opening, rows, bytes, told);
     }
 }
 
-impl Layers for Value {
-    fn open(&mut self, alloc: Global, opening: &str, told: &mut RowLine) {
-        *self = opened(alloc, opening, told).unwrap_or(Value::Nothing);
+/// Reads the rows and executes them, or returns `None` if input cannot be read or allocation fails. The result line has
+/// its capacity from the start, so that a later allocation failure is that of a row.
+fn read_and_play(rt: &(impl Input + Print + AllocGlobal)) -> Option<()> {
+    let mut text = Vec::with_capacity(rt.alloc(), ROWS_ROOM).ok()?;
+    rt.reader().read_to_end(&mut text).ok()?;
+    let mut bytes = Vec::with_capacity(rt.alloc(), ROOM).ok()?;
+    let mut told = RowLine::new(rt.alloc(), LINE_ROOM).ok()?;
+    let rows = str::from_utf8(&text).ok()?;
+    if !rows.is_empty() {
+        play_all(rt, rows, &mut bytes, &mut told);
     }
-
-    fn act(&mut self, alloc: Global, event: &str, bytes: &mut Vec<u8>, told: &mut RowLine) {
-        match self {
-            Value::Nothing => told.word("nothing"),
-            Value::Plain(layer) => play(alloc, *layer, event, bytes, told),
-            Value::Frame(framer) => frame::play(framer, event, bytes, told),
-            Value::Queue(queue) => queue::play(queue, event, bytes, told),
-            Value::Link(link) => link::play(link, event, bytes, told),
-            Value::Store(store) => store::play(store, event, bytes, told),
-            Value::Serve(server) => serve::play(alloc, server, event, bytes, told),
-            Value::Stdio(config) => stdio::play(alloc, config, event, bytes, told),
-            Value::Directory(directory) => directory::play(alloc, directory, event, bytes, told),
-            Value::Client(client) => client::play(alloc, client, event, bytes, told),
-            Value::ClientServerPair(joined) => joined::play(alloc, joined, event, bytes, told),
-        }
-    }
+    Some(())
 }
 
 fn main(rt: HostRuntime) -> ExitCode {
-    let mut value = Value::Nothing;
-    probe_support::run(&rt, &mut value)
+    match read_and_play(&rt) {
+        Some(()) => ExitCode::SUCCESS,
+        None => ExitCode::from(FAULT),
+    }
 }

@@ -9,7 +9,7 @@
 mod devices;
 
 use crate::board::{Board, entries};
-use crate::config::IO_FAULTS;
+use crate::config::{IO_FAULTS, configured};
 use crate::door;
 use coap_io::{Outlet, ReadSource, Source, WriteOutlet};
 use coap_model::Config;
@@ -21,6 +21,14 @@ use std::alloc::{AllocError, Global};
 use std::cell::RefCell;
 use std::fmt::Write;
 use std::mem;
+
+/// Returns the configuration that an opening row names, or `None` if a number is out of range.
+pub(crate) fn opened(text: &str) -> Option<Result<Config, AllocError>> {
+    match configured(text) {
+        Some(config) => Some(Ok(config)),
+        None => None,
+    }
+}
 
 /// Writes the result of a run: the reason for its end, the number of bytes read and messages processed, or the error.
 fn answered(outcome: &Result<Report, IoFault>, told: &mut RowLine) {

@@ -64,7 +64,7 @@ impl RowLine {
     }
 
     /// Prints the line with a line feed, and clears it.
-    pub(crate) fn write_line(&mut self, out: &mut impl Write) {
+    pub fn write_line(&mut self, out: &mut impl Write) {
         let _ = self.bytes.push(b'\n');
         let _ = out.write_all(&self.bytes);
         self.bytes.clear();
