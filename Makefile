@@ -68,10 +68,9 @@ mutants:
 	tests/mutants/mutants.py --all $(CRATES)
 
 # Tests that take too long for the gate: all 16,777,216 streams of three bytes, of which the gate plays a quarter, in some minutes
-# on all processors; and the proved tests with each allocation failing in turn, in about an hour.
+# on all processors.
 faults: bin/coap-server
 	tests/vectors/bytes.py bin/coap-server --all
-	tests/tools/fail_alloc.py
 
 # Measures the server and libcoap's, then the server with a record, behind HAProxy, and with observers that do not read. Then counts instructions,
 # copies and memory, and the instructions of the resource directory. Measures changes through two gateways to MQTT, beside mosquitto. Draws the new figures in docs/pictures. Fails if a target is

@@ -1,5 +1,5 @@
 #!/usr/bin/env python3
-"""Plays files of rows on the two probes, which are proved programs, and compares the results.
+"""Plays files of rows on the probe, which is a proved program, and compares the results.
 
     tests/harness/rows.py [--by-rattle | --unproved=FOLDER] [--refuse] [FILE..]
 
@@ -18,12 +18,11 @@ have these counts. (A line `cuts:` is the reason why tests/vectors/segmentation.
 A contract cannot forbid that a call reports an allocation failure without cause. Therefore these files run each call that can
 report one, at each of its limits and with enough memory:
 
-    takes_the_greatest.rows of frame, queue, link, store, serve and run
+    takes_the_greatest.rows of frame, queue, link, store, serve, door and run
     serve/stores_the_greatest.rows, serve/maximum_limits.rows, stdio/serves_the_greatest.rows
     client/the_greatest.rows, calls/announces.rows, script/a_mebibyte.rows, words/greatest_words.rows, target/long.rows
 
-The test `serves_as_many_connections_as_there_can_be` of coap_tests does the same for `serve_door`, and
-tests/system/alloc_failures.py for the programs.
+tests/system/alloc_failures.py does the same for the programs.
 
 The last line is 'N passed, M failed', for the rows or for the failed allocations. The status is 0 if M is 0.
 """

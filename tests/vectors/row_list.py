@@ -4,9 +4,8 @@
     tests/vectors/row_list.py
 
 A row of the list names a file and lines of it. In a file of rows, which tests/harness/rows.py plays, these are whole lines in this order below one
-opening. A line that ends in ` ..` is the beginning of a line. A test of coap_tests must have the lines in a `#[test]` function, or in a constant
-that one names. A stored run must be that of a program in crates.txt, and a Python test must be a step of the gate. With `refused` and `cut` in the
-last column, tests/harness/rows.py --refuse and tests/vectors/segmentation.py must play the file too.
+opening. A line that ends in ` ..` is the beginning of a line. A stored run must be that of a program in crates.txt, and a Python test must be a step
+of the gate. With `refused` and `cut` in the last column, tests/harness/rows.py --refuse and tests/vectors/segmentation.py must play the file too.
 The last line is 'N passed, M failed' for the places of the list, and the status is 0 if M is 0.
 """
 
@@ -94,23 +93,6 @@ def wrong_besides(place, file, steps):
     return ""
 
 
-def texts_of_tests(text):
-    """Returns the text of each `#[test]` function, and of each constant that one names."""
-    tests = re.findall(r"^#\[test\]\nfn .*?^\}$", text, re.MULTILINE | re.DOTALL)
-    constants = re.findall(r'^const (\w+): &str = "(.*?)";$', text, re.MULTILINE | re.DOTALL)
-    return tests + [value for name, value in constants if any(re.search(rf"\b{name}\b", it) for it in tests)]
-
-
-def wrong_in_tests(place, text, steps):
-    """Returns the error of a place in the tests of coap_tests, or an empty text."""
-    module = place.file.removeprefix("crates/coap_tests/src/").removesuffix(".rt")
-    with open(f"{ROOT}/crates/coap_tests/src/lib.rt", encoding="utf-8") as it:
-        is_module = f"mod {module};" in it.read().splitlines()
-    if ["rt", "ci"] not in steps or "coap_tests" not in listed() or not is_module:
-        return "no step of the gate runs these tests"
-    return "" if any(place.is_in(it.splitlines()) for it in texts_of_tests(text)) else "these lines are in no test"
-
-
 def wrong_in_run(place, text, steps):
     """Returns the error of a place in a stored run, or an empty text."""
     crate = place.file.split("/")[1]
@@ -139,8 +121,6 @@ def wrong_of(place, steps):
         return wrong_in_rows(place, steps)
     if place.also:
         return "not a file of rows"
-    if place.file.startswith("crates/coap_tests/src/"):
-        return wrong_in_tests(place, text, steps)
     if re.fullmatch(r"crates/\w+/(args|stdin|stdout|status)", place.file):
         return wrong_in_run(place, text, steps)
     return wrong_in_script(place, text, steps) if place.file.endswith(".py") else "no step of the gate plays files of this kind"

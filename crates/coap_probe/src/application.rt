@@ -3,9 +3,11 @@
 //! The entries are in one word with commas between them. Each is a path, hex digits of the codes of its methods, and hex
 //! digits of the attributes of its link: `/rd:0204:6f6273,/lamp:03:`. The events are those of `serve`.
 
-use crate::serve::configured;
+use crate::config::configured;
 use arrayvec::ArrayVec;
-use coap_serve::{ApplicationFault, Applications, PathKey, Server};
+use coap_application::{ApplicationFault, Applications};
+use coap_path::PathKey;
+use coap_server_engine::Server;
 use coap_wire::Code;
 use probe_support::{cut, next_number, read_hex};
 use std::alloc::{AllocError, Global};
@@ -41,11 +43,13 @@ fn add(
     }
 }
 
-/// Creates a server with an application. Returns `None` if a number or an entry is out of range.
-pub(crate) fn opened(alloc: Global, text: &str) -> Option<Result<Server, AllocError>> {
-    let (deadline, text) = next_number(text);
-    let (entries, numbers) = cut(text);
-    let config = configured(numbers)?;
+/// Creates the entries of an application that has `deadline` seconds for a response. Returns `None` if one is malformed
+/// or rejected.
+pub(crate) fn applications(
+    alloc: Global,
+    deadline: usize,
+    entries: &str,
+) -> Option<Result<Applications, AllocError>> {
     let deadline = deadline.clamp(1, 4_294_967_295) as u32;
     let (Ok(mut applications), Ok(mut bytes)) = (
         Applications::new(alloc, deadline),
@@ -53,10 +57,33 @@ pub(crate) fn opened(alloc: Global, text: &str) -> Option<Result<Server, AllocEr
     ) else {
         return Some(Err(AllocError));
     };
+    match add_all(&mut applications, entries, &mut bytes)? {
+        Ok(()) => Some(Ok(applications)),
+        Err(fault) => Some(Err(fault)),
+    }
+}
+
+/// Adds each entry of a word to an application. Returns `None` if one is malformed or rejected.
+fn add_all(
+    applications: &mut Applications,
+    entries: &str,
+    bytes: &mut Vec<u8>,
+) -> Option<Result<(), AllocError>> {
     for entry in entries.split(',') {
-        if let Err(fault) = add(&mut applications, entry, &mut bytes)? {
+        if let Err(fault) = add(applications, entry, bytes)? {
             return Some(Err(fault));
         }
     }
-    Some(Server::with_applications(alloc, config, applications))
+    Some(Ok(()))
+}
+
+/// Creates a server with an application. Returns `None` if a number or an entry is out of range.
+pub(crate) fn opened(alloc: Global, text: &str) -> Option<Result<Server, AllocError>> {
+    let (deadline, text) = next_number(text);
+    let (entries, numbers) = cut(text);
+    let config = configured(numbers)?;
+    match applications(alloc, deadline, entries)? {
+        Ok(applications) => Some(Server::with_applications(alloc, config, applications)),
+        Err(fault) => Some(Err(fault)),
+    }
 }

@@ -13,22 +13,14 @@
 //! - `written CONNECTION COUNT` and `announce CONNECTION SIZE` write `ok` or the error.
 //! - `part CONNECTION` writes a prefix of the queued bytes.
 
-use crate::limits::{config_of, limits_of};
+use crate::config::configured;
 use coap_conn::first_part;
-use coap_serve::{
-    AnnounceFault, Config, Handled, ReplayFault, ScriptFault, Server, TakeFault, WriteOutlet,
-    WrittenFault, script,
-};
+use coap_io::WriteOutlet;
+use coap_model::{AnnounceFault, Handled, TakeFault, WrittenFault};
+use coap_script::{ScriptFault, script};
+use coap_server_engine::{ReplayFault, Server};
 use probe_support::{RowLine, next_number, read_hex};
 use std::alloc::{AllocError, Global};
-
-/// Returns the configuration that thirteen numbers name, or `None` if one is out of range.
-pub(crate) fn configured(text: &str) -> Option<Config> {
-    let (Ok(limits), rest) = limits_of(text) else {
-        return None;
-    };
-    config_of(limits, rest).ok()
-}
 
 /// Creates a server. Returns `None` if a number is out of range.
 pub(crate) fn opened(alloc: Global, text: &str) -> Option<Result<Server, AllocError>> {

@@ -1,11 +1,9 @@
-//! A reader and a writer that record everything, and a writer of std.
+//! A reader and a writer that record everything.
 
 ghost use Rattle.std.specs.Prelude.{◌≡◌, ◌≤◌, false, [], Some, None, length, map, vec_items};
 
 use coap_serve::{Outlet, Source};
 use std::alloc::Global;
-use std::io;
-use std::io::Write;
 
 /// Reader over bytes that records the result of each read. A read returns at most `most` bytes and none past a cut.
 /// One read may fail.
@@ -148,55 +146,5 @@ impl Outlet for RecordingOutlet {
 
     fn failed(&self) -> bool {
         self.failed
-    }
-}
-
-/// Writer of std that does not allocate, and keeps the first 64 bytes. It counts its writes, including empty ones. A
-/// write accepts one byte, and none after `room` writes. One write may fail.
-#[derive(Drop)]
-pub struct Fixed {
-    pub bytes: [u8; 64],
-    pub writes: usize,
-    pub room: usize,
-    pub fails_in: Option<usize>,
-}
-
-impl Fixed {
-    /// Creates a writer for `room` bytes. If `fails_in` is a number, the write after that number of writes fails.
-    pub fn new(room: usize, fails_in: Option<usize>) -> Fixed {
-        Fixed {
-            bytes: [0; 64],
-            writes: 0,
-            room,
-            fails_in,
-        }
-    }
-
-    /// Returns the bytes that were written, as far as they were kept.
-    pub fn written(&self) -> &[u8] {
-        match self.bytes.get(..self.writes) {
-            Some(bytes) => bytes,
-            None => &self.bytes,
-        }
-    }
-}
-
-impl Write for Fixed {
-    fn write(&mut self, buf: &[u8]) -> io::Result<usize> {
-        if self.fails_in == Some(self.writes) {
-            return Err(io::ErrorKind::Other.into());
-        }
-        if self.writes >= self.room {
-            return Ok(0);
-        }
-        if let (Some(byte), Some(place)) = (buf.first(), self.bytes.get_mut(self.writes)) {
-            *place = *byte;
-        }
-        self.writes = self.writes.saturating_add(1);
-        Ok(buf.len().min(1))
-    }
-
-    fn flush(&mut self) -> io::Result<()> {
-        Ok(())
     }
 }

@@ -5,7 +5,6 @@ ghost use Rattle.std.specs.Prelude.{◌≡◌, ◌+◌, ◌<◌, ◌^◌, false,
 ghost use Rattle.coap_serve.specs.streams.StdioRun.{IsStdioRun};
 
 use crate::devices::{Pieces, RecordingOutlet};
-use crate::settings::{configured, usual};
 use coap_serve::{Config, IoFault, Outlet, ReadSource, Report, Source, WriteOutlet, serve_one};
 use std::alloc::Global;
 use std::process::Abort;
@@ -34,7 +33,7 @@ fn writes(
     write_fails: Option<usize>,
     wanted: &[u8],
 ) -> Result<Report, IoFault> {
-    let config = configured(rt, &usual());
+    let config = Config::builder().build().expect(rt, "a configuration");
     let input: &[u8] = b"\x00\xe1\x02\xe2\x01\x02";
     let mut source = Pieces::new(rt.alloc(), input, 2, [0, 0], None);
     let mut outlet = RecordingOutlet::new(rt.alloc(), 4, usize::MAX, write_fails);
@@ -71,7 +70,7 @@ fn serves_over_slices_and_vectors(rt: HostRuntime) {
     let mut source = ReadSource::new(input);
     let mut written = Vec::new(rt.alloc());
     let mut outlet = WriteOutlet::new(&mut written);
-    let config = configured(&rt, &usual());
+    let config = Config::builder().build().expect(&rt, "a configuration");
     assert!(&rt; config.starts().ids < u64::MAX);
     let result = serve_one(rt.alloc(), &mut source, &mut outlet, &config);
     assert!(&rt; !source.failed() && !outlet.failed());

@@ -22,7 +22,7 @@ from layers import Step
 from layers.target import repeated
 from message_syntax import digits, spelled
 
-PROBE = "coap_client_probe"
+PROBE = "coap_probe"
 LOOKS = ("look", "part")
 
 # Default limits of both programs, without that of outstanding requests.

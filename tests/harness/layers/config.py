@@ -2,8 +2,8 @@
 
 The expected result has all values as the accessors return them. First come the six limits of a connection. The limits on connections, created
 resources, bytes of a representation and turns follow, and then the initial time, version and connection number. If the configuration is invalid,
-the result is the name, the number and the text of the error. The result of `starts` has the default initial values, and that of `faults io` the
-errors of a run.
+the result is the name, the number and the text of the error. The result of `starts` has the default initial values. `faults io` has the
+errors of a run, and `faults application` those of the entries of an application.
 """
 
 from layers import Step

@@ -9,7 +9,7 @@ the client in order, and the number of outstanding requests.
 from layers import Step
 from layers.client import event_of, told_as, wanted_of
 
-PROBE = "coap_client_probe"
+PROBE = "coap_probe"
 LOOKS = ("look",)
 
 # More bytes than any stream has.

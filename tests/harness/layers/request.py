@@ -7,7 +7,7 @@ from layers import Step
 from layers.client import event_of, opened, refused
 from message_syntax import spelled
 
-PROBE = "coap_client_probe"
+PROBE = "coap_probe"
 LOOKS = ("look",)
 
 

@@ -21,9 +21,10 @@ from layers.client import wanted_of
 from layers.target import repeated
 from message_syntax import spelled
 
-PROBE = "coap_client_probe"
+PROBE = "coap_probe"
 
-KINDS = ("deaf", "slow", "torn", "shut", "full", "mute")
+# Words before the arguments, with the writes of the connection.
+KINDS = {"deaf": "later", "slow": "one", "torn": "failed", "shut": "end", "full": "all", "mute": "all", "-": "all"}
 
 
 def event_of(text):
@@ -35,7 +36,7 @@ def event_of(text):
     words = reads.split(" ") if reads else []
     counts = [word if word in ("later", "end", "failed") else str(len(word) // 2) for word in words]
     given = "".join(word for word in words if word not in ("later", "end", "failed"))
-    return f"{kind} {moments.replace(' ', ',')} {','.join(counts) or '-'} {given or '-'} {line}"
+    return f"{kind} {KINDS[kind]} {moments.replace(' ', ',')} {','.join(counts) or '-'} {given or '-'} {line}"
 
 
 def page(digits_):

@@ -7,7 +7,7 @@ import re
 
 from layers import Step
 
-PROBE = "coap_client_probe"
+PROBE = "coap_probe"
 
 
 def repeated(text):

@@ -17,7 +17,7 @@ import re
 from layers import Step
 from layers.target import repeated, target_of
 
-PROBE = "coap_client_probe"
+PROBE = "coap_probe"
 
 METHODS = ("Get", "Put", "Post", "Delete")
 NAMES = ("observe", "wait", "plain", "newline", "format", "accept", "option", "payload", "input", "output")

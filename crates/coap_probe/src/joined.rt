@@ -1,0 +1,173 @@
+//! Rows for a client and a server that are connected in memory: `= joined MOST CUT`.
+//!
+//! The events of the client are `send`, `cancel` and `ping` (see `client`). Those of the server are `put HEX`, at the
+//! path `a`, and `tick TIME`. The event `look` does nothing. After each event, bytes are passed in both directions
+//! until none is left. A slice has at most MOST bytes, and none passes the offset CUT of its stream.
+//!
+//! The result line has the result of the event, the events of the client, each after `,`, and the number of outstanding
+//! requests, after `;`.
+
+use crate::client;
+use coap_client_engine::Client;
+use coap_limits::Limits;
+use coap_model::{Config, ConnId};
+use coap_path::PathKey;
+use coap_server_engine::Server;
+use probe_support::{RowLine, cut, next_number, number, read_hex};
+use std::alloc::{AllocError, Global};
+
+/// Maximum number of outstanding requests of the client.
+const REQUESTS: usize = 3;
+
+/// Maximum number of times that bytes are passed in both directions.
+const ROUNDS: usize = 10_000;
+
+/// Client and server with one connection, and the segmentation of their streams.
+#[derive(Drop)]
+pub(crate) struct ClientServerPair {
+    client: Client,
+    server: Server,
+    id: ConnId,
+    /// Maximum number of bytes of a slice.
+    most: usize,
+    /// Offset in each stream that no slice passes.
+    cut: usize,
+    /// Numbers of bytes passed to the server and to the client.
+    up: usize,
+    down: usize,
+}
+
+/// Returns the prefix of the queued bytes to pass next, after `behind` bytes of the stream.
+fn piece<'a>(front: &'a [u8], behind: usize, cut: usize, most: usize) -> &'a [u8] {
+    let left = if behind < cut {
+        cut - behind
+    } else {
+        usize::MAX
+    };
+    front.get(..left.min(most)).unwrap_or(front)
+}
+
+/// Creates a server with these limits of a connection.
+fn opened_server(alloc: Global, limits: Limits) -> Result<Server, AllocError> {
+    let config = Config::builder().limits(limits).dynamic_max(1).rep_max(100);
+    match config.connections(1).turns(1).build() {
+        Ok(config) => Server::new(alloc, config),
+        Err(_) => Err(AllocError),
+    }
+}
+
+/// Creates a client and a server that has the given connection. Each function owns one of them, since the proof of a
+/// function that drops both is long.
+pub(crate) fn opened(alloc: Global, text: &str) -> Result<ClientServerPair, AllocError> {
+    let Ok(limits) = Limits::new(1_152, 1_152, 2_304, 2, 2, REQUESTS) else {
+        return Err(AllocError);
+    };
+    let server = opened_server(alloc, limits)?;
+    with_client(alloc, text, limits, server)
+}
+
+/// Creates a client for a new server.
+fn with_client(
+    alloc: Global,
+    text: &str,
+    limits: Limits,
+    mut server: Server,
+) -> Result<ClientServerPair, AllocError> {
+    let (most, cut) = next_number(text);
+    // A new server has room for a connection.
+    let id = server.open().unwrap_or(0);
+    Ok(ClientServerPair {
+        client: Client::open(alloc, limits, 0)?,
+        server,
+        id,
+        most,
+        cut: number(cut).unwrap_or(0),
+        up: 0,
+        down: 0,
+    })
+}
+
+/// Passes queued bytes of the client to the server, and returns the number of bytes taken.
+fn to_server(joined: &mut ClientServerPair, told: &mut RowLine) -> usize {
+    let front = joined.client.front();
+    let piece = piece(front, joined.up, joined.cut, joined.most);
+    let Ok(taken) = joined.server.take(joined.id, piece) else {
+        told.word("memory");
+        return 0;
+    };
+    if taken.bytes > joined.client.waiting() {
+        told.word("refused");
+        return 0;
+    }
+    joined.client.written(taken.bytes);
+    joined.up = joined.up.saturating_add(taken.bytes);
+    taken.bytes
+}
+
+/// Passes queued bytes of the server to the client, writes the event, and returns the number of bytes taken.
+fn to_client(joined: &mut ClientServerPair, told: &mut RowLine) -> usize {
+    let Some(front) = joined.server.front(joined.id) else {
+        return 0;
+    };
+    let taken = joined
+        .client
+        .take(piece(front, joined.down, joined.cut, joined.most));
+    let bytes = taken.bytes;
+    if let Some(event) = taken.event() {
+        told.word(",");
+        client::tell_event(&event, told);
+    }
+    if joined.server.written(joined.id, bytes).is_err() {
+        told.word("refused");
+    }
+    joined.down = joined.down.saturating_add(bytes);
+    bytes
+}
+
+/// Passes bytes in both directions until none is left.
+fn settle(joined: &mut ClientServerPair, told: &mut RowLine) {
+    for _ in 0..ROUNDS {
+        let up = to_server(joined, told);
+        let down = to_client(joined, told);
+        if up == 0 && down == 0 {
+            return;
+        }
+    }
+    told.word("restless");
+}
+
+/// Stores bytes at the path `a` of the server.
+fn put(joined: &mut ClientServerPair, bytes: &[u8], told: &mut RowLine) {
+    let Some(path) = PathKey::from_segments(&[b"a"]) else {
+        return told.word("strange");
+    };
+    told.word(match joined.server.put(&path, Some(0), bytes) {
+        Ok(_) => "-",
+        Err(_) => "memory",
+    });
+}
+
+/// Executes an event, and writes its result, the events of the client and the number of outstanding requests.
+pub(crate) fn play(
+    alloc: Global,
+    joined: &mut ClientServerPair,
+    event: &str,
+    bytes: &mut Vec<u8>,
+    told: &mut RowLine,
+) {
+    let (word, rest) = cut(event);
+    match word {
+        "put" => {
+            read_hex(rest, bytes);
+            put(joined, bytes, told);
+        }
+        "tick" => told.word(match joined.server.tick(next_number(rest).0 as u64) {
+            Ok(()) => "-",
+            Err(_) => "refused",
+        }),
+        _ => client::act(alloc, &mut joined.client, event, bytes, told),
+    }
+    settle(joined, told);
+    told.word(";");
+    told.number(joined.client.outstanding() as u64);
+}

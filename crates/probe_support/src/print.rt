@@ -1,0 +1,42 @@
+//! Rows for lines of text, which need no value: `= print`.
+//!
+//! The event `describe BYTES` writes the line that describes a message. The event `line BYTES` appends to a line: the
+//! bytes as hex digits, a text, a number and escaped bytes. It writes the line after the text, after the number and
+//! after the escaped bytes.
+
+use crate::{RowLine, cut, read_hex};
+use coap_print::{Line, describe};
+use coap_wire::parse;
+
+/// Writes the line that describes a message.
+fn tell_description(bytes: &[u8], told: &mut RowLine) {
+    let Ok(message) = parse(bytes) else {
+        return told.word("strange");
+    };
+    let mut line = Line::new();
+    describe(&mut line, &message);
+    told.word(line.as_str());
+}
+
+/// Appends to a line, and writes the line after each part.
+fn tell_line(bytes: &[u8], told: &mut RowLine) {
+    let mut line = Line::new();
+    line.hex(bytes);
+    line.text("c");
+    told.word(line.as_str());
+    line.number(7);
+    told.word(line.as_str());
+    line.escaped(b"more");
+    told.word(line.as_str());
+}
+
+/// Executes an event, and writes its result.
+pub fn play(event: &str, bytes: &mut Vec<u8>, told: &mut RowLine) {
+    let (word, rest) = cut(event);
+    read_hex(rest, bytes);
+    match word {
+        "describe" => tell_description(bytes, told),
+        "line" => tell_line(bytes, told),
+        _ => told.word("strange"),
+    }
+}

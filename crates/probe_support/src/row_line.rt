@@ -1,0 +1,80 @@
+//! The result line of a row.
+
+use itoa::Buffer;
+use std::alloc::{AllocError, Global};
+use std::fmt;
+use std::io::Write;
+
+/// Result line of a row. Bytes above its capacity are dropped.
+#[derive(Drop)]
+pub struct RowLine {
+    bytes: Vec<u8>,
+}
+
+/// Returns the hex digit of the lower four bits of a byte.
+fn digit_of(byte: u8) -> u8 {
+    match byte & 15 {
+        0..=9 => b'0' + (byte & 15),
+        low => b'W'.wrapping_add(low),
+    }
+}
+
+impl RowLine {
+    /// Creates an empty line with a capacity of `room` bytes.
+    ///
+    /// # Errors
+    /// - `AllocError`: allocation fails.
+    pub fn new(alloc: Global, room: usize) -> Result<RowLine, AllocError> {
+        Ok(RowLine {
+            bytes: Vec::with_capacity(alloc, room)?,
+        })
+    }
+
+    /// Appends a word and a space.
+    pub fn word(&mut self, word: &str) {
+        let _ = self.bytes.extend_from_slice(word.as_bytes());
+        let _ = self.bytes.push(b' ');
+    }
+
+    /// Appends a number and a space.
+    pub fn number(&mut self, number: u64) {
+        self.word(Buffer::new().format(number));
+    }
+
+    /// Appends bytes as hex digits, or `-` if there are none, and a space.
+    pub fn hex(&mut self, bytes: &[u8]) {
+        if bytes.is_empty() {
+            return self.word("-");
+        }
+        for byte in bytes {
+            let _ = self.bytes.push(digit_of(*byte >> 4));
+            let _ = self.bytes.push(digit_of(*byte));
+        }
+        let _ = self.bytes.push(b' ');
+    }
+
+    /// Returns the buffer of the line. A caller that writes a line with its own line feed calls `end_line` afterwards.
+    pub fn writer(&mut self) -> &mut Vec<u8> {
+        &mut self.bytes
+    }
+
+    /// Removes the last byte, which is the line feed that a caller of `writer` wrote.
+    pub fn end_line(&mut self) {
+        let _ = self.bytes.pop();
+    }
+
+    /// Prints the line with a line feed, and clears it.
+    pub fn write_line(&mut self, out: &mut impl Write) {
+        let _ = self.bytes.push(b'\n');
+        let _ = out.write_all(&self.bytes);
+        self.bytes.clear();
+    }
+}
+
+/// Texts of `Debug` and `Display` are appended without a space.
+impl fmt::Write for RowLine {
+    fn write_str(&mut self, text: &str) -> fmt::Result {
+        let _ = self.bytes.extend_from_slice(text.as_bytes());
+        Ok(())
+    }
+}
