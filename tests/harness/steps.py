@@ -78,7 +78,7 @@ BUILD_ARCHIVE = Step(["python3", "tests/system/c_library.py", "--archive"], 180,
 STEPS = [
     Step(["python3", "tests/harness/rows.py"], 4, 8, (PROBES,)),
     Step(["python3", "tests/harness/rows.py", "--by-rattle"], 4, 8, (BY_RATTLE,)),
-    Step(["python3", "tests/harness/rows.py", "--refuse"], 45, 160, (PROBES,)),
+    Step(["python3", "tests/harness/rows.py", "--refuse"], 90, 160, (PROBES,)),
     Step(["python3", "tests/vectors/row_list.py"], 1, 1),
     Step(["python3", "tests/tools/crate_limits.py"], 1, 1),
     Step(["python3", "tests/tools/conformance.py"], 1, 1),
