@@ -1,12 +1,14 @@
 """Finds the crates that differ from the last commit for which `make mutants` tried all edits.
 
-The file tests/mutants/whole_run names that commit. `make mutants` writes it after a run over all crates in which no edit failed. It writes nothing if
-a file of crates or tests differed from the commit during the run. The file is committed with the next change.
+The file tests/mutants/whole_run names that commit. `make mutants` writes it after a run over all crates in which no
+edit failed. It writes nothing if a file of crates or tests differed from the commit during the run. The file is
+committed with the next change.
 
 A crate differs in either of these cases. Comments do not count.
 
 - A file of its src, specs or proofs differs, or one of its edits.
-- A crate below it has other specs, or a function that other crates can call has another signature or other clauses there.
+- A crate below it has other specs, or a function that other crates can call has another signature or other clauses
+  there.
 """
 
 import datetime
@@ -41,8 +43,8 @@ def git(*words):
 
 
 def last_commit():
-    """Returns the commit of the last whole run, or None if there was none yet. It must be one of the last MOST_COMMITS of
-    this history."""
+    """Returns the commit of the last whole run, or None if there was none yet. It must be one of the last MOST_COMMITS
+    of this history."""
     try:
         with open(f"{ROOT}/{WHOLE_RUN}", encoding="utf-8") as it:
             found = re.search(r"^commit: (\w+)$", it.read(), re.M)
@@ -93,7 +95,8 @@ def unchanged_head():
 
 
 def record(commit, failed, result, cost):
-    """Writes the file that names the commit of a whole run, if no edit failed and no file has changed since it began."""
+    """Writes the file that names the commit of a whole run, if no edit failed and no file has changed since it
+    began."""
     why = "an edit failed" if failed else "" if commit else "files differed from HEAD when it began"
     if not why and commit != unchanged_head():
         why = "files have changed since it began"

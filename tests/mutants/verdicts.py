@@ -1,10 +1,12 @@
 """Reads the output of a check: the goals of each function that are not proved.
 
-An answer to a goal may fail because the edited code lacks a name that the answer cites. The prover reports this in several forms (GONE). None of them
-says anything about the contract. The control has an edit for each form, which means the same as the code.
+An answer to a goal may fail because the edited code lacks a name that the answer cites. The prover reports this in
+several forms (GONE). None of them says anything about the contract. The control has an edit for each form, which means
+the same as the code.
 
-An answer may also fail because a name now means another value: if the first of two calls is removed, its name means the second. This looks like any
-other error. So an edit keeps the number and the order of calls, or its clause is checked by hand.
+An answer may also fail because a name now means another value: if the first of two calls is removed, its name means the
+second. This looks like any other error. So an edit keeps the number and the order of calls, or its clause is checked by
+hand.
 """
 
 import os
@@ -30,7 +32,8 @@ STATED = re.compile(r"(?:pub |abbrev |unfoldable )*(\S+) : (?:goal\.(\S+))?")
 
 
 def messages(output):
-    """Returns the messages of a check, each in one line. A line that begins with two spaces continues the message above it."""
+    """Returns the messages of a check, each in one line. A line that begins with two spaces continues the message above
+    it."""
     found = []
     for line in output:
         if line.startswith("  ") and found:
@@ -43,8 +46,9 @@ def messages(output):
 def told(path):
     """Returns the name of a function that is unique in its crate.
 
-    For a function of a type, this is the name of the type and its own name. (A check names it by the module of the type, not by that of the
-    impl.) For another function it is its path, and for a closure that of the function around it.
+    For a function of a type, this is the name of the type and its own name. (A check names it by the module of the
+    type, not by that of the impl.) For another function it is its path, and for a closure that of the function around
+    it.
     """
     path = [it for it in path if it]
     if "fn" in path:
@@ -60,8 +64,8 @@ def is_real(message):
 
 
 def goal_at(name, message):
-    """Returns the goal whose answer has an error of a crate's proofs, or the lemma whose proof has it. Returns an empty text for an error
-    elsewhere, such as in an import of a missing name."""
+    """Returns the goal whose answer has an error of a crate's proofs, or the lemma whose proof has it. Returns an empty
+    text for an error elsewhere, such as in an import of a missing name."""
     at = PLACE.match(message)
     if not at:
         return ""
@@ -74,8 +78,8 @@ def goal_at(name, message):
 
 
 def open_functions(name, lines):
-    """Returns the functions that have an unproved goal of their own, each with the goals that are named. Also returns those whose only error
-    is a missing name in a proof file. A goal of a closure counts for the function around it."""
+    """Returns the functions that have an unproved goal of their own, each with the goals that are named. Also returns
+    those whose only error is a missing name in a proof file. A goal of a closure counts for the function around it."""
     goals, cites = {}, set()
     for line in lines:
         at = VERDICT.match(line)
