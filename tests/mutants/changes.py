@@ -38,7 +38,8 @@ class NoWholeRun(Exception):
 
 def git(*words):
     """Returns the lines that a command of git writes, or None if it fails."""
-    ran = subprocess.run(["git", "-C", ROOT, *words], stdin=subprocess.DEVNULL, stdout=subprocess.PIPE, stderr=subprocess.DEVNULL, text=True)
+    how = {"stdin": subprocess.DEVNULL, "stdout": subprocess.PIPE, "stderr": subprocess.DEVNULL}
+    ran = subprocess.run(["git", "-C", ROOT, *words], text=True, **how)
     return None if ran.returncode else ran.stdout.splitlines()
 
 
@@ -54,7 +55,7 @@ def last_commit():
         raise NoWholeRun("names no commit")
     commit = found[1]
     if git("merge-base", "--is-ancestor", commit, "HEAD") is None:
-        raise NoWholeRun(f"names the commit {commit}, which is not in this history (is it a shallow clone, or were commits rebased?)")
+        raise NoWholeRun(f"names the commit {commit}, which is not in this history (a shallow clone, or a rebase?)")
     count = int(git("rev-list", "--count", f"{commit}..HEAD")[0])
     if count > MOST_COMMITS:
         raise NoWholeRun(f"names the commit {commit}, after which there are {count} commits, more than {MOST_COMMITS}")
@@ -90,7 +91,8 @@ def differing(commit):
 
 def unchanged_head():
     """Returns the commit of HEAD, or an empty text if files of crates or tests differ from it."""
-    head, differ = git("rev-parse", "HEAD"), git("status", "--porcelain", "--", "crates", "crates.txt", "tests", f":!{WHOLE_RUN}")
+    head = git("rev-parse", "HEAD")
+    differ = git("status", "--porcelain", "--", "crates", "crates.txt", "tests", f":!{WHOLE_RUN}")
     return head[0] if head and differ == [] else ""
 
 

@@ -1,26 +1,32 @@
-"""Rows for runs of a server over a listener, connections and a clock in memory. `= SETTINGS` has settings for all rows after it.
+"""Rows for runs of a server over a listener, connections and a clock in memory. `= SETTINGS` has settings for all
+rows after it.
 
     SETTINGS; TIMES; CONNECTIONS => CALLS; BYTES ..
 
-Settings are names of a configuration, each followed by a number. A word can be before them: `waits`, `polled`, or `answer` for an application
-that answers GET and PUT of `/rd`. The clock returns the times in order, and then the last one again. After `passes`, it begins at the time that
-follows, and advances in waits alone: a wait until a given time ends at that time.
+Settings are names of a configuration, each followed by a number. A word can be before them: `waits`, `polled`, or
+`answer` for an application that answers GET and PUT of `/rd`. The clock returns the times in order, and then the last
+one again. After `passes`, it begins at the time that follows, and advances in waits alone: a wait until a given time
+ends at that time.
 
-A connection is a word for its writes and words for its reads, with ` | ` between two connections. A read returns bytes, as many `zeros` as the
-buffer has space for, `later`, `end` or `failed`, and `later` after the last word. A write accepts `all` bytes or `one` byte, or is `late` once, or
-every write returns `end` or `failed`. Words separated by commas name one write each, and the last one also names all later writes. A word `@3`
-before a word of either kind makes the connection ready for it after 3 waits.
+A connection is a word for its writes and words for its reads, with ` | ` between two connections. A read returns
+bytes, as many `zeros` as the buffer has space for, `later`, `end` or `failed`, and `later` after the last word. A
+write accepts `all` bytes or `one` byte, or is `late` once, or every write returns `end` or `failed`. Words separated
+by commas name one write each, and the last one also names all later writes. A word `@3` before a word of either kind
+makes the connection ready for it after 3 waits.
 
-The expected result has the calls of the devices in order, and the bytes that each connection accepted. The calls are written so:
+The expected result has the calls of the devices in order, and the bytes that each connection accepted. The calls are
+written so:
 
 - `+1`: the listener returned the first connection. `+-`: the listener had none.
 - `1<5`: a read of the first connection returned 5 bytes. `1<later`: a read returned `later`.
 - `1>19`: a write of 19 bytes accepted all. `1>19:1`: a write of 19 bytes accepted one.
-- `~no` is no wait, `~6` is a wait until time 6 at most, and `~ever` is a wait until something is ready. `|` in place of `~` says that no
-  connection may be opened. The calls have waits after `waits` and `answer` alone. Without these words, the connections are always ready.
+- `~no` is no wait, `~6` is a wait until time 6 at most, and `~ever` is a wait until something is ready. `|` in place
+  of `~` says that no connection may be opened. The calls have waits after `waits` and `answer` alone. Without these
+  words, the connections are always ready.
 
-Each run ends after the number of turns in the settings. After `answer`, the result ends with the numbers of requests, of later responses that
-were accepted, and of connections that ended. `{3*a }` is 3 times `a `, and `{1..3 #a }` is `1a 2a 3a `.
+Each run ends after the number of turns in the settings. After `answer`, the result ends with the numbers of requests,
+of later responses that were accepted, and of connections that ended. `{3*a }` is 3 times `a `, and `{1..3 #a }` is
+`1a 2a 3a `.
 
 `input BYTES => WRITTEN RESULT` is a run for the application over one input and one output.
 """
