@@ -27,7 +27,6 @@ lib: bin/libcoap_proved.a bin/coap_proved.pc
 
 bin/libcoap_proved.a: $(SOURCES) install/library/build | bin/coap-explain
 	tests/build coap_c
-	cd crates/coap_c && rt lib
 	install/library/build crates/coap_c/out/libcoap_c.a bin
 
 bin/coap_proved.pc: install/library/coap_proved.pc.in VERSION

@@ -1,8 +1,4 @@
-"""Copies of the repository ("rooms"), in each of which one crate is checked, so that several crates are checked in parallel.
-
-Only one `rt` can work in a crate and in the crates below it at a time. A room has the sources of every crate, the compiled libraries below
-its crate, and the data kept by the last proof of its crate.
-"""
+"""The crates of the repository, and the command line by which Rattle proves one."""
 
 import os
 import shutil
@@ -68,28 +64,3 @@ def rattle_words(verb, crate, jobs=1):
     words += ["--antt-project", f"{KIT}/rattle/logic/antt-project.json", "--logic-built", f"{KIT}/logic_built"]
     words += ["--crate-type", "staticlib"] if is_static(crate) else []
     return [*words, "--links", f"{crate}=", "--jobs", str(jobs)]
-
-
-def linked(source, target):
-    """Links or copies a file to which nothing is written."""
-    try:
-        os.link(source, target)
-    except OSError:
-        shutil.copy2(source, target)
-
-
-def furnish(room, name, below, kept=True):
-    """Fills a room for a crate. If `kept`, the data of the last proof of the crate is copied too, if it exists."""
-    os.makedirs(f"{room}/.git", exist_ok=True)
-    shutil.copy(f"{ROOT}/crates.txt", room)
-    for crate in crates():
-        # rt reads the list of crates, and needs the directory of each.
-        os.makedirs(f"{room}/crates/{crate}", exist_ok=True)
-        for part in PARTS:
-            if os.path.isdir(f"{ROOT}/crates/{crate}/{part}"):
-                shutil.copytree(f"{ROOT}/crates/{crate}/{part}", f"{room}/crates/{crate}/{part}")
-    for crate in below:
-        shutil.copytree(f"{ROOT}/crates/{crate}/out/rlib", f"{room}/crates/{crate}/out/rlib", copy_function=linked)
-    incremental = f"{ROOT}/crates/{name}/out/incremental"
-    if kept and os.path.isdir(incremental):
-        shutil.copytree(incremental, f"{room}/crates/{name}/out/incremental")
