@@ -5,9 +5,9 @@ A library is proved in one of two forms:
 - FIRST: the first proof. The rlib has what the crates above can cite, and no proofs. So these crates load less and are
   proved faster. But `rattle` can keep nothing of such a proof, and the rlib fits only the builds of the libraries below
   over which it was proved. After a change, the crates above are proved again from nothing.
-- AGAIN: each later proof, so that of a crate that somebody edits. What was checked is kept in out/incremental, and the
-  next proof checks only what has changed. If only the bodies of functions have changed, the proofs of the libraries
-  above read nothing new, and are not repeated. `rt ci` repeats them in any case.
+- AGAIN: each later proof, so that of a crate that somebody edits. The checked parts are kept in out/incremental, and
+  the next proof checks only the changed ones. If only the bodies of functions have changed, the proofs of the
+  libraries above read nothing new, and are not repeated. `rt ci` repeats them in any case.
 
 `rt check` and the other commands of `rt` take the libraries below a crate from out/rlib, in both forms.
 """
@@ -32,7 +32,7 @@ RUN_WITH = ("args", "stdin", "stdout", "status")
 # Options of a proof that keeps what it checked for the next one.
 KEPT = ["--incremental", "out/incremental"]
 
-# What `rattle-link` adds to each program.
+# Archives that `rattle-link` adds to each program.
 LINKED = [f"{KIT}/c/{name}" for name in ("libos_c.a", "liblibc_c.a")]
 
 # Modules of a function that no other crate reads, by parts of their names: its code, and the proofs of that code.
@@ -135,9 +135,9 @@ def is_outside(line):
 
 @functools.cache
 def outside_of(library):
-    """Returns a hash of what the proof of a library above can read of a proved library: its items, definitions,
-    contracts and lemmas, and not the code of its functions and the proofs of that code. A library that was proved
-    without its proofs counts as different from the same library with them."""
+    """Returns a hash of the part of a proved library that the proof of a library above can read: its items,
+    definitions, contracts and lemmas. The code of its functions and the proofs of that code are left out. The form of
+    the library's proof is part of the hash."""
     found, made = hashlib.sha256(last_form(library).encode()), rlib(library)
     add_files(found, made, ["toolchain", "format", "made.json"])
     with open(f"{made}/format", "rb") as it:
