@@ -4,4 +4,5 @@ pub mod AttributeSteps
 pub mod LinkSteps
 pub mod SoundLaws
 pub mod CompleteLaws
+pub mod AttributeTextLaws
 pub mod ParseLaws

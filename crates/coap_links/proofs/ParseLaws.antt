@@ -17,11 +17,13 @@ to_ok : (s : List ℕ) (links : List Link) → links_of s ≡ Ok links → links
 unfolding links_from
 to_ok s links e = ap (map_err (λ left. length s - left)) e
 
-pub found : (s : List ℕ) (r : Result (List Link) LinkFault) → GivesAt r (links_from s) → IfOk r (λ links. Writes s links)
+pub found : (s : List ℕ) (r : Result (List Link) LinkFault) → GivesAt r (links_from s)
+    → IfOk r (λ links. Writes s links)
 found s (Ok links) h = links_sound s links (from_ok s links h)
 found s (Err e) h = search rules
 
-pub only : (s : List ℕ) (r : Result (List Link) LinkFault) (links : List Link) → GivesAt r (links_from s) → Writes s links → r ≡ Ok links
+pub only : (s : List ℕ) (r : Result (List Link) LinkFault) (links : List Link) → GivesAt r (links_from s)
+    → Writes s links → r ≡ Ok links
 only s (Ok given) links h w =
     let read : links_from s ≡ Ok links = to_ok s links (links_complete s links w) in
     let same : ◌≡◌ {A = Result (List Link) ℕ} (Ok given) (Ok links) = sym h ∙ read in

@@ -1,6 +1,7 @@
 -- The characters of a text in link format.
-use Rattle.std.specs.Prelude.{ℕ, Bool, not, ◌&&◌, ◌||◌, nat_le, ◌==◌, codes}
+use Rattle.std.specs.Prelude.{ℕ, Bool, not, ◌&&◌, ◌||◌, List, nat_le, ◌==◌, codes}
 use Rattle.std.specs.List.{list_any}
+use Rattle.std.specs.Str.{str_eq_ignore_ascii_case}
 
 -- The byte is a digit or a letter.
 abbrev pub is_alphanumeric : ℕ → Bool
@@ -21,3 +22,7 @@ is_target_char b = is_alphanumeric b || list_any (λ c. c == b) (codes "-._~:/?#
 -- RFC 2616 section 2.2: the byte is no control character.
 abbrev pub is_quoted_char : ℕ → Bool
 is_quoted_char b = nat_le 32 b && not (b == 127)
+
+-- RFC 8288 section 3: the names of attributes are the same if they differ in the case of letters alone.
+abbrev pub is_same_name : List ℕ → List ℕ → Bool
+is_same_name a b = str_eq_ignore_ascii_case a b

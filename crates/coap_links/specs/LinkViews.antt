@@ -38,8 +38,3 @@ GivesLinks (Err e) read = read ≡ Err e
 abbrev pub GivesAt : Result (List Link) LinkFault → Result (List Link) ℕ → Type 0
 GivesAt (Ok links) read = read ≡ Ok links
 GivesAt (Err e) read = read ≡ Err e.offset
-
--- A call returns the attributes that were read, or the error as a `LinkFault`.
-abbrev pub GivesAttributes : Result (List Attribute) LinkFault → Result (List Attribute) ℕ → Type 0
-GivesAttributes (Ok attributes) read = read ≡ Ok attributes
-GivesAttributes (Err e) read = read ≡ Err e.offset

@@ -37,6 +37,10 @@ abbrev pub is_run : (ℕ → Bool) → List ℕ → Bool
 is_run test [] = false
 is_run test (b ∷ s) = test b && list_all test s
 
+-- `parmname`.
+abbrev pub is_parmname : List ℕ → Bool
+is_parmname name = is_run is_name_char name
+
 -- The bytes can be between the quotes of a `quoted-string`: characters other than `"`, where any character can follow a
 -- backslash. The first argument says whether a backslash precedes the bytes.
 unfoldable pub is_quoted_text : Bool → List ℕ → Bool
@@ -55,7 +59,7 @@ is_value (QuotedValue q) = is_quoted_text false q
 
 -- A link can have this attribute.
 abbrev pub is_attribute : Attribute → Bool
-is_attribute a = is_run is_name_char a.name && is_value a.value
+is_attribute a = is_parmname a.name && is_value a.value
 
 -- A text can write this link.
 abbrev pub is_link : Link → Bool

@@ -1,6 +1,7 @@
 -- Reading of a text in link format, from left to right. An error is the number of bytes that are left where the text
 -- stops to be one.
-use Rattle.std.specs.Prelude.{ℕ, zero, suc, ◌+◌, ◌-◌, Bool, false, List, [], ◌∷◌, length, take, drop, Option, Some, None, Result, Ok, Err, ◌==◌, if◌then◌else◌}
+use Rattle.std.specs.Prelude.{ℕ, zero, suc, ◌+◌, ◌-◌, Bool, false, List, [], ◌∷◌, length, take, drop, Option, Some}
+use Rattle.std.specs.Prelude.{None, Result, Ok, Err, ◌==◌, if◌then◌else◌}
 use Rattle.std.specs.List.{prefix_len}
 use Rattle.coap_links.specs.Characters.{is_name_char, is_token_char, is_target_char, is_quoted_char}
 use Rattle.coap_links.specs.Links.{AttributeValue, NoValue, ExtendedValue, TokenValue, QuotedValue, Attribute, Link}
@@ -34,7 +35,8 @@ unfoldable pub quoted_length : Bool → List ℕ → Result ℕ ℕ
 quoted_length escaped [] = Err 0
 quoted_length escaped (b ∷ s) =
     if is_quoted_char b
-    then (if escaped then plus 1 (quoted_length false s) else (if b == 34 then Ok 0 else plus 1 (quoted_length (b == 92) s)))
+    then (if escaped then plus 1 (quoted_length false s) else
+    (if b == 34 then Ok 0 else plus 1 (quoted_length (b == 92) s)))
     else Err (length s + 1)
 
 -- The value of a quoted string after its first quote, and the bytes after its last one.
@@ -88,7 +90,8 @@ unfoldable pub target_at : List ℕ → Result (List ℕ × List ℕ) ℕ
 target_at [] = Err 0
 target_at (b ∷ s) =
     if b == 60
-    then (after_target (drop (prefix_len is_target_char s) s) >>= λ rest. Ok (take (prefix_len is_target_char s) s, rest))
+    then (after_target (drop (prefix_len is_target_char s) s) >>= λ rest.
+    Ok (take (prefix_len is_target_char s) s, rest))
     else Err (length s + 1)
 
 -- The link at the front of the text, and the bytes after it.
@@ -144,13 +147,3 @@ links_read (Err e) = []
 -- The same as `links_of`, where an error is the number of bytes before that place.
 unfoldable pub links_from : List ℕ → Result (List Link) ℕ
 links_from s = map_err (λ left. length s - left) (links_of s)
-
--- The attributes, if no byte is after them, or else the number of bytes that are left.
-abbrev pub all_read : Result (List Attribute × List ℕ) ℕ → Result (List Attribute) ℕ
-all_read (Err e) = Err e
-all_read (Ok x) = if length x.1 == 0 then Ok x.0 else Err (length x.1)
-
--- The attributes of a text that has nothing else. An error is the number of bytes before the place where it stops to be
--- one.
-unfoldable pub attributes_from : List ℕ → Result (List Attribute) ℕ
-attributes_from s = map_err (λ left. length s - left) (all_read (attributes_at s))
