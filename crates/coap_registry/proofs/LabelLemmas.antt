@@ -1,12 +1,14 @@
 -- Labels with numbers.
-use Rattle.std.proofs.Common.{◌≡◌, ℕ, ◌+◌, ◌≤◌, ◌<◌, ◌^◌, Bool, true, false, cond, List, Option, Some, refl, ap, ◌∙◌, arith, true≢false}
+use Rattle.std.proofs.Common.{◌≡◌, ℕ, ◌+◌, ◌≤◌, ◌<◌, ◌^◌, Bool, true, false, cond, List, Option, Some, refl, ap, ◌∙◌}
+use Rattle.std.proofs.Common.{arith, true≢false}
 use Rattle.std.specs.declared.cmp.Ordering.{Ordering}
 use Rattle.std.specs.declared.cmp.Ordering.TheVariants.{Less, Equal, Greater}
 use Rattle.std.specs.Ordering.{nat_cmp, is_gt}
 use Rattle.std.specs.Map.{lookup}
 use Rattle.std.proofs.lemmas.Cmp.{ranked}
-use Rattle.coap_registry.specs.Prelude.{packed, is_number, IsFound, registration_label, registration_of, RegistrationValue, renewed}
-use Rattle.coap_registry.specs.declared.registry.Stored.{Stored}
+use Rattle.coap_registry.specs.Prelude.{packed, is_number, IsFound, label_with, registration_label, registration_of}
+use Rattle.coap_registry.specs.Prelude.{RegistrationValue, renewed}
+use Rattle.coap_registry.specs.declared.registration.Stored.{Stored}
 use Rattle.coap_registry.proofs.EntryLemmas.{number_same}
 use Rattle.coap_registry.proofs.RegistryLemmas.{packed_same}
 
@@ -39,17 +41,25 @@ unfolding packed
 packed_small l h = omega arith
 
 -- A registration that is found stays so after another label was added.
-pub labels_added : (label n : ℕ) (ls ls' : List (ℕ × ℕ)) → n < 2 ^ 64 → ((q : ℕ) → lookup (is_number q) ls' ≡ cond (is_number (packed label n) q) (Some n) (lookup (is_number q) ls)) → (e : ℕ × Stored) → IsFound ls e → IsFound ls' e
-labels_added label n ls ls' small up e f = record { small = f.small; label = up q ∙ by (is_number (packed label n) q) refl }
+pub labels_added : (label n : ℕ) (ls ls' : List (ℕ × ℕ)) → n < 2 ^ 64
+    → ((q : ℕ) → lookup (is_number q) ls' ≡ cond (is_number (packed label n) q) (Some n) (lookup (is_number q) ls))
+    → (e : ℕ × Stored) → IsFound ls e → IsFound ls' e
+labels_added label n ls ls' small up e f =
+    record { small = f.small; label = up q ∙ by (is_number (packed label n) q) refl }
   where
     q : ℕ
     q = packed (registration_label (registration_of e.1.registration)) e.0
 
-    by : (b : Bool) → is_number (packed label n) (packed (registration_label (registration_of e.1.registration)) e.0) ≡ b → cond b (Some n) (lookup (is_number (packed (registration_label (registration_of e.1.registration)) e.0)) ls) ≡ Some e.0
-    by true h = ap Some (packed_same label (registration_label (registration_of e.1.registration)) n e.0 small f.small (number_same _ _ h))
+    by : (b : Bool) → is_number (packed label n)
+        (packed (registration_label (registration_of e.1.registration)) e.0) ≡ b
+        → cond b (Some n) (lookup (is_number (packed (registration_label (registration_of e.1.registration)) e.0)) ls) ≡
+        Some e.0
+    by true h = ap Some (packed_same label (registration_label (registration_of e.1.registration)) n e.0 small f.small
+        (number_same _ _ h))
     by false h = f.label
 
 -- The label does not change when a registration is renewed.
-pub label_renewed : (now : ℕ) (lifetime : Option ℕ) (base : Option (List ℕ)) (r : RegistrationValue) → registration_label (renewed now lifetime base r) ≡ registration_label r
-unfolding registration_label
+pub label_renewed : (now : ℕ) (lifetime : Option ℕ) (base : Option (List ℕ)) (r : RegistrationValue)
+    → registration_label (renewed now lifetime base r) ≡ registration_label r
+unfolding label_with
 label_renewed now lifetime base r = refl

@@ -6,3 +6,6 @@ pub mod StoreLemmas
 pub mod ChangeLemmas
 pub mod LabelLemmas
 pub mod CandidateLemmas
+pub mod ReachedLemmas
+pub mod FoundLemmas
+pub mod LookupLemmas

@@ -11,7 +11,7 @@ use Rattle.coap_registry.specs.Lookups.{ListingValue, offered_links, offered_end
 use Rattle.coap_registry.specs.RegistrationViews.{registration_of}
 use Rattle.coap_registry.specs.Labels.{packed}
 use Rattle.coap_registry.specs.IndexViews.{is_number}
-use Rattle.coap_registry.specs.declared.registry.Stored.{Stored}
+use Rattle.coap_registry.specs.declared.registration.Stored.{Stored}
 
 -- The listing after a registration: its endpoint, or its links.
 abbrev pub counted : Bool → List CriterionValue → ListingValue → RegistrationValue → ListingValue
@@ -19,7 +19,8 @@ counted endpoints criteria v r = if endpoints then offered_endpoint criteria v r
 
 -- The listing after these entries.
 abbrev pub all_counted : Bool → List CriterionValue → ListingValue → List (ℕ × Stored) → ListingValue
-all_counted endpoints criteria v es = fold (λ (w : ListingValue) (e : ℕ × Stored). counted endpoints criteria w (registration_of e.1.registration)) v es
+all_counted endpoints criteria v es =
+    fold (λ (w : ListingValue) (e : ℕ × Stored). counted endpoints criteria w (registration_of e.1.registration)) v es
 
 -- The listing after the registration at this location, if there is one.
 abbrev pub counted_at : Bool → List CriterionValue → List (ℕ × Stored) → ℕ → ListingValue → ListingValue
@@ -40,4 +41,5 @@ number_in key (Some n) es = number_with key n (lookup (is_number n) es)
 -- it replaced, unless both have the same.
 abbrev pub without_label : Option ℕ → ℕ → ℕ → List (ℕ × ℕ) → List (ℕ × ℕ)
 without_label None label number labels = labels
-without_label (Some old) label number labels = if nat_eq old label then labels else remove_entry (is_number (packed old number)) labels
+without_label (Some old) label number labels =
+    if nat_eq old label then labels else remove_entry (is_number (packed old number)) labels

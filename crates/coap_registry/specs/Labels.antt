@@ -1,7 +1,9 @@
 -- Defined by this project: labels, by which a lookup of one endpoint finds the registrations that can match.
-use Rattle.std.specs.Prelude.{ℕ, ◌+◌, ◌*◌, ◌%◌, Bool, true, not, ◌&&◌, List, [], ◌∷◌, fold, nat_eq, codes, Option, Some, None, if◌then◌else◌}
+use Rattle.std.specs.Prelude.{ℕ, ◌+◌, ◌*◌, ◌%◌, Bool, true, not, ◌&&◌, List, [], ◌∷◌, fold, nat_eq, codes, Option, Some}
+use Rattle.std.specs.Prelude.{None, if◌then◌else◌}
 use Rattle.std.specs.List.{list_all, ends_with}
 use Rattle.std.specs.Cmp.Lexicographic.{pointwise}
+use Rattle.coap_links.specs.Characters.{is_same_name}
 use Rattle.coap_links.specs.Links.{AttributeValue, NoValue, ExtendedValue, TokenValue, QuotedValue, Attribute, Link}
 use Rattle.coap_registry.specs.Registrations.{RegistrationValue}
 use Rattle.coap_registry.specs.Matching.{CriterionValue}
@@ -30,7 +32,7 @@ has_label label (QuotedValue text) = nat_eq (name_label text) label
 
 -- The name of the attribute is `ep`.
 abbrev pub is_endpoint_name : List ℕ → Bool
-is_endpoint_name name = pointwise nat_eq name (codes "ep")
+is_endpoint_name name = is_same_name name (codes "ep")
 
 -- The label of the first attribute `ep`, or 0.
 abbrev pub first_label : List Attribute → ℕ
@@ -45,18 +47,24 @@ agrees label a = if is_endpoint_name a.name then has_label label a.value else tr
 abbrev pub link_agrees : ℕ → Link → Bool
 link_agrees label l = list_all (agrees label) l.attributes
 
--- The label, if each `ep` of the registration and of its links has it. Otherwise 0, the label of those that a lookup of
--- any endpoint reads.
-abbrev pub shared_label : ℕ → RegistrationValue → ℕ
-shared_label label r = if list_all (agrees label) r.attributes && list_all (link_agrees label) r.links then label else 0
+-- The label, if each `ep` of these attributes and links has it. Otherwise 0, the label of those that a lookup of any endpoint
+-- reads.
+abbrev pub shared_label : ℕ → List Attribute → List Link → ℕ
+shared_label label attributes links =
+    if list_all (agrees label) attributes && list_all (link_agrees label) links then label else 0
+
+-- The label of a registration with these attributes and links.
+unfoldable pub label_with : List Attribute → List Link → ℕ
+label_with attributes links = shared_label (first_label attributes) attributes links
 
 -- The label of a registration.
-unfoldable pub registration_label : RegistrationValue → ℕ
-registration_label r = shared_label (first_label r.attributes) r
+abbrev pub registration_label : RegistrationValue → ℕ
+registration_label r = label_with r.attributes r.links
 
--- The criterion asks for an endpoint of exactly this name.
+-- The criterion asks for an endpoint of exactly this name. (One with `EP` is met by the same registrations, but a lookup reads
+-- all for it.)
 abbrev pub is_exact : CriterionValue → Bool
-is_exact c = is_endpoint_name c.name && not (ends_with nat_eq c.pattern (codes "*"))
+is_exact c = pointwise nat_eq c.name (codes "ep") && not (ends_with nat_eq c.pattern (codes "*"))
 
 -- The name of the endpoint that the criteria ask for, if they ask for exactly one name.
 abbrev pub exact_name : List CriterionValue → Option (List ℕ)

@@ -8,4 +8,6 @@ pub mod ListingViews
 pub mod IndexViews
 pub mod EntryViews
 pub mod RegistryViews
+pub mod Reached
+pub mod Results
 pub mod Prelude

@@ -1,8 +1,11 @@
 -- RFC 9176 section 6: the text of the results of a lookup.
-use Rattle.std.specs.Prelude.{ℕ, ◌-◌, Bool, true, false, List, [], ◌∷◌, ◌++◌, length, map, nat_eq, nat_le, codes, Option, Some, None, ◌==◌, if◌then◌else◌}
+use Rattle.std.specs.Prelude.{ℕ, ◌-◌, Bool, true, false, List, [], ◌∷◌, ◌++◌, length, map, nat_eq, nat_le, codes}
+use Rattle.std.specs.Prelude.{Option, Some, None, ◌==◌, if◌then◌else◌}
 use Rattle.std.specs.List.{fold}
 use Rattle.std.specs.Cmp.Lexicographic.{pointwise}
-use Rattle.coap_links.specs.Links.{AttributeValue, NoValue, ExtendedValue, TokenValue, QuotedValue, Attribute, Link, link_text}
+use Rattle.coap_links.specs.Characters.{is_same_name}
+use Rattle.coap_links.specs.Links.{AttributeValue, NoValue, ExtendedValue, TokenValue, QuotedValue, Attribute, Link}
+use Rattle.coap_links.specs.Links.{link_text}
 use Rattle.coap_registry.specs.Registrations.{RegistrationValue}
 use Rattle.coap_registry.specs.Matching.{CriterionValue, resolved, location, is_selected_link, is_selected_endpoint}
 
@@ -69,22 +72,25 @@ resolved_value base (QuotedValue text) = QuotedValue (resolved base text)
 
 abbrev pub resolved_attribute : List ℕ → Attribute → Attribute
 resolved_attribute base a =
-    if pointwise nat_eq a.name (codes "anchor") then record { name = a.name; value = resolved_value base a.value } else a
+    if is_same_name a.name (codes "anchor") then record { name = a.name; value = resolved_value base a.value } else a
 
 -- A link whose relative URIs are resolved.
 abbrev pub resolved_link : List ℕ → Link → Link
-resolved_link base l = record { target = resolved base l.target; attributes = map (resolved_attribute base) l.attributes }
+resolved_link base l =
+    record { target = resolved base l.target; attributes = map (resolved_attribute base) l.attributes }
 
 -- The link of an endpoint.
 abbrev pub endpoint_link : RegistrationValue → Link
 endpoint_link r = record {
   target = location r.number;
-  attributes = map (resolved_attribute r.base) (record { name = codes "base"; value = QuotedValue r.base } ∷ r.attributes);
+  attributes = map (resolved_attribute r.base)
+      (record { name = codes "base"; value = QuotedValue r.base } ∷ r.attributes);
 }
 
 -- The listing after a link of a registration, if the criteria select it.
 abbrev pub offered_link : List CriterionValue → RegistrationValue → ListingValue → Link → ListingValue
-offered_link criteria r v l = if is_selected_link criteria r l then offered v (link_text (resolved_link r.base l)) else v
+offered_link criteria r v l =
+    if is_selected_link criteria r l then offered v (link_text (resolved_link r.base l)) else v
 
 -- The listing after the links of a registration.
 unfoldable pub offered_links : List CriterionValue → ListingValue → RegistrationValue → ListingValue

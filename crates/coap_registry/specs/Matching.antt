@@ -1,12 +1,14 @@
 -- RFC 9176 section 6.1, RFC 6690 section 4.1: the links and endpoints that meet search criteria.
-use Rattle.std.specs.Prelude.{ℕ, ◌-◌, Bool, false, ◌||◌, List, [], ◌++◌, length, take, nat_eq, codes, decimal, if◌then◌else◌}
+use Rattle.std.specs.Prelude.{ℕ, ◌-◌, Bool, false, ◌||◌, List, [], ◌++◌, length, take, nat_eq, codes, decimal}
+use Rattle.std.specs.Prelude.{if◌then◌else◌}
 use Rattle.std.specs.List.{starts_with, ends_with, list_any, list_all}
 use Rattle.std.specs.Cmp.Lexicographic.{pointwise}
 use Rattle.coap_text.specs.Words.{parts}
+use Rattle.coap_links.specs.Characters.{is_same_name}
 use Rattle.coap_links.specs.Links.{AttributeValue, NoValue, ExtendedValue, TokenValue, QuotedValue, Attribute, Link}
 use Rattle.coap_registry.specs.Registrations.{RegistrationValue}
 
--- A search criterion: a name and a pattern.
+-- A search criterion: a name and a pattern. Names do not differ by the case of their letters.
 pub record CriterionValue : Type 0 where
   pub name : List ℕ
   pub pattern : List ℕ
@@ -24,7 +26,8 @@ words value = parts 32 value
 -- The value of an attribute with this name is a list of words (RFC 6690 section 2: `relation-types`).
 abbrev pub is_list_name : List ℕ → Bool
 is_list_name name =
-    pointwise nat_eq name (codes "rt") || (pointwise nat_eq name (codes "if") || (pointwise nat_eq name (codes "rel") || pointwise nat_eq name (codes "rev")))
+    is_same_name name (codes "rt")
+    || (is_same_name name (codes "if") || (is_same_name name (codes "rel") || is_same_name name (codes "rev")))
 
 -- The value meets the criterion, whose name is that of its attribute.
 abbrev pub value_meets : CriterionValue → List ℕ → Bool
@@ -40,7 +43,7 @@ given_value_meets c (QuotedValue text) = value_meets c text
 
 -- The attribute meets the criterion.
 abbrev pub attribute_meets : CriterionValue → Attribute → Bool
-attribute_meets c a = if pointwise nat_eq a.name c.name then given_value_meets c a.value else false
+attribute_meets c a = if is_same_name a.name c.name then given_value_meets c a.value else false
 
 -- The target is relative to the base URI.
 abbrev pub is_relative : List ℕ → Bool
@@ -53,7 +56,7 @@ resolved base target = if is_relative target then base ++ target else target
 -- A link meets the criterion. The base URI is that of its registration.
 abbrev pub link_meets : CriterionValue → List ℕ → Link → Bool
 link_meets c base l =
-    if pointwise nat_eq c.name (codes "href") then value_matches c.pattern (resolved base l.target)
+    if is_same_name c.name (codes "href") then value_matches c.pattern (resolved base l.target)
     else list_any (attribute_meets c) l.attributes
 
 -- The path of the location of a registration.
@@ -63,8 +66,8 @@ location number = codes "/rd/" ++ decimal number
 -- A registration itself meets the criterion.
 abbrev pub endpoint_meets : CriterionValue → RegistrationValue → Bool
 endpoint_meets c r =
-    if pointwise nat_eq c.name (codes "href") then value_matches c.pattern (location r.number)
-    else (if pointwise nat_eq c.name (codes "base") then value_matches c.pattern r.base
+    if is_same_name c.name (codes "href") then value_matches c.pattern (location r.number)
+    else (if is_same_name c.name (codes "base") then value_matches c.pattern r.base
     else list_any (attribute_meets c) r.attributes)
 
 -- A resource lookup with these criteria selects the link of the registration: the link or the registration meets each.

@@ -15,4 +15,11 @@ criteria_of criteria = map criterion_of criteria
 
 -- The registration that contracts see.
 abbrev pub registration_of : Registration → RegistrationValue
-registration_of r = record { number = r.number; lifetime = r.lifetime; deadline = r.deadline; base = r.base.items; attributes = r.attributes; links = r.links }
+registration_of r = record {
+  number = r.number;
+  lifetime = r.lifetime;
+  deadline = r.deadline;
+  base = r.base.items;
+  attributes = r.attributes;
+  links = r.links;
+}

@@ -1,5 +1,6 @@
 -- RFC 9176 section 5: the registration of an endpoint as a value.
-use Rattle.std.specs.Prelude.{ℕ, ◌+◌, ◌-◌, ◌^◌, List, [], ◌∷◌, length, map, filter, nat_eq, nat_lt, Bool, Option, Some, None, unwrap_or, ◌==◌, if◌then◌else◌}
+use Rattle.std.specs.Prelude.{ℕ, ◌+◌, ◌-◌, ◌^◌, List, [], ◌∷◌, length, map, filter, nat_eq, nat_lt, Bool, Option, Some}
+use Rattle.std.specs.Prelude.{None, unwrap_or, ◌==◌, if◌then◌else◌}
 use Rattle.std.specs.List.{list_any}
 use Rattle.std.specs.Option.{option_map_or}
 use Rattle.std.specs.Cmp.Lexicographic.{pointwise}
@@ -57,6 +58,11 @@ registered_at (Some n) v key r = registered v key (record r { number = n })
 unfoldable pub expired : RegistryValue → ℕ → RegistryValue
 expired v now = record v { entries = filter (λ e. nat_lt now e.1.deadline) v.entries }
 
+-- The registration at this location.
+abbrev pub found_at : List (List ℕ × RegistrationValue) → ℕ → Option RegistrationValue
+found_at [] number = None
+found_at (e ∷ es) number = if nat_eq e.1.number number then Some e.1 else found_at es number
+
 -- A registration has this location.
 abbrev pub has_location : RegistryValue → ℕ → Bool
 has_location v number = list_any (λ e. nat_eq e.1.number number) v.entries
@@ -85,10 +91,20 @@ renewed now lifetime base r = record {
   links = r.links;
 }
 
+-- The registration with these attributes of its endpoint.
+abbrev pub with_attributes : List Attribute → RegistrationValue → RegistrationValue
+with_attributes attributes r = record r { attributes = attributes }
+
 -- The entries with `change` made to the registration at this location.
-abbrev pub with_change : (RegistrationValue → RegistrationValue) → ℕ → List (List ℕ × RegistrationValue) → List (List ℕ × RegistrationValue)
+abbrev pub with_change : (RegistrationValue → RegistrationValue) → ℕ → List (List ℕ × RegistrationValue)
+    → List (List ℕ × RegistrationValue)
 with_change change number [] = []
-with_change change number (e ∷ es) = if nat_eq e.1.number number then (e.0, change e.1) ∷ es else e ∷ with_change change number es
+with_change change number (e ∷ es) =
+    if nat_eq e.1.number number then (e.0, change e.1) ∷ es else e ∷ with_change change number es
+
+-- The directory after the registration at this location got these attributes.
+unfoldable pub attributed : RegistryValue → ℕ → List Attribute → RegistryValue
+attributed v number attributes = record v { entries = with_change (with_attributes attributes) number v.entries }
 
 -- The directory after the registration at this location was renewed.
 unfoldable pub updated : RegistryValue → ℕ → ℕ → Option ℕ → Option (List ℕ) → RegistryValue

@@ -6,10 +6,11 @@ ghost use Rattle.std.specs.Cmp.Lexicographic.{pointwise};
 ghost use Rattle.coap_registry.specs.Prelude.{value_matches as matches_value, is_list_name, words, value_meets};
 ghost use Rattle.coap_registry.specs.Prelude.{attribute_meets as meets_attribute, criterion_of, attribute_of};
 
-use coap_links::{AttributeRef, Attributes, ValueRef};
+use coap_links::{AttributeRef, Attributes, ValueRef, is_same_name};
 use coap_text::split_once;
 
-/// Search criterion of a lookup (RFC 9176 section 6.1): an attribute of this name has a matching value.
+/// Search criterion of a lookup (RFC 9176 section 6.1): an attribute of this name has a matching value. Names do not differ
+/// by the case of their letters.
 #[derive(Clone, Copy, Default)]
 pub struct Criterion<'a> {
     /// Name of the attribute, or `href` for the target of a link.
@@ -80,10 +81,10 @@ fn word_matches(pattern: &[u8], value: &[u8]) -> bool
 fn has_words(name: &[u8]) -> bool
     ensures { result ≡ is_list_name name.now }
 {
-    name == b"rt".as_slice()
-        || name == b"if".as_slice()
-        || name == b"rel".as_slice()
-        || name == b"rev".as_slice()
+    is_same_name(name, b"rt")
+        || is_same_name(name, b"if")
+        || is_same_name(name, b"rel")
+        || is_same_name(name, b"rev")
 }
 
 /// Returns `true` if an attribute with the name of the criterion and this value meets it.
@@ -101,7 +102,7 @@ pub(crate) fn meets_value(criterion: &Criterion, value: &[u8]) -> bool
 pub(crate) fn attribute_meets(criterion: &Criterion, attribute: &AttributeRef) -> bool
     ensures { result ≡ meets_attribute (criterion_of criterion.now) (attribute_of attribute.now) }
 {
-    if attribute.name != criterion.name {
+    if !is_same_name(attribute.name, criterion.name) {
         return false;
     }
     match attribute.value {

@@ -4,12 +4,15 @@ ghost use Rattle.std.specs.Prelude.{◌≡◌, ◌<◌, option_map};
 ghost use Rattle.std.specs.List.{list_all};
 ghost use Rattle.coap_registry.specs.Prelude.{name_label, value_label, has_label, is_endpoint_name};
 ghost use Rattle.coap_registry.specs.Prelude.{first_label, agrees};
-ghost use Rattle.coap_registry.specs.Prelude.{link_agrees, registration_label, exact_name, is_exact, packed};
+ghost use Rattle.coap_registry.specs.Prelude.{link_agrees, label_with, registration_label, exact_name, is_exact};
+ghost use Rattle.coap_registry.specs.Prelude.{packed};
 ghost use Rattle.coap_registry.specs.Prelude.{value_of, attribute_of, registration_of, criterion_of, criteria_of};
 
 use crate::criterion::Criterion;
 use crate::registration::Registration;
-use coap_links::{AttributeRef, Attributes, Links, ValueRef};
+use coap_links::{
+    AttributeRef, AttributeText, Attributes, LinkText, Links, ValueRef, is_same_name,
+};
 
 /// Label of the registrations that a lookup of any endpoint reads.
 pub(crate) const ANY: u64 = 0;
@@ -58,7 +61,7 @@ fn value_agrees(label: u64, value: ValueRef) -> bool
 fn is_name(name: &[u8]) -> bool
     ensures { result ≡ is_endpoint_name name.now }
 {
-    name == b"ep".as_slice()
+    is_same_name(name, b"ep")
 }
 
 /// Returns the label of the first attribute `ep`, or `ANY`.
@@ -109,27 +112,34 @@ fn links_agree(label: u64, links: Links) -> bool
     true
 }
 
-/// Returns the label of a registration: that of its name, or `ANY` if it or a link of it has another `ep` too.
-#[tactic(auto, unfolding(crate::specs::Labels::registration_label))]
-pub(crate) fn label_of(registration: &Registration) -> u64
-    ensures value { result ≡ registration_label (registration_of registration.now) }
+/// Returns the label of a registration with these attributes and links: that of its name, or `ANY` if another `ep` is among
+/// them too.
+#[tactic(auto, unfolding(crate::specs::Labels::label_with))]
+pub(crate) fn label_of_parts(attributes: &AttributeText, links: &LinkText) -> u64
+    ensures value { result ≡ label_with attributes.now links.now }
     ensures small { result < 549755813888 }
 {
-    let label = label_of_first(registration.attributes.attributes());
-    if attributes_agree(label, registration.attributes.attributes())
-        && links_agree(label, registration.links.links())
-    {
+    let label = label_of_first(attributes.attributes());
+    if attributes_agree(label, attributes.attributes()) && links_agree(label, links.links()) {
         label
     } else {
         ANY
     }
 }
 
+/// Returns the label of a registration.
+pub(crate) fn label_of(registration: &Registration) -> u64
+    ensures value { result ≡ registration_label (registration_of registration.now) }
+    ensures small { result < 549755813888 }
+{
+    label_of_parts(&registration.attributes, &registration.links)
+}
+
 /// Returns `true` if the criterion asks for an endpoint of exactly one name.
 fn asks_for_name(criterion: &Criterion) -> bool
     ensures { result ≡ is_exact (criterion_of criterion.now) }
 {
-    is_name(criterion.name) && !criterion.pattern.ends_with(b"*")
+    criterion.name == b"ep".as_slice() && !criterion.pattern.ends_with(b"*")
 }
 
 /// Returns the name of the endpoint that the criteria ask for, if they ask for exactly one name.

@@ -5,7 +5,8 @@
 //! - `Registration` is the registration of an endpoint: its location, lifetime and base URI, and its links.
 //! - `Criterion` is a search criterion of a lookup, and `Page` the part of the results that a lookup asks for.
 //!
-//! The contracts name the definitions of `specs/Registrations.antt`, `specs/Matching.antt` and `specs/Lookups.antt`.
+//! The contracts name the definitions of `specs/Registrations.antt`, `specs/Matching.antt` and `specs/Lookups.antt`. `laws`
+//! has theorems on these definitions.
 //!
 //! This crate contains no CoAP message: `coap_directory_core` reads requests and writes responses. Continue with
 //! `registry.rt`, then `matching.rt`.
@@ -14,13 +15,15 @@
 mod candidates;
 mod criterion;
 mod label;
+pub mod laws;
 mod listing;
 mod matching;
+mod offers;
 mod registration;
 mod registry;
 mod results;
 
 pub use criterion::Criterion;
 pub use listing::{Listing, Page};
-pub use registration::Registration;
-pub use registry::{EndpointKey, Registry};
+pub use registration::{EndpointKey, Registration};
+pub use registry::Registry;

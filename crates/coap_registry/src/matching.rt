@@ -10,7 +10,7 @@ use crate::criterion::{
     Criterion, any_attribute_meets, joined_matches, meets_value, value_matches,
 };
 use crate::registration::Registration;
-use coap_links::{LinkRef, Links};
+use coap_links::{LinkRef, Links, is_same_name};
 use coap_text::decimal_digits;
 
 /// Returns `true` if a target is relative to the base URI.
@@ -24,7 +24,7 @@ pub(crate) fn is_relative(target: &[u8]) -> bool
 fn link_meets(criterion: &Criterion, base: &[u8], link: &LinkRef) -> bool
     ensures { result ≡ meets_link (criterion_of criterion.now) base.now link.now }
 {
-    if criterion.name != b"href".as_slice() {
+    if !is_same_name(criterion.name, b"href") {
         return any_attribute_meets(criterion, link.attributes());
     }
     let target = link.target();
@@ -51,11 +51,11 @@ fn any_link_meets(criterion: &Criterion, base: &[u8], links: Links) -> bool
 fn endpoint_meets(criterion: &Criterion, registration: &Registration) -> bool
     ensures { result ≡ meets_endpoint (criterion_of criterion.now) (registration_of registration.now) }
 {
-    if criterion.name == b"href".as_slice() {
+    if is_same_name(criterion.name, b"href") {
         let digits = decimal_digits(registration.number);
         return joined_matches(criterion.pattern, b"/rd/", &digits);
     }
-    if criterion.name == b"base".as_slice() {
+    if is_same_name(criterion.name, b"base") {
         return value_matches(criterion.pattern, &registration.base);
     }
     any_attribute_meets(criterion, registration.attributes.attributes())

@@ -1,6 +1,8 @@
 //! The registration of an endpoint.
 
+use arrayvec::ArrayVec;
 use coap_links::{AttributeText, LinkText};
+use std::collections::BTreeMap;
 
 /// Registration of an endpoint (RFC 9176 section 5).
 #[derive(Drop)]
@@ -18,3 +20,16 @@ pub struct Registration {
     /// Links that were registered.
     pub links: LinkText,
 }
+
+/// Key of an endpoint: a byte with the length of its sector, its sector, and its name.
+pub type EndpointKey = ArrayVec<u8, 127>;
+
+/// Registration with the key of its endpoint.
+#[derive(Drop)]
+pub(crate) struct Stored {
+    pub(crate) key: EndpointKey,
+    pub(crate) registration: Registration,
+}
+
+/// Registrations by the numbers of their locations.
+pub(crate) type Entries = BTreeMap<u64, Stored>;

@@ -6,38 +6,28 @@ ghost use Rattle.std.specs.List.Sorted.{IsStrictlySortedBy};
 ghost use Rattle.std.specs.Ordering.{nat_cmp};
 ghost use Rattle.std.specs.Map.{lookup, keys_of};
 ghost use Rattle.std.specs.Cmp.Lexicographic.{pointwise};
-ghost use Rattle.coap_registry.specs.Prelude.{place_of, registered_at, expired, removed, has_location, registration_of};
+ghost use Rattle.coap_links.specs.Links.{is_attribute};
+ghost use Rattle.coap_registry.specs.Prelude.{found_at, place_of, registered_at, expired, removed, has_location};
+ghost use Rattle.coap_registry.specs.Prelude.{registration_of};
 ghost use Rattle.coap_registry.specs.Prelude.{criteria_of, offered_links, offered_endpoint, registrations};
-ghost use Rattle.coap_registry.specs.Prelude.{updated, renewed, registered, next_location, number_in, all_counted};
+ghost use Rattle.coap_registry.specs.Prelude.{updated, attributed, renewed, registered, next_location, number_in};
+ghost use Rattle.coap_registry.specs.Prelude.{all_counted};
 ghost use Rattle.coap_registry.specs.Prelude.{counted, counted_at, Each, IsFound, exact_name, is_number};
 ghost use Rattle.coap_registry.specs.Prelude.{without_label, registration_label};
 ghost use Rattle.std.specs.Prelude.{option_map, nat_eq, filter, is_some};
 
-use crate::candidates::{Labels, next_candidate};
+use crate::candidates::Labels;
 use crate::criterion::Criterion;
-use crate::label::{label_of, label_of_name, pack, requested_name};
+use crate::label::{label_of, label_of_parts, pack, requested_name};
 use crate::listing::Listing;
-use crate::registration::Registration;
-use crate::results::{offer_endpoint, offer_links};
-use arrayvec::ArrayVec;
+use crate::offers::{offer_all, offer_candidates};
+use crate::registration::{EndpointKey, Entries, Registration, Stored};
+use coap_links::{AttributeText, Attributes};
 use indexmap::IndexMap;
 use std::alloc::{AllocError, Global};
 use std::collections::BTreeMap;
 use std::marker::Model;
 use std::mem::replace;
-
-/// Key of an endpoint: a byte with the length of its sector, its sector, and its name.
-pub type EndpointKey = ArrayVec<u8, 127>;
-
-/// Registration with the key of its endpoint.
-#[derive(Drop)]
-struct Stored {
-    key: EndpointKey,
-    registration: Registration,
-}
-
-/// Registrations by the numbers of their locations.
-type Entries = BTreeMap<u64, Stored>;
 
 /// Numbers of locations by the keys of the endpoints.
 type Numbers = IndexMap<EndpointKey, u64>;
@@ -103,6 +93,24 @@ impl Registry {
             return None;
         }
         Some(self.next)
+    }
+
+    /// Returns `true` if a registration has the location with this number.
+    pub fn has(&self, number: u64) -> bool
+        ensures { result ≡ has_location self.now number }
+    {
+        self.entries.contains_key(&number)
+    }
+
+    /// Returns the attributes of the endpoint at a location, or `None` if there is none.
+    pub fn attributes(&self, number: u64) -> Option<Attributes<'_>>
+        ensures all { result ≡ option_map (λ r. r.attributes) (found_at self.now.entries number) }
+        ensures each { IfSome result (λ list. list_all is_attribute list ≡ true) }
+    {
+        let Some(stored) = self.entries.get(&number) else {
+            return None;
+        };
+        Some(stored.registration.attributes.attributes())
     }
 
     /// Stores the registration of an endpoint at the location that `place` gives, and returns the number of the location.
@@ -204,6 +212,34 @@ impl Registry {
         let deadline = change(&mut stored.registration, now, lifetime, base);
         self.earliest = earlier(deadline, self.earliest);
         true
+    }
+
+    /// Replaces the attributes of the endpoint at a location. Returns `false` if there is none.
+    ///
+    /// # Errors
+    ///
+    /// - `AllocError` if allocation fails. The registrations are unchanged.
+    pub fn set_attributes(
+        &mut self,
+        number: u64,
+        attributes: AttributeText,
+    ) -> Result<bool, AllocError>
+        ensures found { IfOk result (λ r. r ≡ has_location self.old number) }
+        ensures ok { OnOk result (self.new ≡ attributed self.old number attributes) }
+        ensures err { OnErr result (self.new ≡ self.old) }
+    {
+        let Some(stored) = self.entries.get(&number) else {
+            return Ok(false);
+        };
+        let old = label_of(&stored.registration);
+        let label = label_of_parts(&attributes, &stored.registration.links);
+        self.labels.insert(pack(label, number), number)?;
+        let Some(stored) = self.entries.get_mut(&number) else {
+            unreachable!()
+        };
+        stored.registration.attributes = attributes;
+        forget_other(&mut self.labels, old, label, number);
+        Ok(true)
     }
 
     /// Removes the registration at a location. Returns `false` if there is none.
@@ -336,76 +372,20 @@ fn change(
     registration.deadline
 }
 
-/// Counts a registration: its endpoint or its links, and appends those in the part.
-fn offer(
-    listing: &mut Listing,
-    endpoints: bool,
-    criteria: &[Criterion],
-    registration: &Registration,
-)
-    ensures { listing.new ≡ counted endpoints (criteria_of criteria.now) listing.old (registration_of registration.now) }
-{
-    if endpoints {
-        offer_endpoint(listing, criteria, registration);
-    } else {
-        offer_links(listing, criteria, registration);
-    }
-}
-
-/// Counts all registrations, and appends those in the part.
-fn offer_all(entries: &Entries, endpoints: bool, criteria: &[Criterion], listing: &mut Listing)
-    ensures { listing.new ≡ all_counted endpoints (criteria_of criteria.now) listing.old entries.now.entries }
-{
-    for (_, stored) in entries.iter() {
-        offer(listing, endpoints, criteria, &stored.registration);
-    }
-}
-
-/// Counts the registration at a location, if there is one.
-fn offer_at(
-    entries: &Entries,
-    number: u64,
-    endpoints: bool,
-    criteria: &[Criterion],
-    listing: &mut Listing,
-)
-    ensures { listing.new ≡ counted_at endpoints (criteria_of criteria.now) entries.now.entries number listing.old }
-{
-    if let Some(stored) = entries.get(&number) {
-        offer(listing, endpoints, criteria, &stored.registration);
-    }
-}
-
-/// Counts the registrations that can have the name of an endpoint that the criteria ask for.
-fn offer_candidates(
-    entries: &Entries,
-    labels: &Labels,
-    name: &[u8],
-    endpoints: bool,
-    criteria: &[Criterion],
-    listing: &mut Listing,
-)
-    requires ordered { IsStrictlySortedBy nat_cmp (keys_of entries.now.entries) }
-    requires labelled { Each (IsFound labels.now.entries) entries.now.entries }
-    requires asked { exact_name (criteria_of criteria.now) ≡ Some name.now }
-    ensures { listing.new ≡ all_counted endpoints (criteria_of criteria.now) listing.old entries.now.entries }
-{
-    let label = label_of_name(name);
-    let mut from: u128 = 0;
-    while let Some(number) = next_candidate(labels, label, from) {
-        offer_at(entries, number, endpoints, criteria, listing);
-        from = u128::from(number) + 1;
-    }
-}
-
 /// Removes the label of a registration that was replaced, unless the new one has it.
 fn forget_label(labels: &mut Labels, replaced: &Option<Stored>, label: u64, number: u64)
     ensures { labels.new.entries ≡ without_label (option_map (λ s. registration_label (registration_of s.registration)) replaced.now) label number labels.old.entries }
 {
-    let Some(replaced) = replaced else {
-        return;
-    };
-    let old = label_of(&replaced.registration);
+    if let Some(replaced) = replaced {
+        forget_other(labels, label_of(&replaced.registration), label, number);
+    }
+}
+
+/// Removes the former label of a registration, unless the new one is the same.
+fn forget_other(labels: &mut Labels, old: u64, label: u64, number: u64)
+    requires { old < 549755813888 }
+    ensures { labels.new.entries ≡ without_label (Some old) label number labels.old.entries }
+{
     if old != label {
         labels.remove(&pack(old, number));
     }

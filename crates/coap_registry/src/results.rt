@@ -1,7 +1,7 @@
 //! The results of a lookup, written into a listing.
 
-ghost use Rattle.std.specs.Prelude.{◌≡◌, ◌∷◌, map, nat_eq, codes};
-ghost use Rattle.std.specs.Cmp.Lexicographic.{pointwise};
+ghost use Rattle.std.specs.Prelude.{◌≡◌, ◌∷◌, map, codes};
+ghost use Rattle.coap_links.specs.Characters.{is_same_name as is_same};
 ghost use Rattle.coap_registry.specs.Prelude.{with_bytes, resolved_attribute, resolved_link, attribute_of};
 ghost use Rattle.coap_registry.specs.Prelude.{attribute_text, attributes_text, link_text, endpoint_link};
 ghost use Rattle.coap_registry.specs.Prelude.{registration_of, value_text, resolved, resolved_value, value_of};
@@ -11,7 +11,7 @@ use crate::criterion::Criterion;
 use crate::listing::Listing;
 use crate::matching::{is_relative, selects_endpoint, selects_link};
 use crate::registration::Registration;
-use coap_links::{AttributeRef, Attributes, LinkRef, ValueRef};
+use coap_links::{AttributeRef, Attributes, LinkRef, ValueRef, is_same_name};
 use coap_text::decimal_digits;
 
 /// Appends a URI. A relative one is resolved.
@@ -62,9 +62,9 @@ fn push_resolved_value(listing: &mut Listing, base: &[u8], value: ValueRef)
 
 /// Returns `true` if the value of an attribute with this name is a URI.
 fn is_anchor(name: &[u8]) -> bool
-    ensures { result ≡ pointwise nat_eq name.now (codes "anchor") }
+    ensures { result ≡ is_same name.now (codes "anchor") }
 {
-    name == b"anchor".as_slice()
+    is_same_name(name, b"anchor")
 }
 
 /// Appends an attribute after `;`. The URI of `anchor` is resolved.

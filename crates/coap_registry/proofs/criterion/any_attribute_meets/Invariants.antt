@@ -8,5 +8,6 @@ abbrev pub invariant-loop-attribute : goal.invariant-loop-attribute
 invariant-loop-attribute l = record {
   goes : (goal.iterator-loop-attribute).can_next l.attribute-iterator;
   ends : (goal.iterator-loop-attribute).is_finite l.attribute-iterator;
-  so_far : list_any (attribute_meets (criterion_of l.criterion)) l.attribute-iterator ≡ list_any (attribute_meets (criterion_of l.criterion)) l.fn.attributes;
+  so_far : list_any (attribute_meets (criterion_of l.criterion)) l.attribute-iterator ≡ list_any
+      (attribute_meets (criterion_of l.criterion)) l.fn.attributes;
 }

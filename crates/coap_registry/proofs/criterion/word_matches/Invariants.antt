@@ -5,7 +5,8 @@ use Rattle.coap_registry.proofs.criterion.word_matches.Given as goal
 
 -- No word so far matches.
 abbrev pub invariant-loop-word : goal.invariant-loop-word
-invariant-loop-word l = list_any (value_matches l.pattern) (words l.rest) ≡ list_any (value_matches l.pattern) (words l.value)
+invariant-loop-word l =
+    list_any (value_matches l.pattern) (words l.rest) ≡ list_any (value_matches l.pattern) (words l.value)
 
 abbrev pub decreases-loop-word : goal.decreases-loop-word
 decreases-loop-word l = length l.rest

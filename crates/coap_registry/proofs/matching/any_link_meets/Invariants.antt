@@ -8,5 +8,6 @@ abbrev pub invariant-loop-link : goal.invariant-loop-link
 invariant-loop-link l = record {
   goes : (goal.iterator-loop-link).can_next l.link-iterator;
   ends : (goal.iterator-loop-link).is_finite l.link-iterator;
-  so_far : list_any (link_meets (criterion_of l.criterion) l.base) l.link-iterator ≡ list_any (link_meets (criterion_of l.criterion) l.base) l.fn.links;
+  so_far : list_any (link_meets (criterion_of l.criterion) l.base) l.link-iterator ≡ list_any
+      (link_meets (criterion_of l.criterion) l.base) l.fn.links;
 }

@@ -5,4 +5,5 @@ use Rattle.coap_registry.specs.Prelude.{is_number}
 use Rattle.coap_registry.proofs.registry.keep_numbers.Goals as goal
 
 pub returns : goal.returns
-returns c = filter-RetainsPairs _ (λ e. is_some (lookup (is_number e.1) c.args.entries.now.entries)) _ (λ k v b w g call. search rules) c.args.numbers.now.entries c.retain.new.self.entries c.retain.ensures.filtered
+returns c = filter-RetainsPairs _ (λ e. is_some (lookup (is_number e.1) c.args.entries.now.entries)) _
+    (λ k v b w g call. search rules) c.args.numbers.now.entries c.retain.new.self.entries c.retain.ensures.filtered

@@ -7,5 +7,7 @@ abbrev pub invariant-loop-attribute : goal.invariant-loop-attribute
 invariant-loop-attribute l = record {
   goes : (goal.iterator-loop-attribute).can_next l.attribute-iterator;
   ends : (goal.iterator-loop-attribute).is_finite l.attribute-iterator;
-  so_far : with_bytes l.listing (attributes_text (map (resolved_attribute l.base) l.attribute-iterator)) ≡ with_bytes l.fn.listing (attributes_text (map (resolved_attribute l.base) l.fn.attributes));
+  so_far : with_bytes l.listing
+      (attributes_text (map (resolved_attribute l.base) l.attribute-iterator)) ≡ with_bytes l.fn.listing
+      (attributes_text (map (resolved_attribute l.base) l.fn.attributes));
 }
