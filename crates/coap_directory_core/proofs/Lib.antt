@@ -1,2 +1,6 @@
 pub mod PathLemmas
-pub mod ParameterLemmas
+pub mod AttributeLemmas
+pub mod EndpointLemmas
+pub mod LinkFormatLemmas
+pub mod ReachedLemmas
+pub mod LookupLemmas

@@ -11,5 +11,7 @@ pub three : (xs ys : List (List ℕ)) (total : List (List ℕ)) → length xs �
 three xs ys total h e = sym (take_front xs ys) ∙ ap (λ (n : ℕ). take n (xs ++ ys)) h ∙ e
 
 -- No segment is left.
-pub all_of : (xs ys : List (List ℕ)) (total : List (List ℕ)) → length xs ≤ 3 → ys ≡ [] → take 3 (xs ++ ys) ≡ total → xs ≡ total
-all_of xs ys total h none e = sym (take_all 3 xs h) ∙ ap (take 3) (sym (append-nil xs) ∙ ap (λ (t : List (List ℕ)). xs ++ t) (sym none)) ∙ e
+pub all_of : (xs ys : List (List ℕ)) (total : List (List ℕ)) → length xs ≤ 3 → ys ≡ [] → take 3 (xs ++ ys) ≡ total
+    → xs ≡ total
+all_of xs ys total h none e =
+    sym (take_all 3 xs h) ∙ ap (take 3) (sym (append-nil xs) ∙ ap (λ (t : List (List ℕ)). xs ++ t) (sym none)) ∙ e

@@ -9,6 +9,7 @@ Gives view (Ok x) read = read ≡ Ok (view x)
 Gives view (Err e) read = read ≡ Err e
 
 -- A call returns the value of `made` and leaves its registrations, or returns its refusal and changes nothing.
-abbrev pub Changes : {X Y : Type 0} → (X → Y) → Result X Refusal → RegistryValue → RegistryValue → Result (Y × RegistryValue) Refusal → Type 0
+abbrev pub Changes : {X Y : Type 0} → (X → Y) → Result X Refusal → RegistryValue → RegistryValue
+    → Result (Y × RegistryValue) Refusal → Type 0
 Changes view (Ok x) old new made = made ≡ Ok (view x, new)
 Changes view (Err e) old new made = (made ≡ Err e) × (new ≡ old)

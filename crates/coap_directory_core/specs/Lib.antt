@@ -1,9 +1,11 @@
 pub mod Refusals
 pub mod Requests
 pub mod Parameters
+pub mod Conditions
 pub mod Changes
 pub mod Replies
 pub mod ChangeViews
 pub mod RequestViews
 pub mod Responses
+pub mod Endpoints
 pub mod Prelude

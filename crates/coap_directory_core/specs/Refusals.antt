@@ -2,7 +2,10 @@
 use Rattle.std.specs.Prelude.{ℕ, List, [], codes}
 use Rattle.coap_wire.specs.Codes.{code_of}
 use Rattle.coap_directory_core.specs.declared.refusal.Refusal.{Refusal}
-use Rattle.coap_directory_core.specs.declared.refusal.Refusal.TheVariants.{Path, Method, Format, Repeated, Endpoint, Lifetime, Base, Query, Links, Target, Full, TooLarge}
+use Rattle.coap_directory_core.specs.declared.refusal.Refusal.TheVariants.{Path, Method, Format, Repeated, Endpoint}
+use Rattle.coap_directory_core.specs.declared.refusal.Refusal.TheVariants.{Lifetime, Base, Query, Links, Target, Full}
+use Rattle.coap_directory_core.specs.declared.refusal.Refusal.TheVariants.{TooLarge, Name, Many, Key, Payload}
+use Rattle.coap_directory_core.specs.declared.refusal.Refusal.TheVariants.{Condition, Accept}
 
 abbrev pub code_of_refusal : Refusal → ℕ
 code_of_refusal Path = code_of 4 4
@@ -17,6 +20,12 @@ code_of_refusal Links = code_of 4 0
 code_of_refusal Target = code_of 4 0
 code_of_refusal Full = code_of 5 3
 code_of_refusal TooLarge = code_of 4 0
+code_of_refusal Name = code_of 4 0
+code_of_refusal Many = code_of 4 0
+code_of_refusal Key = code_of 4 0
+code_of_refusal Payload = code_of 4 0
+code_of_refusal Condition = code_of 4 12
+code_of_refusal Accept = code_of 4 6
 
 abbrev pub text_of_refusal : Refusal → List ℕ
 text_of_refusal Path = []
@@ -31,3 +40,9 @@ text_of_refusal Links = codes "payload is not in link format"
 text_of_refusal Target = codes "targets must begin with a scheme or with /"
 text_of_refusal Full = []
 text_of_refusal TooLarge = codes "result too large: use page and count"
+text_of_refusal Name = codes "a query has a reserved name, or one that no attribute can have"
+text_of_refusal Many = codes "an endpoint has at most 64 attributes"
+text_of_refusal Key = codes "ep and d cannot be updated"
+text_of_refusal Payload = codes "an update has no payload"
+text_of_refusal Condition = []
+text_of_refusal Accept = codes "results have Content-Format 40"

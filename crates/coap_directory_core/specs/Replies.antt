@@ -5,11 +5,13 @@ use Rattle.coap_wire.specs.Codes.{get, post, delete}
 use Rattle.coap_registry.specs.Registrations.{RegistryValue, expired, removed, has_location}
 use Rattle.coap_registry.specs.Lookups.{ListingValue}
 use Rattle.coap_directory_core.specs.Requests.{segments, route_of}
+use Rattle.coap_directory_core.specs.Conditions.{conditions_hold}
 use Rattle.coap_directory_core.specs.Changes.{registering, updating, looking_up}
 use Rattle.coap_directory_core.specs.declared.refusal.Refusal.{Refusal}
 use Rattle.coap_directory_core.specs.declared.refusal.Refusal.TheVariants as refusal
 use Rattle.coap_directory_core.specs.declared.reply.Reply.{Reply}
-use Rattle.coap_directory_core.specs.declared.reply.Reply.TheVariants.{Created, Changed, Deleted, Content, Refused, OutOfMemory}
+use Rattle.coap_directory_core.specs.declared.reply.Reply.TheVariants.{Created, Changed, Deleted, Content, Refused}
+use Rattle.coap_directory_core.specs.declared.reply.Reply.TheVariants.{OutOfMemory}
 use Rattle.coap_directory_core.specs.declared.route.Route.{Route}
 use Rattle.coap_directory_core.specs.declared.route.Route.TheVariants as route
 
@@ -39,25 +41,50 @@ abbrev pub created : DirectoryValue → Result (ℕ × RegistryValue) Refusal �
 created d (Ok x) = (Created x.0, record { registry = x.1; listing = d.listing })
 created d (Err e) = (Refused e, d)
 
--- The reply at `/rd`.
+-- The reply and the directory after it, if the conditions of the request hold for a resource that exists or not.
+abbrev pub if_holds : Bool → DirectoryValue → Message → Reply × DirectoryValue → Reply × DirectoryValue
+if_holds exists d m replied = if conditions_hold exists m.options then replied else (Refused refusal.Condition, d)
+
+-- The reply at `/rd`, which always exists.
 unfoldable pub registration_reply : DirectoryValue → ℕ → Message → Reply × DirectoryValue
-registration_reply d now m = if m.code == post then created d (registering d.registry now m) else (Refused refusal.Method, d)
+registration_reply d now m =
+    if m.code == post then if_holds true d m (created d (registering d.registry now m)) else (Refused refusal.Method, d)
+
+-- The reply to an update.
+abbrev pub update_reply : DirectoryValue → ℕ → ℕ → Message → Reply × DirectoryValue
+update_reply d now number m = (
+  done Changed (updating d.registry now number m).0,
+  record
+      { registry = (updating d.registry now number m).1; listing = d.listing },
+)
+
+-- The reply to a removal.
+abbrev pub removal_reply : DirectoryValue → ℕ → Reply × DirectoryValue
+removal_reply d number = (
+  (if has_location d.registry number then Deleted else Refused refusal.Path),
+  record
+      { registry = removed d.registry number; listing = d.listing },
+)
 
 -- The reply at a location.
 unfoldable pub location_reply : DirectoryValue → ℕ → ℕ → Message → Reply × DirectoryValue
 location_reply d now number m =
-    if m.code == post
-    then (done Changed (updating d.registry now number m.options).0, record { registry = (updating d.registry now number m.options).1; listing = d.listing })
-    else (if m.code == delete
-    then ((if has_location d.registry number then Deleted else Refused refusal.Path), record { registry = removed d.registry number; listing = d.listing })
+    if m.code == post then if_holds (has_location d.registry number) d m (update_reply d now number m)
+    else (if m.code == delete then if_holds (has_location d.registry number) d m (removal_reply d number)
     else (Refused refusal.Method, d))
 
--- The reply at a lookup.
+-- The reply to a lookup.
+abbrev pub found_reply : DirectoryValue → Bool → ℕ → Message → Reply × DirectoryValue
+found_reply d endpoints limit m = (
+  done Content (looking_up d.registry d.listing endpoints limit m.options).0,
+  record
+      { registry = d.registry; listing = (looking_up d.registry d.listing endpoints limit m.options).1 },
+)
+
+-- The reply at a lookup, which always exists.
 unfoldable pub lookup_reply : DirectoryValue → Bool → ℕ → Message → Reply × DirectoryValue
 lookup_reply d endpoints limit m =
-    if m.code == get
-    then (done Content (looking_up d.registry d.listing endpoints limit m.options).0, record { registry = d.registry; listing = (looking_up d.registry d.listing endpoints limit m.options).1 })
-    else (Refused refusal.Method, d)
+    if m.code == get then if_holds true d m (found_reply d endpoints limit m) else (Refused refusal.Method, d)
 
 -- The reply at a resource.
 abbrev pub reply_at : DirectoryValue → ℕ → ℕ → Message → Route → Reply × DirectoryValue

@@ -1,5 +1,7 @@
 -- The parts of a request to a resource directory.
-use Rattle.std.specs.Prelude.{ℕ, ◌+◌, ◌*◌, ◌^◌, ◌-◌, Bool, false, ◌||◌, is_some, ◌++◌, length, nat_lt, nat_le, List, [], ◌∷◌, take, drop, nat_eq, codes, Option, Some, None, option_map, position, ◌==◌, if◌then◌else◌}
+use Rattle.std.specs.Prelude.{ℕ, ◌+◌, ◌*◌, ◌^◌, ◌-◌, Bool, false, ◌||◌, is_some, ◌++◌, length, nat_lt, nat_le, List, []}
+use Rattle.std.specs.Prelude.{◌∷◌, take, drop, nat_eq, codes, Option, Some, None, option_map, position, ◌==◌}
+use Rattle.std.specs.Prelude.{if◌then◌else◌}
 use Rattle.std.specs.Option.{option_and_then}
 use Rattle.std.specs.Cmp.Lexicographic.{pointwise}
 use Rattle.coap_text.specs.Words.{decimal_value}
@@ -40,7 +42,8 @@ is_repeated name (o ∷ os) = if is_some (query_value name o) then is_some (name
 -- RFC 9176 section 5: a parameter of a registration is given twice.
 abbrev pub repeats_parameter : List CoapOption → Bool
 repeats_parameter os =
-    is_repeated (codes "ep") os || (is_repeated (codes "d") os || (is_repeated (codes "lt") os || is_repeated (codes "base") os))
+    is_repeated (codes "ep") os
+    || (is_repeated (codes "d") os || (is_repeated (codes "lt") os || is_repeated (codes "base") os))
 
 -- A query with this name selects a part of the results.
 abbrev pub is_part_name : List ℕ → Bool

@@ -1,12 +1,14 @@
 -- The messages of the replies.
-use Rattle.std.specs.Prelude.{ℕ, List, [], ◌∷◌, codes, decimal, Option, Bool, false, length, nat_lt, nat_le, if◌then◌else◌}
+use Rattle.std.specs.Prelude.{ℕ, List, [], ◌∷◌, codes, decimal, Option, Bool, false, length, nat_lt, nat_le}
+use Rattle.std.specs.Prelude.{if◌then◌else◌}
 use Rattle.coap_wire.specs.Spelling.{spelling}
 use Rattle.std.specs.Option.{unwrap_or}
 use Rattle.coap_wire.specs.Message.{Message}
 use Rattle.coap_wire.specs.Codes.{code_of}
 use Rattle.coap_directory_core.specs.Refusals.{code_of_refusal, text_of_refusal}
 use Rattle.coap_directory_core.specs.declared.reply.Reply.{Reply}
-use Rattle.coap_directory_core.specs.declared.reply.Reply.TheVariants.{Created, Changed, Deleted, Content, Refused, OutOfMemory}
+use Rattle.coap_directory_core.specs.declared.reply.Reply.TheVariants.{Created, Changed, Deleted, Content, Refused}
+use Rattle.coap_directory_core.specs.declared.reply.Reply.TheVariants.{OutOfMemory}
 
 -- 2.01 with the location of this decimal number.
 abbrev pub location_message : List ℕ → List ℕ → Message
@@ -19,7 +21,8 @@ location_message token digits = record {
 
 -- 2.05 with the results of a lookup, in Content-Format 40.
 abbrev pub content_message : List ℕ → List ℕ → Message
-content_message token text = record { code = code_of 2 5; token = token; options = record { number = 12; value = 40 ∷ [] } ∷ []; payload = text }
+content_message token text =
+    record { code = code_of 2 5; token = token; options = record { number = 12; value = 40 ∷ [] } ∷ []; payload = text }
 
 -- A response without options.
 abbrev pub short_message : List ℕ → ℕ → List ℕ → Message

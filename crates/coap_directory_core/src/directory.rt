@@ -4,6 +4,7 @@ ghost use Rattle.std.specs.Prelude.{◌≡◌, ◌<◌, ◌^◌, IfOk, option_ma
 ghost use Rattle.coap_directory_core.specs.Prelude.{Replies, replying, registration_reply, location_reply};
 ghost use Rattle.coap_directory_core.specs.Prelude.{lookup_reply, at_time, new_directory};
 
+use crate::conditions::conditions_hold;
 use crate::refusal::Refusal;
 use crate::reply::Reply;
 use crate::requests::{look_up, register, update};
@@ -82,6 +83,9 @@ impl Directory {
         if request.code().byte() != 2 {
             return Reply::Refused(Refusal::Method);
         }
+        if !conditions_hold(request, true) {
+            return Reply::Refused(Refusal::Condition);
+        }
         match register(&mut self.registry, self.alloc, now, request) {
             Ok(Ok(number)) => Reply::Created(number),
             Ok(Err(refusal)) => Reply::Refused(refusal),
@@ -96,15 +100,18 @@ impl Directory {
         ensures { Replies self.old result self.new (location_reply self.old now number request.now) }
     {
         let code = request.code().byte();
+        if code != 2 && code != 4 {
+            return Reply::Refused(Refusal::Method);
+        }
+        if !conditions_hold(request, self.registry.has(number)) {
+            return Reply::Refused(Refusal::Condition);
+        }
         if code == 2 {
             return match update(&mut self.registry, self.alloc, now, number, request) {
                 Ok(Ok(())) => Reply::Changed,
                 Ok(Err(refusal)) => Reply::Refused(refusal),
                 Err(_) => Reply::OutOfMemory,
             };
-        }
-        if code != 4 {
-            return Reply::Refused(Refusal::Method);
         }
         if self.registry.remove(number) {
             Reply::Deleted
@@ -120,6 +127,9 @@ impl Directory {
     {
         if request.code().byte() != 1 {
             return Reply::Refused(Refusal::Method);
+        }
+        if !conditions_hold(request, true) {
+            return Reply::Refused(Refusal::Condition);
         }
         match look_up(&self.registry, &mut self.listing, endpoints, limit, request) {
             Ok(()) => Reply::Content,

@@ -11,7 +11,10 @@
 //! connection and reads no clock. Continue with `directory.rt`, then `query.rt`.
 #![tactic(auto)]
 
+mod attributes;
+mod conditions;
 mod directory;
+pub mod laws;
 mod parameters;
 mod query;
 mod refusal;

@@ -1,20 +1,21 @@
 //! The registration that a request describes.
 
-ghost use Rattle.std.specs.Prelude.{◌≡◌, ◌+◌, ◌<◌, ◌^◌, ◌++◌, ◌==◌, ◌&&◌, ◌||◌, option_map, OnOk, IfSome, length};
-ghost use Rattle.std.specs.Prelude.{position, codes, nat_lt, nat_le, not};
-ghost use Rattle.std.specs.List.{list_all, starts_with};
+ghost use Rattle.std.specs.Prelude.{◌≡◌, ◌+◌, ◌<◌, ◌^◌, ◌++◌, ◌==◌, ◌&&◌, ◌||◌, option_map, IfSome, length};
+ghost use Rattle.std.specs.Prelude.{position, codes, nat_lt, nat_le, nat_eq, not};
+ghost use Rattle.std.specs.List.{list_all, list_any, starts_with};
+ghost use Rattle.std.specs.Cmp.Lexicographic.{pointwise};
 ghost use Rattle.coap_directory_core.specs.Prelude.{key_in, is_scheme as is_scheme_text, is_scheme_char, is_authority};
 ghost use Rattle.coap_directory_core.specs.Prelude.{is_authority_char, is_base as is_base_text};
 ghost use Rattle.coap_directory_core.specs.Prelude.{has_scheme as has_scheme_text, is_limited, is_plain_char};
-ghost use Rattle.coap_directory_core.specs.Prelude.{is_own_name, parts_text, parameter_text, parameters_text};
-ghost use Rattle.coap_directory_core.specs.Prelude.{is_well_formed, has_format, coap_option};
+ghost use Rattle.coap_directory_core.specs.Prelude.{is_well_formed, has_allowed_name, is_allowed_name, coap_option};
+ghost use Rattle.coap_directory_core.specs.Prelude.{parameter_names, own_names};
+ghost use Rattle.coap_links.specs.Characters.{is_same_name as is_same};
 
 use crate::query::split_query;
-use coap_links::Links;
+use coap_links::{Links, is_parmname, is_same_name, is_target_char};
 use coap_registry::EndpointKey;
-use coap_wire::option_numbers::{CONTENT_FORMAT, URI_QUERY};
+use coap_wire::option_numbers::URI_QUERY;
 use coap_wire::{MessageRef, OptionRef};
-use std::alloc::AllocError;
 
 /// Maximum number of bytes of the name of an endpoint or a sector (RFC 9176 section 5).
 const MAX_NAME: usize = 63;
@@ -52,15 +53,7 @@ fn is_of_scheme(byte: u8) -> bool
 fn is_of_authority(byte: u8) -> bool
     ensures { result ≡ is_authority_char byte }
 {
-    byte > 32
-        && byte < 127
-        && byte != b'/'
-        && byte != b'?'
-        && byte != b'#'
-        && byte != b'"'
-        && byte != b'\\'
-        && byte != b'<'
-        && byte != b'>'
+    is_target_char(byte) && byte != b'/' && byte != b'?' && byte != b'#'
 }
 
 fn all_of_scheme(text: &[u8]) -> bool
@@ -172,67 +165,66 @@ pub(crate) fn are_well_formed(request: &MessageRef) -> bool
     true
 }
 
-/// Returns `true` unless the option is a Content-Format other than `application/link-format`.
-fn is_link_format(option: &OptionRef) -> bool
-    ensures { result ≡ has_format (coap_option option.now) }
+/// Returns `true` if this is the name of a parameter.
+fn is_parameter(name: &[u8]) -> bool
+    ensures { result ≡ list_any (pointwise nat_eq name.now) parameter_names }
 {
-    option.number != CONTENT_FORMAT || option.value == b"\x28".as_slice()
+    name == b"ep".as_slice()
+        || name == b"d".as_slice()
+        || name == b"lt".as_slice()
+        || name == b"base".as_slice()
 }
 
-/// Returns `true` if the payload has Content-Format `application/link-format`, or none.
-pub(crate) fn accepts_format(request: &MessageRef) -> bool
-    ensures { result ≡ list_all has_format request.now.options }
+/// Returns `true` if the name is that of a parameter, in any case of its letters.
+fn means_parameter(name: &[u8]) -> bool
+    ensures { result ≡ list_any (is_same name.now) parameter_names }
+{
+    is_same_name(name, b"ep")
+        || is_same_name(name, b"d")
+        || is_same_name(name, b"lt")
+        || is_same_name(name, b"base")
+}
+
+/// Returns `true` if the name is that of an attribute that the link of an endpoint has of its own. The same holds for one
+/// that would make it another link.
+fn means_own(name: &[u8]) -> bool
+    ensures { result ≡ list_any (is_same name.now) own_names }
+{
+    is_same_name(name, b"rt")
+        || is_same_name(name, b"rel")
+        || is_same_name(name, b"rev")
+        || is_same_name(name, b"anchor")
+        || is_same_name(name, b"href")
+}
+
+/// Returns `true` if a query of a registration can have this name.
+fn is_allowed(name: &[u8]) -> bool
+    ensures { result ≡ is_allowed_name name.now }
+{
+    is_parameter(name) || (is_parmname(name) && !(means_parameter(name) || means_own(name)))
+}
+
+/// Returns `true` unless the option is a query without `=`, or with a name that is not allowed.
+fn is_allowed_query(option: &OptionRef) -> bool
+    ensures { result ≡ has_allowed_name (coap_option option.now) }
+{
+    if option.number != URI_QUERY {
+        return true;
+    }
+    let Some((name, _)) = split_query(option.value) else {
+        return false;
+    };
+    is_allowed(name)
+}
+
+/// Returns `true` if each query has an allowed name.
+pub(crate) fn have_allowed_names(request: &MessageRef) -> bool
+    ensures { result ≡ list_all has_allowed_name request.now.options }
 {
     for option in request.options() {
-        if !is_link_format(&option) {
+        if !is_allowed_query(&option) {
             return false;
         }
     }
     true
-}
-
-/// Returns `true` if a query with this name is no attribute of the endpoint.
-fn is_own(name: &[u8]) -> bool
-    ensures { result ≡ is_own_name name.now }
-{
-    name == b"lt".as_slice() || name == b"base".as_slice()
-}
-
-/// Appends the attribute of an endpoint that an option gives.
-#[tactic(auto, using(std::proofs::Common::append_assoc))]
-fn push_attribute(text: &mut Vec<u8>, name: &[u8], value: &[u8]) -> Result<(), AllocError>
-    ensures { OnOk result (text.new.items ≡ text.old.items ++ (codes ";" ++ (name.now ++ (codes "=\"" ++ (value.now ++ codes "\""))))) }
-{
-    text.extend_from_slice(b";")?;
-    text.extend_from_slice(name)?;
-    text.extend_from_slice(b"=\"")?;
-    text.extend_from_slice(value)?;
-    text.extend_from_slice(b"\"")
-}
-
-/// Appends the attribute of an endpoint that an option gives, if it gives one.
-#[tactic(auto, using(crate::proofs::ParameterLemmas::no_text))]
-fn push_parameter(text: &mut Vec<u8>, option: &OptionRef) -> Result<(), AllocError>
-    ensures { OnOk result (text.new.items ≡ text.old.items ++ parameter_text (coap_option option.now)) }
-{
-    if option.number != URI_QUERY {
-        return Ok(());
-    }
-    let Some((name, value)) = split_query(option.value) else {
-        return Ok(());
-    };
-    if is_own(name) {
-        return Ok(());
-    }
-    push_attribute(text, name, value)
-}
-
-/// Appends the attributes of an endpoint that a request gives.
-pub(crate) fn push_parameters(text: &mut Vec<u8>, request: &MessageRef) -> Result<(), AllocError>
-    ensures { OnOk result (text.new.items ≡ text.old.items ++ parameters_text request.now.options) }
-{
-    for option in request.options() {
-        push_parameter(text, &option)?;
-    }
-    Ok(())
 }

@@ -69,7 +69,7 @@ pub(crate) fn value_named<'a>(request: &MessageRef<'a>, name: &[u8]) -> Option<&
 }
 
 /// Returns `true` if two queries or more have this name.
-fn is_given_twice(request: &MessageRef, name: &[u8]) -> bool
+pub(crate) fn is_given_twice(request: &MessageRef, name: &[u8]) -> bool
     ensures { result ≡ is_repeated name.now request.now.options }
 {
     let mut found = false;

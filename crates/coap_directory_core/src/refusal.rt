@@ -32,6 +32,18 @@ pub enum Refusal {
     Full,
     /// The result of a lookup is too large (4.00).
     TooLarge,
+    /// A query has a reserved name, or one that no attribute can have (4.00).
+    Name,
+    /// An endpoint would have more than 64 attributes (4.00).
+    Many,
+    /// An update gives `ep` or `d`, the key of the endpoint (4.00).
+    Key,
+    /// An update has a payload (4.00).
+    Payload,
+    /// If-Match or If-None-Match does not hold (4.12).
+    Condition,
+    /// Accept names a format other than link format (4.06).
+    Accept,
 }
 
 impl Refusal {
@@ -52,6 +64,12 @@ impl Refusal {
             Refusal::Target => Code::BAD_REQUEST,
             Refusal::Full => Code::SERVICE_UNAVAILABLE,
             Refusal::TooLarge => Code::BAD_REQUEST,
+            Refusal::Name => Code::BAD_REQUEST,
+            Refusal::Many => Code::BAD_REQUEST,
+            Refusal::Key => Code::BAD_REQUEST,
+            Refusal::Payload => Code::BAD_REQUEST,
+            Refusal::Condition => Code::PRECONDITION_FAILED,
+            Refusal::Accept => Code::NOT_ACCEPTABLE,
         }
     }
 
@@ -72,6 +90,12 @@ impl Refusal {
             Refusal::Target => b"targets must begin with a scheme or with /",
             Refusal::Full => b"",
             Refusal::TooLarge => b"result too large: use page and count",
+            Refusal::Name => b"a query has a reserved name, or one that no attribute can have",
+            Refusal::Many => b"an endpoint has at most 64 attributes",
+            Refusal::Key => b"ep and d cannot be updated",
+            Refusal::Payload => b"an update has no payload",
+            Refusal::Condition => b"",
+            Refusal::Accept => b"results have Content-Format 40",
         }
     }
 }

@@ -1,15 +1,21 @@
 //! The changes that requests make.
 
-ghost use Rattle.std.specs.Prelude.{◌≡◌, ◌<◌, ◌^◌, option_map, IfOk, OnOk, OnErr, codes};
+ghost use Rattle.std.specs.Prelude.{◌≡◌, ◌<◌, ◌^◌, ◌&&◌, true, option_map, is_none, IfOk, OnOk, OnErr, codes};
 ghost use Rattle.coap_directory_core.specs.Prelude.{Gives, key_with, base_with, identified, attributes_in, links_in};
 ghost use Rattle.coap_directory_core.specs.Prelude.{prepared, Changes, registering, named, registration_of, updating};
-ghost use Rattle.coap_directory_core.specs.Prelude.{renewed_lifetime, renewed_base, looking_up};
+ghost use Rattle.coap_directory_core.specs.Prelude.{renewed_lifetime, renewed_base, renewing, looking_up};
+ghost use Rattle.coap_directory_core.specs.Prelude.{registered_attributes};
+ghost use Rattle.coap_directory_core.specs.Prelude.{attributes_of, attributes_after, attributes_at_location};
+ghost use Rattle.coap_directory_core.specs.Prelude.{update_parts as parts_of};
+ghost use Rattle.coap_directory_core.specs.Prelude.{is_attribute};
+ghost use Rattle.std.specs.List.{list_all};
 
-use crate::parameters::{
-    accepts_format, are_limited, are_well_formed, endpoint_key, is_base, push_parameters,
-};
+use crate::attributes::{AttributeList, given_attributes, merged_attributes, text_of, with_type};
+use crate::conditions::{accepts_link_format, has_link_format};
+use crate::parameters::{are_limited, endpoint_key, is_base};
 use crate::query::{
-    criteria_of_request, lifetime_of, page_of_request, repeats_a_parameter, value_named,
+    criteria_of_request, is_given_twice, lifetime_of, page_of_request, repeats_a_parameter,
+    value_named,
 };
 use crate::refusal::Refusal;
 use coap_links::{AttributeText, LinkText};
@@ -49,7 +55,7 @@ fn requested_base<'a>(request: &MessageRef<'a>) -> Option<&'a [u8]>
 fn identify<'a>(request: &MessageRef<'a>) -> Result<(EndpointKey, u32, &'a [u8]), Refusal>
     ensures { Gives (λ x. (x.0.items, x.1, x.2.now)) result (identified request.now.options) }
 {
-    if !accepts_format(request) {
+    if !has_link_format(request) {
         return Err(Refusal::Format);
     }
     if repeats_a_parameter(request) {
@@ -64,31 +70,7 @@ fn identify<'a>(request: &MessageRef<'a>) -> Result<(EndpointKey, u32, &'a [u8])
     let Some(base) = requested_base(request) else {
         return Err(Refusal::Base);
     };
-    if !are_well_formed(request) {
-        return Err(Refusal::Query);
-    }
     Ok((key, lifetime, base))
-}
-
-/// Returns the attributes of the endpoint that a request gives.
-///
-/// # Errors
-///
-/// - `AllocError` if allocation fails.
-#[tactic(auto, unfolding(crate::specs::Changes::attributes_in))]
-fn requested_attributes(
-    alloc: Global,
-    request: &MessageRef,
-) -> Result<Result<AttributeText, Refusal>, AllocError>
-    ensures { IfOk result (λ r. Gives (λ x. x) r (attributes_in request.now.options)) }
-{
-    let mut text = Vec::new(alloc);
-    push_parameters(&mut text, request)?;
-    text.extend_from_slice(b";rt=\"core.rd-ep\"")?;
-    match AttributeText::check(text) {
-        Ok(attributes) => Ok(Ok(attributes)),
-        Err(_) => Ok(Err(Refusal::Query)),
-    }
 }
 
 /// Returns the links of a payload.
@@ -110,6 +92,14 @@ fn requested_links(alloc: Global, payload: &[u8]) -> Result<Result<LinkText, Ref
     Ok(Ok(links))
 }
 
+/// Returns the attributes of the endpoint that a request registers.
+fn requested_attributes<'a>(request: &MessageRef<'a>) -> Result<AttributeList<'a>, Refusal>
+    ensures value { Gives (λ l. attributes_of l.items) result (registered_attributes request.now.options) }
+    ensures each { IfOk result (λ l. list_all is_attribute (attributes_of l.items) ≡ true) }
+{
+    with_type(given_attributes(request)?)
+}
+
 /// Returns the key and the registration that a request describes, at the location with number 0.
 ///
 /// # Errors
@@ -128,12 +118,12 @@ fn prepare(
         Ok(parts) => parts,
         Err(refusal) => return Ok(Err(refusal)),
     };
-    let links = match requested_links(alloc, request.payload())? {
-        Ok(links) => links,
+    let attributes = match requested_attributes(request) {
+        Ok(attributes) => attributes,
         Err(refusal) => return Ok(Err(refusal)),
     };
-    let attributes = match requested_attributes(alloc, request)? {
-        Ok(attributes) => attributes,
+    let links = match requested_links(alloc, request.payload())? {
+        Ok(links) => links,
         Err(refusal) => return Ok(Err(refusal)),
     };
     Ok(Ok((
@@ -143,7 +133,7 @@ fn prepare(
             lifetime,
             deadline: now + u64::from(lifetime),
             base: Vec::from_slice(alloc, base)?,
-            attributes,
+            attributes: text_of(alloc, &attributes)?,
             links,
         },
     )))
@@ -211,6 +201,62 @@ fn copy_of(alloc: Global, bytes: Option<&[u8]>) -> Result<Option<Vec<u8>>, Alloc
     Ok(Some(Vec::from_slice(alloc, bytes)?))
 }
 
+/// Returns `true` if the request gives no part of the key of an endpoint.
+fn gives_no_key(request: &MessageRef) -> bool
+    ensures { result ≡ (is_none (named (codes "ep") request.now.options) && is_none (named (codes "d") request.now.options)) }
+{
+    value_named(request, b"ep").is_none() && value_named(request, b"d").is_none()
+}
+
+/// Returns the lifetime and the base URI that an update gives, each if it gives one.
+#[tactic(auto, unfolding(crate::specs::Changes::renewing))]
+fn renewal<'a>(request: &MessageRef<'a>) -> Result<(Option<u32>, Option<&'a [u8]>), Refusal>
+    ensures { Gives (λ x. (x.0, option_map (λ b. b.now) x.1)) result (renewing request.now.options) }
+{
+    if is_given_twice(request, b"lt") || is_given_twice(request, b"base") {
+        return Err(Refusal::Repeated);
+    }
+    let lifetime = new_lifetime(request)?;
+    let base = new_base(request)?;
+    if !gives_no_key(request) {
+        return Err(Refusal::Key);
+    }
+    Ok((lifetime, base))
+}
+
+/// Returns the attributes of the endpoint at a location after an update, or `None` if they stay as they are.
+fn new_attributes(
+    registry: &Registry,
+    alloc: Global,
+    number: u64,
+    given: &AttributeList,
+) -> Result<Result<Option<AttributeText>, Refusal>, AllocError>
+    requires { list_all is_attribute (attributes_of given.now.items) ≡ true }
+    ensures { IfOk result (λ r. Gives (λ x. x) r (attributes_after (attributes_at_location registry.now number) (attributes_of given.now.items))) }
+{
+    if given.is_empty() {
+        return Ok(Ok(None));
+    }
+    let Some(old) = registry.attributes(number) else {
+        return Ok(Ok(None));
+    };
+    match merged_attributes(old, given) {
+        Ok(list) => Ok(Ok(Some(text_of(alloc, &list)?))),
+        Err(refusal) => Ok(Err(refusal)),
+    }
+}
+
+/// Returns the lifetime, the base URI and the attributes that an update gives.
+fn update_parts<'a>(
+    request: &MessageRef<'a>,
+) -> Result<(Option<u32>, Option<&'a [u8]>, AttributeList<'a>), Refusal>
+    ensures value { Gives (λ x. ((x.0, option_map (λ b. b.now) x.1), attributes_of x.2.items)) result (parts_of request.now.options) }
+    ensures each { IfOk result (λ x. list_all is_attribute (attributes_of x.2.items) ≡ true) }
+{
+    let (lifetime, base) = renewal(request)?;
+    Ok((lifetime, base, given_attributes(request)?))
+}
+
 /// Renews the registration at a location by the parameters of a request (RFC 9176 section 5.3.1).
 ///
 /// # Errors
@@ -225,19 +271,25 @@ pub(crate) fn update(
     request: &MessageRef,
 ) -> Result<Result<(), Refusal>, AllocError>
     requires { now < 2 ^ 63 }
-    ensures answer { IfOk result (λ r. r ≡ (updating registry.old now number request.now.options).0) }
-    ensures after { OnOk result (registry.new ≡ (updating registry.old now number request.now.options).1) }
+    ensures answer { IfOk result (λ r. r ≡ (updating registry.old now number request.now).0) }
+    ensures after { OnOk result (registry.new ≡ (updating registry.old now number request.now).1) }
     ensures err { OnErr result (registry.new ≡ registry.old) }
 {
-    let lifetime = match new_lifetime(request) {
-        Ok(lifetime) => lifetime,
+    if !request.payload().is_empty() {
+        return Ok(Err(Refusal::Payload));
+    }
+    let (lifetime, base, given) = match update_parts(request) {
+        Ok(parts) => parts,
         Err(refusal) => return Ok(Err(refusal)),
     };
-    let base = match new_base(request) {
-        Ok(base) => base,
+    let attributes = match new_attributes(registry, alloc, number, &given)? {
+        Ok(attributes) => attributes,
         Err(refusal) => return Ok(Err(refusal)),
     };
     let base = copy_of(alloc, base)?;
+    if let Some(attributes) = attributes {
+        registry.set_attributes(number, attributes)?;
+    }
     if registry.update(number, now, lifetime, base) {
         Ok(Ok(()))
     } else {
@@ -263,6 +315,9 @@ pub(crate) fn look_up(
     let Some(page) = page_of_request(request) else {
         return Err(Refusal::Query);
     };
+    if !accepts_link_format(request) {
+        return Err(Refusal::Accept);
+    }
     listing.start(page, limit);
     if endpoints {
         registry.list_endpoints(&criteria, listing);

@@ -7,5 +7,6 @@ abbrev pub invariant-loop-option : goal.invariant-loop-option
 invariant-loop-option l = record {
   goes : (goal.iterator-loop-option).can_next l.option-iterator;
   ends : (goal.iterator-loop-option).is_finite l.option-iterator;
-  so_far : cond l.found (is_some (named l.name l.option-iterator)) (is_repeated l.name l.option-iterator) ≡ is_repeated l.name l.request.options;
+  so_far : cond l.found (is_some (named l.name l.option-iterator))
+      (is_repeated l.name l.option-iterator) ≡ is_repeated l.name l.request.options;
 }

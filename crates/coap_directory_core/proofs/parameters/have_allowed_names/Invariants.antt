@@ -1,12 +1,12 @@
 use Rattle.std.proofs.Common.{◌≡◌}
 use Rattle.std.specs.List.{list_all}
-use Rattle.coap_directory_core.specs.Prelude.{has_format}
-use Rattle.coap_directory_core.proofs.parameters.accepts_format.Given as goal
+use Rattle.coap_directory_core.specs.Prelude.{has_allowed_name}
+use Rattle.coap_directory_core.proofs.parameters.have_allowed_names.Given as goal
 
 -- The options so far pass the test.
 abbrev pub invariant-loop-option : goal.invariant-loop-option
 invariant-loop-option l = record {
   goes : (goal.iterator-loop-option).can_next l.option-iterator;
   ends : (goal.iterator-loop-option).is_finite l.option-iterator;
-  so_far : list_all has_format l.option-iterator ≡ list_all has_format l.request.options;
+  so_far : list_all has_allowed_name l.option-iterator ≡ list_all has_allowed_name l.request.options;
 }
