@@ -19,6 +19,10 @@ ABORTS = {
 GREETING = "c0ff636f61702b746370"
 
 
+# Beginning of a line on a check that was not made.
+SKIPPED = "skipped: "
+
+
 class Checks:
     """Counts passed and failed checks."""
 
@@ -32,6 +36,10 @@ class Checks:
         else:
             self.failed += 1
             print("FAILED %s: got %r, wanted %r" % (name, got, wanted))
+
+    def skip(self, why):
+        """Notes a check that this machine cannot make, with the reason. The gate repeats these at its end."""
+        print("%s%s" % (SKIPPED, why), flush=True)
 
     def add(self, other):
         self.passed, self.failed = self.passed + other.passed, self.failed + other.failed

@@ -129,11 +129,47 @@ def format_of(response):
     return None if value is None else int.from_bytes(value, "big")
 
 
-class Broker:
+class Faults(threading.local):
+    """Gateways and brokers of this thread that ended by themselves, and gateways that did not end with status 0. Each has
+    the end of its log."""
+
+    def __init__(self):
+        self.found = []
+
+
+FAULTS = Faults()
+
+
+class Watched:
+    """A program that a test starts and ends, with a log. An end that no test asked for is noted in FAULTS."""
+
+    process, was_ended = None, False
+
+    def begin(self, words, **how):
+        self.process, self.was_ended = subprocess.Popen(words, stdin=subprocess.DEVNULL, **how), False
+
+    def note_end(self):
+        """Notes the end of the program, if it has ended by itself. It may end from now on."""
+        if self.process.poll() is not None and not self.was_ended:
+            FAULTS.found.append((self.process.returncode, self.log()[-3000:]))
+        self.was_ended = True
+
+    def kill(self):
+        self.note_end()
+        self.process.kill()
+        self.process.wait(LIMIT)
+
+    def ended(self):
+        """Waits until the program has ended by itself, as the test expects, and returns its status."""
+        self.was_ended = True
+        return self.process.wait(LIMIT)
+
+
+class Broker(Watched):
     """mosquitto, with the installed configuration."""
 
     def __init__(self, folder, changes=()):
-        self.folder, self.port, self.process, self.changes = folder, free_port(), None, list(changes)
+        self.folder, self.port, self.changes = folder, free_port(), list(changes)
         os.makedirs(f"{folder}/kept", exist_ok=True)
         subprocess.run(["mosquitto_passwd", "-b", "-c", f"{folder}/passwd", USER, PASSWORD], check=True, capture_output=True, timeout=LIMIT)
         with open(f"{folder}/acl", "w", encoding="ascii") as file:
@@ -164,7 +200,7 @@ class Broker:
     def start(self):
         self.configure()
         with open(f"{self.folder}/mosquitto.log", "ab") as log:
-            self.process = subprocess.Popen(["mosquitto", "-c", f"{self.folder}/mosquitto.conf"], stdout=log, stderr=log, stdin=subprocess.DEVNULL)
+            self.begin(["mosquitto", "-c", f"{self.folder}/mosquitto.conf"], stdout=log, stderr=log)
         ends = time.monotonic() + LIMIT
         while time.monotonic() < ends:
             with contextlib.suppress(OSError):
@@ -177,10 +213,6 @@ class Broker:
     def log(self):
         with open(f"{self.folder}/mosquitto.log", encoding="utf-8", errors="replace") as log:
             return log.read()
-
-    def kill(self):
-        self.process.kill()
-        self.process.wait(LIMIT)
 
     def words(self):
         return ["-h", LOCAL, "-p", str(self.port), "-V", "5", "-u", USER, "-P", PASSWORD]
@@ -217,39 +249,30 @@ def read_file(name):
     return b""
 
 
-class Faults(threading.local):
-    """Gateways of this thread that did not end with status 0, with the ends of their logs."""
-
-    def __init__(self):
-        self.found = []
-
-
-FAULTS = Faults()
-
-
-class Gateway:
+class Gateway(Watched):
     """A gateway. Its log is in a file."""
 
     def __init__(self, program, broker, folder, gateway=0, words=(), before=()):
         self.broker = broker
         self.line = [*before, program, "-A", LOCAL, "--broker-port", str(broker.port), "--username", USER, "--password-file", f"{broker.folder}/password"]
         self.gateway, self.words, self.folder, self.port = gateway, list(words), folder, free_port()
-        self.name, self.process = f"{folder}/gateway-{gateway}.log", None
+        self.name = f"{folder}/gateway-{gateway}.log"
 
     def __enter__(self):
         self.start()
         return self
 
     def __exit__(self, *_):
-        """Ends the gateway, if it runs. Sanitizers and valgrind report by its status."""
+        """Ends the gateway, unless the test did. Sanitizers and valgrind report by its status."""
         if self.process.poll() is None and self.stop() != 0:
             FAULTS.found.append((self.process.returncode, self.log()[-3000:]))
+        self.note_end()
 
     def start(self, waits=True):
         open(self.name, "wb").close()
         words = [*self.line, "-p", str(self.port), "--id", str(self.gateway), "--log", "2", *self.words]
         with open(self.name, "ab") as log:
-            self.process = subprocess.Popen(words, stdin=subprocess.DEVNULL, stdout=subprocess.DEVNULL, stderr=log)
+            self.begin(words, stdout=subprocess.DEVNULL, stderr=log)
         if waits and not self.says("listening on"):
             self.kill()
             raise OSError("the gateway does not listen: %s" % self.log())
@@ -267,12 +290,9 @@ class Gateway:
             time.sleep(0.02)
         return True
 
-    def kill(self):
-        self.process.kill()
-        self.process.wait(LIMIT)
-
     def stop(self):
         """Ends the gateway by SIGTERM, and returns its status."""
+        self.note_end()
         self.process.terminate()
         try:
             return self.process.wait(LIMIT)

@@ -5,6 +5,7 @@ import errno
 import os
 import resource
 import select
+import signal
 import socket
 import struct
 import subprocess
@@ -80,8 +81,15 @@ def processor_time(process):
     return (int(fields[11]) + int(fields[12])) / os.sysconf("SC_CLK_TCK")
 
 
+class EndedByItself(Exception):
+    """A server ended although nobody ended it."""
+
+
 class Server:
-    """A server that listens at an address of this machine until its block ends. It must take its address from -A and -p."""
+    """A server that listens at an address of this machine until its block ends. It must take its address from -A and -p.
+
+    A test that ends the server itself calls `end`. If the server ends in another way, the block ends with an exception.
+    """
 
     def __init__(self, program, words=(), host=LOCAL, port=None, files=None, says=True, **how):
         """Starts the server, with a limit on its open files if `files` is set, and with `how` for Popen.
@@ -92,7 +100,13 @@ class Server:
         limit = (lambda: resource.setrlimit(resource.RLIMIT_NOFILE, (files, files))) if files else None
         self.process = subprocess.Popen([program, "-A", host, "-p", str(self.port), *words], stdin=subprocess.DEVNULL,
                                         stdout=subprocess.DEVNULL, stderr=subprocess.PIPE, **{"preexec_fn": limit, **how})
-        self.said = line_of(self.process.stderr).decode() if says else ""
+        self.said, self.was_ended = line_of(self.process.stderr).decode() if says else "", False
+
+    def end(self, number=signal.SIGKILL):
+        """Ends the server by a signal, and returns its status."""
+        self.was_ended = True
+        self.process.send_signal(number)
+        return self.process.wait(LIMIT)
 
     def accepts(self):
         """Waits until the server accepts connections, and returns true if it does. For servers that print no line."""
@@ -116,14 +130,18 @@ class Server:
     def __enter__(self):
         return self
 
-    def __exit__(self, *_):
-        """Kills the server, and prints its status if it had already ended."""
-        has_ended = self.process.poll() is not None
+    def __exit__(self, kind, *_):
+        """Kills the server, unless it has ended. Another exception goes first."""
+        has_ended = self.process.poll() is not None and not self.was_ended
         self.process.kill()
         self.process.wait(LIMIT)
         with self.process.stderr as said:
-            if has_ended:
-                print("The server ended by itself, with status %d." % self.process.returncode, said.read().decode(errors="replace"))
+            text = said.read().decode(errors="replace") if has_ended else ""
+        if has_ended:
+            why = "the server ended by itself, with status %d: %s" % (self.process.returncode, text)
+            print(why)
+            if kind is None:
+                raise EndedByItself(why)
 
 
 def read_bytes(peer, count):

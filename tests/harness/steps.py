@@ -16,6 +16,7 @@ import tempfile
 import time
 from dataclasses import dataclass
 
+from checks import SKIPPED
 from workspace import ROOT
 
 PROCESSORS = len(os.sched_getaffinity(0))
@@ -42,6 +43,13 @@ LAST = 40
 # Seconds in which a step that is ended may clean up.
 PATIENCE = 20
 
+# Seconds after which a running step is ended, and has failed: that many times its estimate, and at least the other limit.
+# A machine may be slower, and other steps run beside.
+MOST_TIMES, LEAST_LIMIT = 20, 900
+
+# Seconds between two looks at these limits.
+LOOK = 10
+
 
 @dataclass(frozen=True)
 class Step:
@@ -52,6 +60,10 @@ class Step:
     used: float
     needs: tuple = ()
     makes: str = ""
+
+    def limit(self):
+        """Returns the number of seconds after which the step is ended."""
+        return max(MOST_TIMES * self.seconds, LEAST_LIMIT)
 
     def load(self):
         """Returns the number of processors that the step keeps busy: half of them, if it has a process for each."""
@@ -121,22 +133,35 @@ def cost(elapsed, used):
 
 
 class Result:
-    """Result of a step: its counts and its last lines. One that prints no counts counts as one check, by its status."""
+    """Result of a step: its counts and its last lines. One that prints no counts counts as one check, by its status. One
+    that made no check has failed."""
 
     def __init__(self, words, status, output):
-        counts, self.last = None, collections.deque(maxlen=LAST)
+        counts, self.last, self.skipped = None, collections.deque(maxlen=LAST), []
         for line in output:
             self.last.append(line.rstrip())
+            self.skipped += [line.strip()] * line.startswith(SKIPPED)
             counted = re.fullmatch(r"(?:.*: )?(\d+) passed, (\d+) failed", line.strip())
             counts = (int(counted[1]), int(counted[2])) if counted else counts
         self.words, self.status = words, status
         self.passed, self.failed = counts or (int(not status), 0)
-        self.failed = max(self.failed, int(status != 0))
+        self.failed = max(self.failed, int(status != 0 or not self.passed))
 
     def show_failure(self):
         """Prints the last lines again, if the step failed."""
         if self.failed:
             print(f"== {' '.join(self.words)}: status {self.status}, last lines:", *self.last, sep="\n", flush=True)
+
+
+def show_end(results):
+    """Prints the failures again, and the checks that this machine could not make. Returns the numbers of passed and of
+    failed checks."""
+    for it in results:
+        it.show_failure()
+    skipped = [line for it in results for line in it.skipped]
+    print("".join(f"{line}\n" for line in skipped), end="")
+    print(f"== {len(skipped)} skipped")
+    return sum(it.passed for it in results), sum(it.failed for it in results)
 
 
 class Running:
@@ -153,15 +178,20 @@ class Running:
         """Returns a descriptor that is readable once the command has ended."""
         return self.end_of
 
+    def elapsed(self):
+        return time.monotonic() - self.started
+
     def kill(self):
         """Kills the command, and all processes that it has started."""
         with contextlib.suppress(ProcessLookupError):
             os.killpg(self.process.pid, signal.SIGKILL)
 
-    def result(self):
-        """Waits for the command, prints its output, its elapsed and its processor time, and returns its result."""
-        select.select([self], [], [])
-        elapsed = time.monotonic() - self.started
+    def result(self, seconds=None):
+        """Waits for the command, prints its output, its elapsed and its processor time, and returns its result. With a
+        number of seconds, the command is ended after them."""
+        if not select.select([self], [], [], seconds)[0]:
+            self.stop()
+        elapsed = self.elapsed()
         # Before the wait, so that the number of the group is not used again.
         self.kill()
         _, status, used = os.wait4(self.process.pid, 0)
@@ -174,12 +204,16 @@ class Running:
         print(f"== {' '.join(self.words)}\n{''.join(lines)}== {spent}", flush=True)
         return Result(self.words, self.process.returncode, lines)
 
+    def stop(self):
+        """Makes a running command end. It may clean up first."""
+        self.process.terminate()
+        select.select([self], [], [], PATIENCE)
+        self.kill()
+
     def end(self):
-        """Ends the command, if it has not ended. It may clean up first."""
+        """Ends the command, if it has not ended."""
         if self.process.poll() is None:
-            self.process.terminate()
-            select.select([self], [], [], PATIENCE)
-            self.kill()
+            self.stop()
             self.process.wait()
 
 
@@ -202,7 +236,10 @@ def run_steps(steps, made):
                 running[Running(step.words)] = step
             if not running:
                 break
-            for ended in select.select(list(running), [], [])[0]:
+            for late in [it for it, step in running.items() if it.elapsed() > step.limit()]:
+                print(f"== {' '.join(late.words)}: ended after {late.elapsed():.0f} s", flush=True)
+                late.stop()
+            for ended in select.select(list(running), [], [], LOOK)[0]:
                 step, result = running.pop(ended), ended.result()
                 made |= {step.makes} - {""}
                 waiting = [] if result.failed else waiting

@@ -2,7 +2,8 @@
 
 The file tests/mutants/whole_run names that commit. `make mutants` writes it after a run over all crates in which no
 edit failed. It writes nothing if a file of crates or tests differed from the commit during the run. The file is
-committed with the next change.
+committed with the next change. If all edits that failed were replaced and tried again, somebody may write the file too.
+It then has the result of the run, and a line `note: ..`.
 
 A crate differs in either of these cases. Comments do not count.
 

@@ -36,8 +36,8 @@ An edit of the layer `rows` is detected if a row of the file that it names has a
 (tests/harness/unproved.py). --all tries these too, each in its own build; --rows tries them alone.
 
 An edit of the layer `server` or `client` is detected if its test fails with that program built unproved with the edit. The test must pass with the
-program built in the same way without the edit (tests/mutants/program_tests.py). --all tries these too, in one to three minutes each; --tests tries
-them alone.
+program built in the same way without the edit (tests/mutants/program_tests.py). --all tries these too, each in one to three minutes, side by
+side; --tests tries them alone.
 
 An edit of the layer `open` is a known gap. Either the contract is too weak, or the edit takes away a name that the proof cites. --all tries it with
 those of `clause`. It must not be rejected. The open edits are listed at the end, and do not count as passed. If a clause rejects one, the run fails
@@ -58,7 +58,8 @@ alone. So is an edit of a constant, for which a goal of any function counts, and
 of the largest crates first. The libraries below a crate are taken from out/rlib, and proved if they are missing or older than their files.
 The last line is 'N passed, M failed', and the status is 0 if M is 0.
 
-Costs, in processor time: a round takes about 15 s before its first edit. Each edit adds 3 to 4 s, and up to 15 s in coap_server_listener. The control
+A whole run of 1,265 edits took 13,564 s of processor time, and 85 minutes on four processors, beside other work. Other costs, in processor
+time: a round takes about 15 s before its first edit. Each edit adds 3 to 4 s, and up to 15 s in coap_server_listener. The control
 takes 140 s. The check of all quotes takes 2 s, and that of the types 4 to 8 s for each of 40 copies of crates. A build for an edit of another layer
 takes about two minutes. In a clone without incremental data, the first round of a crate also proves the functions that it changes, and those that they
 call. There 343 edits of 17 crates took 2,500 to 2,950 s, with the control and the types: 7 s an edit. By that figure, MOST_IN_GATE edits of a few crates
@@ -87,6 +88,8 @@ from verdicts import all_functions, goal_at, is_real, messages, open_functions, 
 from workspace import PARTS, ROOT, crates, is_program, is_static, rattle_words, rlib  # noqa: E402
 from program_tests import ProgramTests  # noqa: E402
 from unproved import build  # noqa: E402
+
+PROCESSORS = len(os.sched_getaffinity(0))
 
 # Number of rounds of a crate without incremental data that run in turn on its folder. After two, nearly every function was proved once.
 IN_TURN = 2
@@ -438,7 +441,7 @@ def wrong_types(name, edits):
 def tell_wrong_types(edits):
     """Prints each edit that is not well typed, and returns their number."""
     names = dict.fromkeys(it.crate for it in edits)
-    with ThreadPoolExecutor(len(os.sched_getaffinity(0))) as pool:
+    with ThreadPoolExecutor(PROCESSORS) as pool:
         found = [pool.submit(wrong_types, name, one) for name in names for one in typed_rounds([it for it in edits if it.crate == name])]
         wrong = [it for one in found for it in one.result()]
     for edit, why in wrong:
@@ -558,14 +561,14 @@ def verdicts_of(one, outcome):
 
 def judge(edits, is_proved_first):
     """Tries all edits, with rounds in parallel, and returns for each whether it was rejected."""
-    verdicts, running, lanes = {}, {}, len(os.sched_getaffinity(0))
-    with tempfile.TemporaryDirectory(prefix="edits-", ignore_cleanup_errors=True) as room, ThreadPoolExecutor(lanes) as pool:
+    verdicts, running = {}, {}
+    with tempfile.TemporaryDirectory(prefix="edits-", ignore_cleanup_errors=True) as room, ThreadPoolExecutor(PROCESSORS) as pool:
         # A static library comes last, because a build of its archive may run beside and keep what it proves.
         names = sorted(dict.fromkeys(it.crate for it in edits), key=lambda it: (is_static(it), -size_of(it)))
         works = [Work(it, rounds_of([edit for edit in edits if edit.crate == it]), is_proved_first) for it in names]
         while running or any(it.rounds for it in works):
             for work in works:
-                while len(running) < lanes and work.may_start():
+                while len(running) < PROCESSORS and work.may_start():
                     work.begin(room)
                     one, is_own = work.rounds.pop(0), work.in_turn > 0
                     work.is_busy = is_own
@@ -595,16 +598,17 @@ def is_detected(edit):
 
 def judge_by_rows(edits):
     """Tries the edits that rows detect, and returns for each whether they did."""
-    return {it: tell(it, is_detected(it), "by rows") for it in edits}
+    with ThreadPoolExecutor(PROCESSORS) as pool:
+        return {it: tell(it, found, "by rows") for it, found in zip(edits, pool.map(is_detected, edits))}
 
 
 def judge_by_tests(edits):
     """Tries the edits that tests of the programs detect, and returns for each whether they did."""
     if not edits:
         return {}
-    with tempfile.TemporaryDirectory(prefix="edits-", ignore_cleanup_errors=True) as room:
-        tests = ProgramTests(room)
-        whys = ((it, tests.missed(it)) for it in edits)
+    with tempfile.TemporaryDirectory(prefix="edits-", ignore_cleanup_errors=True) as room, ThreadPoolExecutor(PROCESSORS) as pool:
+        tests = ProgramTests(room, list(dict.fromkeys(it.detected_by for it in edits)), pool)
+        whys = zip(edits, pool.map(tests.missed, edits))
         return {it: tell(it, not why, why or "by a test") for it, why in whys}
 
 
@@ -731,6 +735,8 @@ def main(words):
     modes, names = {it for it in words if it.startswith("--")}, [it for it in words if not it.startswith("--")]
     if unknown := (modes - MODES) | (set(names) - below.keys()):
         raise SystemExit(f"no crate {min(unknown)}\n0 passed, 1 failed")
+    if strange := set(os.listdir(f"{ROOT}/tests/mutants/edits")) - {*below, "control"}:
+        raise SystemExit(f"tests/mutants/edits/{min(strange)} is no crate\n0 passed, 1 failed")
     every = edits_of(f"{ROOT}/tests/mutants/edits", names or below)
     unquoted = tell_wrong_quotes(every)
     if "--list" in modes:

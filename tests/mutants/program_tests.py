@@ -1,6 +1,7 @@
 """Checks that a test of the gate fails with a program that has an edit, built unproved (tests/mutants/mutants.py)."""
 
 import os
+import signal
 import subprocess
 import sys
 
@@ -12,32 +13,41 @@ from workspace import ROOT, program_name  # noqa: E402
 CRATES = {"server": "coap_server", "client": "coap_client_main"}
 
 
+# Seconds after which a test has failed. An edited program may leave a test waiting again and again.
+LIMIT = 900
+
+
 def passes(test, server, client):
-    """Returns true if a test, in the form `tests/FILE.py NAME ..`, passes with these programs."""
+    """Returns true if a test, in the form `tests/FILE.py NAME ..`, passes with these programs in time."""
     script, *names = test.split()
     words = ["python3", f"{ROOT}/{script}", server, client, *names]
-    return subprocess.run(words, stdin=subprocess.DEVNULL, stdout=subprocess.DEVNULL).returncode == 0
+    with subprocess.Popen(words, stdin=subprocess.DEVNULL, stdout=subprocess.DEVNULL, process_group=0) as running:
+        try:
+            return running.wait(LIMIT) == 0
+        except subprocess.TimeoutExpired:
+            os.killpg(running.pid, signal.SIGKILL)
+            return False
 
 
 class ProgramTests:
-    """Both programs unproved without any edit, and the tests that pass with them. Any other test detects no edit."""
+    """Both programs unproved without any edit, and those of some tests that pass with them. Any other test detects no
+    edit. `pool` runs the tests side by side."""
 
-    def __init__(self, room):
+    def __init__(self, room, tests, pool):
         self.room = room
         self.programs = {it: f"{room}/{program_name(crate)}" for it, crate in CRATES.items()}
         self.are_built = not build(list(CRATES.values()), room)
-        self.passing = {}
+        passed = pool.map(lambda it: self.are_built and passes(it, **self.programs), tests)
+        self.passing = dict(zip(tests, passed))
 
     def missed(self, edit):
         """Returns why a test does not detect an edit, or an empty text if it does."""
         test = edit.detected_by
         if not self.are_built:
             return "the programs are not built"
-        if test not in self.passing:
-            self.passing[test] = passes(test, **self.programs)
         if not self.passing[test]:
             return f"{test} fails without it"
-        crate, wrong = CRATES[edit.layer], f"{self.room}/wrong"
+        crate, wrong = CRATES[edit.layer], f"{self.room}/{edit.crate}/{edit.name}"
         if build([crate], wrong, {edit.crate: edit.applied({})}):
             return "it is not built"
         programs = {**self.programs, edit.layer: f"{wrong}/{program_name(crate)}"}

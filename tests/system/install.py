@@ -3,8 +3,8 @@
     tests/system/install.py bin/coap-server bin/coap-client bin/coap-explain bin/coap-directory [bin/libcoap_proved.a]
 
 `make` runs on a copy of the installed files, with sources that are newer than the programs and a build script that fails. A build would therefore
-be noticed. Without the archive of the C library, only the programs are installed. If systemd-analyze exists, it checks the unit. The script does not
-install systemd-analyze, but Debian's package pkg-config if it is missing.
+be noticed. Without the archive of the C library, only the programs are installed. The script installs Debian's packages pkg-config and systemd if
+they are missing.
 """
 
 import os
@@ -176,7 +176,7 @@ def check_unit(checks, tree):
         check_analyzed(checks, "the unit", os.path.join(prefix, UNIT))
 
 
-def check_recording_unit(checks, tree, is_analyzed):
+def check_recording_unit(checks, tree):
     """Checks the unit with its example of a record, whose lines are comments. The shell replaces variables in its command as systemd does."""
     with tempfile.TemporaryDirectory() as prefix:
         make(tree, "install", prefix, "")
@@ -191,10 +191,9 @@ def check_recording_unit(checks, tree, is_analyzed):
         how = dict(os.environ, LOGS_DIRECTORY=logs, INVOCATION_ID="0123456789abcdef", COAP_SERVER_OPTIONS="--stdio -d 1")
         checks.same("the command of the unit with a record", run(["sh", "-c", said[-1][1]], prefix, env=how)[0], 0)
         checks.same("its record", (files_below(logs), read(logs, "0123456789abcdef.record")[:24]), ({"0123456789abcdef.record": 0o600}, b"# Record of coap-server "))
-        if is_analyzed:
-            with open(unit, "w", encoding="utf-8") as file:
-                file.write(text)
-            check_analyzed(checks, "the unit with a record", unit)
+        with open(unit, "w", encoding="utf-8") as file:
+            file.write(text)
+        check_analyzed(checks, "the unit with a record", unit)
 
 
 def check_numbered_unit(checks, tree):
@@ -221,7 +220,7 @@ def check_without_library(checks, tree):
 
 def check(programs, archive):
     checks = Checks()
-    checks.same("packages can be installed", install({"pkg-config": "pkg-config"}), True)
+    checks.same("packages can be installed", install({"pkg-config": "pkg-config", "systemd-analyze": "systemd"}), True)
     with tempfile.TemporaryDirectory() as folder:
         tree = os.path.join(folder, "tree")
         copy_tree(tree, programs, archive)
@@ -229,13 +228,9 @@ def check(programs, archive):
             check_prefix(checks, tree, prefix, True)
         check_without_library(checks, tree)
         check_unbuilt(checks, tree)
-        is_analyzed = bool(shutil.which("systemd-analyze"))
-        check_recording_unit(checks, tree, is_analyzed)
-        if is_analyzed:
-            check_unit(checks, tree)
-            check_numbered_unit(checks, tree)
-        else:
-            print("systemd-analyze does not exist: the units were not checked with it")
+        check_recording_unit(checks, tree)
+        check_unit(checks, tree)
+        check_numbered_unit(checks, tree)
     print("install: %d passed, %d failed" % (checks.passed, checks.failed))
     return 1 if checks.failed else 0
 

@@ -446,10 +446,8 @@ def check_signal(checks, program):
         # The server has read all bytes when it sends the Pong. So the end of the connection is no reset.
         peer.sendall(bytes.fromhex("00e1" "00e2"))
         checks.same("the CSM and the Pong of the server", read_bytes(peer, len(CSM + "00e3") // 2).hex(), CSM + "00e3")
-        server.process.terminate()
-        checks.same("bytes after a signal", (read_to_end(peer), server.process.wait(LIMIT)), ((b"", "the end"), -signal.SIGTERM))
-        # The server has ended as it should, so the block need not report that.
-        server.process.poll = lambda: None
+        status = server.end(signal.SIGTERM)
+        checks.same("bytes after a signal", (read_to_end(peer), status), ((b"", "the end"), -signal.SIGTERM))
 
 
 def check_hindrances(checks, manual):

@@ -404,7 +404,7 @@ def check_killed(checks, server, count=30_000):
         name = f"{folder}/record"
         with Server(server, [*WORDS, "--record", name]) as running:
             peers = crowd(running, count, seed=2)
-            talk(peers, lambda received: received > 10 * count and running.process.kill())
+            talk(peers, lambda received: received > 10 * count and running.end())
             checks.same("the server was killed", running.process.wait(LIMIT), -signal.SIGKILL)
         record = record_in(name)
         status, outputs, said = replay(server, ["--script", "-", *record.options()], record.whole)
@@ -545,7 +545,7 @@ def check_small_disk(checks, server):
     with tempfile.TemporaryDirectory() as folder:
         mounts = ["unshare", "--mount", "sh", "-c", 'mount -t tmpfs -o size=16k none "$0" && exec "$@"', folder]
         if subprocess.run([*mounts, "true"], stderr=subprocess.DEVNULL).returncode:
-            print("a small file system: none can be mounted")
+            checks.skip("a small file system cannot be mounted")
             return
         program = f"{folder}/mounting"
         with open(program, "w", encoding="ascii") as it:

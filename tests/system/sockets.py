@@ -690,7 +690,8 @@ def check_urgent(checks, programs):
 
 
 def ask_each(checks, name, peers):
-    """Checks that each of these connections has a response to a request before the next one makes a request."""
+    """Checks that each of these connections has a response to a request before the next one makes a request. Returns true if
+    all have."""
     request, answered = HELLO[2:], GREETED[len(CSM) // 2 :]
     late = []
     for place, peer in peers:
@@ -699,12 +700,14 @@ def ask_each(checks, name, peers):
             late.append(place)
             break
     checks.same(name, late, [])
+    return not late
 
 
 def check_sleepers(checks, programs):
     """Checks that each of 250 connections is answered after a pause, alone and beside 70 active ones, also after others have ended.
 
-    While no other peer makes a request, nothing but the event of its own socket wakes a connection.
+    While no other peer makes a request, nothing but the event of its own socket wakes a connection. The first missing answer
+    ends the check, since a wait for it takes LIMIT seconds.
     """
     order = random.Random(5)
     with Server(programs.server, ["--connections", "256"]) as server, contextlib.ExitStack() as stack:
@@ -713,18 +716,24 @@ def check_sleepers(checks, programs):
             peer.sendall(HELLO)
         checks.same("all are answered", {read_bytes(it, len(GREETED)) for it in peers.values()}, {GREETED})
         shuffled = order.sample(sorted(peers.items()), len(peers))
-        ask_each(checks, "each in turn", shuffled)
+        if not ask_each(checks, "each in turn", shuffled):
+            return
         active = dict(shuffled[:70])
         idle = shuffled[70:]
         for waking in idle[:40]:
             for peer in active.values():
                 peer.sendall(HELLO[2:] * 3)
-            ask_each(checks, "a connection that wakes beside 70", [waking])
+            if not ask_each(checks, "a connection that wakes beside 70", [waking]):
+                return
             answers = {read_bytes(it, 3 * (len(GREETED) - len(CSM) // 2)) for it in active.values()}
-            checks.same("the 70", answers, {GREETED[len(CSM) // 2 :] * 3})
+            wanted = {GREETED[len(CSM) // 2 :] * 3}
+            checks.same("the 70", answers, wanted)
+            if answers != wanted:
+                return
         for place in (0, 100, 249):
             peers.pop(place).close()
-            ask_each(checks, "each after connection %d has ended" % place, order.sample(sorted(peers.items()), len(peers)))
+            if not ask_each(checks, "each after connection %d has ended" % place, order.sample(sorted(peers.items()), len(peers))):
+                return
         peers.update((place, stack.enter_context(server.connect())) for place in (300, 301, 302))
         for place in (300, 301, 302):
             peers[place].sendall(HELLO)
