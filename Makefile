@@ -1,6 +1,6 @@
 # Proves, builds, runs, tests and measures. Requires Rattle's toolchain (`rt`) and Python 3. `make test` installs Debian's dpkg-dev,
-# g++, gcc, haproxy, libc6-dev, libcoap3-bin, libcoap3-dev, libmosquitto-dev, lintian, mandoc, mosquitto, mosquitto-clients, openssl, pkg-config, tshark
-# and valgrind if they are missing. `make bench` installs gcc, gnuplot-nox, haproxy, libc6-dev, libcoap3-bin and valgrind. `make lib` needs binutils,
+# g++, gcc, haproxy, libc6-dev, libcoap3-bin, libcoap3-dev, libmosquitto-dev, lintian, mandoc, mosquitto, mosquitto-clients, openssl, pkg-config,
+# systemd, tshark and valgrind if they are missing. `make bench` installs gcc, gnuplot-nox, haproxy, libc6-dev, libcoap3-bin and valgrind. `make lib` needs binutils,
 # `make gateway` gcc and libmosquitto-dev too, and `make deb` dpkg-dev too.
 
 .PHONY: all lib gateway run check test mutants faults bench try install install-lib install-gateway uninstall deb clean

@@ -1,6 +1,7 @@
 //! TCP keep-alive (RFC 9293 section 3.8.4): the system probes a silent peer, and ends the connection if the peer is gone.
 //!
-//! std and mio have no call for it. `keep_alive` therefore calls the C library, in the only `unsafe` block of the project.
+//! std and mio have no call for it. `keep_alive` therefore calls the C library, in the only `unsafe` block besides the two of
+//! `coap_handle`.
 
 ghost use Rattle.std.specs.Prelude.{◌≡◌, ◌++◌, replicate};
 ghost use Rattle.std.specs.Int.{to_le_bytes};

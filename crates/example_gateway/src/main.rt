@@ -73,26 +73,38 @@ fn serve(
 ) -> Result<()> {
     let mut clock = SystemClock::new(rt);
     let config = configuration(clock.now())?;
-    let path = PathKey::from_segments(&[b"measured"]).context("no path")?;
     let mut door = SocketDoor::listen(rt, rt.alloc(), address, config.connections()).context(
         "cannot listen at the address",
     )?;
-    let mut service = Service::new(rt.alloc(), config).context("no memory for the server")?;
     eprintln!(rt;
         "example_gateway: listening on {}",
         door.address().unwrap_or(address)
     )?;
+    let mut service = Service::new(rt.alloc(), config).context("no memory for the server")?;
+    run(
+        rt,
+        file,
+        &mut clock,
+        config.turns(),
+        &mut door,
+        &mut service,
+    )
+}
+
+/// Serves the connections in a loop. A function that owns the server drops it at each `?`, which makes its proof long, so
+/// this one borrows it.
+fn run<R: Files + AllocGlobal, D: Door>(
+    rt: &R,
+    file: &str,
+    clock: &mut impl Clock,
+    turns: u64,
+    door: &mut D,
+    service: &mut Service<D::Wire>,
+) -> Result<()> {
+    let path = PathKey::from_segments(&[b"measured"]).context("no path")?;
     let mut stored = None;
-    for _ in 0..config.turns() {
-        turn(
-            rt,
-            file,
-            &path,
-            clock.now(),
-            &mut stored,
-            &mut door,
-            &mut service,
-        )?;
+    for _ in 0..turns {
+        turn(rt, file, &path, clock.now(), &mut stored, door, service)?;
     }
     bail!("the limit of turns is reached")
 }
