@@ -45,8 +45,8 @@ def git(*words):
 
 
 def last_commit():
-    """Returns the commit of the last whole run, or None if there was none yet, or in a tree without its history, such as
-    a shallow clone. It must be one of the last MOST_COMMITS of this history."""
+    """Returns the commit of the last whole run, or None if there was none yet. It must be one of the last MOST_COMMITS
+    of this history. A tree without its history, such as a shallow clone, also has None."""
     try:
         with open(f"{ROOT}/{WHOLE_RUN}", encoding="utf-8") as it:
             found = re.search(r"^commit: (\w+)$", it.read(), re.M)
