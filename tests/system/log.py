@@ -396,7 +396,7 @@ def check_parts(checks):
             peer.settimeout(LIMIT)
             peer.connect((LOCAL, port))
             peer.sendall(SETTINGS + stream)
-            first = passed_in(settled(name, len(wanted["in"]) + 3))
+            first = passed_in(settled(name, len(wanted["in"]) + 3, LIMIT))
             sent = [it for it in first if it[0] == "out"]
             checks.same("parts: received messages", [it for it in first if it[0] == "in"], wanted["in"])
             checks.same("parts: messages that were sent to a peer that does not read", sent, wanted["out"][: len(sent)])
@@ -408,7 +408,7 @@ def check_parts(checks):
             heads = [messages.parse(it)[:2] for it in frames]
             received = [("out", f"{code >> 5}.{code & 31:02}", token.hex() or None) for code, token in heads]
             checks.same("parts: messages that the peer received", received, wanted["out"])
-        texts = settled(name, 2 * (count + 2) + 2)
+        texts = settled(name, 2 * (count + 2) + 2, LIMIT)
         checks.same("parts: messages that were sent", [it for it in passed_in(texts) if it[0] == "out"], received)
         checks.same("parts: last line", texts[-1].partition("in; ")[2], f"{count + 2} messages, {len(got)} bytes out")
 
