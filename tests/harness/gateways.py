@@ -12,7 +12,7 @@ import time
 
 import messages
 from checks import CSM
-from peers import LOCAL, free_port
+from peers import LOCAL, free_port, started
 from workspace import ROOT
 
 CONFIGURATION = os.path.join(ROOT, "install", "mosquitto.conf")
@@ -233,7 +233,7 @@ class Broker(Watched):
         self.publish(END, b"end")
         line = ["mosquitto_sub", *self.words(), "-q", "1", "-t", f"{PREFIX}/#", "-t", END, "-F", "%t %x", "-W", str(LIMIT)]
         found = {}
-        with subprocess.Popen(line, stdin=subprocess.DEVNULL, stdout=subprocess.PIPE, stderr=subprocess.DEVNULL) as reader:
+        with started(line, stdin=subprocess.DEVNULL, stdout=subprocess.PIPE, stderr=subprocess.DEVNULL) as reader:
             for topic, _, payload in (it.rstrip(b"\n").rpartition(b" ") for it in reader.stdout):
                 if topic == END.encode():
                     reader.kill()

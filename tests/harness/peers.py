@@ -81,6 +81,17 @@ def processor_time(process):
     return (int(fields[11]) + int(fields[12])) / os.sysconf("SC_CLK_TCK")
 
 
+@contextlib.contextmanager
+def started(words, **how):
+    """Runs a program, with `how` for Popen, and yields its process. If the program has not ended when the block ends, it is
+    killed."""
+    with subprocess.Popen(words, **how) as process:
+        try:
+            yield process
+        finally:
+            process.kill()
+
+
 class EndedByItself(Exception):
     """A server ended although nobody ended it."""
 

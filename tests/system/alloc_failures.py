@@ -26,7 +26,7 @@ from dataclasses import dataclass
 sys.path.insert(0, os.path.join(os.path.dirname(os.path.abspath(__file__)), "..", "harness"))
 import rows  # noqa: E402
 from checks import CSM, GREETING  # noqa: E402
-from peers import free_port, line_of  # noqa: E402
+from peers import free_port, line_of, started  # noqa: E402
 from message_syntax import encoded  # noqa: E402
 
 # Addresses of the clients' peers and of the servers. They differ, so that no peer takes a port that was found free for a server.
@@ -124,7 +124,7 @@ def asked_two(port, sent, answered):
 def listened(server, port, environment, ask):
     """Runs a server that listens at a port, until its peers have their responses."""
     command = [server, "-A", SERVER_HOST, "-p", str(port), "-d", "1"]
-    with subprocess.Popen(command, stdin=subprocess.DEVNULL, stdout=subprocess.PIPE, stderr=subprocess.PIPE, env=environment) as process:
+    with started(command, stdin=subprocess.DEVNULL, stdout=subprocess.PIPE, stderr=subprocess.PIPE, env=environment) as process:
         said = line_of(process.stderr)
         while said.endswith(b"refused\n"):
             said += line_of(process.stderr)
@@ -199,7 +199,7 @@ def wrong_at_the_greatest_door(server):
     greatest = encoded(3, b"\1", [(11, b"a")], b"x" * 1_048_566)
     puts = [encoded(3, bytes([2 + number]), [(11, b"a")], b"x" * 65_000) for number in range(12)]
     wanted = bytes.fromhex("60e1231000004140" "418d01d22ffde8" "014102") + b"".join(bytes([1, 0x44, 3 + number]) for number in range(11))
-    with subprocess.Popen(command, stdin=subprocess.DEVNULL, stderr=subprocess.PIPE) as process:
+    with started(command, stdin=subprocess.DEVNULL, stderr=subprocess.PIPE) as process:
         line_of(process.stderr)
         with contextlib.ExitStack() as stack:
             peers = [stack.enter_context(socket.create_connection((SERVER_HOST, port), LIMIT)) for _ in range(256)]

@@ -20,7 +20,7 @@ from concurrent.futures import ThreadPoolExecutor
 sys.path.insert(0, os.path.join(os.path.dirname(os.path.abspath(__file__)), "..", "harness"))
 import messages  # noqa: E402
 from checks import CSM, Checks  # noqa: E402
-from peers import LIMIT, LOCAL, Server, authority, read_bytes  # noqa: E402
+from peers import LIMIT, LOCAL, Server, authority, read_bytes, started  # noqa: E402
 from rows import HARNESS  # noqa: E402
 
 HOUR = 3600
@@ -188,7 +188,7 @@ def check_client(checks, programs):
         with SystemClock() as clock, socket.create_server((LOCAL, 0)) as listener:
             began = time.monotonic()
             words = [programs.client, "-B", "2", "coap+tcp://" + authority(*listener.getsockname())]
-            with subprocess.Popen(words, stderr=subprocess.PIPE, **clock.how()) as process:
+            with started(words, stderr=subprocess.PIPE, **clock.how()) as process:
                 with listener.accept()[0]:
                     clock.ahead(seconds)
                     said, status = process.stderr.read(), process.wait(LIMIT)

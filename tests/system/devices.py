@@ -18,7 +18,7 @@ import threading
 sys.path.insert(0, os.path.join(os.path.dirname(os.path.abspath(__file__)), "..", "harness"))
 import rows  # noqa: E402
 from checks import CSM, GREETING, Checks  # noqa: E402
-from peers import free_port, line_of  # noqa: E402
+from peers import free_port, line_of, started  # noqa: E402
 from alloc_failures import ASKED, ASKING, HOST, LIMIT, LINES, SCRIPT, SERVER_HOST, answer, received  # noqa: E402
 
 # The bytes that a peer sends, and the response of the server.
@@ -127,7 +127,7 @@ def check_server_socket(checks, server, shim):
         for count in range(CALLS):
             port = free_port(SERVER_HOST)
             command = [server, "-A", SERVER_HOST, "-p", str(port)]
-            with subprocess.Popen(command, stdin=subprocess.DEVNULL, stderr=subprocess.PIPE, env=setting(shim, **{name: count})) as process:
+            with started(command, stdin=subprocess.DEVNULL, stderr=subprocess.PIPE, env=setting(shim, **{name: count})) as process:
                 checks.same("it listens", b"listening" in line_of(process.stderr), True)
                 told = [conversation((SERVER_HOST, port)) for _ in range(3)]
                 checks.same(f"a server still runs, {name} {count}", process.poll(), None)

@@ -8,15 +8,15 @@ The sensor is a file of this script. Each wait has a timeout.
 """
 
 import os
+import signal
 import subprocess
 import sys
 import tempfile
-import time
 
 sys.path.insert(0, os.path.join(os.path.dirname(os.path.abspath(__file__)), "..", "harness"))
 import packages  # noqa: E402
 from checks import Checks  # noqa: E402
-from peers import LIMIT, LOCAL, free_port, line_of  # noqa: E402
+from peers import LIMIT, LOCAL, Server, free_port, line_of, started  # noqa: E402
 from sockets import client  # noqa: E402
 
 
@@ -37,10 +37,10 @@ def check_gateway(checks, program, uri, sensor):
     checks.same("the value", client(program, [uri]), (0, b"20.5", b""))
     sensor.tell("21.0")
     checks.same("the changed value", client(program, [uri]), (0, b"21.0", b""))
-    observer = subprocess.Popen([program, "-s", "3", "-w", uri], stdin=subprocess.DEVNULL, stdout=subprocess.PIPE, stderr=subprocess.PIPE)
-    first = line_of(observer.stdout)
-    sensor.tell("21.5")
-    told, complained = observer.communicate(timeout=LIMIT)
+    with started([program, "-s", "3", "-w", uri], stdin=subprocess.DEVNULL, stdout=subprocess.PIPE, stderr=subprocess.PIPE) as observer:
+        first = line_of(observer.stdout)
+        sensor.tell("21.5")
+        told, complained = observer.communicate(timeout=LIMIT)
     values = [first.decode().strip(), *told.decode().split()]
     # The last response, which ends the observation, repeats the value. Nothing else is repeated: equal values are not stored again.
     checks.same("notifications of an observer", (values, observer.returncode, complained), (["21.0", "21.5", "21.5"], 0, b""))
@@ -57,22 +57,17 @@ def observe(program, words):
 
 def check_observer(checks, program, server):
     """Observes the time of a server for three seconds, with the cancellation; then fails in each way."""
-    for name, words in (("coap-server", [server]), ("libcoap", ["coap-server-notls"])):
-        port = free_port("127.0.0.1")
-        running = subprocess.Popen([*words, "-A", "127.0.0.1", "-p", str(port)], stdout=subprocess.DEVNULL, stderr=subprocess.DEVNULL)
-        try:
-            time.sleep(1)
-            uri = f"coap+tcp://127.0.0.1:{port}"
-            status, lines, said = observe(program, [f"{uri}/time", "3"])
+    for name, other, says in (("coap-server", server, True), ("libcoap", "coap-server-notls", False)):
+        with Server(other, says=says) as running:
+            checks.same(f"{name} starts", says or running.accepts(), True)
+            status, lines, said = observe(program, [running.uri("/time"), "3"])
             checks.same(f"observes the time of {name}", (status, [it[:5] for it in lines], len(set(lines)), said), (0, ["2.05 "] * 3, 3, ""))
-            status, lines, said = observe(program, [f"{uri}/absent", "3"])
+            status, lines, said = observe(program, [running.uri("/absent"), "3"])
             checks.same(f"an absent resource of {name}", (status, [it[:5] for it in lines], "ended the observation" in said), (1, ["4.04 "], True))
-            lasting = subprocess.Popen([program, f"{uri}/time"], stdin=subprocess.DEVNULL, stdout=subprocess.PIPE, stderr=subprocess.PIPE)
-            first = line_of(lasting.stdout)
-        finally:
-            running.terminate()
-            running.wait(LIMIT)
-        _, said = lasting.communicate(timeout=LIMIT)
+            with started([program, running.uri("/time")], stdin=subprocess.DEVNULL, stdout=subprocess.PIPE, stderr=subprocess.PIPE) as lasting:
+                first = line_of(lasting.stdout)
+                running.end(signal.SIGTERM)
+                _, said = lasting.communicate(timeout=LIMIT)
         # libcoap's server ends each observation with 4.04 before it closes the connection.
         ends = any(it in said for it in (b"ended the connection", b"ended the observation", b"the connection stopped"))
         checks.same(f"the end of {name}", (first[:5], lasting.returncode, ends), (b"2.05 ", 1, True))

@@ -20,7 +20,7 @@ import messages  # noqa: E402
 from capture import decode, faults, of_side  # noqa: E402
 from checks import Checks  # noqa: E402
 from packages import install  # noqa: E402
-from peers import LIMIT, Server  # noqa: E402
+from peers import LIMIT, Server, started  # noqa: E402
 from relay import Relay  # noqa: E402
 
 PACKAGES = {"coap-client-notls": "libcoap3-bin", "coap-server-notls": "libcoap3-bin", "tshark": "tshark"}
@@ -84,8 +84,8 @@ def finish(process):
 
 
 def start(client, words, uri):
-    """Starts a client."""
-    return subprocess.Popen([client, *words, uri], stdin=subprocess.DEVNULL, stdout=subprocess.PIPE, stderr=subprocess.PIPE)
+    """Starts a client, which runs until it ends or the block of its process ends."""
+    return started([client, *words, uri], stdin=subprocess.DEVNULL, stdout=subprocess.PIPE, stderr=subprocess.PIPE)
 
 
 def like(pattern, output):
@@ -138,8 +138,8 @@ class Ends:
 
     def run(self, name, words, path):
         """Runs the client once. Returns its result, and the conversation."""
-        with self.relay(name) as relay:
-            told = finish(start(self.client, WAITS + words, relay.origin + path))
+        with self.relay(name) as relay, start(self.client, WAITS + words, relay.origin + path) as process:
+            told = finish(process)
         return told, relay.conversation
 
     def expect(self, words, path, code, pattern):
@@ -204,8 +204,7 @@ def watch(ends, path, seconds, states):
     """Observes a resource while another client stores these states, each after the notification of the one before. Returns a name, the result of
     the observer, and its conversation."""
     name = "%s: -s %d %s" % (ends.name, seconds, path)
-    with ends.relay(name) as relay:
-        process = start(ends.client, WAITS + ["-s", str(seconds)], relay.origin + path)
+    with ends.relay(name) as relay, start(ends.client, WAITS + ["-s", str(seconds)], relay.origin + path) as process:
         for state in states[:1]:
             ends.checks.same(name + ": notified of %r" % state, relay.conversation.wait_for(True, state), True)
         for state in states[1:]:

@@ -15,7 +15,7 @@ sys.path.insert(0, os.path.join(os.path.dirname(os.path.abspath(__file__)), ".."
 from capture import Conversation, decode, faults, messages_of, of_side  # noqa: E402
 from checks import Checks  # noqa: E402
 from packages import install  # noqa: E402
-from peers import LIMIT, LOCAL  # noqa: E402
+from peers import LIMIT, LOCAL, started  # noqa: E402
 
 PACKAGES = {"coap-client-notls": "libcoap3-bin", "tshark": "tshark"}
 
@@ -56,11 +56,11 @@ def serve(listener, program, conversation):
     """Connects the client to a new process of the program, and returns the status of the program."""
     connection, _ = listener.accept()
     ours, theirs = socket.socketpair()
-    with connection, ours:
-        with theirs:
-            process = subprocess.Popen([program, "--stdio"], stdin=theirs, stdout=theirs)
-        conversation.join(connection, ours)
-    return status_of(process)
+    with started([program, "--stdio"], stdin=theirs, stdout=theirs) as process:
+        theirs.close()
+        with connection, ours:
+            conversation.join(connection, ours)
+        return status_of(process)
 
 
 def ask(port, method, path, payload):

@@ -1,15 +1,18 @@
 #!/usr/bin/env python3
 """Checks the lines that both programs write with `--log`, and that no log delays or ends a server.
 
-    tests/system/log.py bin/coap-server bin/coap-client [--connections N] [--messages N]
+    tests/system/log.py bin/coap-server bin/coap-client [NAME ..] [--connections N] [--messages N]
 
-N connections (100,000 by default) are opened and closed with `--log 2`, and N random messages (100,000) are sent with `--log 3`.
+A NAME selects a check, such as `stdio` for check_stdio; without a NAME all checks run. N connections (100,000 by
+default) are opened and closed with `--log 2`, and N random messages (100,000) are sent with `--log 3`.
 """
 
+import calendar
 import collections
 import contextlib
 import fcntl
 import os
+import pty
 import random
 import re
 import select
@@ -20,11 +23,12 @@ import tempfile
 import time
 
 sys.path.insert(0, os.path.join(os.path.dirname(os.path.abspath(__file__)), "..", "harness"))
+import messages  # noqa: E402
 import rows  # noqa: E402
 from checks import CSM, Checks  # noqa: E402
 from clocks import HOUR, SystemClock  # noqa: E402
 from message_syntax import encoded  # noqa: E402
-from peers import LIMIT, LOCAL, Server, free_port, read_bytes, reset  # noqa: E402
+from peers import LIMIT, LOCAL, Server, free_port, line_of, read_bytes, reset, started  # noqa: E402
 
 SERVER, CLIENT = sys.argv[1:3]
 
@@ -39,30 +43,30 @@ SETTINGS, SMALL, LARGE = (bytes.fromhex(it) for it in (CSM, "20e1210a", "40e1230
 GET_ROOT, RELEASE = bytes.fromhex("0001"), bytes.fromhex("00e4")
 GREETING = bytes.fromhex("c0ff636f61702b746370")
 
+# Seconds by which the time of a line may differ from the clock of this test.
+LATE = 3
 
-def number_after(name, default):
-    """Returns the number after an option of this test."""
-    return int(sys.argv[sys.argv.index(name) + 1]) if name in sys.argv else default
+# Standard input and output of a program that is not tested there.
+QUIET = {"stdin": subprocess.DEVNULL, "stdout": subprocess.DEVNULL}
 
 
 @contextlib.contextmanager
-def logging(*words, file=None, **how):
-    """Runs a server whose standard error is a file, and yields the server and the name of the file."""
+def logging(*words, file=None, says=True, **how):
+    """Runs a server whose standard error is a file, and yields the server, its port and the name of the file. The server
+    listens: its first line is in the file, or with `says` false it has accepted a connection."""
     with tempfile.TemporaryDirectory() as folder:
-        name = file or f"{folder}/log"
-        port = free_port()
-        with open(name, "wb") as log:
-            process = subprocess.Popen([SERVER, "-A", LOCAL, "-p", str(port), *words], stdin=subprocess.DEVNULL, stdout=subprocess.DEVNULL, stderr=log, **how)
-        try:
-            wait_for(port)
+        name, port = file or f"{folder}/log", free_port()
+        command = [SERVER, "-A", LOCAL, "-p", str(port), *words]
+        with open(name, "wb") as log, started(command, stderr=log, **QUIET, **how) as process:
+            if says:
+                listens(process, name)
+            else:
+                wait_for(port)
             yield process, port, name
-        finally:
-            process.kill()
-            process.wait(LIMIT)
 
 
 def wait_for(port):
-    """Waits until a program accepts connections at a port."""
+    """Waits until a program that writes no line accepts connections at a port."""
     ends = time.monotonic() + LIMIT
     while time.monotonic() < ends:
         with contextlib.suppress(OSError):
@@ -111,41 +115,40 @@ def settled(name, count, seconds=3):
 
 def check_levels(checks):
     """Each level has its lines and those of the lower levels."""
-    for level, wanted in ((None, 0), ("0", 0), ("1", 0), ("2", 2), ("3", 8)):
+    for level, wanted in ((None, 0), ("0", 0), ("1", 0), ("2", 2), ("3", 6)):
         with logging(*(["--log", level] if level else [])) as (_, port, name):
-            wait_until_silent(name)
-            before = len(lines_in(name))
             checks.same(f"response at level {level}", ask(port, GET_ROOT), GREETING)
-            lines = settled(name, before + wanted)[before:]
-            checks.same(f"number of lines at level {level}", len(lines), wanted - (wanted == 8) * 2)
+            checks.same(f"number of lines at level {level}", len(settled(name, wanted)), wanted)
 
 
-def wait_until_silent(name):
-    """Waits until the lines of the first connection, which only finds out if the server listens, are written."""
-    time.sleep(0.3)
+def check_times(checks, name, error, began):
+    """Checks that each line has a time since `began`, by the clock of this test."""
+    ends, texts = time.time(), [found[1].decode() for it in error.splitlines(keepends=True) if (found := LINE.fullmatch(it))]
+    times = [calendar.timegm(time.strptime(it, "%Y-%m-%dT%H:%M:%S")) for it in texts]
+    is_now = times != [] and began - LATE <= min(times) and max(times) <= ends + LATE
+    checks.same(f"{name}: lines have the time of the clock", is_now, True)
 
 
 def check_lines(checks):
     """The lines of a connection name its number, its peer, its messages and its end."""
     with logging("--log", "3", "-d", "4") as (_, port, name):
-        wait_until_silent(name)
-        before = len(lines_in(name))
+        began = time.time()
         with socket.create_connection((LOCAL, port), LIMIT) as peer:
             own = peer.getsockname()[1]
             peer.sendall(SETTINGS + encoded(3, b"\x2a", [(11, b"heat"), (12, b"")], b"21.5"))
             read_bytes(peer, 11)
-        lines = settled(name, before + 6)[before:]
-        checks.same("first line", lines[:1], [f"connection 2 opened by 127.0.0.1:{own}"])
+        lines = settled(name, 6)
+        check_times(checks, "server", b"".join(lines_in(name)), began)
+        checks.same("first line", lines[:1], [f"connection 1 opened by 127.0.0.1:{own}"])
         checks.same("CSM", [it for it in lines if "CSM" in it or "7.01" in it][:1] != [], True)
         checks.same("PUT", any(" in: " in it and "PUT" in it and "Uri-Path" in it and "heat" in it and "21.5" in it for it in lines), True)
         checks.same("2.01", any(" out: " in it and "2.01 Created" in it for it in lines), True)
-        checks.same("last line", bool(re.fullmatch(r"connection 2 ended: end of input; 2 messages, \d+ bytes in; 2 messages, \d+ bytes out", lines[-1])), True)
+        checks.same("last line", bool(re.fullmatch(r"connection 1 ended: end of input; 2 messages, \d+ bytes in; 2 messages, \d+ bytes out", lines[-1])), True)
 
 
 def check_warnings(checks):
     """A limit that refused something is a warning."""
     with logging("--log", "1", "-d", "1", "--connections", "2", "--pending", "0") as (_, port, name):
-        wait_until_silent(name)
         put = [encoded(3, bytes([i]), [(11, b"a%d" % i)], b"x") for i in range(2)]
         ask(port, *put, GET_ROOT)
         lines = settled(name, 1)
@@ -153,9 +156,9 @@ def check_warnings(checks):
         # A representation that is too long, a full pending list, and a response that is too large for the peer.
         ask(port, encoded(3, b"\x01", [(11, b"a0")], bytes(65_001)), encoded(1, b"\x02", [(11, b"async")], b""), SMALL, encoded(1, b"\x03", [], b""), LARGE, GET_ROOT)
         lines = settled(name, 4)
-        refusals = ["connection 3 out: 4.13 Request Entity Too Large token 01 Size1=65000", "connection 3 out: 5.03 Service Unavailable token 02",
-                    "connection 3 out: 5.00 Internal Server Error token 03"]
-        checks.same("refusals are warnings", [it for it in lines if it.startswith("connection 3 ")], refusals)
+        refusals = ["connection 2 out: 4.13 Request Entity Too Large token 01 Size1=65000", "connection 2 out: 5.03 Service Unavailable token 02",
+                    "connection 2 out: 5.00 Internal Server Error token 03"]
+        checks.same("refusals are warnings", [it for it in lines if it.startswith("connection 2 ")], refusals)
         with socket.create_connection((LOCAL, port), LIMIT), socket.create_connection((LOCAL, port), LIMIT):
             lines = settled(name, 5)
         checks.same("number of connections", [it for it in lines if "maximum number of connections" in it] != [], True)
@@ -167,15 +170,13 @@ def check_warnings(checks):
         peer.sendall(SETTINGS)
         time.sleep(0.2)
         reset(peer)
-        checks.same("failed connection", "connection 7 failed" in settled(name, 7), True)
+        checks.same("failed connection", "connection 6 failed" in settled(name, 7), True)
 
 
 def check_idle(checks):
     """With `--idle`, each connection has its own reason, and one that failed is a warning, whatever its time."""
     seconds = 2
     with logging("--log", "2", "--idle", str(seconds)) as (_, port, name):
-        wait_until_silent(name)
-        before = len(lines_in(name))
         mute, mild, tiny, waiting, hasty = (socket.create_connection((LOCAL, port), LIMIT) for _ in range(5))
         for peer in (mild, waiting, hasty):
             peer.sendall(SETTINGS)
@@ -187,20 +188,19 @@ def check_idle(checks):
         # The delayed response keeps this peer, although it is silent.
         time.sleep(seconds + 2)
         reset(waiting)
-        lines = settled(name, before + 12)[before:]
+        lines = settled(name, 12)
         reasons = {int(it.split()[1]): it.partition(" ended: ")[2].partition(";")[0] for it in lines if " ended: " in it}
-        wanted = {2: "no CSM in time", 3: "Release by the server", 4: "silent connection that could not be released", 5: "failed connection", 6: "failed connection"}
+        wanted = {1: "no CSM in time", 2: "Release by the server", 3: "silent connection that could not be released", 4: "failed connection", 5: "failed connection"}
         checks.same("reasons with --idle", reasons, wanted)
-        checks.same("failed connections with --idle", [it for it in lines if it.endswith(" failed")], ["connection 6 failed", "connection 5 failed"])
+        checks.same("failed connections with --idle", [it for it in lines if it.endswith(" failed")], ["connection 5 failed", "connection 4 failed"])
         for peer in (mute, mild, tiny):
             peer.close()
     with logging("--log", "1", "--idle", "60") as (_, port, name):
-        wait_until_silent(name)
         peer = socket.create_connection((LOCAL, port), LIMIT)
         peer.sendall(SETTINGS)
         time.sleep(0.2)
         reset(peer)
-        checks.same("a reset with --idle is a warning", settled(name, 1), ["connection 2 failed"])
+        checks.same("a reset with --idle is a warning", settled(name, 1), ["connection 1 failed"])
 
 
 def check_step_back(checks):
@@ -226,7 +226,7 @@ def counts_in(name):
     return len(texts) - len(left_out), sum(left_out)
 
 
-def check_rate(checks, count):
+def check_rate(checks, count=100_000):
     """Many connections write at most 100 lines a second, and a line says how many were left out."""
     with logging("--log", "2", "--connections", "256") as (process, port, name):
         began = time.monotonic()
@@ -235,7 +235,7 @@ def check_rate(checks, count):
         time.sleep(2.5)
         # On a busy machine, the server accepts the last connections later.
         ends = time.monotonic() + LIMIT
-        while sum(counts_in(name)) < 2 * (count + 1) and time.monotonic() < ends:
+        while sum(counts_in(name)) < 2 * count and time.monotonic() < ends:
             time.sleep(0.5)
         took, lines = time.monotonic() - began, lines_in(name)
         seconds = collections.Counter(found[1] for it in lines if (found := LINE.fullmatch(it)))
@@ -243,7 +243,7 @@ def check_rate(checks, count):
         checks.same("lines of a second", max(seconds.values()) <= MOST_LINES, True)
         checks.same("lines of all seconds", len(lines) <= MOST_LINES * (took + 1.5), True)
         # A connection that the peer reset has a line more.
-        checks.same("no line is lost without a report", 2 * (count + 1) <= sum(counts_in(name)) <= 3 * (count + 1), True)
+        checks.same("no line is lost without a report", 2 * count <= sum(counts_in(name)) <= 3 * count, True)
         checks.same("the server still serves", ask(port, GET_ROOT), GREETING)
         checks.same("the server still runs", process.poll(), None)
 
@@ -258,7 +258,7 @@ def random_message(chance):
     return encoded(chance.choice([0x01, 0x02, 0x03, 0x04, 0x05, 0x45, 0x9f, 0xe2, 0x1f]), chance.randbytes(chance.randrange(9)), options, payload)
 
 
-def check_printable(checks, count):
+def check_printable(checks, count=100_000):
     """Whatever a peer sends, each line is printable ASCII of limited length."""
     chance = random.Random(7)
     with logging("--log", "3", "-d", "64") as (_, port, name):
@@ -285,24 +285,21 @@ def check_standard_error(checks):
     port = free_port()
     read, write = os.pipe()
     fcntl.fcntl(write, fcntl.F_SETPIPE_SZ, 4_096)
-    process = subprocess.Popen([SERVER, "-A", LOCAL, "-p", str(port), "--log", "3"], stdin=subprocess.DEVNULL, stdout=subprocess.DEVNULL, stderr=write)
-    os.close(write)
-    try:
-        wait_for(port)
+    command = [SERVER, "-A", LOCAL, "-p", str(port), "--log", "3"]
+    with open(read, "rb", 0) as said, started(command, stderr=write, **QUIET) as process:
+        os.close(write)
+        checks.same("a pipe: the first line", b" listening on " in line_of(said), True)
         for turn in range(60):
             if ask(port, *[encoded(1, b"\x01", [(11, b"x" * 200)], b"") for _ in range(5)], GET_ROOT) != GREETING:
                 checks.same("a full pipe", turn, 60)
                 break
         checks.same("a full pipe: the server still serves", ask(port, GET_ROOT), GREETING)
-        os.close(read)
+        said.close()
         checks.same("a broken pipe: the server still serves", [ask(port, GET_ROOT) for _ in range(3)], [GREETING] * 3)
         checks.same("a broken pipe: the server still runs", process.poll(), None)
-    finally:
-        process.kill()
-        process.wait(LIMIT)
-    with logging("--log", "3", file="/dev/full") as (process, port, _):
+    with logging("--log", "3", file="/dev/full", says=False) as (process, port, _):
         checks.same("a full disk: the server still serves", [ask(port, GET_ROOT) for _ in range(3)], [GREETING] * 3)
-    with logging("--log", "3", preexec_fn=lambda: os.close(2)) as (process, port, _):
+    with logging("--log", "3", says=False, preexec_fn=lambda: os.close(2)) as (process, port, _):
         checks.same("a closed standard error: the server still serves", [ask(port, GET_ROOT) for _ in range(3)], [GREETING] * 3)
 
 
@@ -318,6 +315,133 @@ def check_stdio(checks):
         checks.same(f"stdio at level {level}: last line", any(it.startswith("connection 1 ended: end of input; 2 messages, ") for it in texts[-1:]), level != "0")
         checks.same(f"stdio at level {level}: messages", any(" in: 0.01 GET" in it for it in texts) and any(" out: 2.05 Content" in it for it in texts), level == "3")
     checks.same("stdio: the same output", said["3"] == said["2"] == said["0"] != b"", True)
+
+
+# Streams that stop a connection, each with the reason in the log, and the warning before it.
+STOPS = [
+    ("00e1 10 01 f0", "malformed message", None),
+    ("00e1 0f 01", "token of more than 64 bytes", None),
+    ("00e1 f0 ffffff00 03", "message above the maximum size", "connection 1: message above the maximum size"),
+    ("00e1 00 20", "message with a reserved code", None),
+    ("00 01", "first message is no CSM", None),
+    ("10 e1 30", "CSM with an option that is not supported", None),
+    ("00e1 10 e2 10", "signaling message with an option that is not supported", None),
+    ("00e1 00 e5", "Abort by the peer", None),
+    ("00e1 00 e4", "Release by the peer", None),
+    ("00e1 10", "end of input within a message", None),
+]
+
+
+def check_stops(checks):
+    """The last line of a connection over standard input names the message that stopped it. Such a connection has not
+    failed."""
+    for stream, reason, warning in STOPS:
+        warnings, first, last = [warning] if warning else [], "connection 1 opened by standard input", "connection 1 ended: "
+        for level, wanted in (("1", warnings), ("2", [first, *warnings, last + reason])):
+            words = [SERVER, "--stdio", "--log", level]
+            ran = subprocess.run(words, input=bytes.fromhex(stream), capture_output=True, timeout=LIMIT)
+            texts = [it.partition(";")[0] for it in texts_of(ran.stderr)]
+            checks.same(f"stdio at level {level}: {reason}", texts, wanted)
+
+
+# A line for a message whose code has a name of one word: direction, code and token. A long message is cut.
+PASSED = re.compile(
+    r"connection 1 (in|out): (?:first \d+ of \d+ bytes: )?(\d\.\d\d) \w+(?: token ([0-9a-f]+))?(?: .*)?"
+)
+
+# The CSMs of both sides, in the order of the log.
+CSM_OUT, CSM_IN = ("out", "7.01", None), ("in", "7.01", None)
+
+
+def passed_in(texts):
+    """Returns direction, code and token of each message of a log, in order."""
+    return [found.groups() for it in texts if (found := PASSED.fullmatch(it))]
+
+
+def asked(count, size):
+    """Returns a PUT of a resource of this size and `count` GETs of it, each with a token of its own. Returns each request
+    of the log too, with its response."""
+    path, gets = [(11, b"a")], [bytes([at]) for at in range(1, count + 1)]
+    stream = encoded(3, b"\0", path, bytes(size)) + b"".join(encoded(1, it, path, b"") for it in gets)
+    pairs = [(("in", "0.01", it.hex()), ("out", "2.05", it.hex())) for it in gets]
+    return stream, [(("in", "0.03", "00"), ("out", "2.01", "00")), *pairs]
+
+
+def check_wraps(checks):
+    """If a connection sends more bytes than its queue has, the log names every message in order, and its last line has
+    the counts."""
+    for limit, queue, count, size in (("65536", "131072", 40, 4_000), ("1152", "2000", 40, 300)):
+        stream, pairs = asked(count, size)
+        words = [SERVER, "--stdio", "--log", "3", "-d", "1", "--max-sent", limit, "--queue", queue]
+        ran = subprocess.run(words, input=SETTINGS + stream, capture_output=True, timeout=LIMIT)
+        texts, name = texts_of(ran.stderr), f"a queue of {queue} bytes"
+        checks.same(f"{name} wraps", len(ran.stdout) > int(queue), True)
+        checks.same(f"{name}: messages", passed_in(texts), [CSM_OUT, CSM_IN, *(it for pair in pairs for it in pair)])
+        numbers = [f"{count + 2} messages, {len(it)} bytes" for it in (SETTINGS + stream, ran.stdout)]
+        last = f"connection 1 ended: end of input; {numbers[0]} in; {numbers[1]} out"
+        checks.same(f"{name}: last line", texts[-1:], [last])
+        checks.same(f"{name}: number of lines", len(texts), 2 * (count + 2) + 2)
+
+
+def check_parts(checks):
+    """If a socket accepts only a part of the queued bytes, the log names exactly the messages that were sent."""
+    count, size = 40, 2_000
+    stream, pairs = asked(count, size)
+    wanted = {"in": [CSM_IN, *(it for it, _ in pairs)], "out": [CSM_OUT, *(it for _, it in pairs)]}
+    with logging("--log", "3", "-d", "1") as (_, port, name):
+        with socket.socket() as peer:
+            # With small packets and a small buffer of the peer, the system accepts few bytes of the server.
+            peer.setsockopt(socket.SOL_SOCKET, socket.SO_RCVBUF, 2_048)
+            peer.setsockopt(socket.IPPROTO_TCP, socket.TCP_MAXSEG, 536)
+            peer.settimeout(LIMIT)
+            peer.connect((LOCAL, port))
+            peer.sendall(SETTINGS + stream)
+            first = passed_in(settled(name, len(wanted["in"]) + 3, LIMIT))
+            sent = [it for it in first if it[0] == "out"]
+            checks.same("parts: received messages", [it for it in first if it[0] == "in"], wanted["in"])
+            checks.same("parts: messages that were sent to a peer that does not read", sent, wanted["out"][: len(sent)])
+            checks.same("parts: some messages are still queued", 0 < len(sent) < count, True)
+            got, frames = b"", []
+            while len(frames) < count + 2 and (piece := peer.recv(700)):
+                got += piece
+                frames = messages.split(got)[0]
+            heads = [messages.parse(it)[:2] for it in frames]
+            received = [("out", f"{code >> 5}.{code & 31:02}", token.hex() or None) for code, token in heads]
+            checks.same("parts: messages that the peer received", received, wanted["out"])
+        texts = settled(name, 2 * (count + 2) + 2, LIMIT)
+        checks.same("parts: messages that were sent", [it for it in passed_in(texts) if it[0] == "out"], received)
+        checks.same("parts: last line", texts[-1].partition("in; ")[2], f"{count + 2} messages, {len(got)} bytes out")
+
+
+def on_terminal(words, given):
+    """Runs a program whose standard error is a terminal, with this input, and returns the bytes of its log as the program
+    wrote them."""
+    terminal, device = pty.openpty()
+    error, how = b"", {"stdin": subprocess.PIPE, "stdout": subprocess.DEVNULL, "stderr": device}
+    with open(terminal, "rb", 0), started(words, **how) as process:
+        os.close(device)
+        process.stdin.write(given)
+        process.stdin.close()
+        # At the end of the program, a read fails.
+        with contextlib.suppress(OSError):
+            while select.select([terminal], [], [], LIMIT)[0]:
+                error += os.read(terminal, 65_536)
+    # A terminal writes a newline as two bytes.
+    return error.replace(b"\r\n", b"\n")
+
+
+def check_terminal(checks):
+    """On a terminal, the lines of a log arrive whole and in order, also those that are longer than one write."""
+    long = [encoded(1, b"\x01", [(11, b"x" * length)], b"") for length in (1, 60, 100, 127, 128, 129, 200, 255)]
+    words, given = [SERVER, "--stdio", "--log", "3"], SETTINGS + b"".join(long)
+    wanted = texts_of(subprocess.run(words, input=given, capture_output=True, timeout=LIMIT).stderr)
+    error = on_terminal(words, given)
+    checks.same("terminal: lines of a server", texts_of(error), wanted)
+    checks.same("terminal: only lines of a log", len(error.splitlines()), 2 * (len(long) + 1) + 2)
+    with Server(SERVER) as server:
+        texts = [it.partition(";")[0] for it in texts_of(on_terminal([CLIENT, "--log", "3", server.uri()], b""))]
+        ends = [f"connection 1 opened to {LOCAL}:{server.port}", "connection 1 ended: last response"]
+        checks.same("terminal: lines of a client", (len(texts), texts[:1] + texts[-1:]), (6, ends))
 
 
 def check_last_lines(checks):
@@ -354,8 +478,11 @@ def check_client(checks):
     """The log of a client has its connection and its messages, and leaves its output as it is."""
     with Server(SERVER) as server:
         for level in ("0", "1", "2", "3"):
+            began = time.time()
             ran = subprocess.run([CLIENT, "--log", level, "-w", server.uri()], stdin=subprocess.DEVNULL, capture_output=True, timeout=LIMIT)
             texts = texts_of(ran.stderr)
+            if level in "23":
+                check_times(checks, f"client at level {level}", ran.stderr, began)
             checks.same(f"client at level {level}", (ran.returncode, ran.stdout), (0, b"coap+tcp\n"))
             checks.same(f"client at level {level}: only lines of a log", len(texts), len(ran.stderr.splitlines()))
             first, last = rf"connection 1 opened to {LOCAL}:{server.port}", r"connection 1 ended: last response; 2 messages, \d+ bytes in; 2 messages, \d+ bytes out"
@@ -368,8 +495,9 @@ def check_client(checks):
 def ask_of(words, *answers, ends=socket.socket.close):
     """Runs a client with these arguments against a peer that sends the answers: the first one at once, the others after the request. At last `ends`
     ends the connection. Without an answer it stays open until the client ends."""
-    with socket.create_server((LOCAL, 0)) as listener, subprocess.Popen(
+    with socket.create_server((LOCAL, 0)) as listener, started(
             [CLIENT, *words, f"coap+tcp://{LOCAL}:{listener.getsockname()[1]}/"], stdin=subprocess.DEVNULL, stdout=subprocess.PIPE, stderr=subprocess.PIPE) as process:
+        listener.settimeout(LIMIT)
         peer = listener.accept()[0]
         for at, answer in enumerate(answers):
             peer.sendall(answer)
@@ -422,13 +550,10 @@ def served_without(number, shim, folder):
     """Returns the response to a GET and the log of a server in which this allocation fails."""
     port, name, answer = free_port(), f"{folder}/log", None
     refusing = {**os.environ, "LD_PRELOAD": shim, "REFUSE_ALLOCATION": str(number)}
-    with open(name, "wb") as log:
-        command = [SERVER, "-A", LOCAL, "-p", str(port), "--log", "2"]
-        process = subprocess.Popen(command, stdin=subprocess.DEVNULL, stdout=subprocess.DEVNULL, stderr=log, env=refusing)
-    with contextlib.suppress(OSError):
-        answer = ask(port, GET_ROOT) if listens(process, name) else None
-    process.kill()
-    process.wait(LIMIT)
+    command = [SERVER, "-A", LOCAL, "-p", str(port), "--log", "2"]
+    with open(name, "wb") as log, started(command, stderr=log, env=refusing, **QUIET) as process:
+        with contextlib.suppress(OSError):
+            answer = ask(port, GET_ROOT) if listens(process, name) else None
     with open(name, "rb") as log:
         return answer, log.read()
 
@@ -449,24 +574,29 @@ def check_memory(checks):
     checks.same("connections without memory for their log", found > 0, True)
 
 
-def main():
-    checks = Checks()
-    check_levels(checks)
-    check_lines(checks)
-    check_warnings(checks)
-    check_idle(checks)
-    check_step_back(checks)
-    check_standard_error(checks)
-    check_stdio(checks)
-    check_last_lines(checks)
-    check_client(checks)
-    check_client_ends(checks)
-    check_memory(checks)
-    check_rate(checks, number_after("--connections", 100_000))
-    check_printable(checks, number_after("--messages", 100_000))
+CHECKS = [
+    check_levels, check_lines, check_warnings, check_idle, check_step_back, check_standard_error, check_terminal,
+    check_stdio, check_stops, check_wraps, check_parts, check_last_lines, check_client, check_client_ends, check_memory,
+    check_rate, check_printable,
+]
+
+
+def main(chosen):
+    checks, counts = Checks(), {}
+    for option, check in (("--connections", check_rate), ("--messages", check_printable)):
+        if option in chosen:
+            at = chosen.index(option)
+            counts[check] = [int(chosen[at + 1])]
+            del chosen[at : at + 2]
+    for check in CHECKS:
+        if not chosen or check.__name__.removeprefix("check_") in chosen:
+            try:
+                check(checks, *counts.get(check, []))
+            except (OSError, ValueError, IndexError, subprocess.SubprocessError) as trouble:
+                checks.same(check.__name__, repr(trouble), "no trouble")
     print("%d passed, %d failed" % (checks.passed, checks.failed))
     return int(checks.failed > 0)
 
 
 if __name__ == "__main__":
-    sys.exit(main())
+    sys.exit(main(sys.argv[3:]))

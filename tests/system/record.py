@@ -28,7 +28,7 @@ import rows  # noqa: E402
 from checks import CSM, GREETING, Checks  # noqa: E402
 from message_syntax import encoded, uint  # noqa: E402
 from messages import Malformed, length_of  # noqa: E402
-from peers import LIMIT, LOCAL, Server, free_port, line_of, read_bytes, read_to_end, reset  # noqa: E402
+from peers import LIMIT, LOCAL, Server, free_port, line_of, read_bytes, read_to_end, reset, started  # noqa: E402
 
 # Codes and options.
 GET, PUT, DELETE, PING = 0x01, 0x03, 0x04, 0xE2
@@ -471,7 +471,7 @@ def check_output(checks, server):
     """Checks a listening server that writes its record to standard output."""
     port = free_port()
     words = ["-A", LOCAL, "-p", str(port), "--record", "-"]
-    with subprocess.Popen([server, *words], stdin=subprocess.DEVNULL, stdout=subprocess.PIPE, stderr=subprocess.PIPE) as process:
+    with started([server, *words], stdin=subprocess.DEVNULL, stdout=subprocess.PIPE, stderr=subprocess.PIPE) as process:
         checks.same("standard output: the server listens", line_of(process.stderr), b"coap-server: listening on %s:%d\n" % (LOCAL.encode(), port))
         with socket.create_connection((LOCAL, port), LIMIT) as peer:
             peer.sendall(PEER_SETTINGS + GET_ROOT)
@@ -603,7 +603,7 @@ def check_waiting(checks, server):
         for level in ("0", "3"):
             name, title = f"{folder}/record{level}", f"standard input, level {level}"
             words = ["--stdio", "--record", name, "--log", level]
-            with subprocess.Popen([server, *words], stdin=subprocess.PIPE, stdout=subprocess.PIPE, stderr=subprocess.PIPE) as process:
+            with started([server, *words], stdin=subprocess.PIPE, stdout=subprocess.PIPE, stderr=subprocess.PIPE) as process:
                 greeting = bytes.fromhex(CSM)
                 checks.same(f"{title}: the CSM", process.stdout.read(len(greeting)), greeting)
                 begun = [b"open", b"drain 1 %d" % len(greeting)]
@@ -671,7 +671,7 @@ def over_socket(server, words, stream, environment):
     """Runs a server with one peer. Returns its status, 0 if it has not ended, the bytes that the peer received, and its error output."""
     port, got = free_port(), b""
     command = [server, "-A", LOCAL, "-p", str(port), *words]
-    with subprocess.Popen(command, stdin=subprocess.DEVNULL, stdout=subprocess.DEVNULL, stderr=subprocess.PIPE, env=environment) as process:
+    with started(command, stdin=subprocess.DEVNULL, stdout=subprocess.DEVNULL, stderr=subprocess.PIPE, env=environment) as process:
         said = b""
         while b" listening on " not in said and (line := process.stderr.readline()):
             said += line

@@ -27,7 +27,7 @@ import messages  # noqa: E402
 from checks import ABORTS, CSM, GREETING, Checks  # noqa: E402
 from peers import (  # noqa: E402
     LIMIT, LOCAL, Server, authority, free_port, held, is_silent, line_of, processor_time, read_bytes, read_to_end,
-    reset,
+    reset, started,
 )
 from rows import HARNESS  # noqa: E402
 
@@ -128,9 +128,9 @@ def check_requests(checks, programs):
         ]
         for words, path, wanted in rows:
             checks.same("coap-client %r %s" % (words, path), client(programs.client, [*words, server.uri(path)]), wanted)
-        started = int(time.time())
+        began = int(time.time())
         told = client(programs.client, [server.uri("/time")])
-        checks.same("/time is the seconds since 1970", abs(int(told[1] or 0) - started) <= 2, True)
+        checks.same("/time is the seconds since 1970", abs(int(told[1] or 0) - began) <= 2, True)
 
 
 def asked_by(length):
@@ -165,13 +165,13 @@ def check_observers(checks, programs):
         checks.same("observe /time", (done[0], len(moments) in (3, 4, 5), are_all, done[2]), (0, True, True, b""))
         # The observation begins in the middle of a second, and each notification arrives at the beginning of one.
         time.sleep((0.5 - time.time()) % 1)
-        with subprocess.Popen([programs.client, "-s", "2", "-w", server.uri("/time")], stdout=subprocess.PIPE) as watching:
+        with started([programs.client, "-s", "2", "-w", server.uri("/time")], stdout=subprocess.PIPE) as watching:
             lines = [(line_of(watching.stdout), time.time() % 1) for _ in range(3)]
             watching.stdout.read()
         late = min(at for _, at in lines[1:])
         checks.same("a notification arrives %.2f s after its second begins" % late, late < 0.4, True)
         client(programs.client, ["-m", "put", "-e", "one", server.uri("/a")])
-        with subprocess.Popen([programs.client, "-s", "1", "-w", server.uri("/a")], stdout=subprocess.PIPE) as watching:
+        with started([programs.client, "-s", "1", "-w", server.uri("/a")], stdout=subprocess.PIPE) as watching:
             checks.same("first state", line_of(watching.stdout), b"one\n")
             client(programs.client, ["-m", "put", "-e", "two", server.uri("/a")])
             checks.same("second state", line_of(watching.stdout), b"two\n")
@@ -239,7 +239,7 @@ def ended(programs, how):
     """Returns the result of a client whose peer ends the connection with `how` after it received the CSM of the client."""
     with socket.create_server((LOCAL, 0)) as listener:
         uri = "coap+tcp://" + authority(*listener.getsockname())
-        with subprocess.Popen([programs.client, uri], stderr=subprocess.PIPE) as process:
+        with started([programs.client, uri], stderr=subprocess.PIPE) as process:
             peer, _ = listener.accept()
             with peer:
                 greeting = read_bytes(peer, len(CSM) // 2).hex()
@@ -298,7 +298,7 @@ def caused(programs, arguments, pieces):
     words, path = arguments
     with socket.create_server((LOCAL, 0)) as listener:
         uri = "coap+tcp://" + authority(*listener.getsockname()) + path
-        with subprocess.Popen([programs.client, *words, uri], stdout=subprocess.PIPE, stderr=subprocess.PIPE) as process:
+        with started([programs.client, *words, uri], stdout=subprocess.PIPE, stderr=subprocess.PIPE) as process:
             peer, _ = listener.accept()
             with peer:
                 for piece in pieces:
@@ -319,7 +319,7 @@ def check_silent(checks, programs):
     """Checks that a client whose peer is silent ends in time, and uses no processor time while it waits."""
     with socket.create_server((LOCAL, 0)) as listener:
         began = time.monotonic()
-        with subprocess.Popen([programs.client, "-B", "2", "coap+tcp://" + authority(*listener.getsockname())]) as process:
+        with started([programs.client, "-B", "2", "coap+tcp://" + authority(*listener.getsockname())]) as process:
             _, status, usage = os.wait4(process.pid, 0)
             process.returncode = os.waitstatus_to_exitcode(status)
         checks.same("status of the client", process.returncode, 4)
@@ -597,7 +597,7 @@ def check_alive(checks, programs):
         checks.same("an accepted socket is probed in %s s" % left, left is not None and KEEP_IDLE - 10 < left <= KEEP_IDLE + 1, True)
     with Waits() as waits, socket.create_server((LOCAL, 0)) as listener:
         words = [programs.client, "-B", "10", "coap+tcp://%s:%d/" % listener.getsockname()]
-        with subprocess.Popen(words, stderr=subprocess.PIPE, **waits.how()) as process, listener.accept()[0] as peer:
+        with started(words, stderr=subprocess.PIPE, **waits.how()) as process, listener.accept()[0] as peer:
             read_bytes(peer, len(CSM) // 2)
             checks.same("the options of the client", keep_alive(waits), KEEP_ALIVE)
             left = probe_in(peer.getpeername()[1], peer.getsockname()[1])
@@ -617,27 +617,24 @@ def check_closed(checks, programs):
         with socket.create_server((LOCAL, 0)) as listener:
             listener.settimeout(LIMIT)
             words = [programs.client, "-m", "put", "-f", "-", "-w", "coap+tcp://%s:%d/x" % listener.getsockname()]
-            process = subprocess.Popen(words, stdin=subprocess.PIPE, stdout=subprocess.PIPE, stderr=subprocess.PIPE, preexec_fn=closing(numbers))
-            # A pipe without a reader fails when it is closed.
-            with contextlib.suppress(BrokenPipeError):
-                process.stdin.write(body)
-                process.stdin.close()
-            peer, _ = listener.accept()
-            with peer:
-                held = [os.readlink("/proc/%d/fd/%d" % (process.pid, number)) for number in numbers]
-                peer.sendall(bytes.fromhex("00e1"))
-                payload = b"" if 0 in numbers else b"\xff" + body
-                asked = bytes.fromhex(CSM + ("210301b178" if 0 in numbers else "d1040301b178")) + payload
-                got = read_bytes(peer, len(asked))
-                # 4.04 with a payload, which the client writes to standard error.
-                peer.sendall(bytes.fromhex("318401ff6869"))
-                more, _ = read_to_end(peer)
-            checks.same("a client without %r: open files" % (numbers,), held, ["/dev/null"] * len(numbers))
-            checks.same("a client without %r: bytes at its peer" % (numbers,), got + more, asked)
-            said = b"" if 2 in numbers else b"4.04 hi\n"
-            checks.same("a client without %r" % (numbers,), (process.wait(LIMIT), process.stdout.read(), process.stderr.read()), (2, b"", said))
-            process.stdout.close()
-            process.stderr.close()
+            with started(words, stdin=subprocess.PIPE, stdout=subprocess.PIPE, stderr=subprocess.PIPE, preexec_fn=closing(numbers)) as process:
+                # A pipe without a reader fails when it is closed.
+                with contextlib.suppress(BrokenPipeError):
+                    process.stdin.write(body)
+                    process.stdin.close()
+                with listener.accept()[0] as peer:
+                    held = [os.readlink("/proc/%d/fd/%d" % (process.pid, number)) for number in numbers]
+                    peer.sendall(bytes.fromhex("00e1"))
+                    payload = b"" if 0 in numbers else b"\xff" + body
+                    asked = bytes.fromhex(CSM + ("210301b178" if 0 in numbers else "d1040301b178")) + payload
+                    got = read_bytes(peer, len(asked))
+                    # 4.04 with a payload, which the client writes to standard error.
+                    peer.sendall(bytes.fromhex("318401ff6869"))
+                    more, _ = read_to_end(peer)
+                checks.same("a client without %r: open files" % (numbers,), held, ["/dev/null"] * len(numbers))
+                checks.same("a client without %r: bytes at its peer" % (numbers,), got + more, asked)
+                said = b"" if 2 in numbers else b"4.04 hi\n"
+                checks.same("a client without %r" % (numbers,), (process.wait(LIMIT), process.stdout.read(), process.stderr.read()), (2, b"", said))
         check_closed_server(checks, programs, numbers)
     done = subprocess.run([programs.server, "--stdio"], stderr=subprocess.PIPE, preexec_fn=closing([0, 1]), timeout=LIMIT)
     checks.same("--stdio without standard streams", (done.returncode, done.stderr), (0, b""))
@@ -646,7 +643,7 @@ def check_closed(checks, programs):
 def check_closed_server(checks, programs, numbers):
     """Checks a server whose descriptors with these numbers are closed when it begins."""
     port = free_port()
-    with subprocess.Popen([programs.server, "-A", LOCAL, "-p", str(port)], stdin=subprocess.DEVNULL, stdout=subprocess.DEVNULL,
+    with started([programs.server, "-A", LOCAL, "-p", str(port)], stdin=subprocess.DEVNULL, stdout=subprocess.DEVNULL,
                           stderr=subprocess.DEVNULL, preexec_fn=closing(numbers)) as process:
         peer = accepted_at(port)
         with peer:
@@ -746,7 +743,7 @@ def check_flooded_client(checks, programs):
     with socket.create_server((LOCAL, 0)) as listener:
         # Small socket buffers of the peer, so that the queue of the client is soon full.
         listener.setsockopt(socket.SOL_SOCKET, socket.SO_RCVBUF, 4096)
-        with subprocess.Popen([programs.client, "-B", "7", "coap+tcp://%s:%d/" % listener.getsockname()], stderr=subprocess.PIPE) as process:
+        with started([programs.client, "-B", "7", "coap+tcp://%s:%d/" % listener.getsockname()], stderr=subprocess.PIPE) as process:
             with listener.accept()[0] as peer:
                 peer.sendall(bytes.fromhex("00e1"))
                 flood(peer, bytes.fromhex("01e201") * 20_000)
