@@ -14,7 +14,7 @@ An edit is a file tests/mutants/edits/CRATE/NAME.edit. Its first line has what d
 
     clause: 'after' of Link::on  the clause that rejects it; or, if no clause can reject it,
     rows: tests/vectors/rows/script/a_mebibyte.rows    the rows that detect it, because it only reports allocation failures; or
-    server: tests/system/sockets.py files      or `client: ..`: the program that has it, and the test that then fails; or
+    server: tests/system/sockets.py files      or `client: ..`, `directory: ..`: the program that has it, and the test that then fails; or
     open: Server::status states nothing of it  no clause is known to reject it, and the reason
     file: src/limits.rt          a file of the crate
     in: Limits::queue            a function of that file, as a check names it without crate and module (the impl of a trait
@@ -35,7 +35,7 @@ copy for each. The copy of the crate also gets one type error, so that the compi
 An edit of the layer `rows` is detected if a row of the file that it names has another result. The probe is built unproved with the edit
 (tests/harness/unproved.py). --all tries these too, each in its own build; --rows tries them alone.
 
-An edit of the layer `server` or `client` is detected if its test fails with that program built unproved with the edit. The test must pass with the
+An edit of the layer `server`, `client` or `directory` is detected if its test fails with that program built unproved with the edit. The test must pass with the
 program built in the same way without the edit (tests/mutants/program_tests.py). --all tries these too, each in one to three minutes, side by
 side; --tests tries them alone.
 
@@ -86,7 +86,7 @@ import quotes  # noqa: E402
 import rows  # noqa: E402
 from verdicts import all_functions, goal_at, is_real, messages, open_functions, told  # noqa: E402
 from workspace import PARTS, ROOT, crates, is_program, is_static, rattle_words, rlib  # noqa: E402
-from program_tests import ProgramTests  # noqa: E402
+from program_tests import CRATES, ProgramTests  # noqa: E402
 from unproved import build  # noqa: E402
 
 PROCESSORS = len(os.sched_getaffinity(0))
@@ -96,12 +96,12 @@ IN_TURN = 2
 FUNCTION = re.compile(r"( *)(?:pub(?:\([a-z ]+\))? )?(?:const )?(?:extern \S+ )?fn (\w+)")
 BLOCK = re.compile(r"(?:pub(?:\([a-z]+\))? )?(?:impl\b *(.*?)|trait (\w+).*?) ?\{?$")
 # The layers of the edits that tests of a program detect.
-PROGRAMS = ("server", "client")
+PROGRAMS = tuple(CRATES)
 MODES = {"--all", "--control", "--list", "--rows", "--tests", "--types"}
 # Maximum number of edits that the gate tries beside the control.
 MOST_IN_GATE = 50
 FIRST_LINE = re.compile(
-    r"(?:clause|open|control): \S.*|rows: tests/vectors/rows/\S+\.rows|(?:server|client): tests/system/\w+\.py(?: \w+)+"
+    rf"(?:clause|open|control): \S.*|rows: tests/vectors/rows/\S+\.rows|(?:{'|'.join(PROGRAMS)}): tests/system/\w+\.py(?: \w+)+"
 )
 
 
@@ -607,7 +607,7 @@ def judge_by_tests(edits):
     if not edits:
         return {}
     with tempfile.TemporaryDirectory(prefix="edits-", ignore_cleanup_errors=True) as room, ThreadPoolExecutor(PROCESSORS) as pool:
-        tests = ProgramTests(room, list(dict.fromkeys(it.detected_by for it in edits)), pool)
+        tests = ProgramTests(room, list(dict.fromkeys((it.layer, it.detected_by) for it in edits)), pool)
         whys = zip(edits, pool.map(tests.missed, edits))
         return {it: tell(it, not why, why or "by a test") for it, why in whys}
 

@@ -10,17 +10,21 @@ from unproved import build  # noqa: E402
 from workspace import ROOT, program_name  # noqa: E402
 
 # The programs by the layers of edits that tests detect, each with its crate.
-CRATES = {"server": "coap_server", "client": "coap_client_main"}
+CRATES = {"server": "coap_server", "client": "coap_client_main", "directory": "coap_directory"}
+
+# The programs that a test takes, by the layer of its edits.
+TAKES = {"server": ("server", "client"), "client": ("server", "client"), "directory": ("directory", "client")}
 
 
 # Seconds after which a test has failed. An edited program may leave a test waiting again and again.
 LIMIT = 900
 
 
-def passes(test, server, client):
-    """Returns true if a test, in the form `tests/FILE.py NAME ..`, passes with these programs in time."""
+def passes(layer, test, programs):
+    """Returns true if a test, in the form `tests/FILE.py NAME ..`, passes in time with those of these programs that it
+    takes."""
     script, *names = test.split()
-    words = ["python3", f"{ROOT}/{script}", server, client, *names]
+    words = ["python3", f"{ROOT}/{script}", *(programs[it] for it in TAKES[layer]), *names]
     with subprocess.Popen(words, stdin=subprocess.DEVNULL, stdout=subprocess.DEVNULL, process_group=0) as running:
         try:
             return running.wait(LIMIT) == 0
@@ -30,25 +34,25 @@ def passes(test, server, client):
 
 
 class ProgramTests:
-    """Both programs unproved without any edit, and those of some tests that pass with them. Any other test detects no
-    edit. `pool` runs the tests side by side."""
+    """All programs unproved without any edit, and those of some tests that pass with them. Any other test detects no
+    edit. A test comes with the layer of its edits. `pool` runs the tests side by side."""
 
     def __init__(self, room, tests, pool):
         self.room = room
         self.programs = {it: f"{room}/{program_name(crate)}" for it, crate in CRATES.items()}
         self.are_built = not build(list(CRATES.values()), room)
-        passed = pool.map(lambda it: self.are_built and passes(it, **self.programs), tests)
+        passed = pool.map(lambda it: self.are_built and passes(*it, self.programs), tests)
         self.passing = dict(zip(tests, passed))
 
     def missed(self, edit):
         """Returns why a test does not detect an edit, or an empty text if it does."""
-        test = edit.detected_by
+        layer, test = edit.layer, edit.detected_by
         if not self.are_built:
             return "the programs are not built"
-        if not self.passing[test]:
+        if not self.passing[layer, test]:
             return f"{test} fails without it"
-        crate, wrong = CRATES[edit.layer], f"{self.room}/{edit.crate}/{edit.name}"
+        crate, wrong = CRATES[layer], f"{self.room}/{edit.crate}/{edit.name}"
         if build([crate], wrong, {edit.crate: edit.applied({})}):
             return "it is not built"
-        programs = {**self.programs, edit.layer: f"{wrong}/{program_name(crate)}"}
-        return f"{test} passes" if passes(test, **programs) else ""
+        programs = {**self.programs, layer: f"{wrong}/{program_name(crate)}"}
+        return f"{test} passes" if passes(layer, test, programs) else ""
