@@ -83,11 +83,13 @@ class FalseBroker:
 
 
 class Relay:
-    """Relays connections to a broker, at most a number of bytes a second, and can send bytes of its own to the gateway."""
+    """Relays connections to a broker, at most a number of bytes a second, and can send bytes of its own to the gateway.
+    While `open` is not set, it relays no new connection."""
 
     def __init__(self, port, rate=None):
         self.listener, self.to, self.gateways, self.ends, self.rate = socket.create_server((LOCAL, 0)), port, [], False, rate
-        self.port = self.listener.getsockname()[1]
+        self.port, self.open = self.listener.getsockname()[1], threading.Event()
+        self.open.set()
 
     def __enter__(self):
         threading.Thread(target=self.run, daemon=True).start()
@@ -101,6 +103,7 @@ class Relay:
         while not self.ends:
             with contextlib.suppress(OSError):
                 gateway = self.listener.accept()[0]
+                self.open.wait()
                 broker = socket.create_connection((LOCAL, self.to), LIMIT)
                 self.gateways.append(gateway)
                 for one, other in ((gateway, broker), (broker, gateway)):
@@ -116,6 +119,13 @@ class Relay:
                 it.shutdown(socket.SHUT_RDWR)
 
 
-# Bytes that end a connection to the broker, if they are not part of a packet.
-INJECTED = [NOISE.randbytes(100), NOISE.randbytes(5000), bytes(64), b"\x30\xff\xff\xff\xff\x01", b"\x32\x08\x00\x01a\x00\x00\x02\x7f\x01", b"\xe0\x01\x80",
-            publication(b"shared/\xff", b"x")]
+# Bytes that end a connection to the broker at once, if they are not part of a packet. Each has the text of the log.
+INJECTED = {
+    NOISE.randbytes(100): "connection failed: ",
+    NOISE.randbytes(5000): "connection failed: ",
+    bytes(64): "connection failed: ",
+    b"\x30\xff\xff\xff\xff\x01": "connection failed: ",
+    b"\x32\x08\x00\x01a\x00\x00\x02\x7f\x01": "connection failed: ",
+    b"\xe0\x01\x80": "ended the connection: ",
+    publication(b"shared/\xff", b"x"): "connection failed: Malformed UTF-8",
+}

@@ -4,6 +4,7 @@ import collections
 import contextlib
 import os
 import select
+import signal
 import socket
 import subprocess
 import tempfile
@@ -155,9 +156,11 @@ class Watched:
         self.was_ended = True
 
     def kill(self):
+        """Kills the program. Notes its end if it ends by itself before."""
+        if self.process.poll() is None:
+            self.process.kill()
+            self.was_ended |= self.process.wait(LIMIT) == -signal.SIGKILL
         self.note_end()
-        self.process.kill()
-        self.process.wait(LIMIT)
 
     def ended(self):
         """Waits until the program has ended by itself, as the test expects, and returns its status."""
@@ -217,11 +220,18 @@ class Broker(Watched):
     def words(self):
         return ["-h", LOCAL, "-p", str(self.port), "-V", "5", "-u", USER, "-P", PASSWORD]
 
-    def publish(self, topic, payload, *words, retain=True):
-        """Publishes a message as another program would. Returns the status of mosquitto_pub."""
+    def reply(self, topic, payload, *words, retain=True):
+        """Publishes a message as another program would. Returns the status of mosquitto_pub, and its errors."""
         line = ["mosquitto_pub", *self.words(), "-q", "1", "-t", topic, *(["-r"] if retain else []), *words]
         line += ["-n"] if payload == b"" else ["-s"]
-        return subprocess.run(line, input=payload, capture_output=True, timeout=LIMIT).returncode
+        done = subprocess.run(line, input=payload, capture_output=True, timeout=LIMIT)
+        return done.returncode, done.stderr.decode()
+
+    def publish(self, *message, **more):
+        """Publishes a message as another program would. Raises if the broker does not accept it."""
+        # After a refusal, the status is 0 too.
+        if (reply := self.reply(*message, **more)) != (0, ""):
+            raise OSError(f"a message is not published: {reply}")
 
     def saved(self, payload):
         """Waits until the broker has saved a message with these bytes, and returns true if it has."""
