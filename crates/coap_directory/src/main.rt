@@ -4,7 +4,11 @@
 //! hands the requests below `/rd` and `/rd-lookup` to a `Directory` (`application.rt`), which answers each at once.
 #![tactic(auto)]
 
+ghost use Rattle.std.specs.Prelude.{[], IfOk};
+ghost use Rattle.coap_directory.specs.Answers.{Answers};
+
 mod application;
+mod laws;
 
 use application::DirectoryApplication;
 use coap_application::Applications;
@@ -67,7 +71,10 @@ fn entry_points(alloc: Global) -> Option<Applications> {
 fn directory_of<'a, R: time::Clock + AllocGlobal>(
     rt: &'a R,
     plan: &DirectoryPlan,
-) -> Result<DirectoryApplication<RunClock<'a, R>>, AllocError> {
+) -> Result<DirectoryApplication<RunClock<'a, R>>, AllocError>
+    // The application has answered nothing.
+    ensures { IfOk result (λ a. Answers [] a.directory) }
+{
     let directory = Directory::new(rt.alloc(), plan.registrations, LARGEST_SENT_MESSAGE)?;
     Ok(DirectoryApplication::new(directory, RunClock::start(rt)))
 }
