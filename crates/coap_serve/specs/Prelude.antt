@@ -6,6 +6,7 @@ pub use Rattle.coap_io.specs.streams.Wires.{IsWithin}
 pub use Rattle.coap_server_engine.specs.values.Exchanges.{Exchange, Asked, Offered, Given, Gone, Answering, offers}
 unfoldable pub use Rattle.coap_server_engine.specs.values.Exchanges.{AnswersMore}
 pub use Rattle.coap_wire.specs.Message.{Message}
+pub use Rattle.coap_wire.specs.Spelling.{Spells}
 unfoldable pub use Rattle.coap_wire.specs.Spelling.{spelling}
 -- For `Monitor`: the calls of which `follows` speaks.
 pub use Rattle.coap_server_engine.specs.values.Calls.{Following, call_value}

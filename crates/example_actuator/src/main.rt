@@ -1,11 +1,11 @@
-//! An actuator: a program that embeds the server behind a transport of its own, and answers the requests of one path
+//! An actuator: a program that embeds the server over a transport of its own, and answers the requests of one path
 //! itself. PUT /valve with the payload `open` or `closed` sets the valve, and GET /valve returns its position.
 //!
-//! The transport is a reliable and ordered line of text, such as a serial port behind a modem. A line of standard input
-//! has bytes of the client as hexadecimal digits, and an empty line says that a second has passed. After each of them, the
-//! program prints a line with the bytes for the client, which can be empty:
+//! The transport is reliable and ordered, such as a serial line. Standard input has a line for bytes of the client, as
+//! hexadecimal digits. An empty line says that a second has passed. After each line, the program prints a line with the
+//! bytes for the client, which is empty if there are none. If a line has many requests, it can print more than one:
 //!
-//!     printf '00e1\n6401015576616c7665\n' | example_actuator
+//!     printf '00e1\n610101b576616c7665\n' | example_actuator
 #![tactic(auto)]
 
 mod valve;
@@ -15,12 +15,13 @@ use coap_serve::{Applications, Code, Config, ConnId, NoMonitor, Server, bytes_in
 use std::alloc::Global;
 use valve::Valve;
 
-/// Creates a server whose application answers GET and PUT of /valve, within 10 seconds.
+/// Creates a server whose application answers these methods of /valve, within 10 seconds.
 fn create(alloc: Global) -> Result<Server> {
     let mut applications = Applications::new(alloc, 10).context("no memory")?;
     let path = valve::path().context("no path")?;
+    let methods = [Code::GET, Code::POST, Code::PUT, Code::DELETE];
     applications
-        .add(&path, &[Code::GET, Code::PUT], b"if=\"actuator\"")
+        .add(&path, &methods, b"if=\"actuator\"")
         .context("no memory")?;
     let config = Config::builder().connections(1).build()?;
     Server::with_applications(alloc, config, applications).context("no memory for the server")
@@ -49,10 +50,10 @@ fn receive(
         let count = server
             .take_all_for::<(), NoMonitor, Valve>(id, rest, valve, &mut response, &mut NoMonitor)
             .context("no memory")?;
-        send(rt, server, id)?;
         if count == 0 {
             break;
         }
+        send(rt, server, id)?;
         rest = &rest[count..];
     }
     Ok(())

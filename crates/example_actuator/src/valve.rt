@@ -1,9 +1,12 @@
-//! The valve, as the application of a server: it answers GET and PUT of /valve.
+//! The valve, as the application of a server: it answers the requests of /valve.
 
-use coap_serve::option_numbers::{ACCEPT, CONTENT_FORMAT, IF_MATCH, IF_NONE_MATCH};
+ghost use Rattle.std.specs.Prelude.{◌≡◌, [], true, false};
+ghost use Rattle.example_actuator.specs.Position.{IsPosition, IsResponse};
+
+use coap_serve::option_numbers::{ACCEPT, CONTENT_FORMAT, IF_MATCH, IF_NONE_MATCH, URI_QUERY};
 use coap_serve::{
-    Application, Builder, Code, ConnId, MessageRef, PathKey, Reply, ResponseFault, request_path,
-    uint_value,
+    Application, Builder, Code, ConnId, MessageRef, PathKey, Reply, ResponseFault, TokenRef,
+    request_path, uint_value,
 };
 
 /// Byte of the code 4.15 (Unsupported Content-Format).
@@ -20,13 +23,16 @@ pub(crate) fn path() -> Option<PathKey> {
     PathKey::from_segments(&[b"valve"])
 }
 
+/// Returns `true` if the request has a recognised option with this number.
+fn has_option(request: &MessageRef<'_>, number: u16) -> bool {
+    request.known().any(|option| option.number == number)
+}
+
 /// Returns `true` if If-Match and If-None-Match hold (RFC 7252 section 5.10.8). The valve exists, and has no ETag.
 fn conditions_hold(request: &MessageRef<'_>) -> bool {
-    let has_match = request.known().any(|option| option.number == IF_MATCH);
     let matches_any = request.known().any(|option| option.number == IF_MATCH
         && option.value.is_empty());
-    let is_refused = request.known().any(|option| option.number == IF_NONE_MATCH);
-    (!has_match || matches_any) && !is_refused
+    (matches_any || !has_option(request, IF_MATCH)) && !has_option(request, IF_NONE_MATCH)
 }
 
 /// Returns `true` unless the option with this number names another format than text/plain, which is 0.
@@ -34,11 +40,14 @@ fn is_text(request: &MessageRef<'_>, number: u16) -> bool {
     request.known().all(|option| option.number != number || uint_value(option.value) == Some(0))
 }
 
-/// Returns the code of the response to a request. The server has checked the method and unrecognised critical options.
+/// Returns the code of the response to a request. The server has checked unrecognised critical options. A request of a
+/// path below /valve comes here too.
 fn code_for(request: &MessageRef<'_>) -> Code {
-    if request_path(request) != path() {
-        // The requests of paths below /valve come here too.
+    if request_path(request) != path() || has_option(request, URI_QUERY) {
         return Code::NOT_FOUND;
+    }
+    if request.code() != Code::GET && request.code() != Code::PUT {
+        return Code::METHOD_NOT_ALLOWED;
     }
     if !conditions_hold(request) {
         return Code::PRECONDITION_FAILED;
@@ -53,12 +62,32 @@ fn code_for(request: &MessageRef<'_>) -> Code {
     if !is_text(request, CONTENT_FORMAT) {
         return Code::new(UNSUPPORTED_FORMAT);
     }
-    let payload = request.payload();
-    if payload == b"open".as_slice() || payload == b"closed".as_slice() {
-        Code::CHANGED
-    } else {
-        Code::BAD_REQUEST
+    match request.payload() {
+        b"open" | b"closed" => Code::CHANGED,
+        _ => Code::BAD_REQUEST,
     }
+}
+
+/// Writes a response with this code, and with the position if it is 2.05. Returns `false` if it writes nothing, because
+/// allocation fails.
+fn write_response(code: Code, token: &TokenRef<'_>, position: &[u8], out: &mut Vec<u8>) -> bool
+    requires { out.old.items ≡ [] }
+    ensures written { result ≡ true → IsResponse code token.now out.new.items }
+    ensures empty { result ≡ false → out.new.items ≡ [] }
+{
+    let mut response: Builder = Builder::with_token_ref(code, token.copy());
+    if code == Code::CONTENT {
+        // An empty value is the number 0: text/plain.
+        let format = response.option(CONTENT_FORMAT, b"");
+        if format.is_err() || response.payload(position).is_err() {
+            return false;
+        }
+    }
+    if out.reserve(response.size() as usize).is_err() {
+        return false;
+    }
+    response.write(out);
+    true
 }
 
 impl Valve {
@@ -66,29 +95,17 @@ impl Valve {
     pub(crate) fn new() -> Valve {
         Valve { is_open: false }
     }
-
-    /// Returns the position as text.
-    fn position(&self) -> &[u8] {
-        if self.is_open { b"open" } else { b"closed" }
-    }
 }
 
 #[tactic(auto, unfolding(coap_serve::specs::Prelude::AnswersMore))]
 impl Application for Valve {
+    ghost follows = { λ valve exchanges. IsPosition exchanges valve.is_open };
+
     fn request(&mut self, _id: ConnId, request: &MessageRef<'_>, _limit: usize, out: &mut Vec<u8>) {
         let code = code_for(request);
-        let mut response: Builder = Builder::with_token_ref(code, request.token().copy());
-        if code == Code::CONTENT {
-            // An empty value is the number 0: text/plain.
-            let _ = response.option(CONTENT_FORMAT, b"");
-            let _ = response.payload(self.position());
-        }
+        let position: &[u8] = if self.is_open { b"open" } else { b"closed" };
         // Without memory the valve stays, and the server sends 5.04 at the deadline.
-        if out.reserve(response.size() as usize).is_err() {
-            return;
-        }
-        response.write(out);
-        if code == Code::CHANGED {
+        if write_response(code, request.token(), position, out) && code == Code::CHANGED {
             self.is_open = request.payload() == b"open".as_slice();
         }
     }
