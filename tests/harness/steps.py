@@ -81,7 +81,8 @@ def bin_of(*names):
 
 
 PROGRAMS = SERVER, CLIENT, EXPLAIN, DIRECTORY = bin_of("coap-server", "coap-client", "coap-explain", "coap-directory")
-EXAMPLE_GATEWAY, EXAMPLE_OBSERVER = bin_of("example-gateway", "example-observer")
+EXAMPLES = bin_of("example-gateway", "example-observer", "example-actuator")
+EXAMPLE_GATEWAY, EXAMPLE_OBSERVER, EXAMPLE_ACTUATOR = EXAMPLES
 LIBRARY, MQTT = bin_of("libcoap_proved.a", "coap-mqtt")
 
 # The proof of the C library, over what `rt ci` keeps.
@@ -113,7 +114,7 @@ STEPS = [
     Step(["python3", "tests/system/clocks.py", SERVER, CLIENT], 14, 1),
     Step(["python3", "tests/system/interop.py", SERVER, CLIENT], 17, 1),
     Step(["python3", "tests/system/haproxy.py", SERVER], 36, 2),
-    Step(["python3", "tests/system/embedding.py", EXAMPLE_GATEWAY, CLIENT, EXAMPLE_OBSERVER, SERVER], 5, 1),
+    Step(["python3", "tests/system/embedding.py", *EXAMPLES, SERVER, CLIENT], 5, 1),
     Step(["python3", "tests/system/c_library.py", SERVER, CLIENT, LIBRARY], 40, 35, (PROVED, ARCHIVE)),
     Step(["python3", "tests/system/mqtt.py", "--build"], 3, 2, (ARCHIVE,), GATEWAY),
     *parts(["python3", "tests/system/mqtt.py", MQTT], [(55, 7), (30, 3), (45, 9)], (GATEWAY,)),

@@ -1,8 +1,8 @@
 #!/usr/bin/env python3
 """Runs the example of a program that embeds the server, and reads its values with coap-client. Then runs the example of a program that embeds the
-client against it, against coap-server and against libcoap's server.
+client against it, against coap-server and against libcoap's server. The example of an actuator gets lines of hexadecimal digits.
 
-    tests/system/embedding.py bin/example-gateway bin/coap-client bin/example-observer bin/coap-server
+    tests/system/embedding.py bin/example-gateway bin/example-observer bin/example-actuator bin/coap-server bin/coap-client
 
 The sensor is a file of this script. Each wait has a timeout.
 """
@@ -16,8 +16,39 @@ import tempfile
 sys.path.insert(0, os.path.join(os.path.dirname(os.path.abspath(__file__)), "..", "harness"))
 import packages  # noqa: E402
 from checks import Checks  # noqa: E402
+from message_syntax import digits  # noqa: E402
 from peers import LIMIT, LOCAL, Server, free_port, line_of, started  # noqa: E402
 from sockets import client  # noqa: E402
+
+
+# Lines of the client of an actuator, and the line that the actuator prints for each.
+CSM, OWN_CSM = "(CSM)", "(CSM max-message-size 65536 extended-token-length 64)"
+ACTUATOR = [
+    (CSM, OWN_CSM),
+    ("(GET /valve token 01)", "(2.05 token 01 content-format 0 | 'closed')"),
+    ("(PUT /valve token 02 | 'open')", "(2.04 token 02)"),
+    ("(GET /valve token 03 accept 0)", "(2.05 token 03 content-format 0 | 'open')"),
+    ("(PUT /valve token 04 content-format 0 if-match - | 'closed')", "(2.04 token 04)"),
+    # Each of these changes nothing.
+    ("(PUT /valve token 05 | 'ajar')", "(4.00 token 05)"),
+    ("(PUT /valve token 06)", "(4.00 token 06)"),
+    ("(PUT /valve token 07 content-format 50 | 'open')", "(4.15 token 07)"),
+    ("(PUT /valve token 08 if-match 01 | 'open')", "(4.12 token 08)"),
+    ("(PUT /valve token 09 if-none-match | 'open')", "(4.12 token 09)"),
+    ("(PUT /valve token 0a uri-query 'x' | 'open')", "(4.04 token 0a)"),
+    ("(PUT /valve/x token 0b | 'open')", "(4.04 token 0b)"),
+    ("(PUT /valve token 0c option 9 - | 'open')", "(4.02 token 0c)"),
+    ("(POST /valve token 0d | 'open')", "(4.05 token 0d)"),
+    ("(GET /valve token 0e accept 50)", "(4.06 token 0e)"),
+    ("(GET /valve token 0f)", "(2.05 token 0f content-format 0 | 'closed')"),
+    # A message in two lines, and two messages in one line.
+    (digits("(PUT /valve token 10 | 'open')")[:8], ""),
+    (digits("(PUT /valve token 10 | 'open')")[8:], "(2.04 token 10)"),
+    ("(GET /valve)+(GET /time)", "(2.05 content-format 0 | 'open')+(2.05 content-format 0 max-age 1 | '0')"),
+    # A second passes.
+    ("", ""),
+    ("(GET /time)", "(2.05 content-format 0 max-age 1 | '1')"),
+]
 
 
 class Sensor:
@@ -76,6 +107,29 @@ def check_observer(checks, program, server):
         checks.same(f"fails: {words}", (status, lines, bool(said)), (1, [], True))
 
 
+def actuate(program, lines):
+    """Passes lines to the actuator, and returns its status, the lines that it prints, and what it says on standard error."""
+    ran = subprocess.run([program], input="".join(f"{it}\n" for it in lines), capture_output=True, timeout=LIMIT, text=True)
+    return ran.returncode, ran.stdout.splitlines(), ran.stderr
+
+
+def check_actuator(checks, program):
+    """Checks each response of an actuator, its entry in the listing, and its end in each way."""
+    status, lines, said = actuate(program, [digits(asked) for asked, _ in ACTUATOR])
+    checks.same("the actuator ends after its input", (status, said), (0, ""))
+    for at, (asked, answered) in enumerate(ACTUATOR):
+        checks.same(f"the actuator answers {asked}", lines[at] if at < len(lines) else None, digits(answered))
+    # The end of the input queues nothing.
+    checks.same("the last lines of the actuator", lines[len(ACTUATOR):], [""])
+    _, lines, _ = actuate(program, [digits("(CSM)+(GET /.well-known/core)")])
+    checks.same("the actuator lists its valve", b'</valve>;if="actuator"' in bytes.fromhex(lines[0]), True)
+    # The second message has an invalid token length. Nothing is read after the stop.
+    status, lines, said = actuate(program, [digits("(CSM)"), "0f01", digits("(GET /valve)")])
+    checks.same("the actuator ends after an Abort", (status, lines[1:], said), (0, [digits("(Abort | 'bad token length')")], ""))
+    status, lines, said = actuate(program, ["x"])
+    checks.same("the actuator refuses other text", (status, lines, "not hexadecimal" in said), (1, [], True))
+
+
 def check_end(checks, gateway, sensor):
     """Checks that the gateway ends if the sensor cannot be read."""
     os.remove(sensor.name)
@@ -83,8 +137,9 @@ def check_end(checks, gateway, sensor):
     checks.same("the gateway says why it ends", "cannot open the sensor's file" in gateway.stderr.read().decode(), True)
 
 
-def main(program, client_program, observer, server):
+def main(program, observer, actuator, server, client_program):
     checks = Checks()
+    check_actuator(checks, actuator)
     checks.same("packages can be installed", packages.install({"coap-server-notls": "libcoap3-bin"}), True)
     check_observer(checks, observer, server)
     with tempfile.TemporaryDirectory(prefix="embedding-") as folder:

@@ -5,12 +5,16 @@
 
 - Each block of code under `# Examples` in a comment of crates/*/src must be the body of a test in TESTS, without its
   last line `Ok(())`. Each of these tests must have such a block.
-- Each block marked `rust` in README.md and docs/*.md must consist of consecutive lines of one of the files in SOURCES.
+- Each block marked `rust` in README.md and docs/*.md names a file after this word, one of SOURCES. It must consist of whole
+  items of this file, in their order, with their comments and attributes: functions, `impl` blocks to their end, types,
+  imports. A block of TESTS can also be the body of a test, as in a comment.
+- The `for` line of docs/EMBEDDING.md must list `coap_serve` and all crates below it.
 
 A last line such as `send(rt, &mut client)` means the body of the function `send` of the same file, if `rt` and
 `client` are its parameters.
 
-Indentation does not count. The last line is 'N passed, M failed'; each block and each test counts once.
+Indentation of a whole block does not count. The script also checks itself on SAMPLES. The last line is 'N passed, M
+failed'; each block, each test, each sample and the list of crates counts once.
 """
 
 import glob
@@ -20,17 +24,49 @@ import sys
 import textwrap
 
 sys.path.insert(0, os.path.join(os.path.dirname(os.path.abspath(__file__)), "..", "harness"))
-from workspace import ROOT  # noqa: E402
+from workspace import ROOT, crates  # noqa: E402
 
 TESTS = "crates/coap_tests/src/examples.rt"
-SOURCES = [TESTS, "crates/coap_tests/src/examples/*.rt", "crates/example_gateway/src/*.rt"]
+SOURCES = [TESTS, "crates/coap_tests/src/examples/*.rt", "crates/example_*/src/*.rt"]
 
 TEST = re.compile(r"#\[test\]\nfn (\w+)\(.*?\{\n(.*?)^\}", re.S | re.M)
 # A function with its name, its parameters and its body.
 FUNCTION = re.compile(r"^fn (\w+)(?:<[^>]*>)?\(([^{}]*?)\n?\)(?: -> [^\n]*)? \{\n(.*?)^\}", re.S | re.M)
 # A call that is the last line of a function.
 CALL = re.compile(r"^    (\w+)\(([^()]*)\)\n(?=\})", re.M)
-FENCED = re.compile(r"^``` ?(\w*)\n(.*?)^```$", re.S | re.M)
+FENCED = re.compile(r"^``` ?(\w*) *([^\n]*)\n(.*?)^```$", re.S | re.M)
+# The crates that a repository of its own copies.
+COPIED = re.compile(r"^ *for \w+ in ([\w ]+); do", re.M)
+
+# A source, blocks that show whole items of it, and blocks that do not.
+SAMPLE = '''//! A file.
+
+use a::{
+    B,
+};
+const C: u8 = 1;
+
+/// Does it.
+#[tactic(auto)]
+fn one(b: &B) -> u8 {
+    let c = C;
+
+    c
+}
+
+impl A for B {
+    fn two(&self) {}
+
+    fn three(&self) {}
+}
+'''
+ONE, B = "/// Does it.\n#[tactic(auto)]\nfn one(b: &B) -> u8 {\n    let c = C;\n\n    c\n}", "impl A for B {\n    fn two(&self) {}\n\n    fn three(&self) {}\n}"
+SAMPLES = [
+    (ONE, True), (B, True), (f"{ONE}\n\n{B}", True), ("use a::{\n    B,\n};", True), (f"const C: u8 = 1;\n\n{B}", True),
+    (ONE.removesuffix("\n}"), False), (ONE.removeprefix("/// Does it.\n"), False), ("let c = C;\n\nc", False), ("", False),
+    ("impl A for B {\n    fn two(&self) {}\n}", False), (B.removesuffix("\n}"), False), (f"{B}\n\n{ONE}", False),
+    ("fn two(&self) {}", False), (ONE.replace("C;", "2;"), False), (f"{ONE}\n\nlet c = 1;", False), (f"{ONE}\n\n{ONE}", False),
+]
 
 
 def read(path):
@@ -56,9 +92,24 @@ def plain(code):
     return textwrap.dedent(code).strip("\n")
 
 
-def unindented(code):
-    """Returns the lines of code without indentation."""
-    return "\n" + "\n".join(line.strip() for line in code.splitlines()) + "\n"
+def items(code):
+    """Returns the items of a source, with their comments and attributes. An item ends with a line without indentation that
+    ends with a brace or a semicolon. Lines after the last item are one more."""
+    found, item = [], []
+    for line in code.splitlines():
+        if line.startswith("//!") or not (item or line.strip()):
+            continue
+        item.append(line)
+        if line[:1] not in ("", " ", "/", "#") and line.endswith((";", "}")):
+            found.append("\n".join(item))
+            item = []
+    return found + ["\n".join(item)] * bool(item)
+
+
+def is_whole(code, source):
+    """Returns true if the code consists of items of the source, in their order."""
+    left, shown = iter(items(source)), items(code)
+    return bool(shown) and all(it in left for it in shown)
 
 
 def tests():
@@ -73,16 +124,16 @@ def comment_blocks():
         for comment in re.findall(r"(?:^[ \t]*//[/!].*\n)+", read(path), re.M):
             text = "".join(re.sub(r"^\s*//[/!] ?", "", line) + "\n" for line in comment.splitlines())
             _, _, examples = text.partition("# Examples\n")
-            for _, code in FENCED.findall(re.split(r"^# ", examples, flags=re.M)[0]):
+            for _, _, code in FENCED.findall(re.split(r"^# ", examples, flags=re.M)[0]):
                 yield path, plain(code)
 
 
 def document_blocks():
-    """Yields each block of code marked `rust` in the documents, with its file."""
+    """Yields each block of code marked `rust` in the documents, with its file and the source that it names."""
     for path in files("README.md", "docs/*.md"):
-        for language, code in FENCED.findall(read(path)):
+        for language, source, code in FENCED.findall(read(path)):
             if language == "rust":
-                yield path, plain(code)
+                yield path, source, plain(code)
 
 
 def main():
@@ -100,13 +151,22 @@ def main():
         passed, failed = passed + (name not in unused), failed + (name in unused)
         if name in unused:
             print(f"{TESTS}: no documentation comment shows {name}")
-    sources = [unindented(continued(path)) for path in files(*SOURCES)]
-    for path, code in document_blocks():
-        if any(unindented(code) in source for source in sources):
+    sources = {path: read(path) for path in files(*SOURCES)}
+    for path, source, code in document_blocks():
+        if source in sources and (is_whole(code, sources[source]) or source == TESTS and code in bodies.values()):
             passed += 1
         else:
             failed += 1
-            print(f"{path}: no source has these lines:\n{textwrap.indent(code, '    ')}")
+            print(f"{path}: these are no whole items of the source {source or 'that the block must name'}:\n{textwrap.indent(code, '    ')}")
+    for code, wanted in SAMPLES:
+        passed, failed = passed + (is_whole(code, SAMPLE) == wanted), failed + (is_whole(code, SAMPLE) != wanted)
+        if is_whole(code, SAMPLE) != wanted:
+            print(f"sample, {'whole' if wanted else 'not whole'}:\n{textwrap.indent(code, '    ')}")
+    copied = [f"coap_{it}" for one in COPIED.findall(read("docs/EMBEDDING.md")) for it in one.split()]
+    is_complete = sorted(copied) == sorted([*crates()["coap_serve"], "coap_serve"])
+    if not is_complete:
+        print(f"docs/EMBEDDING.md: copies {' '.join(copied)}, not the crates of coap_serve: {' '.join(crates()['coap_serve'])}")
+    passed, failed = passed + is_complete, failed + (not is_complete)
     print(f"{passed} passed, {failed} failed")
     return min(failed, 1)
 

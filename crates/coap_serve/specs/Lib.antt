@@ -2,3 +2,4 @@ pub mod streams
 pub use Rattle.coap_model.specs.Configs
 pub mod views
 pub mod Prelude
+pub use Rattle.coap_wire.specs.Codes

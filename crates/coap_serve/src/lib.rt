@@ -6,6 +6,8 @@
 //!   program that embeds the server: each call is one iteration of the event loop (docs/EMBEDDING.md).
 //! - `Server` is the server itself, which performs no I/O: each event is one call.
 //! - `Config`, `Limits` and `Starts` configure it. `script` parses a text of events, and `Server::replay` runs them.
+//! - `Application` is the interface through which a program answers requests itself. It reads a `MessageRef`, and writes
+//!   the response by a `Builder`. Its attributes name `specs::Prelude`.
 //! - `laws` has the theorems over all servers.
 //!
 //! `serve_one` is in `coap_server_streams`, and `serve_door` in `coap_server_listener`. Neither opens a socket:
@@ -34,11 +36,19 @@ pub use coap_server_listener::{
     Service, SilenceWatch, serve_door, serve_door_for, serve_door_timed, serve_door_with,
 };
 pub use coap_server_streams::{Report, serve_one, serve_one_for, serve_one_with};
-pub use coap_store::{PathKey, Present, State, StoreFault};
+pub use coap_store::{PathKey, Present, State, StoreFault, request_path};
 pub use coap_text::{bytes_in, number_in};
+pub use coap_wire::{
+    BuildFault, Builder, Code, FormatFault, MessageBuilder, MessageRef, OptionRef, Sink, Token,
+    TokenRef, option_numbers, parse, uint_bytes, uint_value,
+};
 
-/// Theorems about every server. Each is the contract of a function with an empty body.
+/// Theorems about every server. Each is the contract of a function with an empty body. The modules have those of the
+/// crates below, some of which have the same names.
 pub mod laws {
+    pub use coap_application::laws as applications;
+    pub use coap_conn::laws as connections;
+    pub use coap_frame::laws as frames;
     pub use coap_model::laws::{
         a_pong_with_custody_follows_all_answers, application_answer_is_only_response,
         application_answers_its_requests, application_deadlines_are_kept,
@@ -47,12 +57,14 @@ pub mod laws {
         limits_are_kept, pending_entries_are_sent, queued_messages_fit_limit,
     };
     pub use coap_server_engine::laws::{
-        each_message_taken_is_handled_once, no_change_is_lost, only_stores_allocate,
-        responses_at_once_have_room, script_segmentation_is_irrelevant, segmentation_is_irrelevant,
-        waiting_until_next_deadline_is_safe,
+        each_message_taken_is_handled_once, lent_requests_are_handed_over, no_change_is_lost,
+        only_stores_allocate, responses_at_once_have_room, script_segmentation_is_irrelevant,
+        segmentation_is_irrelevant, waiting_until_next_deadline_is_safe,
     };
     pub use coap_server_listener::laws::{
         idle_connections_may_be_skipped, recorded_interests_stay_valid, stamps_do_not_repeat,
     };
     pub use coap_server_streams::laws::a_flush_leaves_nothing_waiting;
+    pub use coap_store::laws as resources;
+    pub use coap_wire::laws as messages;
 }

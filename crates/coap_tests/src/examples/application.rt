@@ -1,36 +1,11 @@
-//! The applications of docs/EMBEDDING.md: a lamp that responds at once, and an oven that responds later.
+//! The application of docs/EMBEDDING.md that responds later: an oven. `crates/example_actuator` responds at once.
 
-use coap_serve::{Application, ConnId, Reply, ResponseFault};
-use coap_wire::{Builder, Code, MessageRef, Token, parse};
+use coap_serve::option_numbers::{ACCEPT, IF_MATCH, IF_NONE_MATCH, URI_QUERY};
+use coap_serve::{
+    Application, Builder, Code, ConnId, MessageRef, PathKey, Reply, ResponseFault, Token, parse,
+    request_path,
+};
 use std::test::Fail;
-
-/// Lamp that clients switch by PUT.
-#[derive(Drop)]
-struct Lamp {
-    is_on: bool,
-}
-
-impl Application for Lamp {
-    #[tactic(auto, unfolding(coap_server_engine::specs::values::Exchanges::AnswersMore))]
-    fn request(&mut self, _id: ConnId, request: &MessageRef<'_>, _limit: usize, out: &mut Vec<u8>) {
-        self.is_on = request.payload() == b"on".as_slice();
-        let changed: Builder = Builder::with_token_ref(Code::CHANGED, request.token().copy());
-        if out.reserve(changed.size() as usize).is_ok() {
-            changed.write(out);
-        }
-    }
-
-    #[tactic(auto, unfolding(coap_server_engine::specs::values::Exchanges::AnswersMore))]
-    fn next_response(&mut self, _response: &mut Vec<u8>) -> Option<ConnId> {
-        None
-    }
-
-    #[tactic(auto, unfolding(coap_server_engine::specs::values::Exchanges::AnswersMore))]
-    fn responded(&mut self, _to: ConnId, _outcome: Result<Reply, ResponseFault>) {}
-
-    #[tactic(auto, unfolding(coap_server_engine::specs::values::Exchanges::AnswersMore))]
-    fn gone(&mut self, _from: ConnId) {}
-}
 
 /// Oven that responds to a request when it is hot.
 #[derive(Drop)]
@@ -39,13 +14,39 @@ struct Oven {
     waiting: Option<(ConnId, Token)>,
 }
 
+impl Oven {
+    /// Returns the code of an error response, or `None` if the oven accepts the request. It recognises no such option.
+    fn refusal(&self, request: &MessageRef<'_>) -> Option<Code> {
+        if request_path(request) != PathKey::from_segments(&[b"oven"]) {
+            return Some(Code::NOT_FOUND);
+        }
+        let unsupported = [IF_MATCH, IF_NONE_MATCH, URI_QUERY, ACCEPT];
+        if request
+            .known()
+            .any(|option| unsupported.contains(&option.number))
+        {
+            return Some(Code::BAD_OPTION);
+        }
+        if self.waiting.is_some() {
+            return Some(Code::SERVICE_UNAVAILABLE);
+        }
+        None
+    }
+}
+
+#[tactic(auto, unfolding(coap_serve::specs::Prelude::AnswersMore))]
 impl Application for Oven {
-    #[tactic(auto, unfolding(coap_server_engine::specs::values::Exchanges::AnswersMore))]
-    fn request(&mut self, id: ConnId, request: &MessageRef<'_>, _limit: usize, _out: &mut Vec<u8>) {
-        self.waiting = Some((id, request.token().to_token()));
+    fn request(&mut self, id: ConnId, request: &MessageRef<'_>, _limit: usize, out: &mut Vec<u8>) {
+        let Some(code) = self.refusal(request) else {
+            self.waiting = Some((id, request.token().to_token()));
+            return;
+        };
+        let refused: Builder = Builder::with_token_ref(code, request.token().copy());
+        if out.reserve(refused.size() as usize).is_ok() {
+            refused.write(out);
+        }
     }
 
-    #[tactic(auto, unfolding(coap_server_engine::specs::values::Exchanges::AnswersMore))]
     fn next_response(&mut self, out: &mut Vec<u8>) -> Option<ConnId> {
         if !self.is_hot {
             return None;
@@ -57,38 +58,69 @@ impl Application for Oven {
         Some(id)
     }
 
-    #[tactic(auto, unfolding(coap_server_engine::specs::values::Exchanges::AnswersMore))]
-    fn responded(&mut self, _to: ConnId, _outcome: Result<Reply, ResponseFault>) {}
+    fn responded(&mut self, _id: ConnId, _outcome: Result<Reply, ResponseFault>) {}
 
-    #[tactic(auto, unfolding(coap_server_engine::specs::values::Exchanges::AnswersMore))]
-    fn gone(&mut self, _from: ConnId) {
-        self.waiting = None;
+    fn gone(&mut self, id: ConnId) {
+        if self.waiting.as_ref().is_some_and(|(from, _)| *from == id) {
+            self.waiting = None;
+        }
+    }
+}
+
+/// Creates an oven that is not hot.
+fn cold() -> Oven {
+    Oven {
+        is_hot: false,
+        waiting: None,
     }
 }
 
 #[test]
-fn switches_a_lamp(rt: HostRuntime) -> Result<(), Fail> {
-    let mut lamp = Lamp { is_on: false };
+fn waits_for_an_oven(rt: HostRuntime) -> Result<(), Fail> {
+    let mut oven = cold();
     let mut response = Vec::new(rt.alloc());
-    let request = parse(b"\x31\x03\x2a\xffon")?;
-    lamp.request(1, &request, 65_536, &mut response);
-    assert!(&rt; lamp.is_on && response.as_slice() == b"\x01\x44\x2a".as_slice());
+    let request = parse(b"\x51\x02\x2a\xb4oven")?;
+    oven.request(7, &request, 65_536, &mut response);
+    assert!(&rt; response.is_empty());
+    assert!(&rt; oven.next_response(&mut response).is_none() && response.is_empty());
+    oven.gone(6);
+    oven.is_hot = true;
+    assert!(&rt; oven.next_response(&mut response) == Some(7));
+    assert!(&rt; response.as_slice() == b"\x01\x44\x2a".as_slice());
     Ok(())
 }
 
 #[test]
-fn waits_for_an_oven(rt: HostRuntime) -> Result<(), Fail> {
-    let mut oven = Oven {
-        is_hot: false,
-        waiting: None,
-    };
+fn refuses_another_path(rt: HostRuntime) -> Result<(), Fail> {
+    let mut oven = cold();
     let mut response = Vec::new(rt.alloc());
-    let request = parse(b"\x01\x02\x2a")?;
+    // A path below that of the oven.
+    let request = parse(b"\x71\x02\x2a\xb4oven\x01x")?;
     oven.request(7, &request, 65_536, &mut response);
-    assert!(&rt; response.is_empty());
-    assert!(&rt; oven.next_response(&mut response).is_none() && response.is_empty());
-    oven.is_hot = true;
-    assert!(&rt; oven.next_response(&mut response) == Some(7));
-    assert!(&rt; response.as_slice() == b"\x01\x44\x2a".as_slice());
+    assert!(&rt; response.as_slice() == b"\x01\x84\x2a".as_slice() && oven.waiting.is_none());
+    Ok(())
+}
+
+#[test]
+fn refuses_a_condition(rt: HostRuntime) -> Result<(), Fail> {
+    let mut oven = cold();
+    let mut response = Vec::new(rt.alloc());
+    // An empty If-Match.
+    let request = parse(b"\x61\x02\x2a\x10\xa4oven")?;
+    oven.request(7, &request, 65_536, &mut response);
+    assert!(&rt; response.as_slice() == b"\x01\x82\x2a".as_slice() && oven.waiting.is_none());
+    Ok(())
+}
+
+#[test]
+fn refuses_a_second_request(rt: HostRuntime) -> Result<(), Fail> {
+    let mut oven = cold();
+    let mut response = Vec::new(rt.alloc());
+    let request = parse(b"\x51\x02\x2a\xb4oven")?;
+    oven.request(7, &request, 65_536, &mut response);
+    oven.request(8, &request, 65_536, &mut response);
+    assert!(&rt; response.as_slice() == b"\x01\xa3\x2a".as_slice());
+    oven.gone(7);
+    assert!(&rt; oven.waiting.is_none());
     Ok(())
 }

@@ -26,8 +26,7 @@ impl Transport {
     }
 }
 
-/// Serves a client that sends `input` at the time `now`, and then nothing more. Returns the bytes that the server did
-/// not accept.
+/// Serves a client that sends these bytes, and then nothing more. Returns those that the server did not accept.
 fn serve<'a>(
     server: &mut Server,
     transport: &mut Transport,
@@ -56,36 +55,37 @@ fn serve<'a>(
 }
 
 /// Connects to a server that sends `input`, and then nothing more. If the client is ready, sends a GET with these
-/// extras and cancels it. Returns the reason if the connection stopped.
+/// extras and cancels it. Returns the number of bytes accepted, and the reason if the connection stopped.
 fn observe(
     alloc: Global,
     transport: &mut Transport,
     input: &[u8],
-    target: Target,
-    extras: Extras,
+    target: &Target,
+    extras: &Extras,
     payload: &mut Vec<u8>,
-) -> Result<Option<Reason>, Fail> {
+) -> Result<(usize, Option<Reason>), Fail> {
     let limits = Limits::builder().build()?;
-    // The client's CSM is queued. Tokens count from 1.
     let mut client = Client::open(alloc, limits, 0)?;
-    exchange(&mut client, transport, input, target, extras, payload)
-}
-
-/// Continues `observe`.
-fn exchange(
-    client: &mut Client,
-    transport: &mut Transport,
-    input: &[u8],
-    target: Target,
-    extras: Extras,
-    payload: &mut Vec<u8>,
-) -> Result<Option<Reason>, Fail> {
     let count = transport.write(client.front());
     client.written(count);
+    let received = receive(&mut client, input, target, extras, payload)?;
+    // The server sends nothing more.
+    client.ended();
+    let _ = transport.write(client.front());
+    Ok(received)
+}
 
-    // The client accepts at most one message. Offer the rest again.
+/// Passes bytes to a client, which accepts at most one message. Offer the others again. Returns the number of bytes
+/// accepted, and the reason if the connection stopped.
+fn receive(
+    client: &mut Client,
+    input: &[u8],
+    target: &Target,
+    extras: &Extras,
+    payload: &mut Vec<u8>,
+) -> Result<(usize, Option<Reason>), Fail> {
     let taken = client.take(input);
-    let rest = &input[taken.bytes..];
+    let count = taken.bytes;
     let (mut is_ready, mut stop) = (false, None);
     match taken.event() {
         // Requests can be sent from now on.
@@ -98,16 +98,12 @@ fn exchange(
         Some(Event::Stopped(reason)) => stop = Some(reason),
         _ => {}
     }
-
     if is_ready {
-        let token = client.send(Method::Get, &target, &extras)?;
+        let token = client.send(Method::Get, target, extras)?;
         // Ends an observation. Its last response follows.
-        client.cancel(&token, &target, &extras)?;
+        client.cancel(&token, target, extras)?;
     }
-    // The server sends nothing more.
-    client.ended();
-    let _ = transport.write(client.front());
-    Ok(if rest.is_empty() { stop } else { None })
+    Ok((count, stop))
 }
 
 #[test]
@@ -142,15 +138,15 @@ fn observes_a_resource(rt: HostRuntime) -> Result<(), Fail> {
         payload: &[],
     };
     let mut payload = Vec::new(rt.alloc());
-    let stop = observe(
+    let (count, stop) = observe(
         rt.alloc(),
         &mut transport,
         b"\x00\xe1",
-        target,
-        extras,
+        &target,
+        &extras,
         &mut payload,
     )?;
-    assert!(&rt; stop.is_none() && payload.is_empty());
+    assert!(&rt; count == 2 && stop.is_none() && payload.is_empty());
     assert!(&rt;
         transport
             .sent
