@@ -46,15 +46,15 @@ pub file_replays : (v : ServerValue) (header passed queued file lost text : List
     → IsRecordOf header failed full (append_known (Some passed) queued) cs
     → passed ≡ file ++ lost → file ≡ header ++ text → Shows v cs → All CanReplay cs
     → (front behind : List AcceptedCall) × (cs ≡ front ++ behind)
-    × ReplaysTo (with_turns turns v.config) (header ++ whole_lines_in text) (server_of (with_turns turns v.config) front)
-    (writes_of v.config [] front)
+    × ReplaysTo (with_turns turns v.config) (header ++ whole_lines_in text)
+    (server_of (with_turns turns v.config) front) (writes_of v.config [] front)
 file_replays v header passed queued file lost text cs failed full turns silent is kept begins shows can =
     let lines = whole_lines_in text in
     let found = begins_with_lines text in
-    let assoc : ((header ++ (lines ++ found.0)) ++ lost) ++ queued ≡ header ++ (lines ++ (found.0 ++ (lost ++ queued))) =
-    simp append_assoc in
-    let all : passed ++ queued ≡ header ++ (lines ++ (found.0 ++ (lost ++ queued))) =
+    let part = found.0 ++ (lost ++ queued) in
+    let assoc : ((header ++ (lines ++ found.0)) ++ lost) ++ queued ≡ header ++ (lines ++ part) = simp append_assoc in
+    let all : passed ++ queued ≡ header ++ (lines ++ part) =
     ap (λ t. t ++ queued) kept ∙ ap (λ t. (t ++ lost) ++ queued) begins
     ∙ ap (λ t. ((header ++ t) ++ lost) ++ queued) found.1 ∙ assoc in
-    part_replays v header (passed ++ queued) lines (found.0 ++ (lost ++ queued)) cs failed full turns silent is all
+    part_replays v header (passed ++ queued) lines part cs failed full turns silent is all
     (are_whole text) shows can

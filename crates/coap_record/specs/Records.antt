@@ -1,5 +1,6 @@
 -- Defined by this project: the text of a record after calls.
-use Rattle.std.specs.Prelude.{◌≡◌, Bool, true, false, ℕ, List, ◌++◌, All, Option, Some, None, Ok, nat_le, nat_lt, ◌&&◌, ◌⊎◌, [], ◌∷◌, ◌==◌, if◌then◌else◌}
+use Rattle.std.specs.Prelude.{◌≡◌, Bool, true, false, ℕ, List, ◌++◌, All, Option, Some, None, Ok, nat_le, nat_lt, ◌&&◌, ◌⊎◌, [], ◌∷◌}
+use Rattle.std.specs.Prelude.{◌==◌, if◌then◌else◌}
 use Rattle.coap_script.specs.script.Events.{ScriptEventValue}
 use Rattle.coap_script.specs.script.Script.{script_of}
 use Rattle.coap_script.specs.script.Words.{newline}

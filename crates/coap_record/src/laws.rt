@@ -69,14 +69,14 @@ pub fn a_recorded_run_replays()
         (writes_of v.config [] front) }
 {}
 
-/// States that the file of a record replays its run, if the file system keeps a prefix of the bytes that it is passed.
+/// States that the file of a record replays the first calls, if the system keeps a prefix of the bytes passed to it.
 ///
 /// - `passed` has the bytes that the recorder passed to `write` of its outlet, and `queued` those in its buffer.
-/// - The only premise on the file system is `passed ≡ file ++ lost`: the file has the first bytes, in order.
+/// - The premise on the file system is `passed ≡ file ++ lost`: the file has the first bytes, in order.
 /// - The file has the whole header. Its whole lines after the header replay the first calls.
 ///
-/// A file of the system records no bytes (`Outlet::written`), so no contract says which bytes it was passed. The code of
-/// a recorder is the same for an outlet that records them.
+/// A file of the system records no bytes (`Outlet::written`), so no contract says which bytes were passed to it. The
+/// code of a recorder is the same for an outlet that records them.
 pub fn a_kept_file_replays()
     ensures { (v : ServerValue) (header passed queued file lost text : List ℕ) (calls : List AcceptedCall)
         (has_failed is_full : Bool) (turns : ℕ) → SaysNoEvent header →
