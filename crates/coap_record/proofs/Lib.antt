@@ -7,3 +7,4 @@ pub mod WriteLemmas
 pub mod RecordLemmas
 pub mod PartLaws
 pub mod ReplayLaws
+pub mod FileLaws

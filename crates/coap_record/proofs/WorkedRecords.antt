@@ -7,7 +7,7 @@ use Rattle.coap_model.proofs.world.Rows.{told}
 use Rattle.coap_model.proofs.world.Worked.{usual}
 use Rattle.coap_text.proofs.HexDigits.{hex}
 use Rattle.coap_record.specs.Prelude.{AcceptedCall, CanReplay, IsInRange, IsRecordOf, ReplaysTo, SaysNoEvent, ServerValue, Shows}
-use Rattle.coap_record.specs.Prelude.{line_of, lines_of, writes_of}
+use Rattle.coap_record.specs.Prelude.{line_of, lines_of, whole_lines_in, writes_of}
 use Rattle.coap_record.proofs.LineLaws.{comment_read_back}
 use Rattle.coap_record.proofs.ReplayLaws.{whole_replays}
 
@@ -42,6 +42,10 @@ full = record {
   all = refl;
   lines = (refl, All-cons IsInRange (call.Opened 1) [] opened_fits (All-nil IsInRange));
 }
+
+-- The whole lines of a file that lost the last bytes.
+kept : whole_lines_in (codes "open\ndrain 1") ≡ codes "open\n"
+kept = refl
 
 -- Its replay with the same limit of turns.
 replays : (v : ServerValue) → Shows v calls → ReplaysTo v.config text v (writes_of v.config [] calls)

@@ -1,5 +1,6 @@
 -- Defined by this project: the text of a record after calls.
 use Rattle.std.specs.Prelude.{◌≡◌, Bool, true, false, ℕ, List, ◌++◌, All, Option, Some, None, Ok, nat_le, nat_lt, ◌&&◌, ◌⊎◌, [], ◌∷◌}
+use Rattle.std.specs.Prelude.{◌==◌, if◌then◌else◌}
 use Rattle.coap_script.specs.script.Events.{ScriptEventValue}
 use Rattle.coap_script.specs.script.Script.{script_of}
 use Rattle.coap_script.specs.script.Words.{newline}
@@ -49,3 +50,13 @@ SaysNoEvent text = (more : List ℕ) (events : List ScriptEventValue) → script
 -- `true` for a printable character of ASCII.
 abbrev pub is_printable : ℕ → Bool
 is_printable b = nat_le 32 b && nat_lt b 127
+
+-- A byte before the whole lines of the text after it.
+abbrev pub byte_before : ℕ → List ℕ → List ℕ
+byte_before b [] = if b == newline then newline ∷ [] else []
+byte_before b (c ∷ lines) = b ∷ c ∷ lines
+
+-- The whole lines of a text: its bytes up to the last newline.
+abbrev pub whole_lines_in : List ℕ → List ℕ
+whole_lines_in [] = []
+whole_lines_in (b ∷ bytes) = byte_before b (whole_lines_in bytes)
