@@ -1,8 +1,12 @@
 #!/usr/bin/env python3
-"""Runs the example of a program that embeds the server, and reads its values with coap-client. Then runs the example of a program that embeds the
-client against it, against coap-server and against libcoap's server. The example of an actuator gets lines of hexadecimal digits.
+"""Runs the examples of programs that embed the server or the client:
 
-    tests/system/embedding.py bin/example-gateway bin/example-observer bin/example-actuator bin/coap-server bin/coap-client
+    tests/system/embedding.py bin/example-gateway bin/example-observer bin/example-actuator \\
+        bin/coap-server bin/coap-client
+
+- The gateway: reads its values with coap-client.
+- The observer: observes coap-server, and libcoap's server.
+- The actuator, which answers requests: passes it lines of messages, and compares the lines that it prints.
 
 The sensor is a file of this script. Each wait has a timeout.
 """
@@ -108,8 +112,9 @@ def check_observer(checks, program, server):
 
 
 def actuate(program, lines):
-    """Passes lines to the actuator, and returns its status, the lines that it prints, and what it says on standard error."""
-    ran = subprocess.run([program], input="".join(f"{it}\n" for it in lines), capture_output=True, timeout=LIMIT, text=True)
+    """Passes lines to the actuator. Returns its status, the lines that it prints, and its standard error."""
+    given = "".join(f"{it}\n" for it in lines)
+    ran = subprocess.run([program], input=given, capture_output=True, timeout=LIMIT, text=True)
     return ran.returncode, ran.stdout.splitlines(), ran.stderr
 
 
@@ -125,7 +130,8 @@ def check_actuator(checks, program):
     checks.same("the actuator lists its valve", b'</valve>;if="actuator"' in bytes.fromhex(lines[0]), True)
     # The second message has an invalid token length. Nothing is read after the stop.
     status, lines, said = actuate(program, [digits("(CSM)"), "0f01", digits("(GET /valve)")])
-    checks.same("the actuator ends after an Abort", (status, lines[1:], said), (0, [digits("(Abort | 'bad token length')")], ""))
+    abort = digits("(Abort | 'bad token length')")
+    checks.same("the actuator ends after an Abort", (status, lines[1:], said), (0, [abort], ""))
     status, lines, said = actuate(program, ["x"])
     checks.same("the actuator refuses other text", (status, lines, "not hexadecimal" in said), (1, [], True))
 

@@ -5,9 +5,9 @@
 
 - Each block of code under `# Examples` in a comment of crates/*/src must be the body of a test in TESTS, without its
   last line `Ok(())`. Each of these tests must have such a block.
-- Each block marked `rust` in README.md and docs/*.md names a file after this word, one of SOURCES. It must consist of whole
-  items of this file, in their order, with their comments and attributes: functions, `impl` blocks to their end, types,
-  imports. A block of TESTS can also be the body of a test, as in a comment.
+- Each block marked `rust` in README.md and docs/*.md names a file after this word, one of SOURCES. It must consist of
+  whole items of this file, in their order, with their comments and attributes: functions, `impl` blocks to their end,
+  types, imports. A block of TESTS can also be the body of a test, as in a comment.
 - The `for` line of docs/EMBEDDING.md must list `coap_serve` and all crates below it.
 
 A last line such as `send(rt, &mut client)` means the body of the function `send` of the same file, if `rt` and
@@ -60,12 +60,25 @@ impl A for B {
     fn three(&self) {}
 }
 '''
-ONE, B = "/// Does it.\n#[tactic(auto)]\nfn one(b: &B) -> u8 {\n    let c = C;\n\n    c\n}", "impl A for B {\n    fn two(&self) {}\n\n    fn three(&self) {}\n}"
+ONE = "/// Does it.\n#[tactic(auto)]\nfn one(b: &B) -> u8 {\n    let c = C;\n\n    c\n}"
+B = "impl A for B {\n    fn two(&self) {}\n\n    fn three(&self) {}\n}"
 SAMPLES = [
-    (ONE, True), (B, True), (f"{ONE}\n\n{B}", True), ("use a::{\n    B,\n};", True), (f"const C: u8 = 1;\n\n{B}", True),
-    (ONE.removesuffix("\n}"), False), (ONE.removeprefix("/// Does it.\n"), False), ("let c = C;\n\nc", False), ("", False),
-    ("impl A for B {\n    fn two(&self) {}\n}", False), (B.removesuffix("\n}"), False), (f"{B}\n\n{ONE}", False),
-    ("fn two(&self) {}", False), (ONE.replace("C;", "2;"), False), (f"{ONE}\n\nlet c = 1;", False), (f"{ONE}\n\n{ONE}", False),
+    (ONE, True),
+    (B, True),
+    (f"{ONE}\n\n{B}", True),
+    ("use a::{\n    B,\n};", True),
+    (f"const C: u8 = 1;\n\n{B}", True),
+    ("", False),
+    (ONE.removesuffix("\n}"), False),
+    (ONE.removeprefix("/// Does it.\n"), False),
+    (ONE.replace("C;", "2;"), False),
+    ("let c = C;\n\nc", False),
+    ("fn two(&self) {}", False),
+    ("impl A for B {\n    fn two(&self) {}\n}", False),
+    (B.removesuffix("\n}"), False),
+    (f"{B}\n\n{ONE}", False),
+    (f"{ONE}\n\n{ONE}", False),
+    (f"{ONE}\n\nlet c = 1;", False),
 ]
 
 
@@ -76,10 +89,10 @@ def read(path):
 
 
 def continued(path):
-    """Returns the text of a source in which the last line of a function that continues in another one is the body of that one."""
-    text = read(path)
-    bodies = {(name, *re.findall(r"(?:^|,)\s*(\w+):", parameters)): body for name, parameters, body in FUNCTION.findall(text)}
-    return CALL.sub(lambda it: bodies.get((it[1], *re.findall(r"(?:^|,)\s*(?:&(?:mut )?)?(\w+)", it[2])), it[0]), text)
+    """Returns the text of a source. The last line of a function that continues in another one is the body of that one."""
+    text, named, passed = read(path), r"(?:^|,)\s*(\w+):", r"(?:^|,)\s*(?:&(?:mut )?)?(\w+)"
+    bodies = {(name, *re.findall(named, parameters)): body for name, parameters, body in FUNCTION.findall(text)}
+    return CALL.sub(lambda it: bodies.get((it[1], *re.findall(passed, it[2])), it[0]), text)
 
 
 def files(*patterns):
@@ -93,8 +106,8 @@ def plain(code):
 
 
 def items(code):
-    """Returns the items of a source, with their comments and attributes. An item ends with a line without indentation that
-    ends with a brace or a semicolon. Lines after the last item are one more."""
+    """Returns the items of a source, with their comments and attributes. An item ends with a line without indentation
+    that ends with a brace or a semicolon. Lines after the last item are one more."""
     found, item = [], []
     for line in code.splitlines():
         if line.startswith("//!") or not (item or line.strip()):
@@ -157,15 +170,17 @@ def main():
             passed += 1
         else:
             failed += 1
-            print(f"{path}: these are no whole items of the source {source or 'that the block must name'}:\n{textwrap.indent(code, '    ')}")
+            named = source or "that the block must name"
+            print(f"{path}: these are no whole items of the source {named}:\n{textwrap.indent(code, '    ')}")
     for code, wanted in SAMPLES:
         passed, failed = passed + (is_whole(code, SAMPLE) == wanted), failed + (is_whole(code, SAMPLE) != wanted)
         if is_whole(code, SAMPLE) != wanted:
             print(f"sample, {'whole' if wanted else 'not whole'}:\n{textwrap.indent(code, '    ')}")
     copied = [f"coap_{it}" for one in COPIED.findall(read("docs/EMBEDDING.md")) for it in one.split()]
-    is_complete = sorted(copied) == sorted([*crates()["coap_serve"], "coap_serve"])
+    below = [*crates()["coap_serve"], "coap_serve"]
+    is_complete = sorted(copied) == sorted(below)
     if not is_complete:
-        print(f"docs/EMBEDDING.md: copies {' '.join(copied)}, not the crates of coap_serve: {' '.join(crates()['coap_serve'])}")
+        print(f"docs/EMBEDDING.md: the line `for` has {' '.join(copied)}, and not {' '.join(below)}")
     passed, failed = passed + is_complete, failed + (not is_complete)
     print(f"{passed} passed, {failed} failed")
     return min(failed, 1)

@@ -6,8 +6,8 @@
 //!   program that embeds the server: each call is one iteration of the event loop (docs/EMBEDDING.md).
 //! - `Server` is the server itself, which performs no I/O: each event is one call.
 //! - `Config`, `Limits` and `Starts` configure it. `script` parses a text of events, and `Server::replay` runs them.
-//! - `Application` is the interface through which a program answers requests itself. It reads a `MessageRef`, and writes
-//!   the response by a `Builder`. Its attributes name `specs::Prelude`.
+//! - `Application` is the interface through which a program answers requests itself. It reads a `MessageRef`, and
+//!   writes the response by a `Builder`. The attribute of its implementation names `specs::Prelude::AnswersMore`.
 //! - `laws` has the theorems over all servers.
 //!
 //! `serve_one` is in `coap_server_streams`, and `serve_door` in `coap_server_listener`. Neither opens a socket:

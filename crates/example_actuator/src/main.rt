@@ -42,11 +42,13 @@ fn receive(
     rt: &(impl Print + AllocGlobal),
     server: &mut Server,
     id: ConnId,
-    mut rest: &[u8],
+    bytes: &[u8],
     valve: &mut Valve,
 ) -> Result<()> {
     let mut response = Vec::new(rt.alloc());
-    while !rest.is_empty() {
+    let mut rest = bytes;
+    // Each turn accepts at least one byte.
+    for _ in 0..bytes.len() {
         let count = server
             .take_all_for::<(), NoMonitor, Valve>(id, rest, valve, &mut response, &mut NoMonitor)
             .context("no memory")?;

@@ -1,12 +1,13 @@
 //! The valve, as the application of a server: it answers the requests of /valve.
 
-ghost use Rattle.std.specs.Prelude.{◌≡◌, [], true, false};
-ghost use Rattle.example_actuator.specs.Position.{IsPosition, IsResponse};
+ghost use Rattle.std.specs.Prelude.{◌≡◌, [], true, false, IfOk};
+ghost use Rattle.coap_serve.specs.Prelude.{Spells};
+ghost use Rattle.example_actuator.specs.Position.{IsPosition};
 
 use coap_serve::option_numbers::{ACCEPT, CONTENT_FORMAT, IF_MATCH, IF_NONE_MATCH, URI_QUERY};
 use coap_serve::{
-    Application, Builder, Code, ConnId, MessageRef, PathKey, Reply, ResponseFault, TokenRef,
-    request_path, uint_value,
+    Application, BuildFault, Builder, Code, ConnId, MessageRef, PathKey, Reply, ResponseFault,
+    TokenRef, request_path, uint_value,
 };
 
 /// Byte of the code 4.15 (Unsupported Content-Format).
@@ -68,21 +69,31 @@ fn code_for(request: &MessageRef<'_>) -> Code {
     }
 }
 
-/// Writes a response with this code, and with the position if it is 2.05. Returns `false` if it writes nothing, because
-/// allocation fails.
-fn write_response(code: Code, token: &TokenRef<'_>, position: &[u8], out: &mut Vec<u8>) -> bool
-    requires { out.old.items ≡ [] }
-    ensures written { result ≡ true → IsResponse code token.now out.new.items }
-    ensures empty { result ≡ false → out.new.items ≡ [] }
+/// Returns a response with this code, and with the position if it is 2.05.
+fn response_for<'a>(
+    code: Code,
+    token: &TokenRef<'a>,
+    position: &'a [u8],
+) -> Result<Builder<'a>, BuildFault>
+    ensures code { IfOk result (λ m. m.code ≡ code) }
+    ensures token { IfOk result (λ m. m.token ≡ token.now) }
 {
     let mut response: Builder = Builder::with_token_ref(code, token.copy());
-    if code == Code::CONTENT {
-        // An empty value is the number 0: text/plain.
-        let format = response.option(CONTENT_FORMAT, b"");
-        if format.is_err() || response.payload(position).is_err() {
-            return false;
-        }
+    if code != Code::CONTENT {
+        return Ok(response);
     }
+    // An empty value is the number 0: text/plain.
+    response.option(CONTENT_FORMAT, b"")?;
+    response.payload(position)?;
+    Ok(response)
+}
+
+/// Writes a response. Returns `false` if allocation fails, and writes nothing then.
+fn write(response: &Builder<'_>, out: &mut Vec<u8>) -> bool
+    requires { out.old.items ≡ [] }
+    ensures written { result ≡ true → Spells out.new.items response.now }
+    ensures empty { result ≡ false → out.new.items ≡ [] }
+{
     if out.reserve(response.size() as usize).is_err() {
         return false;
     }
@@ -104,8 +115,14 @@ impl Application for Valve {
     fn request(&mut self, _id: ConnId, request: &MessageRef<'_>, _limit: usize, out: &mut Vec<u8>) {
         let code = code_for(request);
         let position: &[u8] = if self.is_open { b"open" } else { b"closed" };
+        let Ok(response) = response_for(code, request.token(), position) else {
+            return;
+        };
         // Without memory the valve stays, and the server sends 5.04 at the deadline.
-        if write_response(code, request.token(), position, out) && code == Code::CHANGED {
+        if !write(&response, out) {
+            return;
+        }
+        if code == Code::CHANGED {
             self.is_open = request.payload() == b"open".as_slice();
         }
     }

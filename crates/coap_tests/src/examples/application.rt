@@ -118,6 +118,7 @@ fn refuses_a_second_request(rt: HostRuntime) -> Result<(), Fail> {
     let mut response = Vec::new(rt.alloc());
     let request = parse(b"\x51\x02\x2a\xb4oven")?;
     oven.request(7, &request, 65_536, &mut response);
+    assert!(&rt; response.is_empty());
     oven.request(8, &request, 65_536, &mut response);
     assert!(&rt; response.as_slice() == b"\x01\xa3\x2a".as_slice());
     oven.gone(7);
