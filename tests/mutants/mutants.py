@@ -27,10 +27,12 @@ The gate tries the control, and the edits of crates that differ from the last wh
 that differ. So a whole run is due after a change of many crates, or of definitions far below. The gate fails if the last
 one is more than 200 commits back. Before the first one, all crates count as different.
 
-In every mode, two checks are made of all edits. First, the first line must quote a clause of the function that it names (tests/mutants/quotes.py
-has the forms). That function must be one that the edit changes, or one that names a constant that the edit changes. Second, every edit must be
-well typed. For this check, all edits of a crate are put into one copy of the crate, or a few. A function that several edits change has an edited
-copy for each. The copy of the crate also gets one type error, so that the compiler reports all type errors and proves nothing.
+In every mode, checks are made of all edits. First, the first line must quote a clause of the function that it names
+(tests/mutants/quotes.py has the forms). That function must be one that the edit changes, or one that names a constant
+that the edit changes. The table of layers in docs/TESTING.md must have the numbers of edits. Second, every edit must be
+well typed. For this check, all edits of a crate are put into one copy of the crate, or a few. A function that several
+edits change has an edited copy for each. The copy of the crate also gets one type error, so that the compiler reports
+all type errors and proves nothing.
 
 An edit of the layer `rows` is detected if a row of the file that it names has another result. The probe is built unproved with the edit
 (tests/harness/unproved.py). --all tries these too, each in its own build; --rows tries them alone.
@@ -68,6 +70,7 @@ take 350 s. One or two edits of each crate take about 900 s, because each crate 
 A test that measures processor time may fail with an unproved program without any edit, and then says nothing about the edit.
 """
 
+import collections
 import os
 import pathlib
 import re
@@ -300,6 +303,20 @@ def tell_wrong_quotes(edits):
         if why:
             print(f"edit {name}: {why}", flush=True)
     return sum(map(bool, wrong.values()))
+
+
+def tell_wrong_counts(edits):
+    """Prints each layer whose number of edits is not in the table of docs/TESTING.md, and returns the number of these. A
+    row may have several layers, with the number of edits of all."""
+    with open(f"{ROOT}/docs/TESTING.md", encoding="utf-8") as file:
+        table = re.findall(r"^\| (`.*`) \| (\d+) \| .* \| `make mutants`", file.read(), re.M)
+    numbers = collections.Counter(it.layer for it in edits)
+    listed = {tuple(re.findall(r"\w+", layers)): int(number) for layers, number in table}
+    listed |= {(it,): 0 for it in numbers if not any(it in layers for layers in listed)}
+    wrong = [layers for layers, number in listed.items() if sum(numbers[it] for it in layers) != number]
+    for layers in wrong:
+        print(f"docs/TESTING.md: these are {sum(numbers[it] for it in layers)} edits: {', '.join(layers)}", flush=True)
+    return len(wrong)
 
 
 def edits_of(folder, names):
@@ -716,7 +733,7 @@ def cost():
 
 
 def conclude(plan, verdicts, wrong):
-    """Prints wrong verdicts, the edits that are open, and the cost. `wrong` is the number of errors in quotes and types. Returns the number of all
+    """Prints wrong verdicts, the edits that are open, and the cost. `wrong` is the number of errors in quotes, counts and types. Returns the number of all
     errors, and the last line of the run."""
     failed = [it for it, refused in verdicts.items() if is_wrong(it, refused)]
     for it in failed:
@@ -739,9 +756,10 @@ def main(words):
         raise SystemExit(f"tests/mutants/edits/{min(strange)} is no crate\n0 passed, 1 failed")
     every = edits_of(f"{ROOT}/tests/mutants/edits", names or below)
     unquoted = tell_wrong_quotes(every)
+    miscounted = 0 if names else tell_wrong_counts(every)
     if "--list" in modes:
         print("\n".join("  ".join(it) for it in sorted(it.row() for it in every)))
-        return 1 if unquoted else 0
+        return 1 if unquoted + miscounted else 0
     is_whole = modes == {"--all"} and not names
     commit = changes.unchanged_head() if is_whole else ""
     plan = planned(modes, names, every)
@@ -753,7 +771,7 @@ def main(words):
     if plan.control:
         print("The edits named harmless_ are a control, and must be reported as NOT REFUSED.", flush=True)
     verdicts = plan.run(is_proved_first="--all" in modes)
-    failed, result = conclude(plan, verdicts, unquoted + untyped)
+    failed, result = conclude(plan, verdicts, unquoted + untyped + miscounted)
     if is_whole:
         opened = sum(it.layer == "open" for it in verdicts)
         changes.record(commit, failed, f"{result}, {opened} open", cost())
