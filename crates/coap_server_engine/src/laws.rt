@@ -1,7 +1,7 @@
 //! Theorems on a server after any calls, and on scripts.
 
 ghost use Rattle.std.specs.Prelude.{◌≡◌, ◌≢◌, ◌⊎◌, ℕ, Bool, ◌+◌, ◌<◌, ◌^◌, ◌≤◌, List, [], ◌∷◌, ◌++◌, map};
-ghost use Rattle.std.specs.Prelude.{false, true, Some, None, Ok, IfSome};
+ghost use Rattle.std.specs.Prelude.{false, true, Some, None, Ok};
 ghost use Rattle.coap_server_engine.specs.Prelude.{concat, StreamFault, reject_of, reject_reason, takes_messages};
 ghost use Rattle.coap_server_engine.specs.Prelude.{IsStore, ConfigValues, IsNotTaken, ServerValue, AreSettled};
 ghost use Rattle.coap_server_engine.specs.Prelude.{WaitsForDeadlines, Connection};
@@ -155,23 +155,20 @@ pub fn lent_requests_are_handed_over()
 /// - `answered`: whatever bytes the application writes, the server accepts these or the 5.00 that `take_all_for` gives in
 ///   their place. If it writes none, the request stays pending.
 ///
-/// For `accepted` and `answered`, two conditions apply. The deadline of the application is at least one second, as
-/// `Applications::new` requires. The time is not the last one, 2^64 - 1. Otherwise the deadline has come at once, and the
-/// server has answered by 5.04.
+/// `accepted` and `answered` need a time before the last one, 2^64 - 1. At that time the deadline has come at once, and
+/// the server has answered by 5.04.
 pub fn responses_at_once_have_room()
     ensures refused { (v : ServerValue) (events : List AcceptedCall) (id : ℕ) (piece bytes : List ℕ) (m : Message)
         (fault : ResponseFault) → Shows v events → handed_by v id piece ≡ Some m →
         responded_refusal (server_taken v id piece) id bytes ≡ Some fault →
         (fault ≡ responding.NotAResponse) ⊎ (fault ≡ responding.NoSuchRequest) }
     ensures accepted { (v : ServerValue) (events : List AcceptedCall) (id : ℕ) (piece bytes : List ℕ)
-        (m response : Message) → Shows v events →
-        IfSome v.config.applications (λ a. 1 ≤ a.deadline) → v.host.now < 18446744073709551615 →
+        (m response : Message) → Shows v events → v.host.now < 18446744073709551615 →
         handed_by v id piece ≡ Some m →
         message_of bytes ≡ Ok response → response.token ≡ m.token → is_plain_response response ≡ true →
         responded_refusal (server_taken v id piece) id bytes ≡ None }
     ensures answered { (v : ServerValue) (events : List AcceptedCall) (id : ℕ) (piece bytes : List ℕ) (m : Message) →
-        Shows v events →
-        IfSome v.config.applications (λ a. 1 ≤ a.deadline) → v.host.now < 18446744073709551615 →
+        Shows v events → v.host.now < 18446744073709551615 →
         handed_by v id piece ≡ Some m → bytes ≢ [] →
         responded_refusal (server_taken v id piece) id (response_for (server_taken v id piece) id m.token bytes)
         ≡ None }
