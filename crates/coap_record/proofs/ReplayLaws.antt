@@ -56,6 +56,7 @@ no_byte_shows v es id shows accepted =
           ∙ ap (λ (streams : ℕ → Stream). record (server_shown c es (world_after c es)) { sessions = map (λ p. (p.id, session_shown (streams p.id).rest p.side)) (world_after c es).sides })
           (streams_same c.limits.max_message es e none));
       moment = shows.moment;
+      deadline = shows.deadline;
     }
 
 -- The first take of an `in` accepts all its bytes, if it accepts that many.
@@ -186,8 +187,8 @@ calls_replay v es (e ∷ cs) shows accepted can =
     rw replayed_on (rw (append_assoc es (e ∷ []) cs) at rest.0, rest.1 ∙ one.1)
 
 -- A new server shows no calls.
-first_shows : (c : ConfigValues) → c.starts.moment ≤ 18446744073709551615 → Shows (new_server c) []
-first_shows c small = new_shows {F = Unit {0}} (Ok (new_server c)) c (omega (arith, small)) refl
+first_shows : (v : ServerValue) (cs : List AcceptedCall) → Shows v cs → Shows (new_server v.config) []
+first_shows v cs shows = new_shows {F = Unit {0}} (Ok (new_server v.config)) v.config (omega (arith, shows.moment)) shows.deadline refl
 
 -- The calls before others were accepted.
 front_accepted : (c : ConfigValues) (earlier es fs : List AcceptedCall) → AreAcceptedBehind c earlier (es ++ fs) → AreAcceptedBehind c earlier es × AreAcceptedBehind c (earlier ++ es) fs
@@ -229,6 +230,7 @@ shows_at turns v cs shows = record {
   accepted = all_accepted_at turns v.config [] cs shows.accepted;
   same = ap (server_with_turns turns) shows.same ∙ server_at turns v.config cs;
   moment = shows.moment;
+  deadline = shows.deadline;
 }
 
 -- The bytes that calls write, whatever the limit of turns is.
@@ -242,7 +244,7 @@ writes_at turns c earlier (e ∷ es) = ap (λ ws. write_in (world_after c earlie
 -- The server after the events of all calls is the one that accepted them.
 replays_on_new : (v : ServerValue) (cs : List AcceptedCall) → Shows v cs → All CanReplay cs → (replayed (new_server v.config) (all_events_said cs)).server ≡ v
 replays_on_new v cs shows can =
-    let all = calls_replay (new_server v.config) [] cs (first_shows v.config shows.moment) shows.accepted can in
+    let all = calls_replay (new_server v.config) [] cs (first_shows v cs shows) shows.accepted can in
     all.0.same ∙ ap (λ c. server_of c cs) all.1 ∙ sym shows.same
 
 pub record_replays : (v : ServerValue) (cs : List AcceptedCall) (turns : ℕ) → Shows v cs → All CanReplay cs → (replayed (new_server (with_turns turns v.config)) (all_events_said cs)).server ≡ server_with_turns turns v
@@ -264,7 +266,7 @@ drained_on_new : (v : ServerValue) (before behind : List AcceptedCall) (id n : �
 unfolding AreAcceptedBehind
 drained_on_new v before behind id n shows can =
     let parts = front_accepted v.config [] before (call.Wrote id n ∷ behind) shows.accepted in
-    let front = calls_replay (new_server v.config) [] before (first_shows v.config shows.moment) parts.0 can in
+    let front = calls_replay (new_server v.config) [] before (first_shows v (before ++ call.Wrote id n ∷ behind) shows) parts.0 can in
     rw front.1 at (drain_line_is (replayed (new_server v.config) (all_events_said before)).server before id n front.0 (rw front.1 parts.1.0))
 
 pub drained_alike : (v : ServerValue) (before behind : List AcceptedCall) (id n turns : ℕ) → Shows v (before ++ call.Wrote id n ∷ behind) → All CanReplay before
@@ -310,7 +312,7 @@ calls_drain v es (e ∷ cs) shows accepted can =
     ∙ sym (map-append (λ w. out_line w.0 w.1) writes (writes_of v.config (es ++ e ∷ []) cs))
 
 drains_on_new : (v : ServerValue) (cs : List AcceptedCall) → Shows v cs → All CanReplay cs → drains_of (new_server v.config) (all_events_said cs) ≡ lines_of_writes (writes_of v.config [] cs)
-drains_on_new v cs shows can = calls_drain (new_server v.config) [] cs (first_shows v.config shows.moment) shows.accepted can
+drains_on_new v cs shows can = calls_drain (new_server v.config) [] cs (first_shows v cs shows) shows.accepted can
 
 -- ---- the text of a record
 
@@ -343,6 +345,7 @@ front_shows v front behind shows = record {
   accepted = (front_accepted v.config [] front behind shows.accepted).0;
   same = refl;
   moment = shows.moment;
+  deadline = shows.deadline;
 }
 
 -- A header and lines of the first calls.

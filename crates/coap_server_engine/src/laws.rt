@@ -1,10 +1,10 @@
 //! Theorems on a server after any calls, and on scripts.
 
 ghost use Rattle.std.specs.Prelude.{◌≡◌, ◌≢◌, ◌⊎◌, ℕ, Bool, ◌+◌, ◌<◌, ◌^◌, ◌≤◌, List, [], ◌∷◌, ◌++◌, map};
-ghost use Rattle.std.specs.Prelude.{false, true, Some, None, Ok, IfSome};
+ghost use Rattle.std.specs.Prelude.{false, true, Some, None, Ok};
 ghost use Rattle.coap_server_engine.specs.Prelude.{concat, StreamFault, reject_of, reject_reason, takes_messages};
 ghost use Rattle.coap_server_engine.specs.Prelude.{IsStore, ConfigValues, IsNotTaken, ServerValue, AreSettled};
-ghost use Rattle.coap_server_engine.specs.Prelude.{WrittenFault, ReleaseFault, WaitsForDeadlines, Connection};
+ghost use Rattle.coap_server_engine.specs.Prelude.{WaitsForDeadlines, Connection};
 ghost use Rattle.coap_server_engine.specs.Prelude.{IsUpToDate, World, new_world, side_of, after_steps, AcceptedCall};
 ghost use Rattle.coap_server_engine.specs.Prelude.{Took, stream_on, steps_of, world_after, AreAccepted, Shows};
 ghost use Rattle.coap_server_engine.specs.Prelude.{server_of, normalised_step, normalised_steps, kept_at};
@@ -17,8 +17,6 @@ ghost use Rattle.coap_model.specs.world.Fates.{handed_requests, requests_on};
 ghost use Rattle.coap_conn.specs.Responses.{is_plain_response};
 ghost use Rattle.coap_conn.specs.declared.phase.Phase.TheVariants.{Stopped};
 ghost use Rattle.coap_model.specs.declared.answers.TakeFault.TheVariants.{Memory};
-ghost use Rattle.coap_model.specs.declared.answers.WrittenFault.TheVariants as writing;
-ghost use Rattle.coap_model.specs.declared.answers.ReleaseFault.TheVariants as releasing;
 ghost use Rattle.coap_model.specs.declared.answers.ResponseFault.TheVariants as responding;
 ghost use Rattle.coap_model.specs.world.World.{Ended};
 
@@ -96,8 +94,8 @@ pub fn script_segmentation_is_irrelevant()
 /// - `take` returns `Memory` only if the next byte of the slice would end a message that stores a representation. All
 ///   bytes of that message but the last are accepted then (`stored`, `other`).
 /// - `announce` returns it only for a larger message size, as its own contract states.
-/// - `written` and `release` have other errors (`written`, `released`). `ended` and `drop_conn` have `NoSuch` alone;
-///   `front` and `status` have none.
+/// - The error types of `written`, `release`, `respond`, `ended` and `drop_conn` have no such value. `front` and
+///   `status` return no error.
 pub fn only_stores_allocate()
     ensures stored { (v after : ServerValue) (events : List AcceptedCall) (id : ℕ) (piece : List ℕ) (bytes : ℕ) →
         Shows v events →
@@ -108,10 +106,6 @@ pub fn only_stores_allocate()
         StoresNothing v.config events id piece →
         IsNotTaken v id piece (Memory bytes) after →
         ⊥ }
-    ensures written { (fault : WrittenFault) → (fault ≡ writing.NoSuch) ⊎ (fault ≡ writing.TooMany) }
-    ensures released { (fault : ReleaseFault) →
-        (fault ≡ releasing.NoSuch)
-        ⊎ ((fault ≡ releasing.NotOpen) ⊎ ((fault ≡ releasing.NoRoom) ⊎ (fault ≡ releasing.PeerTooSmall))) }
 {}
 
 /// States that nothing happens before it is due. If every connection is settled and the time advances to one before
@@ -161,23 +155,20 @@ pub fn lent_requests_are_handed_over()
 /// - `answered`: whatever bytes the application writes, the server accepts these or the 5.00 that `take_all_for` gives in
 ///   their place. If it writes none, the request stays pending.
 ///
-/// For `accepted` and `answered`, two conditions apply. The deadline of the application is at least one second, as
-/// `Applications::new` requires. The time is not the last one, 2^64 - 1. Otherwise the deadline has come at once, and the
-/// server has answered by 5.04.
+/// `accepted` and `answered` need a time before the last one, 2^64 - 1. At that time the deadline has come at once, and
+/// the server has answered by 5.04.
 pub fn responses_at_once_have_room()
     ensures refused { (v : ServerValue) (events : List AcceptedCall) (id : ℕ) (piece bytes : List ℕ) (m : Message)
         (fault : ResponseFault) → Shows v events → handed_by v id piece ≡ Some m →
         responded_refusal (server_taken v id piece) id bytes ≡ Some fault →
         (fault ≡ responding.NotAResponse) ⊎ (fault ≡ responding.NoSuchRequest) }
     ensures accepted { (v : ServerValue) (events : List AcceptedCall) (id : ℕ) (piece bytes : List ℕ)
-        (m response : Message) → Shows v events →
-        IfSome v.config.applications (λ a. 1 ≤ a.deadline) → v.host.now < 18446744073709551615 →
+        (m response : Message) → Shows v events → v.host.now < 18446744073709551615 →
         handed_by v id piece ≡ Some m →
         message_of bytes ≡ Ok response → response.token ≡ m.token → is_plain_response response ≡ true →
         responded_refusal (server_taken v id piece) id bytes ≡ None }
     ensures answered { (v : ServerValue) (events : List AcceptedCall) (id : ℕ) (piece bytes : List ℕ) (m : Message) →
-        Shows v events →
-        IfSome v.config.applications (λ a. 1 ≤ a.deadline) → v.host.now < 18446744073709551615 →
+        Shows v events → v.host.now < 18446744073709551615 →
         handed_by v id piece ≡ Some m → bytes ≢ [] →
         responded_refusal (server_taken v id piece) id (response_for (server_taken v id piece) id m.token bytes)
         ≡ None }

@@ -157,6 +157,7 @@ impl Server {
             sessions,
         } = Server::new(alloc, config)?;
         let ServerState { store, now } = host;
+        prove!(1 <= applications.deadline());
         let host = ServerState {
             store: store.with_applications(applications)?,
             now,

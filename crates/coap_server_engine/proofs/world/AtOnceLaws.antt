@@ -190,11 +190,11 @@ module _ (v : ServerValue) (es : List AcceptedCall) (id : ℕ) (piece : List ℕ
         | inr other ↦ inr (sym made.2 ∙ ap response_fault other)
       ]
 
-  -- ---- a deadline of at least one second
+  -- ---- before the last time
 
-  module _ (some : IfSome v.config.applications (λ a. 1 ≤ a.deadline)) (early : v.host.now < 18446744073709551615) where
+  module _ (early : v.host.now < 18446744073709551615) where
     to_come : v.host.now < due
-    to_come = deadline_later v.host asking piece m there_before.2 (subst (λ (o : Option ApplicationsValue). IfSome o (λ a. 1 ≤ a.deadline)) (sym (shown_applications v es shows)) some) early
+    to_come = deadline_later v.host asking piece m there_before.2 (subst (λ (o : Option ApplicationsValue). IfSome o (λ a. 1 ≤ a.deadline)) (sym (shown_applications v es shows)) shows.deadline) early
 
     -- A response with the token of the request is accepted.
     pub at_once_accepted : (bytes : List ℕ) (response : Message) → message_of bytes ≡ Ok response → response.token ≡ m.token → is_plain_response response ≡ true → responded_refusal (server_taken v id piece) id bytes ≡ None

@@ -1,5 +1,5 @@
 -- A server that meets the clauses of a call on its value shows the event of this call.
-use Rattle.std.proofs.Common.{◌≡◌, ℕ, ◌+◌, ◌<◌, ◌^◌, true, List, [], ◌∷◌, ◌++◌, take, Option, Some, None, Result, Ok, Err, refl, sym, subst, ◌∙◌, arith, is_ok, nat_le, option_map, IfOk, IfErr, OnOk}
+use Rattle.std.proofs.Common.{◌≡◌, ℕ, ◌+◌, ◌<◌, ◌≤◌, ◌^◌, true, List, [], ◌∷◌, ◌++◌, take, Option, Some, None, Result, Ok, Err, refl, sym, subst, ◌∙◌, arith, is_ok, nat_le, option_map, IfOk, IfErr, IfSome, OnOk}
 use Rattle.std.proofs.lemmas.Bool.Decides.{nat_tests}
 use Rattle.std.proofs.lemmas.Bool.{leb-true}
 use Rattle.std.proofs.lemmas.Result.{IfOk-weaker, IfErr-weaker}
@@ -38,10 +38,10 @@ where_free refusal fault (Some s) missing none = (s, refl, none)
 
 -- ---- new
 
-pub new_shows : {F : Type 0} (r : Result ServerValue F) (c : ConfigValues) → c.starts.moment < 2 ^ 64 → IfOk r (λ v. v ≡ new_server c) → IfOk r (λ v. Shows v [])
+pub new_shows : {F : Type 0} (r : Result ServerValue F) (c : ConfigValues) → c.starts.moment < 2 ^ 64 → IfSome c.applications (λ a. 1 ≤ a.deadline) → IfOk r (λ v. v ≡ new_server c) → IfOk r (λ v. Shows v [])
 unfolding server_of AreAcceptedBehind
-new_shows (Ok v) c fits is = rw is (record { accepted = tt; same = rw (world_first c) refl; moment = omega (arith, fits) })
-new_shows (Err e) c fits is = tt
+new_shows (Ok v) c fits least is = rw is (record { accepted = tt; same = rw (world_first c) refl; moment = omega (arith, fits); deadline = least })
+new_shows (Err e) c fits least is = tt
 
 -- ---- open
 

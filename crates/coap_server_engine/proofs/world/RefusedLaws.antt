@@ -1,11 +1,11 @@
 -- A failed allocation in a take: the bytes before the last one of the message make no step. This byte completes the
 -- message, which stores a representation.
-use Rattle.std.proofs.Common.{◌≡◌, ℕ, suc, ◌+◌, ◌<◌, List, [], ◌∷◌, ◌++◌, length, take, drop, get_or, Some, None, Result, refl, sym, ap, subst, ◌∙◌, append_assoc, arith, IfErr, inl, inr, ◌⊎◌}
+use Rattle.std.proofs.Common.{◌≡◌, ℕ, suc, ◌+◌, ◌<◌, List, [], ◌∷◌, ◌++◌, length, take, drop, get_or, Some, None, Result, refl, sym, ap, subst, ◌∙◌, append_assoc, arith, IfErr}
 use Rattle.coap_server_engine.specs.Prelude.{AllByRecursion, Message, Stream, split, split_on, Framing, IsPut, ConfigValues}
 use Rattle.coap_server_engine.specs.Prelude.{ServerState, SessionValue, change_by, RefusesPiece, ServerValue, session_of, count_on}
 use Rattle.coap_server_engine.specs.Prelude.{count_taken, Connection, World, side_of, Handled, AcceptedCall, stream_on, beyond}
 use Rattle.coap_server_engine.specs.Prelude.{world_after, size_on, Took, steps_by, takes, change_made, session_shown, Shows}
-use Rattle.coap_server_engine.specs.Prelude.{IsNotTaken, Taken, TakeFault, WrittenFault, ReleaseFault, IsRefusedStored}
+use Rattle.coap_server_engine.specs.Prelude.{IsNotTaken, Taken, TakeFault, IsRefusedStored}
 use Rattle.coap_server_engine.specs.Prelude.{IsRefusedFor, StoresNothing}
 use Rattle.std.proofs.lemmas.Grind.{take_at_read}
 use Rattle.std.proofs.lemmas.List.{take-append-drop}
@@ -19,8 +19,6 @@ use Rattle.coap_model.proofs.world.StepLaws.{stream_more}
 use Rattle.coap_model.proofs.OptionLemmas.{none_made}
 use Rattle.coap_model.specs.world.World as world
 use Rattle.coap_model.specs.declared.answers.TakeFault.TheVariants as fault
-use Rattle.coap_model.specs.declared.answers.WrittenFault.TheVariants as writing
-use Rattle.coap_model.specs.declared.answers.ReleaseFault.TheVariants as releasing
 use Rattle.coap_model.specs.world.View as view
 
 -- The stream of a connection, continued with more bytes.
@@ -113,15 +111,3 @@ not_taken_for (fault.Memory n) v new id piece not es shows = refused_is_stored v
 pub take_refused_for : (r : Result Taken TakeFault) (v new : ServerValue) (id : ℕ) (piece : List ℕ) → IfErr r (λ why. IsNotTaken v id piece why new)
     → IfErr r (λ why. (es : List AcceptedCall) → Shows v es → IsRefusedFor v.config es id piece why)
 take_refused_for r v new id piece not = IfErr-weaker r (λ why. IsNotTaken v id piece why new) _ (λ why no. not_taken_for why v new id piece no) not
-
--- ---- the other calls on a connection
-
-pub written_faults : (why : WrittenFault) → (why ≡ writing.NoSuch) ⊎ (why ≡ writing.TooMany)
-written_faults writing.NoSuch = inl refl
-written_faults writing.TooMany = inr refl
-
-pub release_faults : (why : ReleaseFault) → (why ≡ releasing.NoSuch) ⊎ ((why ≡ releasing.NotOpen) ⊎ ((why ≡ releasing.NoRoom) ⊎ (why ≡ releasing.PeerTooSmall)))
-release_faults releasing.NoSuch = inl refl
-release_faults releasing.NotOpen = inr (inl refl)
-release_faults releasing.NoRoom = inr (inr (inl refl))
-release_faults releasing.PeerTooSmall = inr (inr (inr refl))

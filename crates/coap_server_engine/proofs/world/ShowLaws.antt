@@ -273,7 +273,7 @@ no_change_is_lost v es id s t shows e there =
 shows_event : (v new : ServerValue) (es : List AcceptedCall) (e : AcceptedCall) → Shows v es → IsAccepted v.config es e → new ≡ server_of v.config (es ++ e ∷ []) → Shows new (es ++ e ∷ [])
 unfolding server_of
 shows_event v new es e shows accepted same =
-    rw same (record { accepted = accepted_more v.config es e shows.accepted accepted; same = refl; moment = shows.moment })
+    rw same (record { accepted = accepted_more v.config es e shows.accepted accepted; same = refl; moment = shows.moment; deadline = shows.deadline })
 
 -- An event without bytes that makes one step, where `g` changes the server as the step changes its model.
 shows_step : (v : ServerValue) (es : List AcceptedCall) (e : AcceptedCall) (st : Step) (g : ServerValue → ServerValue) → Shows v es → IsAccepted v.config es e → steps_by v.config.limits.max_message es e ≡ st ∷ [] → ((id : ℕ) → taken_in id e ≡ [])

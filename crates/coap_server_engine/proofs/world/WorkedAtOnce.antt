@@ -42,7 +42,7 @@ get_bytes = hex "210101b161"
 
 server_shows : Shows (server_for 5 0) greeted
 unfolding computed
-server_shows = record { accepted = ((refl, omega arith, omega arith), (omega arith, (refl, tt))); same = refl; moment = omega arith }
+server_shows = record { accepted = ((refl, omega arith, omega arith), (omega arith, (refl, tt))); same = refl; moment = omega arith; deadline = omega arith }
 
 asked : handed_by (server_for 5 0) 1 get_bytes ≡ Some get_a
 unfolding computed
@@ -74,4 +74,4 @@ came_at_last = refl
 -- The theorem applies.
 accepted : responded_refusal (server_taken (server_for 5 0) 1 get_bytes) 1 (hex "014501") ≡ None
 unfolding computed
-accepted = at_once_accepted (server_for 5 0) greeted 1 get_bytes get_a server_shows asked (omega arith) (omega arith) (hex "014501") _ refl refl refl
+accepted = at_once_accepted (server_for 5 0) greeted 1 get_bytes get_a server_shows asked (omega arith) (hex "014501") _ refl refl refl

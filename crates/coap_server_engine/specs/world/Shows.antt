@@ -1,5 +1,5 @@
 -- Defined by this project: the value of a server after a list of events, computed from the events alone.
-use Rattle.std.specs.Prelude.{◌≡◌, ℕ, ◌≤◌, List, [], map, ◌∷◌, ◌++◌, take}
+use Rattle.std.specs.Prelude.{◌≡◌, ℕ, ◌≤◌, List, [], map, ◌∷◌, ◌++◌, take, IfSome}
 use Rattle.coap_model.specs.Configs.{ConfigValues}
 use Rattle.coap_server_session.specs.values.Sessions.{SessionValue}
 use Rattle.coap_server_engine.specs.values.Servers.{ServerValue}
@@ -34,6 +34,8 @@ pub record Shows (v : ServerValue) (events : List AcceptedCall) : Type 0 where
   pub same : v ≡ server_of v.config events
   -- The time at which the server starts fits in 64 bits.
   pub moment : v.config.starts.moment ≤ 18446744073709551615
+  -- The application, if there is one, has at least one second for a response.
+  pub deadline : IfSome v.config.applications (λ a. 1 ≤ a.deadline)
 
 -- States the events that a server shows after a `take` that failed. If no connection has this id, they are the same. If
 -- allocation failed, the first `bytes` bytes of `piece` were accepted.

@@ -263,7 +263,7 @@ impl Server {
     ///
     /// # Errors
     ///
-    /// Returns `WriteFailed` if a write fails. A prefix of the queued bytes was written then.
+    /// Returns `WriteFailed` if a write fails. A prefix of the queued bytes was written then. The server is unchanged.
     ///
     /// # Preconditions
     ///
@@ -281,6 +281,7 @@ impl Server {
         ensures stop { IfOk result (λ f. f.stop ≡ stop_on (session_of id self.new.sessions)) }
         ensures part { OnErr result (WritesPart (W.written writer.old) (W.written writer.new)
             (waiting_at id self.old)) }
+        ensures err { OnErr result (self.new ≡ self.old) }
         ensures failure { W.is_failed writer.new ≡ is_err result }
     {
         let Some(at) = find(&self.sessions, id) else {
@@ -317,6 +318,7 @@ impl Server {
         ensures stop { IfOk result (λ f. f.stop ≡ stop_on (session_of _id self.new.sessions)) }
         ensures part { OnErr result (WritesPart (W.written writer.old) (W.written writer.new)
             (waiting_at _id self.old)) }
+        ensures err { OnErr result (self.new ≡ self.old) }
         ensures failure { W.is_failed writer.new ≡ is_err result }
         ensures lies { OnOk result (LiesAt _id at self.new.sessions) }
     {
