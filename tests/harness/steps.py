@@ -109,7 +109,7 @@ STEPS = [
     Step(["python3", "tests/system/log.py", SERVER, CLIENT], 60, 13),
     Step(["python3", "tests/system/record.py", SERVER, CLIENT], 18, 2),
     Step(["python3", "tests/system/explain.py", SERVER, EXPLAIN], 15, 5),
-    Step(["python3", "tests/system/directory.py", DIRECTORY, CLIENT], 5, 1),
+    Step(["python3", "tests/system/directory.py", DIRECTORY, CLIENT], 7, 3),
     Step(["python3", "tests/system/idle.py", SERVER], 17, 1),
     Step(["python3", "tests/system/clocks.py", SERVER, CLIENT], 14, 1),
     Step(["python3", "tests/system/interop.py", SERVER, CLIENT], 17, 1),
