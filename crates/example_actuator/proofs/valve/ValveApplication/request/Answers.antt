@@ -13,8 +13,8 @@ returns-then-not-write c = moves_on _ _ _ (inl (c.write.ensures.empty c.if-not-w
 pub returns-then-eq : goal.returns-then-eq
 returns-then-eq c =
     let coded = ap (λ (n : ℕ). n == changed) c.in-Ok.ensures.code ∙ (sym c.eq.ensures ∙ c.if-eq.true) in
-    let payload = c.eq-self.ensures ∙ ap (λ (xs : List ℕ). pointwise nat_eq xs c.as_slice.result.now) c.payload.ensures in
-    let text = payload ∙ ap (pointwise nat_eq c.args.request.now.payload) c.as_slice.ensures in
+    let payload = ap (λ (xs : List ℕ). pointwise nat_eq xs c.as_slice.result.now) c.payload.ensures in
+    let text = c.eq-self.ensures ∙ payload ∙ ap (pointwise nat_eq c.args.request.now.payload) c.as_slice.ensures in
     moves_on _ _ _ (inr record {
       response = c.in-Ok.response;
       spelled = c.write.ensures.written c.if-not-write.false;
