@@ -3,6 +3,7 @@
        c_client pair            prints the events of requests, an observation and a Ping; a call that reports 2 is made once more
        c_client messages        reads records of two bytes of length and a frame; prints the numbers of the errors, and each frame that is
                                 written otherwise than it was read
+       c_client wraps           sends PUTs of 3,000 bytes, and writes the bytes that the client queued
        c_client wrong           prints each check that fails */
 #include "c_checks.h"
 #include <coap_proved.h>
@@ -150,6 +151,38 @@ static int messages(void) {
         free(bytes);
     }
     return fflush(stdout) != 0;
+}
+
+/* Sends PUTs until the client's queue has wrapped, and writes all queued bytes. A response follows each request. */
+static int wraps(void) {
+    static uint8_t payload[3000];
+    struct dachreup_limits limits = DACHREUP_LIMITS;
+    struct dachreup_request put = {DACHREUP_PUT, 0, 0, DACHREUP_NO_FORMAT, DACHREUP_NO_FORMAT};
+    struct dachreup_event event;
+    struct dachreup_parts parts;
+    uint64_t token = 0;
+    size_t wrapped = 0, whole = 0;
+    if (dachreup_client_new(&client, &limits, 0) ||
+        dachreup_client_take(&client, TEXT("\x40\xe1\x23\x01\x00\x00"), &event))
+        return 1;
+    for (uint8_t number = 1; number <= 100; number++) {
+        uint8_t response[3] = {0x01, 0x44, number};
+        for (size_t at = 0; at < sizeof payload; at++)
+            payload[at] = (uint8_t)(number + at / 7);
+        if (dachreup_client_send(&client, &put, TEXT("coap+tcp://h/a"), payload, sizeof payload, &token) ||
+            dachreup_client_parts(&client, &parts))
+            return 2;
+        wrapped += parts.first.count && parts.second.count;
+        whole = parts.first.count + parts.second.count;
+        if (fwrite(parts.first.at, 1, parts.first.count, stdout) != parts.first.count ||
+            fwrite(parts.second.at, 1, parts.second.count, stdout) != parts.second.count)
+            return 3;
+        if (dachreup_client_written(&client, whole) || dachreup_client_take(&client, response, 3, &event) ||
+            event.kind != DACHREUP_EVENT_RESPONSE)
+            return 4;
+    }
+    dachreup_client_free(&client);
+    return wrapped < 2 || fflush(stdout) != 0;
 }
 
 static void empty(void) {
@@ -317,6 +350,8 @@ int main(int count, char **words) {
         return pair(strtoull(words[2], NULL, 10));
     if (count == 2 && !strcmp(words[1], "messages"))
         return messages();
+    if (count == 2 && !strcmp(words[1], "wraps"))
+        return wraps();
     empty();
     ranges();
     targets();

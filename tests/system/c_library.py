@@ -34,7 +34,7 @@ import packages  # noqa: E402
 import rows  # noqa: E402
 from checks import CSM, GREETING, Checks, side_by_side  # noqa: E402
 from layers import serve, stdio  # noqa: E402
-from peers import free_port  # noqa: E402
+from peers import Server, free_port, started  # noqa: E402
 from workspace import KIT, ROOT, rattle_words  # noqa: E402
 
 LIMIT = 300
@@ -283,7 +283,7 @@ def check_messages(checks, programs):
 
 
 def wait_for(port):
-    """Waits until a program accepts connections at a port."""
+    """Waits until an example, which prints no line, accepts connections at a port."""
     for _ in range(10 * LIMIT):
         with contextlib.suppress(OSError), socket.create_connection(("127.0.0.1", port)):
             break
@@ -292,20 +292,20 @@ def wait_for(port):
 
 def check_client(checks, clients, server, example):
     """Runs the client of examples/c against the example, the program and libcoap's server."""
-    def observe(name, words, path):
-        port = free_port("127.0.0.1")
-        address = [str(port), str(LIMIT)] if words == [example] else ["-A", "127.0.0.1", "-p", str(port)]
-        running = subprocess.Popen([*words, *address], stdout=subprocess.DEVNULL, stderr=subprocess.DEVNULL)
-        wait_for(port)
+    def observe(name, port, path):
         for client in clients:
             ran = run([*client, f"coap+tcp://127.0.0.1:{port}/{path}", "2"])
             lines = ran.stdout.decode().splitlines()
             checks.same(f"{client[0]} observes {name}: {ran.stderr!r}", (ran.returncode, [it[:5] for it in lines], len(set(lines))), (0, ["2.05 "] * 2, 2))
-        running.terminate()
-        running.wait()
-    observe("the example", [example], "inside")
-    observe("the program", [server], "time")
-    observe("libcoap", ["coap-server-notls"], "time")
+    port = free_port("127.0.0.1")
+    with started([example, str(port), str(LIMIT)], stdout=subprocess.DEVNULL, stderr=subprocess.DEVNULL):
+        wait_for(port)
+        observe("the example", port, "inside")
+    with Server(server) as running:
+        observe("the program", running.port, "time")
+    with Server("coap-server-notls", says=False) as running:
+        checks.same("libcoap's server starts", running.accepts(), True)
+        observe("libcoap", running.port, "time")
     for client in clients:
         for uri in ("x", "coap://127.0.0.1/a", f"coap+tcp://127.0.0.1:{free_port('127.0.0.1')}/a"):
             checks.same(f"{client[0]} fails at {uri}", run([*client, uri]).returncode, 2)
@@ -319,26 +319,31 @@ def use_example(words, client):
     """Runs the server of examples/c in this way. Observes values, also by libcoap's client, and changes another one. Returns the checks."""
     port = free_port("127.0.0.1")
     address = f"coap+tcp://127.0.0.1:{port}"
-    running = subprocess.Popen([*words, str(port), "20"], stdout=subprocess.PIPE, stderr=subprocess.STDOUT)
-    wait_for(port)
-    observers = [subprocess.Popen([*one, "-w", "-s", "3", f"{address}/{path}"], stdout=subprocess.PIPE, stderr=subprocess.STDOUT)
-                 for one, path in (([client], "inside"), ([client], "outside"), (LIBCOAP, "inside"))]
-    for one in observers:
-        text = one.communicate(timeout=LIMIT)[0].decode()
-        values = [int(it) for it in re.findall(r"\d+", text)]
-        yield f"{one.args}: {text!r}", (len(set(values)) >= 3, values == sorted(values), one.returncode in (0, 3)), (True, True, True)
-    # The first state has more bytes than the server reads at once, so its request comes in pieces.
-    for state, code in (("x" * 5000, b"4.13"), ("open", b""), ("shut", b""), ("shut now", b"4.13")):
-        changed = run([client, "-m", "put", "-e", state, f"{address}/valve"])
-        yield f"valve {state[:9]}: {changed.stderr}", (changed.returncode == 0, changed.stdout, changed.stderr[:4]), (not code, b"", code)
-    yield "valve", run([client, f"{address}/valve"]).stdout.strip(), b"shut"
-    changed = run([*LIBCOAP, "-m", "put", "-e", "open", f"{address}/valve"])
-    yield "libcoap changes the valve", (changed.returncode, changed.stdout, changed.stderr), (0, b"", b"")
-    yield "libcoap reads the valve", run([*LIBCOAP, f"{address}/valve"]).stdout.strip(), b"open"
-    missing = run([client, f"{address}/none"])
-    yield "no such resource", b"4.04" in missing.stdout + missing.stderr, True
-    said = running.communicate(timeout=LIMIT)[0]
-    yield "example server", (running.returncode, said), (0, b"")
+    with contextlib.ExitStack() as stack:
+        def begin(*command):
+            return stack.enter_context(started(command, stdout=subprocess.PIPE, stderr=subprocess.STDOUT))
+        running = begin(*words, str(port), "20")
+        wait_for(port)
+        observers = [begin(*one, "-w", "-s", "3", f"{address}/{path}")
+                     for one, path in (([client], "inside"), ([client], "outside"), (LIBCOAP, "inside"))]
+        for one in observers:
+            text = one.communicate(timeout=LIMIT)[0].decode()
+            values = [int(it) for it in re.findall(r"\d+", text)]
+            are_right = len(set(values)) >= 3, values == sorted(values), one.returncode in (0, 3)
+            yield f"{one.args}: {text!r}", are_right, (True, True, True)
+        # The first state has more bytes than the server reads at once, so its request comes in pieces.
+        for state, code in (("x" * 5000, b"4.13"), ("open", b""), ("shut", b""), ("shut now", b"4.13")):
+            changed = run([client, "-m", "put", "-e", state, f"{address}/valve"])
+            result = changed.returncode == 0, changed.stdout, changed.stderr[:4]
+            yield f"valve {state[:9]}: {changed.stderr}", result, (not code, b"", code)
+        yield "valve", run([client, f"{address}/valve"]).stdout.strip(), b"shut"
+        changed = run([*LIBCOAP, "-m", "put", "-e", "open", f"{address}/valve"])
+        yield "libcoap changes the valve", (changed.returncode, changed.stdout, changed.stderr), (0, b"", b"")
+        yield "libcoap reads the valve", run([*LIBCOAP, f"{address}/valve"]).stdout.strip(), b"open"
+        missing = run([client, f"{address}/none"])
+        yield "no such resource", b"4.04" in missing.stdout + missing.stderr, True
+        said = running.communicate(timeout=LIMIT)[0]
+        yield "example server", (running.returncode, said), (0, b"")
 
 
 def check_example(checks, servers, client):
@@ -423,6 +428,19 @@ def check_pair(checks, words):
     checks.same(f"a client and a server {words[0]}", got, (0, EVENTS, b""))
 
 
+def check_wraps(checks, words):
+    """Reads the bytes of a client whose queue wraps: a CSM, and each PUT with its token and its payload, in order."""
+    ran = run([*words, "wraps"])
+    checks.same(f"a queue that wraps {words[0]}", (ran.returncode, ran.stderr), (0, b""))
+    wanted = [(3, bytes([it]), bytes((it + at // 7) % 256 for at in range(3000))) for it in range(1, 101)]
+    try:
+        frames, rest = messages.split(ran.stdout)
+        read = [(code, token, payload) for code, token, _, payload in map(messages.parse, frames[1:])]
+    except (messages.Malformed, IndexError) as trouble:
+        read, rest = [], trouble
+    checks.same(f"messages of a queue that wraps {words[0]}", (len(read), read == wanted, rest), (100, True, b""))
+
+
 def runs(made, server, client, archive, room):
     """Returns all runs of the built programs, which are independent of each other."""
     def both(name):
@@ -442,6 +460,7 @@ def runs(made, server, client, archive, room):
         *((check_ended, [*words, mode]) for mode in modes for words in both("driver")),
         *((check_ended, [*words, "wrong"]) for words in both("pair")),
         (check_changes, made["driver", "valgrind"]),
+        *((check_wraps, words) for words in both("pair")),
         (check_libcoap, archive, *made["driver", "plain"], room),
         (check_names, archive),
     ]
