@@ -201,6 +201,23 @@ def check_times(checks):
         checks.same("time %d" % number, said, "        time %d%s\n" % (number, wanted))
 
 
+def check_start(checks):
+    """A server that starts at second 1 has a first line, and one that starts at second 0 has none."""
+    for options, wanted in (("# options: --starts 1,0,0", ["        time 1 (1970-01-01T00:00:01Z)"]), ("# options: --starts 0,0,0", [])):
+        status, said, error = explain([options, "open"])
+        checks.same("lines of %r" % options, (status, said.splitlines(), error), (0, [options, *wanted, "     1  opened"], ""))
+
+
+def check_status(checks):
+    """The line of a status has each number in its place: kept bytes, queued bytes, pending requests, observers."""
+    delayed = [message(1, bytes([it]), [(11, b"async"), (15, b"9")]).hex() for it in range(3)]
+    observe, ping, unfinished = message(1, b"\x09", [(6, b""), (11, b"time")]).hex(), message(0xE2).hex(), "40014161"
+    record = ["open", *["in 1 " + it for it in (SETTINGS.hex(), *delayed, observe)], "drain 1", "in 1 " + ping, "in 1 " + unfinished, "status 1"]
+    status, said, error = explain(record)
+    checks.same("status of a script with a status", (status, error), (0, ""))
+    checks.same("line of a status", said.splitlines()[-1:], ["     1  status 1 open kept 4 waiting 2 pending 3 observers 1"])
+
+
 def check_connection(checks):
     """With `--connection`, only the lines of this connection are printed, and the time if it has changed."""
     record = ["# options: --starts 59,0,0", "# a comment", "open", "open", "tick 60", "in 1 00e1", "in 2 00e1", "tick 61", "tick 62",
@@ -509,6 +526,8 @@ def main():
     check_record(checks)
     check_scripts(checks)
     check_times(checks)
+    check_start(checks)
+    check_status(checks)
     check_connection(checks)
     check_bad_lines(checks)
     check_long_lines(checks)

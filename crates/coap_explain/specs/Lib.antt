@@ -1,7 +1,10 @@
 pub mod Layout
 pub mod Shown
+pub mod Printed
 pub mod Messages
+pub mod Explanations
 pub mod Header
 pub mod Stated
 pub mod Counts
 pub mod Records
+pub mod Statuses

@@ -1,31 +1,35 @@
-//! `Explainer`, which runs the events of a record and prints them. `bytes` has the events that pass bytes.
+//! `Explainer`, which runs the events of a record and prints them. `bytes` has the events that pass bytes,
+//! `application` those of the program in which the server is embedded.
 
-ghost use Rattle.std.specs.Prelude.{◌≡◌, ◌≤◌, ◌-◌, [], true, false, None, is_err, length, take, get_or, IfOk, IfErr};
-ghost use Rattle.std.specs.Prelude.{OnOk};
-ghost use Rattle.coap_io.specs.Prelude.{AddsBytes};
+ghost use Rattle.std.specs.Prelude.{◌≡◌, ◌≤◌, ◌-◌, ℕ, [], ◌∷◌, true, false, Some, None, is_err, length};
+ghost use Rattle.std.specs.Prelude.{take, get_or, IfOk, IfErr, OnOk};
 ghost use Rattle.coap_script.specs.script.EventViews.{event_value};
 ghost use Rattle.coap_script.specs.script.Events as event;
 ghost use Rattle.coap_script.specs.script.Words.{words_of};
 ghost use Rattle.coap_server_engine.specs.script.Replay.{event_ran};
+ghost use Rattle.coap_server_engine.specs.script.Replay as replay;
 ghost use Rattle.coap_server_engine.specs.values.Servers.{new_server};
 ghost use Rattle.coap_print.specs.Texts.{is_text};
-ghost use Rattle.coap_explain.specs.Shown.{IsShown, ended, fails_write};
+ghost use Rattle.coap_explain.specs.Shown.{IsShown, fails_write};
+ghost use Rattle.coap_explain.specs.Printed.{Prints, Text};
+ghost use Rattle.coap_explain.specs.Explanations.{Explains, messages_of, with_messages};
+ghost use Rattle.coap_explain.specs.Explanations as spec;
 ghost use Rattle.coap_explain.specs.Records.{IsOfDevice};
 ghost use Rattle.coap_explain.specs.declared.trouble.Trouble.TheVariants as trouble;
 
+mod application;
 mod bytes;
 
-use crate::layout::{connection_line, dropped_line, output_line, removed_line, stored_line};
+use crate::layout::{connection_line, dropped_line, output_line};
 use crate::messages::{Followed, is_within};
 use crate::printer::Printer;
 use crate::trouble::Trouble;
 use coap_io::{Outlet, WriteFailed};
-use coap_model::{Config, ConnId, OpenFault};
+use coap_model::{Config, ConnId, OpenFault, ReleaseFault};
 use coap_print::Line;
 use coap_record::BufferedOutlet;
 use coap_script::{Event, fault_line, status_line};
 use coap_server_engine::Server;
-use coap_store::{PathKey, StoreFault};
 use coap_text::split_once;
 use indexmap::IndexMap;
 use std::alloc::{AllocError, Global};
@@ -55,6 +59,7 @@ impl<O: Outlet + Drop> Explainer<O> {
     ) -> Result<Explainer<O>, AllocError>
         ensures server { IfOk result (λ e. e.server ≡ new_server config) }
         ensures printer { IfOk result (λ e. e.printer ≡ printer) }
+        ensures messages { IfOk result (λ e. (id : ℕ) → messages_of e id ≡ None) }
     {
         Ok(Explainer {
             alloc,
@@ -72,6 +77,7 @@ impl<O: Outlet + Drop> Explainer<O> {
     pub(crate) fn configure(&mut self, config: Config) -> Result<(), AllocError>
         ensures server { OnOk result (self.new.server ≡ new_server config) }
         ensures printer { self.new.printer ≡ self.old.printer }
+        ensures messages { self.new.connections ≡ self.old.connections }
     {
         self.server = Server::new(self.alloc, config)?;
         Ok(())
@@ -84,6 +90,9 @@ impl<O: Outlet + Drop> Explainer<O> {
     /// - `Write`: a write failed.
     pub(crate) fn begin(&mut self) -> Result<(), Trouble>
         requires { O.is_failed self.old.printer.out ≡ false }
+        ensures prints { OnOk result (Prints O.written self.old.printer self.new.printer
+            (spec.first_lines self.old.server.host.now)) }
+        ensures messages { self.new.connections ≡ self.old.connections }
         ensures server { self.new.server ≡ self.old.server }
         ensures shown { IsShown (O.written self.old.printer.out) → IsShown (O.written self.new.printer.out) }
         ensures failure { O.is_failed self.new.printer.out ≡ fails_write result }
@@ -104,8 +113,8 @@ impl<O: Outlet + Drop> Explainer<O> {
     pub(crate) fn show_comment(&mut self, line: &Line) -> Result<(), Trouble>
         requires { O.is_failed self.old.printer.out ≡ false }
         ensures server { self.new.server ≡ self.old.server }
-        ensures text { self.old.printer.only ≡ None → OnOk result (AddsBytes (O.written self.old.printer.out)
-            (O.written self.new.printer.out) (ended line.now)) }
+        ensures prints { OnOk result (Prints O.written self.old.printer self.new.printer (Text None line.now ∷ [])) }
+        ensures messages { self.new.connections ≡ self.old.connections }
         ensures shown { IsShown (O.written self.old.printer.out) → IsShown (O.written self.new.printer.out) }
         ensures failure { O.is_failed self.new.printer.out ≡ fails_write result }
         ensures err { IfErr result (λ t. t ≡ trouble.Write) }
@@ -153,6 +162,9 @@ impl<O: Outlet + Drop> Explainer<O> {
     fn show_words(&mut self, id: ConnId, words: &str) -> Result<(), Trouble>
         requires works { O.is_failed self.old.printer.out ≡ false }
         requires text { is_text words.now ≡ true }
+        ensures prints { OnOk result (Prints O.written self.old.printer self.new.printer
+            (spec.words_line id words.now ∷ [])) }
+        ensures messages { self.new.connections ≡ self.old.connections }
         ensures server { self.new.server ≡ self.old.server }
         ensures shown { IsShown (O.written self.old.printer.out) → IsShown (O.written self.new.printer.out) }
         ensures failure { O.is_failed self.new.printer.out ≡ fails_write result }
@@ -165,6 +177,9 @@ impl<O: Outlet + Drop> Explainer<O> {
     /// Prints the line that the server writes for an event.
     fn show_output(&mut self, id: Option<ConnId>, text: &[u8]) -> Result<(), Trouble>
         requires { O.is_failed self.old.printer.out ≡ false }
+        ensures prints { OnOk result (Prints O.written self.old.printer self.new.printer
+            (spec.server_line id text.now ∷ [])) }
+        ensures messages { self.new.connections ≡ self.old.connections }
         ensures server { self.new.server ≡ self.old.server }
         ensures shown { IsShown (O.written self.old.printer.out) → IsShown (O.written self.new.printer.out) }
         ensures failure { O.is_failed self.new.printer.out ≡ fails_write result }
@@ -179,6 +194,9 @@ impl<O: Outlet + Drop> Explainer<O> {
     fn refuse(&mut self, word: &str, id: Option<ConnId>, number: u8) -> Result<(), Trouble>
         requires works { O.is_failed self.old.printer.out ≡ false }
         requires short { length word.now ≤ 8 }
+        ensures prints { OnOk result (Prints O.written self.old.printer self.new.printer
+            (spec.refusal_line word.now id number ∷ [])) }
+        ensures messages { self.new.connections ≡ self.old.connections }
         ensures server { self.new.server ≡ self.old.server }
         ensures shown { IsShown (O.written self.old.printer.out) → IsShown (O.written self.new.printer.out) }
         ensures failure { O.is_failed self.new.printer.out ≡ fails_write result }
@@ -191,6 +209,8 @@ impl<O: Outlet + Drop> Explainer<O> {
     #[tactic(auto, unfolding(coap_server_engine::specs::script::Replay::event_ran))]
     fn open(&mut self) -> Result<(), Trouble>
         requires { O.is_failed self.old.printer.out ≡ false }
+        ensures explained { OnOk result (Explains O.written self.old self.new
+            (spec.opened self.old.server (messages_of self.old))) }
         ensures server { OnOk result (self.new.server ≡ (event_ran self.old.server event.Open).server) }
         ensures shown { IsShown (O.written self.old.printer.out) → IsShown (O.written self.new.printer.out) }
         ensures failure { O.is_failed self.new.printer.out ≡ fails_write result }
@@ -209,6 +229,8 @@ impl<O: Outlet + Drop> Explainer<O> {
 
     /// Follows the messages of a new connection.
     fn follow(&mut self, id: ConnId) -> Result<(), AllocError>
+        ensures messages { OnOk result (messages_of self.new
+            ≡ with_messages (messages_of self.old) id (Some spec.no_messages)) }
         ensures server { self.new.server ≡ self.old.server }
         ensures printer { self.new.printer ≡ self.old.printer }
     {
@@ -220,6 +242,8 @@ impl<O: Outlet + Drop> Explainer<O> {
     #[tactic(auto, unfolding(coap_server_engine::specs::script::Replay::event_ran))]
     fn tick(&mut self, moment: u64) -> Result<(), Trouble>
         requires { O.is_failed self.old.printer.out ≡ false }
+        ensures explained { OnOk result (Explains O.written self.old self.new
+            (spec.ticked self.old.server (messages_of self.old) moment)) }
         ensures server { OnOk result (self.new.server ≡ (event_ran self.old.server (event.Tick moment)).server) }
         ensures shown { IsShown (O.written self.old.printer.out) → IsShown (O.written self.new.printer.out) }
         ensures failure { O.is_failed self.new.printer.out ≡ fails_write result }
@@ -234,56 +258,12 @@ impl<O: Outlet + Drop> Explainer<O> {
         }
     }
 
-    /// Runs a `put` event. `text` is the path as the script has it.
-    #[tactic(auto, unfolding(coap_server_engine::specs::script::Replay::event_ran))]
-    fn put(
-        &mut self,
-        path: &PathKey,
-        text: &[u8],
-        format: Option<u16>,
-        payload: &[u8],
-    ) -> Result<(), Trouble>
-        requires { O.is_failed self.old.printer.out ≡ false }
-        ensures server { OnOk result (self.new.server
-            ≡ (event_ran self.old.server (event.Put path.now format payload.now)).server) }
-        ensures shown { IsShown (O.written self.old.printer.out) → IsShown (O.written self.new.printer.out) }
-        ensures failure { O.is_failed self.new.printer.out ≡ fails_write result }
-        ensures err { IfErr result IsOfDevice }
-    {
-        match self.server.put(path, format, payload) {
-            Ok(_) => {
-                self.printer
-                    .show(None, &stored_line(text, format, payload))?;
-                Ok(())
-            }
-            Err(StoreFault::Memory) => Err(Trouble::Memory),
-            Err(fault) => self.refuse("put", None, fault as u8),
-        }
-    }
-
-    /// Runs a `remove` event. `text` is the path as the script has it.
-    #[tactic(auto, unfolding(coap_server_engine::specs::script::Replay::event_ran))]
-    fn remove(&mut self, path: &PathKey, text: &[u8]) -> Result<(), Trouble>
-        requires { O.is_failed self.old.printer.out ≡ false }
-        ensures server { OnOk result (self.new.server
-            ≡ (event_ran self.old.server (event.Remove path.now text.now)).server) }
-        ensures shown { IsShown (O.written self.old.printer.out) → IsShown (O.written self.new.printer.out) }
-        ensures failure { O.is_failed self.new.printer.out ≡ fails_write result }
-        ensures err { IfErr result IsOfDevice }
-    {
-        match self.server.remove(path) {
-            Ok(()) => {
-                self.printer.show(None, &removed_line(text))?;
-                Ok(())
-            }
-            Err(fault) => self.refuse("remove", None, fault as u8),
-        }
-    }
-
     /// Runs an `end` event.
     #[tactic(auto, unfolding(coap_server_engine::specs::script::Replay::event_ran))]
     fn end(&mut self, id: ConnId) -> Result<(), Trouble>
         requires { O.is_failed self.old.printer.out ≡ false }
+        ensures explained { OnOk result (Explains O.written self.old self.new
+            (spec.input_ended self.old.server (messages_of self.old) id)) }
         ensures server { OnOk result (self.new.server ≡ (event_ran self.old.server (event.End id)).server) }
         ensures shown { IsShown (O.written self.old.printer.out) → IsShown (O.written self.new.printer.out) }
         ensures failure { O.is_failed self.new.printer.out ≡ fails_write result }
@@ -298,15 +278,15 @@ impl<O: Outlet + Drop> Explainer<O> {
     /// Prints that the input of a connection ended.
     fn show_ended(&mut self, id: ConnId) -> Result<(), Trouble>
         requires { O.is_failed self.old.printer.out ≡ false }
+        ensures prints { OnOk result (Prints O.written self.old.printer self.new.printer
+            (spec.words_line id (spec.end_words (spec.is_cut (messages_of self.old id))) ∷ [])) }
+        ensures messages { self.new.connections ≡ self.old.connections }
         ensures server { self.new.server ≡ self.old.server }
         ensures shown { IsShown (O.written self.old.printer.out) → IsShown (O.written self.new.printer.out) }
         ensures failure { O.is_failed self.new.printer.out ≡ fails_write result }
         ensures err { IfErr result IsOfDevice }
     {
-        let is_cut = match self.connections.get(&id) {
-            Some(followed) => is_within(&followed.incoming),
-            None => false,
-        };
+        let is_cut = self.is_cut(id);
         if is_cut {
             self.show_words(id, "input ended within a message")
         } else {
@@ -314,10 +294,22 @@ impl<O: Outlet + Drop> Explainer<O> {
         }
     }
 
+    /// Returns `true` if the last byte of a message of a client is missing.
+    fn is_cut(&self, id: ConnId) -> bool
+        ensures { result ≡ spec.is_cut (messages_of self.now id) }
+    {
+        match self.connections.get(&id) {
+            Some(followed) => is_within(&followed.incoming),
+            None => false,
+        }
+    }
+
     /// Runs a `release` event.
     #[tactic(auto, unfolding(coap_server_engine::specs::script::Replay::event_ran))]
     fn release(&mut self, id: ConnId) -> Result<(), Trouble>
         requires { O.is_failed self.old.printer.out ≡ false }
+        ensures explained { OnOk result (Explains O.written self.old self.new
+            (spec.released self.old.server (messages_of self.old) id)) }
         ensures server { OnOk result (self.new.server ≡ (event_ran self.old.server (event.Release id)).server) }
         ensures shown { IsShown (O.written self.old.printer.out) → IsShown (O.written self.new.printer.out) }
         ensures failure { O.is_failed self.new.printer.out ≡ fails_write result }
@@ -325,23 +317,7 @@ impl<O: Outlet + Drop> Explainer<O> {
     {
         match self.server.release(id) {
             Ok(()) => self.show_words(id, "released"),
-            Err(fault) => self.refuse("release", Some(id), fault as u8),
-        }
-    }
-
-    /// Runs a `respond` event.
-    #[tactic(auto, unfolding(coap_server_engine::specs::script::Replay::event_ran))]
-    fn respond(&mut self, id: ConnId, response: &[u8]) -> Result<(), Trouble>
-        requires { O.is_failed self.old.printer.out ≡ false }
-        ensures server { OnOk result (self.new.server
-            ≡ (event_ran self.old.server (event.Respond id response.now)).server) }
-        ensures shown { IsShown (O.written self.old.printer.out) → IsShown (O.written self.new.printer.out) }
-        ensures failure { O.is_failed self.new.printer.out ≡ fails_write result }
-        ensures err { IfErr result IsOfDevice }
-    {
-        match self.server.respond(id, response) {
-            Ok(_) => self.show_words(id, "response of the application"),
-            Err(fault) => self.refuse("respond", Some(id), fault as u8),
+            Err(fault) => self.refuse("release", Some(id), release_number(fault)),
         }
     }
 
@@ -349,6 +325,8 @@ impl<O: Outlet + Drop> Explainer<O> {
     #[tactic(auto, unfolding(coap_server_engine::specs::script::Replay::event_ran))]
     fn drop_connection(&mut self, id: ConnId) -> Result<(), Trouble>
         requires { O.is_failed self.old.printer.out ≡ false }
+        ensures explained { OnOk result (Explains O.written self.old self.new
+            (spec.dropped self.old.server (messages_of self.old) id)) }
         ensures server { OnOk result (self.new.server ≡ (event_ran self.old.server (event.Drop id)).server) }
         ensures shown { IsShown (O.written self.old.printer.out) → IsShown (O.written self.new.printer.out) }
         ensures failure { O.is_failed self.new.printer.out ≡ fails_write result }
@@ -363,6 +341,8 @@ impl<O: Outlet + Drop> Explainer<O> {
     /// Prints that a connection was dropped, and follows it no longer.
     fn show_dropped(&mut self, id: ConnId) -> Result<(), Trouble>
         requires { O.is_failed self.old.printer.out ≡ false }
+        ensures explained { OnOk result (Explains O.written self.old self.new
+            (spec.counts_of (messages_of self.old) id (messages_of self.old id))) }
         ensures server { self.new.server ≡ self.old.server }
         ensures shown { IsShown (O.written self.old.printer.out) → IsShown (O.written self.new.printer.out) }
         ensures failure { O.is_failed self.new.printer.out ≡ fails_write result }
@@ -380,6 +360,8 @@ impl<O: Outlet + Drop> Explainer<O> {
     #[tactic(auto, unfolding(coap_server_engine::specs::script::Replay::event_ran))]
     fn status(&mut self, id: ConnId) -> Result<(), Trouble>
         requires { O.is_failed self.old.printer.out ≡ false }
+        ensures explained { OnOk result (Explains O.written self.old self.new
+            (spec.status_shown self.old.server (messages_of self.old) id)) }
         ensures server { OnOk result (self.new.server ≡ (event_ran self.old.server (event.Status id)).server) }
         ensures shown { IsShown (O.written self.old.printer.out) → IsShown (O.written self.new.printer.out) }
         ensures failure { O.is_failed self.new.printer.out ≡ fails_write result }
@@ -412,11 +394,19 @@ impl<O: Outlet + Drop> Explainer<BufferedOutlet<O>> {
         ensures server { self.new.server ≡ self.old.server }
         ensures shown { IsShown (⟦<BufferedOutlet<O> as Outlet>⟧.written self.old.printer.out) →
             IsShown (⟦<BufferedOutlet<O> as Outlet>⟧.written self.new.printer.out) }
+        ensures messages { self.new.connections ≡ self.old.connections }
         ensures passed { OnOk result (self.new.printer.out.queue.waiting ≡ []) }
         ensures failure { O.is_failed self.new.printer.out.outlet ≡ is_err result }
     {
         self.printer.flush()
     }
+}
+
+/// Returns the number of an error of `release`.
+fn release_number(fault: ReleaseFault) -> u8
+    ensures { result ≡ replay.release_number fault }
+{
+    fault as u8
 }
 
 /// Returns a line without its last byte, the newline.

@@ -4,7 +4,7 @@
 //! blanks, except for comments.
 #![tactic(auto, using(coap_print::proofs::LineLaws::pieces))]
 
-ghost use Rattle.std.specs.Prelude.{◌≡◌, ◌≤◌, [], true, ℕ, List};
+ghost use Rattle.std.specs.Prelude.{◌≡◌, ◌≤◌, [], true, nat_le, ℕ, List};
 ghost use Rattle.coap_print.specs.Texts.{is_text};
 ghost use Rattle.coap_print.specs.Lines.{appended};
 ghost use Rattle.coap_print.specs.declared.line.TheConstants.{LINE_LENGTH};
@@ -202,10 +202,17 @@ pub(crate) fn time_line(seconds: u64) -> Line
     let mut line = Line::new();
     line.text("        time ");
     line.number(seconds);
-    if seconds <= LAST_SECOND {
+    if has_date(seconds) {
         append_date(&mut line, date_of(seconds));
     }
     line
+}
+
+/// Returns `true` if the year of a second has at most four digits.
+fn has_date(seconds: u64) -> bool
+    ensures { result ≡ nat_le seconds spec.last_second }
+{
+    seconds <= LAST_SECOND
 }
 
 /// Returns the date and the time of day of a second, in UTC.

@@ -4,7 +4,8 @@
 //! runs each event on a `Server` with the options of the record. It prints the event and the messages that it passes.
 #![tactic(auto)]
 
-ghost use Rattle.std.specs.Prelude.{◌≡◌, ◌≤◌, ◌⊎◌, false};
+ghost use Rattle.std.specs.Prelude.{◌≡◌, ◌≤◌, false};
+ghost use Rattle.coap_explain.specs.Statuses.{trouble_status};
 
 mod explainer;
 mod header;
@@ -54,7 +55,8 @@ fn print_bad_options(rt: &(impl Eprint + AllocGlobal), number: u64, line: &[u8])
 
 /// Reports an error, and returns the exit status. `line` is the last line that was read.
 fn print_trouble(rt: &(impl Eprint + AllocGlobal), trouble: Trouble, line: &[u8]) -> u8
-    ensures { (result ≡ 1) ⊎ (result ≡ 3) }
+    ensures status { result ≡ trouble_status trouble }
+    ensures within { result ≤ 3 }
 {
     match trouble {
         Trouble::Read => PROGRAM.print_fault(rt, "cannot read", FAULT),

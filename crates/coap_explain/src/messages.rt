@@ -1,10 +1,10 @@
 //! The messages of a connection.
 
-ghost use Rattle.std.specs.Prelude.{◌≡◌, false, None, length, is_err, IfOk, OnOk};
-ghost use Rattle.coap_io.specs.Prelude.{AddsBytes};
+ghost use Rattle.std.specs.Prelude.{◌≡◌, false, length, is_err, IfOk, OnOk};
 ghost use Rattle.coap_log.specs.Taps.{new_tap};
 ghost use Rattle.coap_log.specs.declared.tap.TheConstants.{DESCRIBED};
 ghost use Rattle.coap_explain.specs.Shown.{IsShown};
+ghost use Rattle.coap_explain.specs.Printed.{Prints};
 ghost use Rattle.coap_explain.specs.Messages as spec;
 
 use crate::layout::{Way, message_line, unfinished_line};
@@ -60,8 +60,8 @@ pub(crate) fn show_messages<O: Outlet>(
 ) -> Result<(), WriteFailed>
     requires { O.is_failed printer.old.out ≡ false }
     ensures tap { OnOk result (tap.new ≡ (spec.passed (length bytes.now) id way tap.old bytes.now).tap) }
-    ensures text { printer.old.only ≡ None → OnOk result (AddsBytes (O.written printer.old.out)
-        (O.written printer.new.out) (spec.passed (length bytes.now) id way tap.old bytes.now).text) }
+    ensures prints { OnOk result (Prints O.written printer.old printer.new
+        (spec.passed (length bytes.now) id way tap.old bytes.now).lines) }
     ensures shown { IsShown (O.written printer.old.out) → IsShown (O.written printer.new.out) }
     ensures only { printer.new.only ≡ printer.old.only }
     ensures failure { O.is_failed printer.new.out ≡ is_err result }
@@ -90,8 +90,7 @@ fn show_whole<O: Outlet>(
     tap: &Tap,
 ) -> Result<(), WriteFailed>
     requires { O.is_failed printer.old.out ≡ false }
-    ensures text { printer.old.only ≡ None → OnOk result (AddsBytes (O.written printer.old.out)
-        (O.written printer.new.out) (spec.whole_text id way tap.now)) }
+    ensures prints { OnOk result (Prints O.written printer.old printer.new (spec.whole_lines id way tap.now)) }
     ensures shown { IsShown (O.written printer.old.out) → IsShown (O.written printer.new.out) }
     ensures only { printer.new.only ≡ printer.old.only }
     ensures failure { O.is_failed printer.new.out ≡ is_err result }
@@ -114,6 +113,7 @@ pub(crate) fn show_rest<O: Outlet>(
     tap: &Tap,
 ) -> Result<(), WriteFailed>
     requires { O.is_failed printer.old.out ≡ false }
+    ensures prints { OnOk result (Prints O.written printer.old printer.new (spec.rest_lines id way tap.now)) }
     ensures shown { IsShown (O.written printer.old.out) → IsShown (O.written printer.new.out) }
     ensures only { printer.new.only ≡ printer.old.only }
     ensures failure { O.is_failed printer.new.out ≡ is_err result }

@@ -1,9 +1,10 @@
 //! `Printer`, which writes the lines of an explanation.
 
-ghost use Rattle.std.specs.Prelude.{◌≡◌, ◌≢◌, false, [], Some, None, is_err, OnOk};
+ghost use Rattle.std.specs.Prelude.{◌≡◌, ◌≢◌, false, [], ◌∷◌, Some, None, is_err, OnOk};
 ghost use Rattle.coap_io.specs.Prelude.{AddsBytes};
 ghost use Rattle.coap_record.specs.Prelude.{WritesText};
 ghost use Rattle.coap_explain.specs.Shown.{IsShown, ended};
+ghost use Rattle.coap_explain.specs.Printed.{Prints, PrintsTo, Text, Time, time_lines};
 
 use crate::layout::time_line;
 use coap_io::{Outlet, WriteFailed, write_parts};
@@ -42,6 +43,7 @@ impl<O: Outlet> Printer<O> {
     /// - `WriteFailed`: a write failed.
     pub(crate) fn show(&mut self, id: Option<ConnId>, line: &Line) -> Result<(), WriteFailed>
         requires { O.is_failed self.old.out ≡ false }
+        ensures prints { OnOk result (Prints O.written self.old self.new (Text id line.now ∷ [])) }
         ensures all { self.old.only ≡ None →
             WritesText (O.written self.old.out) (O.written self.new.out) (ended line.now) result }
         ensures other { self.old.only ≢ None → id ≢ self.old.only → self.new ≡ self.old }
@@ -66,6 +68,7 @@ impl<O: Outlet> Printer<O> {
     /// - `WriteFailed`: a write failed.
     pub(crate) fn show_time(&mut self, seconds: u64) -> Result<(), WriteFailed>
         requires { O.is_failed self.old.out ≡ false }
+        ensures prints { OnOk result (Prints O.written self.old self.new (Time seconds ∷ [])) }
         ensures shown { IsShown (O.written self.old.out) → IsShown (O.written self.new.out) }
         ensures kept { self.old.only ≢ None → self.new ≡ record self.old { time = Some seconds } }
         ensures only { self.new.only ≡ self.old.only }
@@ -82,6 +85,8 @@ impl<O: Outlet> Printer<O> {
     fn print_time(&mut self) -> Result<(), WriteFailed>
         requires { O.is_failed self.old.out ≡ false }
         ensures shown { IsShown (O.written self.old.out) → IsShown (O.written self.new.out) }
+        ensures prints { OnOk result (PrintsTo None None (time_lines self.old.time) (O.written self.old.out)
+            (O.written self.new.out) None) }
         ensures none { self.new.time ≡ None }
         ensures only { self.new.only ≡ self.old.only }
         ensures failure { O.is_failed self.new.out ≡ is_err result }

@@ -1,25 +1,24 @@
 use Rattle.std.proofs.Common.{[], ◌++◌, refl, sym, subst, append-nil, ap, ◌∙◌, codes, decimal}
-use Rattle.std.proofs.lemmas.Bool.{le-leb, lt-leb}
 use Rattle.coap_print.proofs.LineLaws.{joined}
 use Rattle.coap_print.specs.Lines.{appended}
 use Rattle.coap_print.specs.declared.line.TheConstants.{LINE_LENGTH}
-use Rattle.coap_explain.specs.Layout.{IsDatePart, date_text, last_second}
+use Rattle.coap_explain.specs.Layout.{IsDatePart, date_text}
 use Rattle.coap_explain.proofs.LayoutLemmas.{begun}
 use Rattle.coap_explain.proofs.layout.time_line.Goals as goal
 
-pub returns-then-seconds-le-LAST_SECOND : goal.returns-then-seconds-le-LAST_SECOND
-returns-then-seconds-le-LAST_SECOND c =
+pub returns-then-has_date : goal.returns-then-has_date
+returns-then-has_date c =
     let date = c.date_of.result in
     let number = joined LINE_LENGTH [] c.text.new.self c.number.new.self (codes "        time ") (decimal c.args.seconds) (begun _ _ _ c.new-line.ensures c.text.ensures) c.number.ensures in (
       date_text date,
-      subst (λ b. IsDatePart b c.args.seconds (date_text date)) (sym (le-leb c.args.seconds last_second c.if-seconds-le-LAST_SECOND.true)) (date, c.date_of.ensures, refl),
+      subst (λ b. IsDatePart b c.args.seconds (date_text date)) (sym (sym c.has_date.ensures ∙ c.if-has_date.true)) (date, c.date_of.ensures, refl),
       joined LINE_LENGTH [] c.number.new.self c.append_date.new.line (codes "        time " ++ decimal c.args.seconds) (date_text date) number c.append_date.ensures,
     )
 
-pub returns-else-seconds-le-LAST_SECOND : goal.returns-else-seconds-le-LAST_SECOND
-returns-else-seconds-le-LAST_SECOND c = (
+pub returns-else-has_date : goal.returns-else-has_date
+returns-else-has_date c = (
   [],
-  subst (λ b. IsDatePart b c.args.seconds []) (sym (lt-leb c.args.seconds last_second c.if-seconds-le-LAST_SECOND.false)) refl,
+  subst (λ b. IsDatePart b c.args.seconds []) (sym (sym c.has_date.ensures ∙ c.if-has_date.false)) refl,
   joined LINE_LENGTH [] c.text.new.self c.number.new.self (codes "        time ") (decimal c.args.seconds) (begun _ _ _ c.new-line.ensures c.text.ensures) c.number.ensures
       ∙ ap (λ t. appended LINE_LENGTH [] (codes "        time " ++ t)) (sym (append-nil (decimal c.args.seconds))),
 )

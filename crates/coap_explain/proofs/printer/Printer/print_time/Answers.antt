@@ -1,0 +1,13 @@
+use Rattle.std.proofs.Common.{refl, None}
+use Rattle.coap_explain.specs.Printed.{Time}
+use Rattle.coap_explain.proofs.PrintedLemmas.{prints_one, prints_nothing, adds_of}
+use Rattle.coap_explain.proofs.printer.Printer.print_time.Goals as goal
+
+pub returns-in_default-clause-prints : goal.returns-in_default-clause-prints
+returns-in_default-clause-prints g c = rw c.in_default.is (prints_nothing None None _)
+
+pub returns-clause-prints : goal.returns-clause-prints
+returns-clause-prints g c =
+    rw c.in-Some.is
+    (prints_one c.print.result None None None (Time c.in-Some.seconds) c.time_line.result _ _ refl refl c.time_line.ensures
+    (adds_of _ _ _ c.print.result c.print.ensures.text))

@@ -1,0 +1,168 @@
+-- Defined by this project: the lines that are printed for an event. The server and the messages are those before it.
+use Rattle.std.specs.Prelude.{◌≡◌, ℕ, ◌+◌, ◌-◌, Bool, false, cond, List, [], ◌∷◌, length, take}
+use Rattle.std.specs.Prelude.{Option, Some, None, option_map, nat_eq, nat_lt, codes, if◌then◌else◌}
+use Rattle.indexmap.specs.IndexMap.{get}
+use Rattle.coap_log.specs.Taps.{new_tap}
+use Rattle.coap_log.specs.declared.tap.TheConstants.{DESCRIBED}
+use Rattle.coap_path.specs.Paths.{Path}
+use Rattle.coap_script.specs.script.Lines.{fault_line, status_line}
+use Rattle.coap_server_session.specs.values.Sessions.{SessionValue}
+use Rattle.coap_server_engine.specs.script.Replay as replay
+use Rattle.coap_server_engine.specs.values.ServerAnswers.{open_refusal, released_refusal, responded_refusal}
+use Rattle.coap_server_engine.specs.values.Servers.{ServerValue, session_of}
+use Rattle.coap_store.specs.Refusals.{put_refusal, remove_refusal}
+use Rattle.coap_explain.specs.Layout as line
+use Rattle.coap_explain.specs.Messages.{is_within}
+use Rattle.coap_explain.specs.Printed.{OutputLine, Text, Time, Prints}
+use Rattle.coap_explain.specs.declared.explainer.Explainer.{Explainer}
+use Rattle.coap_explain.specs.declared.messages.Followed.{Followed}
+
+-- The messages of the connections, by their numbers.
+abbrev pub Messages : Type 0
+Messages = ℕ → Option Followed
+
+-- The messages of an explainer.
+abbrev pub messages_of : {O : Type 0} → Explainer O → Messages
+messages_of explainer = get nat_eq explainer.connections
+
+-- The messages after those of a connection have changed, or are followed no longer.
+abbrev pub with_messages : Messages → ℕ → Option Followed → Messages
+with_messages messages id after = λ other. cond (nat_eq id other) after (messages other)
+
+-- The explanation of an event: its lines, and the messages after it.
+pub record Explanation : Type 0 where
+  pub lines : List OutputLine
+  pub messages : Messages
+
+-- An explanation that passes no message.
+abbrev pub says : Messages → List OutputLine → Explanation
+says messages lines = record { lines = lines; messages = messages }
+
+-- ---- lines
+
+-- Words about a connection.
+abbrev pub words_line : ℕ → List ℕ → OutputLine
+words_line id words = Text (Some id) (line.connection_line id words)
+
+-- The line that the server writes for an event, without its newline.
+abbrev pub server_line : Option ℕ → List ℕ → OutputLine
+server_line id text = Text id (line.output_line id (take (length text - 1) text))
+
+-- The line of an event that fails with a number.
+abbrev pub refusal_line : List ℕ → Option ℕ → ℕ → OutputLine
+refusal_line word id number = server_line id (fault_line word id number)
+
+-- ---- events that fail
+
+-- The explanation of an event, unless it fails with a number.
+abbrev pub unless_refused : Messages → List ℕ → Option ℕ → Explanation → Option ℕ → Explanation
+unless_refused messages word id does None = does
+unless_refused messages word id does (Some number) = says messages (refusal_line word id number ∷ [])
+
+-- The explanation of an event on a connection. It fails with 1 if there is no connection.
+abbrev pub on_connection :
+    Messages → List ℕ → ℕ → (SessionValue → Explanation) → Option SessionValue → Explanation
+on_connection messages word id does None = says messages (refusal_line word (Some id) 1 ∷ [])
+on_connection messages word id does (Some s) = does s
+
+-- ---- `open`, `tick`, and the resources
+
+-- The messages of a connection before its first one.
+abbrev pub no_messages : Followed
+no_messages = record { incoming = new_tap DESCRIBED; outgoing = new_tap DESCRIBED }
+
+-- The explanation of an `open`.
+abbrev pub opened : ServerValue → Messages → Explanation
+opened v messages =
+    unless_refused messages (codes "open") None
+    (record {
+      lines = words_line (v.ids + 1) (codes "opened") ∷ [];
+      messages = with_messages messages (v.ids + 1) (Some no_messages);
+    })
+    (option_map replay.open_number (open_refusal v))
+
+-- The explanation of a `tick`.
+abbrev pub ticked : ServerValue → Messages → ℕ → Explanation
+ticked v messages now =
+    unless_refused messages (codes "tick") None (says messages (Time now ∷ [])) (replay.tick_refusal v now)
+
+-- The explanation of a `put`, with its path as it is in the script.
+abbrev pub stored : ServerValue → Messages → Path → List ℕ → Option ℕ → List ℕ → Explanation
+stored v messages path text format bytes =
+    unless_refused messages (codes "put") None (says messages (Text None (line.stored_line text format bytes) ∷ []))
+    (option_map replay.store_number (put_refusal v.host.store path bytes))
+
+-- The explanation of a `remove`, with its path as it is in the script.
+abbrev pub removed : ServerValue → Messages → Path → List ℕ → Explanation
+removed v messages path text =
+    unless_refused messages (codes "remove") None (says messages (Text None (line.removed_line text) ∷ []))
+    (option_map replay.store_number (remove_refusal v.host.store path))
+
+-- ---- `end`, `release`, `respond`, `drop`, `status`
+
+-- True if the last byte of a message of the client is missing.
+abbrev pub is_cut : Option Followed → Bool
+is_cut None = false
+is_cut (Some followed) = is_within followed.incoming
+
+-- The words about the end of the input.
+abbrev pub end_words : Bool → List ℕ
+end_words cut = if cut then codes "input ended within a message" else codes "input ended"
+
+-- The explanation of an `end`.
+abbrev pub input_ended : ServerValue → Messages → ℕ → Explanation
+input_ended v messages id =
+    on_connection messages (codes "end") id
+    (λ s. says messages (words_line id (end_words (is_cut (messages id))) ∷ [])) (session_of id v.sessions)
+
+-- The explanation of a `release`.
+abbrev pub released : ServerValue → Messages → ℕ → Explanation
+released v messages id =
+    unless_refused messages (codes "release") (Some id) (says messages (words_line id (codes "released") ∷ []))
+    (option_map replay.release_number (released_refusal v id))
+
+-- The explanation of a `respond`.
+abbrev pub responded : ServerValue → Messages → ℕ → List ℕ → Explanation
+responded v messages id bytes =
+    unless_refused messages (codes "respond") (Some id)
+    (says messages (words_line id (codes "response of the application") ∷ []))
+    (option_map replay.response_number (responded_refusal v id bytes))
+
+-- The counts of a connection that is dropped.
+abbrev pub counts_of : Messages → ℕ → Option Followed → Explanation
+counts_of messages id None = says messages []
+counts_of messages id (Some followed) = record {
+  lines = Text (Some id) (line.dropped_line id followed.incoming followed.outgoing) ∷ [];
+  messages = with_messages messages id None;
+}
+
+-- The explanation of a `drop`.
+abbrev pub dropped : ServerValue → Messages → ℕ → Explanation
+dropped v messages id =
+    on_connection messages (codes "drop") id (λ s. counts_of messages id (messages id)) (session_of id v.sessions)
+
+-- The line of a `status`.
+abbrev pub status_of : ℕ → SessionValue → List ℕ
+status_of id s =
+    status_line id s.link.phase (length s.frame) (length s.link.waiting) (length s.link.held) (length s.observers)
+
+-- The explanation of a `status`.
+abbrev pub status_shown : ServerValue → Messages → ℕ → Explanation
+status_shown v messages id =
+    on_connection messages (codes "status") id (λ s. says messages (server_line (Some id) (status_of id s) ∷ []))
+    (session_of id v.sessions)
+
+-- ---- the start
+
+-- The first line of an explanation: the time at which the server starts, unless it is 0.
+abbrev pub first_lines : ℕ → List OutputLine
+first_lines moment = if nat_lt 0 moment then Time moment ∷ [] else []
+
+-- ---- explainers
+
+module _ {O : Type 0} (written : O → Option (List ℕ)) where
+  -- An explainer has printed the lines of an explanation, and has the messages after it. The function gives the bytes
+  -- that its outlet has written.
+  pub record Explains (before after : Explainer O) (e : Explanation) : Type 0 where
+    pub prints : Prints written before.printer after.printer e.lines
+    pub messages : messages_of after ≡ e.messages
