@@ -23,6 +23,16 @@ pub trait Application {
     /// request, to `response`, which is empty. If it writes nothing, it responds later, through `next_response`. A
     /// response of more than `limit` bytes is reduced to its code and token: no larger message may be sent on the connection.
     ///
+    /// The path begins with that of an entry with this method, and there is no unrecognised critical option. The
+    /// application checks the other options (RFC 7252 sections 5.4.1 and 5.10):
+    ///
+    /// - The whole path, and Uri-Query: 4.04 (Not Found) if they name no resource.
+    /// - If-Match and If-None-Match: 4.12 (Precondition Failed) if they do not hold.
+    /// - Accept: 4.06 (Not Acceptable) if the response has another Content-Format.
+    /// - Content-Format: 4.15 (Unsupported Content-Format) if the payload must have another one.
+    ///
+    /// It responds with 4.02 (Bad Option) to one of the critical options that it does not support.
+    ///
     /// If the server does not accept the response (`Server::respond`), it sends 5.00 (Internal Server Error). The response
     /// always has room (`laws::responses_at_once_have_room`). So two errors remain:
     ///
