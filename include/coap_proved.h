@@ -311,6 +311,10 @@ uint32_t dachreup_applications_new(struct dachreup_applications *applications, u
  * entry has more of them. Bit n of `methods` is the method with code 0.n, such as 1 << 2 for POST. The engine answers
  * other methods. `attributes` are those of the link in /.well-known/core, such as "rt=\"core.rd\"", or empty.
  * Returns 1, 2, 4 or 16 to 20 (DACHREUP_APPLICATION_..).
+ *
+ * The engine answers unrecognised critical options with 4.02. The application checks the other options: the whole path
+ * and Uri-Query (4.04), If-Match and If-None-Match (4.12), Accept (4.06) and Content-Format (4.15). It responds with 4.02
+ * to one of the critical options that it does not support (RFC 7252 sections 5.4.1 and 5.10).
  */
 uint32_t dachreup_applications_add(struct dachreup_applications *applications, const uint8_t *path, size_t path_length, uint32_t methods,
                                    const uint8_t *attributes, size_t attributes_length);
