@@ -4,7 +4,7 @@ use Rattle.std.specs.Fmt.{digits}
 use Rattle.coap_model.specs.Configs.{ConfigValues}
 use Rattle.coap_print.specs.Lines.{appended}
 use Rattle.coap_server_engine.specs.values.Servers.{new_server, session_of}
-use Rattle.coap_explain.specs.Explanations.{Messages, released, status_shown, first_lines}
+use Rattle.coap_explain.specs.Explanations.{Messages, released, status_shown, first_lines, queued_lines}
 use Rattle.coap_explain.specs.Layout.{padding}
 use Rattle.coap_explain.specs.Printed.{OutputLine, Text, Time, Filtered, of_connection}
 
@@ -38,3 +38,15 @@ status_of_none : (c : ConfigValues) (m : Messages)
     ≡ Text (Some 123_456) (codes "123456  status 123456 fault 1") ∷ []
 unfolding session_of appended padding digits
 status_of_none c m = refl
+
+-- A `drain` of at most 100 bytes of 8, of all 8, and of none.
+eight_of_more : queued_lines 1 8 (Some 100) ≡ Text (Some 1) (codes "     1  ->  bytes queued: 8 of 100") ∷ []
+unfolding appended padding digits
+eight_of_more = refl
+
+all_eight : queued_lines 1 8 (Some 8) ≡ []
+all_eight = refl
+
+no_byte : queued_lines 1 0 None ≡ Text (Some 1) (codes "     1  ->  no bytes") ∷ []
+unfolding appended padding digits
+no_byte = refl

@@ -147,3 +147,8 @@ module _ {O : Type 0} (written : O → Option (List ℕ)) where
   -- A printer that has printed nothing.
   pub printed_nothing : (a : Printer O) → Prints written a a []
   printed_nothing a = (prints_nothing a.only a.time (written a.out), refl)
+
+  -- A printer has printed lines, then others.
+  pub printed_then : {a b c : Printer O} {ls ms : List OutputLine} → Prints written a b ls → Prints written b c ms → Prints written a c (ls ++ ms)
+  printed_then {a = a} {b = b} {c = c} {ls = ls} {ms = ms} p q =
+      (prints_then a.only p.0 (subst (λ o. PrintsTo o b.time ms (written b.out) (written c.out) c.time) p.1 q.0), q.1 ∙ p.1)

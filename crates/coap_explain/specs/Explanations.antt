@@ -1,20 +1,27 @@
 -- Defined by this project: the lines that are printed for an event. The server and the messages are those before it.
-use Rattle.std.specs.Prelude.{◌≡◌, ℕ, ◌+◌, ◌-◌, Bool, false, cond, List, [], ◌∷◌, length, take}
-use Rattle.std.specs.Prelude.{Option, Some, None, option_map, nat_eq, nat_lt, codes, if◌then◌else◌}
+use Rattle.std.specs.Prelude.{◌≡◌, ℕ, ◌+◌, ◌-◌, ◌==◌, Bool, false, cond, List, [], ◌∷◌, ◌++◌, length, take, drop}
+use Rattle.std.specs.Prelude.{Option, Some, None, option_map, get_or, nat_eq, nat_lt, codes, if◌then◌else◌}
 use Rattle.indexmap.specs.IndexMap.{get}
+use Rattle.coap_conn.specs.Phases.{stop_of}
+use Rattle.coap_conn.specs.declared.reason.Reason.{Reason}
 use Rattle.coap_log.specs.Taps.{new_tap}
 use Rattle.coap_log.specs.declared.tap.TheConstants.{DESCRIBED}
 use Rattle.coap_path.specs.Paths.{Path}
+use Rattle.coap_script.specs.script.Events.{ScriptEventValue, Open, In, Drain, Tick, Put, Remove, End, Release, Respond}
+use Rattle.coap_script.specs.script.Events.{Drop, Status}
 use Rattle.coap_script.specs.script.Lines.{fault_line, status_line}
+use Rattle.coap_script.specs.script.Words.{words_of}
 use Rattle.coap_server_session.specs.values.Sessions.{SessionValue}
 use Rattle.coap_server_engine.specs.script.Replay as replay
+use Rattle.coap_server_engine.specs.values.InResults.{InResult, in_result}
 use Rattle.coap_server_engine.specs.values.ServerAnswers.{open_refusal, released_refusal, responded_refusal}
 use Rattle.coap_server_engine.specs.values.Servers.{ServerValue, session_of}
 use Rattle.coap_store.specs.Refusals.{put_refusal, remove_refusal}
 use Rattle.coap_explain.specs.Layout as line
-use Rattle.coap_explain.specs.Messages.{is_within}
+use Rattle.coap_explain.specs.Messages.{Passed, passed, is_within, rest_after}
 use Rattle.coap_explain.specs.Printed.{OutputLine, Text, Time, Prints}
 use Rattle.coap_explain.specs.declared.explainer.Explainer.{Explainer}
+use Rattle.coap_explain.specs.declared.layout.Way.TheVariants as way
 use Rattle.coap_explain.specs.declared.messages.Followed.{Followed}
 
 -- The messages of the connections, by their numbers.
@@ -37,6 +44,10 @@ pub record Explanation : Type 0 where
 -- An explanation that passes no message.
 abbrev pub says : Messages → List OutputLine → Explanation
 says messages lines = record { lines = lines; messages = messages }
+
+-- An explanation, followed by more lines.
+abbrev pub and_lines : Explanation → List OutputLine → Explanation
+and_lines e lines = record { lines = e.lines ++ lines; messages = e.messages }
 
 -- ---- lines
 
@@ -152,6 +163,121 @@ status_shown v messages id =
     on_connection messages (codes "status") id (λ s. says messages (server_line (Some id) (status_of id s) ∷ []))
     (session_of id v.sessions)
 
+-- ---- `in`
+
+-- Messages that end with bytes from the client, and the first bytes of the next one.
+abbrev pub input_of : Messages → ℕ → List ℕ → Followed → Passed → Explanation
+input_of messages id bytes followed p = record {
+  lines = p.lines ++ rest_after (length bytes) id way.In p.tap;
+  messages = with_messages messages id (Some (record followed { incoming = p.tap }));
+}
+
+-- The explanation of bytes that a connection accepted.
+abbrev pub accepted : Messages → ℕ → List ℕ → Option Followed → Explanation
+accepted messages id bytes None = says messages []
+accepted messages id bytes (Some followed) =
+    input_of messages id bytes followed (passed (length bytes) id way.In followed.incoming bytes)
+
+-- The line about bytes that were not accepted.
+abbrev pub rejected_lines : ℕ → ℕ → ℕ → List OutputLine
+rejected_lines id count all = if nat_lt count all then Text (Some id) (line.accepted_line id count all) ∷ [] else []
+
+-- The reason for which a connection accepts no message, if there is one.
+abbrev pub stop_in : Option SessionValue → Option Reason
+stop_in None = None
+stop_in (Some s) = stop_of s.link.phase
+
+-- The line of a connection that has stopped with an event.
+abbrev pub stop_lines : ℕ → Option Reason → Option Reason → List OutputLine
+stop_lines id (Some before) after = []
+stop_lines id None None = []
+stop_lines id None (Some reason) = Text (Some id) (line.stopped_line id reason) ∷ []
+
+-- The explanation of the bytes of an `in`, of which `count` are accepted.
+abbrev pub arrived : Messages → ℕ → List ℕ → ℕ → Explanation
+arrived messages id bytes count =
+    and_lines (accepted messages id (take count bytes) (messages id)) (rejected_lines id count (length bytes))
+
+-- The same, and the end of the connection. `before` is the reason for which it had stopped, if any. `v` is the server
+-- after the event.
+abbrev pub received_so : Messages → ℕ → List ℕ → Option Reason → ℕ → ServerValue → Explanation
+received_so messages id bytes before count v =
+    and_lines (arrived messages id bytes count) (stop_lines id before (stop_in (session_of id v.sessions)))
+
+-- The explanation of an `in`, by the result of the calls that accept its bytes.
+abbrev pub received_by : Messages → ℕ → List ℕ → InResult → SessionValue → Explanation
+received_by messages id bytes result s =
+    received_so messages id bytes (stop_of s.link.phase) result.count result.server
+
+-- The explanation of an `in`.
+abbrev pub received : ServerValue → Messages → ℕ → List ℕ → Explanation
+received v messages id bytes =
+    on_connection messages (codes "in") id (received_by messages id bytes (in_result v id bytes))
+    (session_of id v.sessions)
+
+-- ---- `drain`
+
+-- Messages that end with bytes to the client, and the first bytes of the next one.
+abbrev pub output_of : Messages → ℕ → ℕ → Followed → List OutputLine → Passed → Explanation
+output_of messages id count followed lines p = record {
+  lines = lines ++ p.lines ++ rest_after count id way.Out p.tap;
+  messages = with_messages messages id (Some (record followed { outgoing = p.tap }));
+}
+
+-- The same for two parts of the bytes, of which the first has passed.
+abbrev pub output_after : Messages → ℕ → ℕ → List ℕ → Followed → Passed → Explanation
+output_after messages id count second followed p =
+    output_of messages id count followed p.lines (passed (length second) id way.Out p.tap second)
+
+-- The explanation of queued bytes, which pass in two parts.
+abbrev pub sent : Messages → ℕ → List ℕ → List ℕ → Option Followed → Explanation
+sent messages id first second None = says messages []
+sent messages id first second (Some followed) =
+    output_after messages id (length first + length second) second followed
+    (passed (length first) id way.Out followed.outgoing first)
+
+-- The line of a `drain` of no byte.
+abbrev pub no_byte_lines : ℕ → ℕ → List OutputLine
+no_byte_lines id count = if count == 0 then words_line id (codes "->  no bytes") ∷ [] else []
+
+-- The line of a `drain` that wrote fewer bytes than it names, or none.
+abbrev pub queued_lines : ℕ → ℕ → Option ℕ → List OutputLine
+queued_lines id count None = no_byte_lines id count
+queued_lines id count (Some most) =
+    if nat_lt count most then Text (Some id) (line.queued_line id count most) ∷ [] else no_byte_lines id count
+
+-- The explanation of a `drain` of these bytes. The queue holds them in two parts, of which the first has `cut` bytes.
+abbrev pub drained_so : ℕ → Messages → ℕ → Option ℕ → List ℕ → Explanation
+drained_so cut messages id most bytes =
+    and_lines (sent messages id (take cut bytes) (drop cut bytes) (messages id)) (queued_lines id (length bytes) most)
+
+-- The explanation of a `drain` of a connection.
+abbrev pub drained_from : ℕ → Messages → ℕ → Option ℕ → Option SessionValue → Explanation
+drained_from cut messages id most s =
+    on_connection messages (codes "drain") id
+    (λ (s : SessionValue). drained_so cut messages id most (replay.drained most s.link.waiting)) s
+
+-- The explanation of a `drain`.
+abbrev pub drained : ℕ → ServerValue → Messages → ℕ → Option ℕ → Explanation
+drained cut v messages id most = drained_from cut messages id most (session_of id v.sessions)
+
+-- ---- all events
+
+-- The explanation of the event in a line of the script. `cut` counts for a `drain`.
+unfoldable pub explained : ℕ → ServerValue → Messages → List ℕ → ScriptEventValue → Explanation
+explained cut v messages script Open = opened v messages
+explained cut v messages script (In id bytes) = received v messages id bytes
+explained cut v messages script (Drain id most) = drained cut v messages id most
+explained cut v messages script (Tick now) = ticked v messages now
+explained cut v messages script (Put path format bytes) =
+    stored v messages path (get_or (words_of script) 1 []) format bytes
+explained cut v messages script (Remove path text) = removed v messages path text
+explained cut v messages script (End id) = input_ended v messages id
+explained cut v messages script (Release id) = released v messages id
+explained cut v messages script (Respond id bytes) = responded v messages id bytes
+explained cut v messages script (Drop id) = dropped v messages id
+explained cut v messages script (Status id) = status_shown v messages id
+
 -- ---- the start
 
 -- The first line of an explanation: the time at which the server starts, unless it is 0.
@@ -166,3 +292,15 @@ module _ {O : Type 0} (written : O → Option (List ℕ)) where
   pub record Explains (before after : Explainer O) (e : Explanation) : Type 0 where
     pub prints : Prints written before.printer after.printer e.lines
     pub messages : messages_of after ≡ e.messages
+
+  -- An explainer has printed the lines of the event in a line of the script.
+  abbrev pub ExplainsEvent : Explainer O → Explainer O → List ℕ → ScriptEventValue → Type 0
+  ExplainsEvent before after script event =
+      (cut : ℕ) × Explains before after (explained cut before.server (messages_of before) script event)
+
+  -- An explainer has printed the lines of queued bytes, if there is a connection.
+  abbrev pub ExplainsSent : Explainer O → Explainer O → ℕ → Option ℕ → Option SessionValue → Type 0
+  ExplainsSent before after id most None = after ≡ before
+  ExplainsSent before after id most (Some s) =
+      (first second : List ℕ) × (first ++ second ≡ replay.drained most s.link.waiting)
+      × Explains before after (sent (messages_of before) id first second (messages_of before id))

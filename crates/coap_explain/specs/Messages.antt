@@ -13,6 +13,10 @@ is_within tap = not tap.is_whole && nat_lt 0 tap.seen
 abbrev pub rest_lines : ℕ → Way → TapValue → List OutputLine
 rest_lines id way tap = if is_within tap then Text (Some id) (unfinished_line id way tap.seen) ∷ [] else []
 
+-- The same after an event with this number of bytes. An event without bytes has no such line.
+abbrev pub rest_after : ℕ → ℕ → Way → TapValue → List OutputLine
+rest_after count id way tap = if count == 0 then [] else rest_lines id way tap
+
 -- A tap after bytes, and the lines of the messages that end with them.
 pub record Passed : Type 0 where
   pub tap : TapValue

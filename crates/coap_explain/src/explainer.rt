@@ -12,7 +12,7 @@ ghost use Rattle.coap_server_engine.specs.values.Servers.{new_server};
 ghost use Rattle.coap_print.specs.Texts.{is_text};
 ghost use Rattle.coap_explain.specs.Shown.{IsShown, fails_write};
 ghost use Rattle.coap_explain.specs.Printed.{Prints, Text};
-ghost use Rattle.coap_explain.specs.Explanations.{Explains, messages_of, with_messages};
+ghost use Rattle.coap_explain.specs.Explanations.{Explains, ExplainsEvent, messages_of, with_messages};
 ghost use Rattle.coap_explain.specs.Explanations as spec;
 ghost use Rattle.coap_explain.specs.Records.{IsOfDevice};
 ghost use Rattle.coap_explain.specs.declared.trouble.Trouble.TheVariants as trouble;
@@ -131,6 +131,7 @@ impl<O: Outlet + Drop> Explainer<O> {
     /// - `Memory`: an allocation failed.
     pub(crate) fn explain(&mut self, event: &Event, line: &[u8]) -> Result<(), Trouble>
         requires { O.is_failed self.old.printer.out ≡ false }
+        ensures explained { OnOk result (ExplainsEvent O.written self.old self.new line.now (event_value event.now)) }
         ensures server { OnOk result (self.new.server ≡ (event_ran self.old.server (event_value event.now)).server) }
         ensures shown { IsShown (O.written self.old.printer.out) → IsShown (O.written self.new.printer.out) }
         ensures failure { O.is_failed self.new.printer.out ≡ fails_write result }

@@ -101,7 +101,7 @@ fn show_whole<O: Outlet>(
     printer.show(Some(id), &message_line(id, way, tap))
 }
 
-/// Prints a line about the message whose last byte is missing, if there is one.
+/// Prints a line about the message whose last byte is missing, if there is one and `count` bytes passed with the event.
 ///
 /// # Errors
 ///
@@ -111,13 +111,17 @@ pub(crate) fn show_rest<O: Outlet>(
     id: ConnId,
     way: Way,
     tap: &Tap,
+    count: usize,
 ) -> Result<(), WriteFailed>
     requires { O.is_failed printer.old.out ≡ false }
-    ensures prints { OnOk result (Prints O.written printer.old printer.new (spec.rest_lines id way tap.now)) }
+    ensures prints { OnOk result (Prints O.written printer.old printer.new (spec.rest_after count id way tap.now)) }
     ensures shown { IsShown (O.written printer.old.out) → IsShown (O.written printer.new.out) }
     ensures only { printer.new.only ≡ printer.old.only }
     ensures failure { O.is_failed printer.new.out ≡ is_err result }
 {
+    if count == 0 {
+        return Ok(());
+    }
     if !is_within(tap) {
         return Ok(());
     }

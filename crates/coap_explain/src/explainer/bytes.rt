@@ -1,16 +1,21 @@
 //! Events that pass bytes: `in` and `drain`.
 
-ghost use Rattle.std.specs.Prelude.{◌≡◌, ◌++◌, false, take, IfOk, IfErr, OnOk};
+ghost use Rattle.std.specs.Prelude.{◌≡◌, ◌++◌, ℕ, false, take, IfOk, IfErr, OnOk};
 ghost use Rattle.coap_script.specs.script.Events as event;
 ghost use Rattle.coap_server_engine.specs.script.Replay.{event_ran, drained};
+ghost use Rattle.coap_server_engine.specs.values.Servers.{session_of};
 ghost use Rattle.coap_explain.specs.Shown.{IsShown, fails_write};
 ghost use Rattle.coap_explain.specs.Records.{IsOfDevice};
 ghost use Rattle.coap_explain.specs.Counts.{drained_count};
+ghost use Rattle.coap_explain.specs.Printed.{Prints};
+ghost use Rattle.coap_explain.specs.Explanations.{Explains, ExplainsSent, messages_of};
+ghost use Rattle.coap_explain.specs.Explanations as spec;
 
 use super::Explainer;
 use crate::layout::{Way, accepted_line, queued_line, stopped_line};
 use crate::messages::{show_messages, show_rest};
 use crate::trouble::Trouble;
+use coap_conn::Reason;
 use coap_io::Outlet;
 use coap_model::ConnId;
 
@@ -19,6 +24,8 @@ impl<O: Outlet + Drop> Explainer<O> {
     #[tactic(auto, unfolding(coap_server_engine::specs::script::Replay::event_ran))]
     pub(super) fn receive(&mut self, id: ConnId, bytes: &[u8]) -> Result<(), Trouble>
         requires { O.is_failed self.old.printer.out ≡ false }
+        ensures explained { OnOk result (Explains O.written self.old self.new
+            (spec.received self.old.server (messages_of self.old) id bytes.now)) }
         ensures server { OnOk result (self.new.server ≡ (event_ran self.old.server (event.In id bytes.now)).server) }
         ensures shown { IsShown (O.written self.old.printer.out) → IsShown (O.written self.new.printer.out) }
         ensures failure { O.is_failed self.new.printer.out ≡ fails_write result }
@@ -29,19 +36,15 @@ impl<O: Outlet + Drop> Explainer<O> {
         };
         let count = self.server.take_all(id, bytes)?;
         self.show_received(id, &bytes[..count])?;
-        if count < bytes.len() {
-            let line = accepted_line(id, count as u64, bytes.len() as u64);
-            self.printer.show(Some(id), &line)?;
-        }
-        if status.phase.stop().is_none() {
-            self.show_stop(id)?;
-        }
-        Ok(())
+        self.show_rejected(id, count as u64, bytes.len() as u64)?;
+        self.show_stop(id, status.phase.stop())
     }
 
     /// Prints the messages that end with bytes which a connection accepted.
     fn show_received(&mut self, id: ConnId, bytes: &[u8]) -> Result<(), Trouble>
         requires { O.is_failed self.old.printer.out ≡ false }
+        ensures explained { OnOk result (Explains O.written self.old self.new
+            (spec.accepted (messages_of self.old) id bytes.now (messages_of self.old id))) }
         ensures server { self.new.server ≡ self.old.server }
         ensures shown { IsShown (O.written self.old.printer.out) → IsShown (O.written self.new.printer.out) }
         ensures failure { O.is_failed self.new.printer.out ≡ fails_write result }
@@ -57,26 +60,56 @@ impl<O: Outlet + Drop> Explainer<O> {
             &mut followed.incoming,
             bytes,
         )?;
-        if !bytes.is_empty() {
-            show_rest(&mut self.printer, id, Way::In, &followed.incoming)?;
-        }
+        show_rest(
+            &mut self.printer,
+            id,
+            Way::In,
+            &followed.incoming,
+            bytes.len(),
+        )?;
         Ok(())
     }
 
-    /// Prints the reason for which a connection stopped, if it did.
-    fn show_stop(&mut self, id: ConnId) -> Result<(), Trouble>
+    /// Prints a line about bytes that a connection did not accept, if there are any.
+    fn show_rejected(&mut self, id: ConnId, count: u64, all: u64) -> Result<(), Trouble>
         requires { O.is_failed self.old.printer.out ≡ false }
+        ensures prints { OnOk result (Prints O.written self.old.printer self.new.printer
+            (spec.rejected_lines id count all)) }
+        ensures messages { self.new.connections ≡ self.old.connections }
         ensures server { self.new.server ≡ self.old.server }
         ensures shown { IsShown (O.written self.old.printer.out) → IsShown (O.written self.new.printer.out) }
         ensures failure { O.is_failed self.new.printer.out ≡ fails_write result }
         ensures err { IfErr result IsOfDevice }
     {
+        if count >= all {
+            return Ok(());
+        }
+        self.printer.show(Some(id), &accepted_line(id, count, all))?;
+        Ok(())
+    }
+
+    /// Prints the reason for which a connection stopped, if it did with the event. `before` is the reason that it had
+    /// before.
+    fn show_stop(&mut self, id: ConnId, before: Option<Reason>) -> Result<(), Trouble>
+        requires { O.is_failed self.old.printer.out ≡ false }
+        ensures prints { OnOk result (Prints O.written self.old.printer self.new.printer
+            (spec.stop_lines id before (spec.stop_in (session_of id self.old.server.sessions)))) }
+        ensures messages { self.new.connections ≡ self.old.connections }
+        ensures server { self.new.server ≡ self.old.server }
+        ensures shown { IsShown (O.written self.old.printer.out) → IsShown (O.written self.new.printer.out) }
+        ensures failure { O.is_failed self.new.printer.out ≡ fails_write result }
+        ensures err { IfErr result IsOfDevice }
+    {
+        if before.is_some() {
+            return Ok(());
+        }
         let Some(status) = self.server.status(id) else {
             return Ok(());
         };
-        if let Some(reason) = status.phase.stop() {
-            self.printer.show(Some(id), &stopped_line(id, reason))?;
-        }
+        let Some(reason) = status.phase.stop() else {
+            return Ok(());
+        };
+        self.printer.show(Some(id), &stopped_line(id, reason))?;
         Ok(())
     }
 
@@ -84,6 +117,8 @@ impl<O: Outlet + Drop> Explainer<O> {
     #[tactic(auto, unfolding(coap_server_engine::specs::script::Replay::event_ran))]
     pub(super) fn send(&mut self, id: ConnId, most: Option<u64>) -> Result<(), Trouble>
         requires { O.is_failed self.old.printer.out ≡ false }
+        ensures explained { OnOk result ((cut : ℕ) × Explains O.written self.old self.new
+            (spec.drained cut self.old.server (messages_of self.old) id most)) }
         ensures server { OnOk result (self.new.server ≡ (event_ran self.old.server (event.Drain id most)).server) }
         ensures shown { IsShown (O.written self.old.printer.out) → IsShown (O.written self.new.printer.out) }
         ensures failure { O.is_failed self.new.printer.out ≡ fails_write result }
@@ -102,6 +137,8 @@ impl<O: Outlet + Drop> Explainer<O> {
     /// bytes, or `None` if no connection has this id.
     fn show_sent(&mut self, id: ConnId, most: Option<u64>) -> Result<Option<usize>, Trouble>
         requires { O.is_failed self.old.printer.out ≡ false }
+        ensures explained { OnOk result (ExplainsSent O.written self.old self.new id most
+            (session_of id self.old.server.sessions)) }
         ensures server { self.new.server ≡ self.old.server }
         ensures count { IfOk result (λ count. count ≡ drained_count self.old.server id most) }
         ensures shown { IsShown (O.written self.old.printer.out) → IsShown (O.written self.new.printer.out) }
@@ -119,28 +156,44 @@ impl<O: Outlet + Drop> Explainer<O> {
         let (printer, tap) = (&mut self.printer, &mut followed.outgoing);
         show_messages(printer, id, Way::Out, tap, first)?;
         show_messages(printer, id, Way::Out, tap, second)?;
-        if count > 0 {
-            show_rest(printer, id, Way::Out, tap)?;
-        }
+        show_rest(printer, id, Way::Out, tap, count)?;
         Ok(Some(count))
     }
 
     /// Prints a line about queued bytes, if fewer were queued than the event writes, or none.
     fn show_queued(&mut self, id: ConnId, count: u64, most: Option<u64>) -> Result<(), Trouble>
         requires { O.is_failed self.old.printer.out ≡ false }
+        ensures prints { OnOk result (Prints O.written self.old.printer self.new.printer
+            (spec.queued_lines id count most)) }
+        ensures messages { self.new.connections ≡ self.old.connections }
         ensures server { self.new.server ≡ self.old.server }
         ensures shown { IsShown (O.written self.old.printer.out) → IsShown (O.written self.new.printer.out) }
         ensures failure { O.is_failed self.new.printer.out ≡ fails_write result }
         ensures err { IfErr result IsOfDevice }
     {
-        if let Some(most) = most {
-            if count < most {
-                self.printer.show(Some(id), &queued_line(id, count, most))?;
-                return Ok(());
-            }
+        let Some(most) = most else {
+            return self.show_no_bytes(id, count);
+        };
+        if count >= most {
+            return self.show_no_bytes(id, count);
         }
+        self.printer.show(Some(id), &queued_line(id, count, most))?;
+        Ok(())
+    }
+
+    /// Prints a line about an event that writes no byte.
+    fn show_no_bytes(&mut self, id: ConnId, count: u64) -> Result<(), Trouble>
+        requires { O.is_failed self.old.printer.out ≡ false }
+        ensures prints { OnOk result (Prints O.written self.old.printer self.new.printer
+            (spec.no_byte_lines id count)) }
+        ensures messages { self.new.connections ≡ self.old.connections }
+        ensures server { self.new.server ≡ self.old.server }
+        ensures shown { IsShown (O.written self.old.printer.out) → IsShown (O.written self.new.printer.out) }
+        ensures failure { O.is_failed self.new.printer.out ≡ fails_write result }
+        ensures err { IfErr result IsOfDevice }
+    {
         if count == 0 {
-            self.show_words(id, "->  no bytes")?;
+            return self.show_words(id, "->  no bytes");
         }
         Ok(())
     }
