@@ -1,5 +1,5 @@
 -- An explainer prints the lines of an explanation.
-use Rattle.std.proofs.Common.{◌≡◌, ℕ, ◌+◌, true, false, List, [], ◌∷◌, ◌++◌, length, length-append, take, drop, Option, Some, None, option_map, Result, Ok, Err, OnOk, is_some, nat_eq, codes, refl, sym, ap, subst, ◌∙◌}
+use Rattle.std.proofs.Common.{◌≡◌, ℕ, ◌+◌, true, false, List, [], ◌∷◌, ◌++◌, length, length-append, take, drop, Option, Some, None, option_map, Result, Ok, Err, OnOk, is_some, nat_eq, refl, sym, ap, subst, ◌∙◌}
 use Rattle.std.proofs.lemmas.List.{take_at, drop_at}
 use Rattle.indexmap.specs.IndexMap.{IndexMap, get, Updates, WritesThrough}
 use Rattle.coap_conn.specs.Phases.{stop_of}

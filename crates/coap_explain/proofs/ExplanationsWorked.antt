@@ -1,12 +1,12 @@
 -- Worked examples of the definitions.
-use Rattle.std.proofs.Common.{◌≡◌, ℕ, List, [], ◌∷◌, Option, Some, None, codes, refl}
+use Rattle.std.proofs.Common.{◌≡◌, [], ◌∷◌, Some, None, codes, refl}
 use Rattle.std.specs.Fmt.{digits}
 use Rattle.coap_model.specs.Configs.{ConfigValues}
 use Rattle.coap_print.specs.Lines.{appended}
 use Rattle.coap_server_engine.specs.values.Servers.{new_server, session_of}
 use Rattle.coap_explain.specs.Explanations.{Messages, released, status_shown, first_lines, queued_lines}
 use Rattle.coap_explain.specs.Layout.{padding}
-use Rattle.coap_explain.specs.Printed.{OutputLine, Text, Time, Filtered, of_connection}
+use Rattle.coap_explain.specs.Printed.{Text, Time, of_connection}
 
 -- The lines of connection 2, with `--connection 2`: the last time before each of them is printed, and once.
 second_alone :

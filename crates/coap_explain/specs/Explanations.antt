@@ -278,6 +278,16 @@ explained cut v messages script (Respond id bytes) = responded v messages id byt
 explained cut v messages script (Drop id) = dropped v messages id
 explained cut v messages script (Status id) = status_shown v messages id
 
+-- The lines of the events in a line of the script, one after the other, and the messages after them. Each server is the
+-- one that the event before it left.
+unfoldable pub AreExplained :
+    ServerValue → Messages → List ℕ → List ScriptEventValue → List OutputLine → Messages → Type 0
+AreExplained v messages script [] lines last = (lines ≡ []) × (last ≡ messages)
+AreExplained v messages script (event ∷ events) lines last =
+    (cut : ℕ) × (others : List OutputLine) × (lines ≡ (explained cut v messages script event).lines ++ others)
+    × AreExplained (replay.event_ran v event).server (explained cut v messages script event).messages script events
+    others last
+
 -- ---- the start
 
 -- The first line of an explanation: the time at which the server starts, unless it is 0.
@@ -304,3 +314,11 @@ module _ {O : Type 0} (written : O → Option (List ℕ)) where
   ExplainsSent before after id most (Some s) =
       (first second : List ℕ) × (first ++ second ≡ replay.drained most s.link.waiting)
       × Explains before after (sent (messages_of before) id first second (messages_of before id))
+
+  -- An explainer has printed the lines of the events in a line of the script, after these lines.
+  abbrev pub ExplainsEvents :
+      Explainer O → Explainer O → List ℕ → List ScriptEventValue → List OutputLine → Type 0
+  ExplainsEvents before after script events first =
+      (lines : List OutputLine)
+      × AreExplained before.server (messages_of before) script events lines (messages_of after)
+      × Prints written before.printer after.printer (first ++ lines)

@@ -5,7 +5,10 @@ use Rattle.coap_script.specs.script.Events.{ScriptEventValue}
 use Rattle.coap_script.specs.script.Script.{script_of}
 use Rattle.coap_server_engine.specs.script.Replay.{replayed}
 use Rattle.coap_server_engine.specs.values.Servers.{ServerValue, new_server}
+use Rattle.coap_explain.specs.Explanations.{ExplainsEvents, first_lines}
 use Rattle.coap_explain.specs.Header.{AreUtf8, HasNoConfig, config_said, options_in, words_of}
+use Rattle.coap_explain.specs.Printed.{OutputLine}
+use Rattle.coap_explain.specs.declared.explainer.Explainer.{Explainer}
 use Rattle.coap_explain.specs.declared.trouble.Trouble.{Trouble}
 use Rattle.coap_explain.specs.declared.trouble.Trouble.TheVariants.{Read, Write, Memory, NoEvent, TooLong, Torn, Options}
 
@@ -21,6 +24,17 @@ whole_line line = line ++ 10 ∷ []
 abbrev pub RunsEvents : List ℕ → ServerValue → ServerValue → Type 0
 RunsEvents line before after =
     (events : List ScriptEventValue) × (script_of (whole_line line) ≡ Ok events) × (after ≡ (replayed before events).server)
+
+-- The lines before those of the first event, and before those of any other one.
+abbrev pub lines_at_start : Bool → ServerValue → List OutputLine
+lines_at_start true v = []
+lines_at_start false v = first_lines v.host.now
+
+-- An explainer has printed the events of a line, after the first line if no event came before.
+abbrev pub PrintsEvents : {O : Type 0} → (O → Option (List ℕ)) → Bool → List ℕ → Explainer O → Explainer O → Type 0
+PrintsEvents written begun line before after =
+    (events : List ScriptEventValue) × (script_of (whole_line line) ≡ Ok events)
+    × ExplainsEvents written before after line events (lines_at_start begun before.server)
 
 -- The line is no line of a script.
 abbrev pub SaysNoEvent : List ℕ → Type 0

@@ -6,6 +6,9 @@ ghost use Rattle.coap_script.specs.script.EventViews.{event_value, IsScript};
 ghost use Rattle.coap_server_engine.specs.script.Replay.{replayed};
 ghost use Rattle.coap_model.specs.Configs.{ConfigValues};
 ghost use Rattle.coap_server_common.specs.RecordHeaders.{options_line};
+ghost use Rattle.coap_explain.specs.Records.{PrintsEvents, lines_at_start};
+ghost use Rattle.coap_explain.specs.Explanations.{ExplainsEvents};
+ghost use Rattle.coap_explain.specs.Printed.{Prints};
 ghost use Rattle.coap_explain.specs.Shown.{IsShown, fails_write};
 ghost use Rattle.coap_explain.specs.Stated.{IsReadAs, IsStartable, replay_config};
 ghost use Rattle.coap_explain.specs.Header.{options_in};
@@ -237,6 +240,8 @@ impl<O: Outlet + Drop> Record<O> {
         requires { O.is_failed self.old.explainer.printer.out ≡ false }
         ensures server { OnOk result (RunsEvents self.old.line.items self.old.explainer.server
             self.new.explainer.server) }
+        ensures prints { OnOk result (PrintsEvents O.written self.old.has_begun self.old.line.items self.old.explainer
+            self.new.explainer) }
         ensures begun { OnOk result (self.new.is_configured ≡ true) }
         ensures shown { IsShown (O.written self.old.explainer.printer.out) →
             IsShown (O.written self.new.explainer.printer.out) }
@@ -261,6 +266,7 @@ impl<O: Outlet + Drop> Record<O> {
     fn events(&mut self) -> Result<Vec<Event>, ScriptFault>
         ensures script { IsScript (whole_line self.old.line.items) result }
         ensures line { self.new.line.items ≡ self.old.line.items }
+        ensures begun { self.new.has_begun ≡ self.old.has_begun }
         ensures explainer { self.new.explainer ≡ self.old.explainer }
         ensures lines { self.new.lines ≡ self.old.lines }
     {
@@ -280,6 +286,9 @@ impl<O: Outlet + Drop> Record<O> {
     fn begin(&mut self) -> Result<(), Trouble>
         requires { O.is_failed self.old.explainer.printer.out ≡ false }
         ensures server { self.new.explainer.server ≡ self.old.explainer.server }
+        ensures prints { OnOk result (Prints O.written self.old.explainer.printer self.new.explainer.printer
+            (lines_at_start self.old.has_begun self.old.explainer.server)) }
+        ensures messages { self.new.explainer.connections ≡ self.old.explainer.connections }
         ensures begun { OnOk result (self.new.is_configured ≡ true) }
         ensures line { self.new.line.items ≡ self.old.line.items }
         ensures shown { IsShown (O.written self.old.explainer.printer.out) →
@@ -287,10 +296,11 @@ impl<O: Outlet + Drop> Record<O> {
         ensures failure { O.is_failed self.new.explainer.printer.out ≡ fails_write result }
         ensures err { IfErr result (λ t. t ≡ trouble.Write) }
     {
-        if !self.has_begun {
-            self.explainer.begin()?;
-        }
         self.is_configured = true;
+        if self.has_begun {
+            return Ok(());
+        }
+        self.explainer.begin()?;
         self.has_begun = true;
         Ok(())
     }
@@ -305,6 +315,8 @@ impl<O: Outlet + Drop> Record<O> {
         requires { O.is_failed self.old.explainer.printer.out ≡ false }
         ensures server { OnOk result (self.new.explainer.server
             ≡ (replayed self.old.explainer.server (map event_value events.now)).server) }
+        ensures prints { OnOk result (ExplainsEvents O.written self.old.explainer self.new.explainer
+            self.old.line.items (map event_value events.now) []) }
         ensures options { self.new.is_configured ≡ self.old.is_configured }
         ensures shown { IsShown (O.written self.old.explainer.printer.out) →
             IsShown (O.written self.new.explainer.printer.out) }

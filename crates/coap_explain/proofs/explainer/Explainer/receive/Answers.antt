@@ -1,4 +1,4 @@
-use Rattle.std.proofs.Common.{sym, ap, refl, ◌∙◌}
+use Rattle.std.proofs.Common.{sym, ap, ◌∙◌}
 use Rattle.coap_model.proofs.OptionLemmas.{one_made, none_made}
 use Rattle.coap_conn.specs.Phases.{stop_of}
 use Rattle.coap_model.specs.declared.answers.Status.{Status}

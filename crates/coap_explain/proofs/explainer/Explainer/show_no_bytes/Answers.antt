@@ -1,4 +1,4 @@
-use Rattle.std.proofs.lemmas.Bool.{eq-eqb, ne_eqb}
+use Rattle.std.proofs.lemmas.Bool.{ne_eqb}
 use Rattle.coap_explain.proofs.PrintedLemmas.{printed_nothing}
 use Rattle.coap_explain.proofs.explainer.Explainer.show_no_bytes.Goals as goal
 
