@@ -6,7 +6,12 @@ ghost use Rattle.coap_record.specs.Prelude.{events_said, all_events_said, IsInRa
 ghost use Rattle.coap_record.specs.Prelude.{ServerValue, Shows, new_server, replayed, event_ran, out_line, waiting_of};
 ghost use Rattle.coap_record.specs.Prelude.{side_of, world_after, list_all, server_of, IsRecordOf, SaysNoEvent};
 ghost use Rattle.coap_record.specs.Prelude.{with_turns, server_with_turns, writes_of, ReplaysTo, AreWholeLines};
-ghost use Rattle.coap_record.specs.Prelude.{append_known, whole_lines_in};
+ghost use Rattle.coap_record.specs.Prelude.{whole_lines_in};
+
+use crate::noted::NotedOutlet;
+use crate::recorder::Recorder;
+use coap_io::Outlet;
+use coap_server_engine::Monitor;
 
 /// States that the script reader reads the line of a call back as the event of the call.
 ///
@@ -71,17 +76,14 @@ pub fn a_recorded_run_replays()
 
 /// States that the file of a record replays the first calls, if the system keeps a prefix of the bytes passed to it.
 ///
-/// - `passed` has the bytes that the recorder passed to `write` of its outlet, and `queued` those in its buffer.
-/// - The premise on the file system is `passed ≡ file ++ lost`: the file has the first bytes, in order.
+/// - The record is of an outlet that notes the bytes passed on, so also of the file of a program.
+/// - The premise on the file system: the bytes that were passed to the outlet are those of `file`, then those of `lost`.
 /// - The file has the whole header. Its whole lines after the header replay the first calls.
-///
-/// A file of the system records no bytes (`Outlet::written`), so no contract says which bytes were passed to it. The
-/// code of a recorder is the same for an outlet that records them.
-pub fn a_kept_file_replays()
-    ensures { (v : ServerValue) (header passed queued file lost text : List ℕ) (calls : List AcceptedCall)
-        (has_failed is_full : Bool) (turns : ℕ) → SaysNoEvent header →
-        IsRecordOf header has_failed is_full (append_known (Some passed) queued) calls →
-        passed ≡ file ++ lost → file ≡ header ++ text → Shows v calls → All CanReplay calls →
+pub fn a_kept_file_replays<O: Outlet + Drop>(recorder: &Recorder<NotedOutlet<O>>)
+    ensures { (v : ServerValue) (header file lost text : List ℕ) (calls : List AcceptedCall) (turns : ℕ) →
+        SaysNoEvent header → ⟦<Recorder<NotedOutlet<O>> as Monitor<()>>⟧.follows recorder.now header calls →
+        recorder.now.outlet.outlet.passed.bytes ≡ file ++ lost → file ≡ header ++ text →
+        Shows v calls → All CanReplay calls →
         (front behind : List AcceptedCall) × (calls ≡ front ++ behind)
         × ReplaysTo (with_turns turns v.config) (header ++ whole_lines_in text)
         (server_of (with_turns turns v.config) front) (writes_of v.config [] front) }

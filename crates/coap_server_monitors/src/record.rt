@@ -1,6 +1,6 @@
 //! The record of a server: its file, its header, and the report of its end.
 
-ghost use Rattle.std.specs.Prelude.{◌≡◌, [], Some, OnOk, IfOk, IfErr};
+ghost use Rattle.std.specs.Prelude.{◌≡◌, [], Some, OnOk, IfOk, IfErr, IfSome};
 ghost use Rattle.coap_command_line.specs.declared.arguments.help.TheConstants.{VERSION};
 ghost use Rattle.coap_print.specs.Lines.{appended};
 ghost use Rattle.coap_print.specs.declared.line.TheConstants.{LINE_LENGTH};
@@ -14,7 +14,7 @@ use coap_log::{LineWriter, LogWriter, Stderr};
 use coap_model::{Config, ConnId};
 use coap_print::Line;
 use coap_program::{FAULT, FileError, Program};
-use coap_record::{BufferedOutlet, Recorder};
+use coap_record::{BufferedOutlet, NotedOutlet, Recorder};
 use coap_request::ServerPlan;
 use coap_server_engine::{Call, Monitor, Server};
 use coap_text::is_hyphen;
@@ -60,8 +60,8 @@ impl<F: Write, O: Write> Write for RecordWriter<F, O> {
     }
 }
 
-/// Outlet of the record of a program with this runtime.
-pub type RecordOutlet<'a, R> = WriteOutlet<RecordWriter<<R as Files>::File, Printer<'a, R>>>;
+/// Outlet of the record of a program with this runtime, which notes the bytes that it passes on.
+pub type RecordOutlet<'a, R> = NotedOutlet<WriteOutlet<RecordWriter<<R as Files>::File, Printer<'a, R>>>>;
 
 /// Record of a server, which writes a line for each call that the server accepts. If it has ended, because a write
 /// failed or its limit is reached, it reports that once, and ignores all further calls.
@@ -85,7 +85,9 @@ pub fn open_record<'a, R: Files + Print + Eprint + AllocGlobal>(
     program: &Program,
     plan: &'a ServerPlan,
 ) -> Result<Option<ServerRecord<'a, RecordOutlet<'a, R>>>, u8>
-    ensures { IfErr result (λ status. status ≡ 3) }
+    ensures err { IfErr result (λ status. status ≡ 3) }
+    ensures empty { IfOk result (λ found. IfSome found (λ r.
+        ⟦<Recorder<RecordOutlet<'a, R>> as Monitor<()>>⟧.follows r.recorder [] [])) }
 {
     let Some(name) = &plan.record else {
         return Ok(None);
@@ -95,7 +97,7 @@ pub fn open_record<'a, R: Files + Print + Eprint + AllocGlobal>(
         Ok(writer) => writer,
         Err(error) => return Err(print_open_fault(rt, program, name, &error)),
     };
-    let outlet = WriteOutlet::new(writer);
+    let outlet = NotedOutlet::new(WriteOutlet::new(writer));
     match ServerRecord::new(rt.alloc(), outlet, name, plan.record_limit) {
         Ok(record) => Ok(Some(record)),
         Err(_) => Err(program.print_fault(rt, "no memory", FAULT)),
