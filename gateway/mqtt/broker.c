@@ -77,9 +77,16 @@ static void on_publish(struct mosquitto *client, void *owner, int publication, i
     bool is_marker = publication == broker->marker;
     (void)client;
     (void)properties;
+    broker->acknowledgements++;
     /* A later publication can have this number again. */
     if (is_marker)
         broker->marker = -1;
+    if (reason == MQTT_RC_NO_MATCHING_SUBSCRIBERS)
+        broker_fail(broker, "it has lost the subscription");
+    if (is_marker && reason < 0x80 && broker->is_usable)
+        broker->has_recorded = true;
+    if (!is_marker && reason < 0x80)
+        broker->events.acknowledged(broker->events.owner, publication);
     if (reason < 0x80)
         return;
     if (is_marker)
@@ -147,6 +154,8 @@ static void on_control(struct broker *broker, const struct mosquitto_message *me
     bool is_own = origin.run == broker->run;
     if (!strcmp(message->topic, broker->owner_topic) && !is_own)
         broker->owner = origin;
+    if (!strcmp(message->topic, broker->owner_topic) && is_own)
+        broker->has_own_record = true;
     if (!strcmp(message->topic, broker->marker_topic) && is_own && origin.number == broker->markers && broker->state == BROKER_READING)
         complete(broker);
 }
@@ -177,7 +186,7 @@ static void on_message(struct mosquitto *client, void *owner, const struct mosqu
 bool broker_open(struct broker *broker, const struct options *options, const struct broker_events *events) {
     char topic[TOPIC_ROOM];
     struct timespec now;
-    *broker = (struct broker){.options = options, .events = *events, .state = BROKER_AWAY, .marker = -1};
+    *broker = (struct broker){.options = options, .events = *events, .state = BROKER_AWAY, .marker = -1, .has_own_record = true};
     while (broker->run == 0)
         if (getrandom(&broker->run, sizeof broker->run, 0) != (ssize_t)sizeof broker->run)
             return false;
@@ -212,6 +221,7 @@ static void lose(struct broker *broker, uint64_t now) {
     broker->is_usable = false;
     broker->marker = -1;
     broker->owner = (struct origin){0};
+    broker->has_own_record = !broker->has_recorded;
     broker->fault[0] = 0;
     broker->losses++;
     enter(broker, BROKER_AWAY, now + PAUSE);
@@ -287,14 +297,17 @@ static void check(struct broker *broker, int result, int error) {
 }
 
 /* A deadline counts from the last step of the connection, that of the marker from the last message. Callbacks have no time. */
-static void note_step(struct broker *broker, enum broker_state state, uint64_t messages, uint64_t now) {
+static void note_step(struct broker *broker, enum broker_state state, uint64_t messages, uint64_t acknowledgements,
+                      uint64_t now) {
+    if (broker->messages != messages || broker->acknowledgements != acknowledgements)
+        broker->progress = now;
     if (broker->state != state || (state == BROKER_READING && broker->messages != messages))
         broker->since = now;
 }
 
 void broker_ready(struct broker *broker, bool may_read, bool may_write, uint64_t now) {
     enum broker_state state = broker->state;
-    uint64_t messages = broker->messages;
+    uint64_t messages = broker->messages, acknowledgements = broker->acknowledgements;
     if (!broker->client || broker->fault[0])
         return;
     if (may_write)
@@ -310,7 +323,7 @@ void broker_ready(struct broker *broker, bool may_read, bool may_write, uint64_t
     /* The acknowledgements of what was read need no turn of their own. */
     if (may_read && !broker->fault[0] && broker_wants_write(broker))
         check(broker, mosquitto_loop_write(broker->client, 1), errno);
-    note_step(broker, state, messages, now);
+    note_step(broker, state, messages, acknowledgements, now);
 }
 
 /* Checks the deadline of a step, and the keep-alive. */

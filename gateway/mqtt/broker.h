@@ -36,6 +36,7 @@ struct broker_message {
     uint32_t format;      /* or BROKER_NO_FORMAT */
     bool is_retained;     /* has the RETAIN flag */
     bool is_removal;      /* has no payload */
+    bool expires;         /* the broker removes it after some time */
     struct origin origin; /* run 0: of no gateway */
 };
 
@@ -46,6 +47,7 @@ struct broker_events {
     void (*message)(void *owner, const struct broker_message *message);   /* a message, in the broker's order */
     void (*complete)(void *owner);                                        /* all retained messages have come */
     void (*refused)(void *owner, int publication, int reason);            /* the broker refused a publication */
+    void (*acknowledged)(void *owner, int publication);                   /* the broker acknowledged a publication */
 };
 
 struct mosquitto;
@@ -66,6 +68,10 @@ struct broker {
     size_t address;    /* place of the address in the list of the resolver */
     uint64_t losses;   /* connections that ended */
     uint64_t messages; /* messages that came in this run */
+    uint64_t acknowledgements;
+    uint64_t progress; /* when the last message or acknowledgement came, in milliseconds */
+    bool has_recorded; /* the broker acknowledged the owner record of this run */
+    bool has_own_record; /* the broker has it, if it acknowledged it */
     uint64_t began;    /* milliseconds since 1970 when this run began */
     bool owns;         /* this run has owned its id */
     struct origin owner; /* another run that owns the id, by this connection: its run, and when it began */

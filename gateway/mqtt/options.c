@@ -30,6 +30,8 @@ enum {
     ID,
     PREFIX,
     STALE,
+    IN_FLIGHT,
+    REREAD,
     LOG,
     AFTER_LAST
 };
@@ -51,6 +53,8 @@ static const struct option names[] = {
     {"id", required_argument, NULL, ID},
     {"prefix", required_argument, NULL, PREFIX},
     {"stale", required_argument, NULL, STALE},
+    {"in-flight", required_argument, NULL, IN_FLIGHT},
+    {"reread", required_argument, NULL, REREAD},
     {"log", required_argument, NULL, LOG},
     {"help", no_argument, NULL, 'h'},
     {"version", no_argument, NULL, 'V'},
@@ -85,6 +89,8 @@ static const char help[] =
     "\n"
     "      --prefix PATH     path of the shared resources, and their topic (default shared)\n"
     "      --stale WHAT      serve (default) or refuse reads while the broker is away\n"
+    "      --in-flight BYTES maximum size of all writes under way (default 16777216)\n"
+    "      --reread MINUTES  read all retained messages again after this time, 0 never (default 60)\n"
     "      --log LEVEL       0 nothing, 1 warnings (default), 2 connections, 3 messages\n"
     "  -h, --help            print this help\n"
     "  -V, --version         print the version\n";
@@ -176,6 +182,8 @@ static bool read_value(struct options *options, int name, const char *text) {
     case ID: return read_small(text, 0, &options->id);
     case PREFIX: return read_prefix(options, text);
     case STALE: return read_stale(options, text);
+    case IN_FLIGHT: return read_size(text, 131072, 1073741824, &options->in_flight);
+    case REREAD: return read_number(text, 0, 10080, &options->reread);
     case LOG: return read_level(options, text);
     default: return read_coap(options, name, text);
     }
@@ -184,7 +192,7 @@ static bool read_value(struct options *options, int name, const char *text) {
 static void set_defaults(struct options *options) {
     *options = (struct options){.address = "0.0.0.0", .port = 5683, .resources = 1000, .max_message = 65536, .max_sent = 65536,
                                 .queue = 131072, .pending = 16, .observers = 16, .connections = 16, .broker_host = "127.0.0.1",
-                                .log_level = LOG_WARNINGS};
+                                .in_flight = 16777216, .reread = 60, .log_level = LOG_WARNINGS};
     read_prefix(options, "shared");
 }
 

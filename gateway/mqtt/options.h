@@ -24,6 +24,8 @@ struct options {
     /* the resources that all gateways share */
     struct path prefix;
     const char *prefix_text;
+    size_t in_flight; /* bytes of writes under way */
+    uint64_t reread;  /* minutes between two readings of all retained messages, 0: never */
     bool refuses_stale; /* answers 5.03 to reads while there is no connection to the broker */
     int log_level;
 };

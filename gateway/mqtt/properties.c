@@ -35,6 +35,8 @@ struct origin origin_read(const char *text) {
 void properties_read(struct broker_message *message, const mosquitto_property *properties) {
     char *name = NULL, *value = NULL;
     bool is_later = false, is_empty = false;
+    uint32_t interval = 0;
+    message->expires = mosquitto_property_read_int32(properties, MQTT_PROP_MESSAGE_EXPIRY_INTERVAL, &interval, false);
     const mosquitto_property *at = properties;
     while ((at = mosquitto_property_read_string_pair(at, MQTT_PROP_USER_PROPERTY, &name, &value, is_later))) {
         uint64_t number = 0;
