@@ -12,12 +12,20 @@ enum { AFTER_REFUSAL = 5000 };
 
 /* ---- requests ---- */
 
+/* Returns the largest payload of a PUT: by the limit of the store, or that of the broker for packets. */
+static uint32_t room_of(const struct gateway *gateway, const struct request *request) {
+    char topic[TOPIC_ROOM];
+    topic_of_path(&request->path, topic);
+    size_t room = broker_room(&gateway->broker, topic, request->format);
+    return (uint32_t)(room < REPRESENTATION_BYTES ? room : REPRESENTATION_BYTES);
+}
+
 /* Responds at once. The take before it left room for the largest message sent, so this is never refused for room. */
 static void respond(struct gateway *gateway, uint64_t peer, const struct request *request, uint32_t code) {
     uint8_t response[RESPONSE_ROOM] = {0};
-    uint32_t reply = 0;
+    uint32_t reply = 0, room = code == CODE_TOO_LARGE ? room_of(gateway, request) : 0;
     const struct dachreup_span *token = &request->message.token;
-    size_t size = response_write(response, code, token->at, token->count, NULL, code == CODE_TOO_LARGE ? REPRESENTATION_BYTES : 0);
+    size_t size = response_write(response, code, token->at, token->count, NULL, code == CODE_TOO_LARGE ? &room : NULL);
     dachreup_server_respond(&gateway->server, peer, response, size, &reply);
 }
 
@@ -64,8 +72,11 @@ static uint32_t publish(struct gateway *gateway, struct write *write, const stru
     enum broker_result result = broker_publish(&gateway->broker, topic, bytes, bytes ? payload->count : 0,
                                                bytes ? request->format : BROKER_NO_FORMAT, write->number,
                                                &write->publication);
-    if (result != BROKER_SENT)
-        return result == BROKER_TOO_LARGE ? CODE_TOO_LARGE : CODE_UNAVAILABLE;
+    if (result == BROKER_NOT_SENT)
+        return CODE_UNAVAILABLE;
+    /* A smaller payload can help a PUT alone. */
+    if (result == BROKER_TOO_LARGE)
+        return is_delete ? CODE_INTERNAL_ERROR : CODE_TOO_LARGE;
     write->sent = gateway->now;
     writes_sent(&gateway->writes, write, is_stored);
     return 0;
@@ -103,10 +114,11 @@ static uint32_t begin(struct gateway *gateway, uint64_t peer, const struct reque
  * two requests with one ETag, the second must see what the first one did.
  */
 static bool must_wait(const struct gateway *gateway, const struct request *request) {
-    if (!request->is_conditional || !request->has_path || request->message.payload.count > REPRESENTATION_BYTES)
+    if (!request->is_conditional || !request->has_path)
         return false;
     const struct lane *lane = writes_lane(&gateway->writes, &request->path);
-    return lane && lane->published;
+    /* A payload that is too large is refused at once. */
+    return lane && lane->published && request->message.payload.count <= room_of(gateway, request);
 }
 
 /* Keeps a request until no write of its path is under way. Returns the code that refuses it, or 0. */
@@ -150,7 +162,7 @@ static void deliver(struct gateway *gateway, struct write *write, uint32_t code)
         return;
     }
     const struct path *location = code == CODE_CREATED && write->method == METHOD_POST ? &write->lane->path : NULL;
-    size_t size = response_write(response, code, write->token, write->token_length, location, 0);
+    size_t size = response_write(response, code, write->token, write->token_length, location, NULL);
     if (dachreup_server_respond(&gateway->server, write->peer, response, size, &reply) != DACHREUP_RESPOND_NO_ROOM) {
         gateway->has_output = true;
         writes_remove(&gateway->writes, write);

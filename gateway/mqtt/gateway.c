@@ -1,5 +1,6 @@
 #include "gateway.h"
 
+#include <errno.h>
 #include <signal.h>
 #include <string.h>
 #include <sys/epoll.h>
@@ -147,10 +148,10 @@ static void watch_broker(struct gateway *gateway) {
         return;
     uint32_t interest = (uint32_t)EPOLLIN | (broker_wants_write(&gateway->broker) ? (uint32_t)EPOLLOUT : 0);
     struct epoll_event event = {.events = interest, .data.u64 = EVENT_BROKER};
-    if (gateway->watched != socket)
-        epoll_ctl(gateway->poll, EPOLL_CTL_ADD, socket, &event);
-    else if (interest != gateway->interest)
-        epoll_ctl(gateway->poll, EPOLL_CTL_MOD, socket, &event);
+    int change = gateway->watched != socket ? EPOLL_CTL_ADD : EPOLL_CTL_MOD;
+    bool is_watched = change == EPOLL_CTL_MOD && interest == gateway->interest;
+    if (!is_watched && epoll_ctl(gateway->poll, change, socket, &event))
+        broker_fail(&gateway->broker, "its socket cannot be watched: %s", strerror(errno));
     gateway->watched = socket;
     gateway->interest = interest;
 }
@@ -182,7 +183,7 @@ static bool turn(struct gateway *gateway, const sigset_t *signals) {
     exchange_check(gateway, is_new_second);
     check_mirror(gateway);
     broker_tick(&gateway->broker, gateway->now);
-    if (gateway->broker.is_taken || !check_listening(gateway))
+    if (!check_listening(gateway))
         return false;
     gateway->peers.refuses_reads = gateway->options->refuses_stale && !gateway->broker.is_usable;
     /* Requests in the kept bytes of a peer may cause publications, but no change of the store. */
@@ -274,9 +275,6 @@ int gateway_run(const struct options *options) {
     take_signals(&signals);
     while (runs && !stops)
         runs = turn(&gateway, &signals);
-    bool is_taken = gateway.broker.is_taken;
     close_all(&gateway);
-    if (is_taken)
-        log_always("another gateway has the id %u: the broker gave it the session (DISCONNECT 0x8E)", (unsigned)options->id);
-    return is_taken ? STATUS_ID_TAKEN : runs ? STATUS_ENDED : STATUS_FAILED;
+    return runs ? STATUS_ENDED : STATUS_FAILED;
 }
