@@ -2,6 +2,7 @@
 
 #include <string.h>
 
+#include "health.h"
 #include "log.h"
 #include "requests.h"
 #include "screen.h"
@@ -18,6 +19,7 @@ static void respond(struct gateway *gateway, uint64_t peer, const struct request
     const struct dachreup_span *token = &request->message.token;
     size_t size = response_write(response, code, token->at, token->count, NULL, code == CODE_TOO_LARGE ? REPRESENTATION_BYTES : 0);
     dachreup_server_respond(&gateway->server, peer, response, size, &reply);
+    metrics_count(&gateway->metrics, request->message.code, code);
 }
 
 /* Returns the code that refuses a request, or 0. */
@@ -25,7 +27,7 @@ static uint32_t refusal_of(struct gateway *gateway, const struct request *reques
     struct dachreup_state state = {{0}, 0, 0};
     if (request->message.code == METHOD_REFUSED)
         return gateway->peers.refuses_reads ? CODE_UNAVAILABLE : CODE_NOT_ALLOWED;
-    if (!gateway->broker.is_usable || gateway->broker.fault[0])
+    if (!health_is_good(gateway))
         return CODE_UNAVAILABLE;
     bool is_stored = request->has_path && mirror_state(&gateway->mirror, &request->path, &state);
     if (!request_conditions_hold(request, is_stored ? &state : NULL))
@@ -68,7 +70,9 @@ void exchange_request(void *owner, uint64_t peer, const struct dachreup_span *by
     struct request request;
     if (!request_read(&request, bytes))
         return;
-    uint32_t code = refusal_of(gateway, &request);
+    uint32_t code = health_code(gateway, &request);
+    if (code == 0)
+        code = refusal_of(gateway, &request);
     if (code == 0)
         code = publish(gateway, peer, &request);
     if (code)
@@ -83,7 +87,10 @@ static void deliver(struct gateway *gateway, struct write *write, uint32_t code)
     uint32_t reply = 0;
     bool has_location = code == CODE_CREATED && write->method == METHOD_POST;
     size_t size = response_write(response, code, write->token, write->token_length, has_location ? &write->path : NULL, 0);
-    if (dachreup_server_respond(&gateway->server, write->peer, response, size, &reply) != DACHREUP_RESPOND_NO_ROOM) {
+    uint32_t result = dachreup_server_respond(&gateway->server, write->peer, response, size, &reply);
+    if (result != DACHREUP_RESPOND_NO_ROOM) {
+        /* Without a request, the server has sent 5.04, or the peer is gone. */
+        metrics_count(&gateway->metrics, write->method, result ? CODE_TIMEOUT : code);
         gateway->has_output = true;
         writes_remove(&gateway->writes, write);
         return;
@@ -137,6 +144,19 @@ void exchange_refused(void *owner, int publication, int reason) {
         deliver(gateway, write, CODE_INTERNAL_ERROR);
 }
 
+/* Ends a write whose request has had the 5.04 of the server. */
+static void settle(struct gateway *gateway, struct write *write) {
+    metrics_count(&gateway->metrics, write->method, CODE_TIMEOUT);
+    writes_remove(&gateway->writes, write);
+}
+
+void exchange_end(struct gateway *gateway) {
+    struct writes *writes = &gateway->writes;
+    for (size_t at = 0; at < writes->count; at++)
+        if (writes->places[at].number && !writes->places[at].answer)
+            deliver(gateway, &writes->places[at], CODE_TIMEOUT);
+}
+
 void exchange_check(struct gateway *gateway, bool is_new_second) {
     struct writes *writes = &gateway->writes;
     if (!writes->used || (!is_new_second && !writes->waiting))
@@ -149,7 +169,7 @@ void exchange_check(struct gateway *gateway, bool is_new_second) {
         if (write->answer)
             deliver(gateway, write, write->answer);
         else if (age > SETTLED)
-            writes_remove(writes, write);
+            settle(gateway, write);
         else if (age > BROKER_PATIENCE && write->losses == gateway->broker.losses && gateway->broker.client)
             broker_fail(&gateway->broker, "an echo did not come within %d seconds", BROKER_PATIENCE / 1000);
     }

@@ -15,6 +15,9 @@ void exchange_message(void *owner, const struct broker_message *message);
 /* Answers the request whose publication the broker refused. `owner` is the gateway. */
 void exchange_refused(void *owner, int publication, int reason);
 
+/* Answers all writes at the end of the gateway, with 5.04: the broker may have the changes. */
+void exchange_end(struct gateway *gateway);
+
 /* Sends responses that had no room, and frees the places of publications that can have no response any more. */
 void exchange_check(struct gateway *gateway, bool is_new_second);
 
