@@ -12,12 +12,20 @@ enum { SETTLED = 12000 };
 
 /* ---- requests ---- */
 
+/* Returns the largest payload of a PUT: by the limit of the store, or that of the broker for packets. */
+static uint32_t room_of(const struct gateway *gateway, const struct request *request) {
+    char topic[TOPIC_ROOM];
+    topic_of_path(&request->path, topic);
+    size_t room = broker_room(&gateway->broker, topic, request->format);
+    return (uint32_t)(room < REPRESENTATION_BYTES ? room : REPRESENTATION_BYTES);
+}
+
 /* Responds at once. The take before it left room for the largest message sent, so this is never refused for room. */
 static void respond(struct gateway *gateway, uint64_t peer, const struct request *request, uint32_t code) {
     uint8_t response[RESPONSE_ROOM] = {0};
-    uint32_t reply = 0;
+    uint32_t reply = 0, room = code == CODE_TOO_LARGE ? room_of(gateway, request) : 0;
     const struct dachreup_span *token = &request->message.token;
-    size_t size = response_write(response, code, token->at, token->count, NULL, code == CODE_TOO_LARGE ? REPRESENTATION_BYTES : 0);
+    size_t size = response_write(response, code, token->at, token->count, NULL, code == CODE_TOO_LARGE ? &room : NULL);
     dachreup_server_respond(&gateway->server, peer, response, size, &reply);
     metrics_count(&gateway->metrics, request->message.code, code);
 }
@@ -62,7 +70,10 @@ static uint32_t publish(struct gateway *gateway, uint64_t peer, const struct req
     if (result == BROKER_SENT)
         return 0;
     writes_remove(&gateway->writes, write);
-    return result == BROKER_TOO_LARGE ? CODE_TOO_LARGE : CODE_UNAVAILABLE;
+    if (result == BROKER_NOT_SENT)
+        return CODE_UNAVAILABLE;
+    /* A smaller payload can help a PUT alone. */
+    return is_delete ? CODE_INTERNAL_ERROR : CODE_TOO_LARGE;
 }
 
 void exchange_request(void *owner, uint64_t peer, const struct dachreup_span *bytes) {
@@ -86,7 +97,7 @@ static void deliver(struct gateway *gateway, struct write *write, uint32_t code)
     uint8_t response[RESPONSE_ROOM] = {0};
     uint32_t reply = 0;
     bool has_location = code == CODE_CREATED && write->method == METHOD_POST;
-    size_t size = response_write(response, code, write->token, write->token_length, has_location ? &write->path : NULL, 0);
+    size_t size = response_write(response, code, write->token, write->token_length, has_location ? &write->path : NULL, NULL);
     uint32_t result = dachreup_server_respond(&gateway->server, write->peer, response, size, &reply);
     if (result != DACHREUP_RESPOND_NO_ROOM) {
         /* Without a request, the server has sent 5.04, or the peer is gone. */

@@ -139,10 +139,10 @@ static void watch_broker(struct gateway *gateway) {
         return;
     uint32_t interest = (uint32_t)EPOLLIN | (broker_wants_write(&gateway->broker) ? (uint32_t)EPOLLOUT : 0);
     struct epoll_event event = {.events = interest, .data.u64 = EVENT_BROKER};
-    if (gateway->watched != socket)
-        epoll_ctl(gateway->poll, EPOLL_CTL_ADD, socket, &event);
-    else if (interest != gateway->interest)
-        epoll_ctl(gateway->poll, EPOLL_CTL_MOD, socket, &event);
+    int change = gateway->watched != socket ? EPOLL_CTL_ADD : EPOLL_CTL_MOD;
+    bool is_watched = change == EPOLL_CTL_MOD && interest == gateway->interest;
+    if (!is_watched && epoll_ctl(gateway->poll, change, socket, &event))
+        broker_fail(&gateway->broker, "its socket cannot be watched: %s", strerror(errno));
     gateway->watched = socket;
     gateway->interest = interest;
 }
@@ -180,7 +180,7 @@ static bool turn(struct gateway *gateway, const sigset_t *signals) {
     exchange_check(gateway, is_new_second);
     check_mirror(gateway);
     broker_tick(&gateway->broker, gateway->now);
-    if (gateway->broker.is_taken || !check_listening(gateway))
+    if (!check_listening(gateway))
         return false;
     gateway->peers.refuses_reads = gateway->options->refuses_stale && !gateway->broker.is_usable;
     notify_state(gateway, is_new_second);
@@ -234,7 +234,11 @@ static bool open_server(struct gateway *gateway) {
 
 static bool open_all(struct gateway *gateway) {
     const struct options *options = gateway->options;
-    struct broker_events events = {gateway, on_begin, exchange_message, on_complete, exchange_refused};
+    struct broker_events events = {.owner = gateway,
+                                   .begins = on_begin,
+                                   .message = exchange_message,
+                                   .complete = on_complete,
+                                   .refused = exchange_refused};
     gateway->poll = epoll_create1(EPOLL_CLOEXEC);
     if (gateway->poll < 0 || !open_server(gateway) || !peers_open(&gateway->peers, &gateway->server, options, gateway->poll))
         return false;
@@ -304,12 +308,9 @@ int gateway_run(const struct options *options) {
         runs = turn(&gateway, &signals);
     if (runs)
         drain(&gateway, &signals);
-    bool is_taken = gateway.broker.is_taken;
     if (gateway.is_ending)
         metrics_write(&gateway);
     close_all(&gateway);
     log_close();
-    if (is_taken)
-        log_always("another gateway has the id %u: the broker gave it the session (DISCONNECT 0x8E)", (unsigned)options->id);
-    return is_taken ? STATUS_ID_TAKEN : runs ? STATUS_ENDED : STATUS_FAILED;
+    return runs ? STATUS_ENDED : STATUS_FAILED;
 }

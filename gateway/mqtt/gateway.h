@@ -15,7 +15,7 @@
 #include "peers.h"
 #include "writes.h"
 
-enum { STATUS_ENDED = 0, STATUS_OPTIONS = 1, STATUS_FAILED = 3, STATUS_ID_TAKEN = 4 };
+enum { STATUS_ENDED = 0, STATUS_OPTIONS = 1, STATUS_FAILED = 3 };
 
 enum {
     REPRESENTATION_BYTES = 65000, /* as in coap-server: a response with it fits in 65,536 bytes */

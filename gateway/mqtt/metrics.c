@@ -112,9 +112,9 @@ bool metrics_write(struct gateway *gateway) {
 
 void metrics_tick(struct gateway *gateway) {
     struct metrics *metrics = &gateway->metrics;
-    if (metrics->messages != gateway->broker.messages)
+    if (metrics->messages != gateway->broker.packets)
         metrics->messages_at = gateway->now;
-    metrics->messages = gateway->broker.messages;
+    metrics->messages = gateway->broker.packets;
     if (!gateway->options->metrics || gateway->now - metrics->written < PERIOD)
         return;
     bool has_failed = !metrics_write(gateway);

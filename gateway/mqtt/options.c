@@ -7,6 +7,7 @@
 #include <string.h>
 
 #include "log.h"
+#include "tls_files.h"
 
 #ifndef COAP_MQTT_VERSION
 #define COAP_MQTT_VERSION "unknown"
@@ -278,7 +279,7 @@ static bool check(struct options *options) {
         return log_always("the paths of --health and --prefix overlap: %s and %s", options->health_text, options->prefix_text), false;
     if (options->password_file && !read_password(options))
         return log_always("cannot read a password of at most %d bytes from %s", PASSWORD_ROOM - 2, options->password_file), false;
-    return true;
+    return tls_files_check(options);
 }
 
 /* Returns the name of an option for a message. */

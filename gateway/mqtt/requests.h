@@ -45,8 +45,9 @@ enum { RESPONSE_ROOM = 1024 };
 
 /*
  * Writes a response to `response`, which has RESPONSE_ROOM bytes, and returns its size. `location` is the path of a 2.01, or
- * NULL. A `limit` above 0 is the Size1 of a 4.13.
+ * NULL. `limit` is the Size1 of a 4.13, or NULL.
  */
-size_t response_write(uint8_t *response, uint32_t code, const uint8_t *token, size_t token_length, const struct path *location, uint32_t limit);
+size_t response_write(uint8_t *response, uint32_t code, const uint8_t *token, size_t token_length,
+                      const struct path *location, const uint32_t *limit);
 
 #endif

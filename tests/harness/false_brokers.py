@@ -45,7 +45,7 @@ FALSE_BROKERS = {
     "an empty topic": ([CONNACK, SUBACK, publication(b"", b"x")], "broker: "),
     "messages of others": ([CONNACK, SUBACK, b"".join(publication(b"other/%d" % at, b"x") for at in range(300))], "ignored: "),
     "a DISCONNECT": ([CONNACK, SUBACK, bytes.fromhex("e0018b")], "ended the connection: "),
-    "CONNACK again": ([CONNACK, SUBACK + 100 * CONNACK], "no answer to the subscription within 10 seconds"),
+    "CONNACK again": ([CONNACK, SUBACK + 100 * CONNACK], "sent a second CONNACK"),
     "messages before SUBACK": ([CONNACK, publication(b"shared/a", b"x")], "no answer to the subscription within 10 seconds"),
 }
 
@@ -80,6 +80,116 @@ class FalseBroker:
     def __exit__(self, *_):
         self.ends = True
         self.thread.join(LIMIT)
+
+
+def varint(number):
+    """Returns a variable byte integer."""
+    low, rest = number & 127, number >> 7
+    return bytes([low | 128]) + varint(rest) if rest else bytes([low])
+
+
+def packet(kind, body):
+    return bytes([kind]) + varint(len(body)) + body
+
+
+def split_packets(stream):
+    """Returns the whole packets at the start of a stream, each as its first byte and its body, and the rest."""
+    found = []
+    while len(stream) > 1:
+        ends = next((at for at in range(1, len(stream)) if stream[at] < 128), None)
+        size = sum((stream[at] & 127) << 7 * (at - 1) for at in range(1, ends + 1)) if ends else 0
+        if not ends or len(stream) < ends + 1 + size:
+            break
+        found.append((stream[0], stream[ends + 1:ends + 1 + size]))
+        stream = stream[ends + 1 + size:]
+    return found, stream
+
+
+class Publication:
+    """A PUBLISH with QoS 1, as a gateway sends it."""
+
+    def __init__(self, first, body):
+        length = int.from_bytes(body[:2], "big")
+        self.topic, self.identifier, self.is_retained = body[2:2 + length], body[2 + length:4 + length], bool(first & 1)
+        rest = body[4 + length:]
+        ends = next(at for at, byte in enumerate(rest) if byte < 128) + 1
+        size = sum((byte & 127) << 7 * at for at, byte in enumerate(rest[:ends]))
+        self.properties, self.payload = rest[:ends + size], rest[ends + size:]
+
+    def echo(self, is_retained=None):
+        """Returns this message as a subscriber gets it, with QoS 0."""
+        retain = self.is_retained if is_retained is None else is_retained
+        topic = len(self.topic).to_bytes(2, "big") + self.topic
+        return packet(0x31 if retain else 0x30, topic + self.properties + self.payload)
+
+    def acknowledged(self, reason=0):
+        return packet(0x40, self.identifier + (bytes([reason, 0]) if reason else b""))
+
+
+class SmallBroker:
+    """A broker for one gateway at a time. It accepts each connection and subscription, and sends each publication back
+    and acknowledges it, unless `reply` returns other bytes for a publication. `properties` are those of its CONNACK. It
+    keeps no message. `connects` has a pair for each CONNECT: its time and its client identifier."""
+
+    def __init__(self, properties=b"", reply=None, connack=None):
+        self.listener, self.ends, self.reply = socket.create_server((LOCAL, 0)), False, reply or self.send_back
+        self.port, self.connects, self.changed = self.listener.getsockname()[1], [], threading.Condition()
+        self.connack = connack or packet(0x20, b"\0\0" + varint(len(properties)) + properties)
+        self.connection = None
+
+    @staticmethod
+    def send_back(publication):
+        return publication.echo() + publication.acknowledged()
+
+    def __enter__(self):
+        threading.Thread(target=self.run, daemon=True).start()
+        return self
+
+    def __exit__(self, *_):
+        self.ends = True
+        self.drop()
+        self.listener.close()
+
+    def drop(self):
+        """Ends the connection."""
+        with contextlib.suppress(OSError, AttributeError):
+            self.connection.shutdown(socket.SHUT_RDWR)
+
+    def connected(self, count, seconds=LIMIT):
+        """Waits for a number of connections, and returns the first ones."""
+        with self.changed:
+            self.changed.wait_for(lambda: len(self.connects) >= count, seconds)
+            return self.connects[:count]
+
+    def run(self):
+        while not self.ends:
+            with contextlib.suppress(OSError):
+                self.connection = self.listener.accept()[0]
+                self.serve(self.connection)
+
+    def serve(self, connection):
+        stream = b""
+        with connection:
+            while piece := connection.recv(65536):
+                packets, stream = split_packets(stream + piece)
+                for first, body in packets:
+                    connection.sendall(self.answer(first, body))
+
+    def answer(self, first, body):
+        kind = first >> 4
+        if kind == 1:
+            with self.changed:
+                # The client identifier follows the properties, which have one byte for their length.
+                start = 11 + body[10]
+                length = int.from_bytes(body[start:start + 2], "big")
+                self.connects.append((time.monotonic(), body[start + 2:start + 2 + length]))
+                self.changed.notify_all()
+            return self.connack
+        if kind == 8:
+            return packet(0x90, body[:2] + b"\0\1")
+        if kind == 12:
+            return packet(0xD0, b"")
+        return self.reply(Publication(first, body)) if kind == 3 else b""
 
 
 class Relay:
