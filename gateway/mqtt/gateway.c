@@ -16,10 +16,13 @@ enum {
     EVENTS_A_TURN = 64,
     STALLED = 5000,          /* milliseconds of a turn after which the broker may have dropped messages */
     LOOK_FOR_NAME = 20,      /* milliseconds of a turn while the name of the broker is being resolved */
-    PAUSE_OF_READINGS = 1000, /* least time between two readings of all retained messages on one connection */
+    QUIET = 60000,           /* milliseconds without need of a reading, after which the pauses are short again */
     TIME_FOR_ECHOES = 700,   /* milliseconds after a signal in which echoes are awaited */
     TIME_TO_END = 950        /* milliseconds after a signal in which queued bytes are written */
 };
+
+/* Least milliseconds between two readings on one connection. A peer can cause one by each DELETE, at every gateway. */
+static const uint64_t pauses[] = {1000, 10000, 60000};
 
 static volatile sig_atomic_t stops;
 
@@ -49,14 +52,27 @@ static void on_begin(void *owner) {
     mirror_begin(&gateway->mirror);
 }
 
+/* Returns what the first reading on a connection says of the broker. The owner record is retained as resources are. */
+static const char *remark(const struct gateway *gateway) {
+    if (gateway->broker.has_own_record)
+        return "connected again";
+    return gateway->mirror.count + gateway->mirror.left_out ? "it has an older state" : "it is empty";
+}
+
 static void on_complete(void *owner) {
     struct gateway *gateway = owner;
-    size_t removed = mirror_end(&gateway->mirror);
+    struct mirror *mirror = &gateway->mirror;
+    bool is_again = gateway->is_complete && gateway->read != gateway->broker.losses;
+    mirror_end(mirror);
+    exchange_complete(gateway);
     gateway->is_complete = true;
     gateway->has_output = true;
     gateway->reading = gateway->now;
-    log_line(LOG_CONNECTIONS, "broker: %zu resources, %zu removed, %llu left out", gateway->mirror.count, removed,
-             (unsigned long long)gateway->mirror.left_out);
+    gateway->read = gateway->broker.losses;
+    log_line(is_again ? LOG_WARNINGS : LOG_CONNECTIONS,
+             "broker: %s%s%zu resources, %llu new, %llu removed, %llu left out", is_again ? remark(gateway) : "",
+             is_again ? ": " : "", mirror->count, (unsigned long long)mirror->came, (unsigned long long)mirror->went,
+             (unsigned long long)mirror->left_out);
 }
 
 /* ---- the loop ---- */
@@ -90,12 +106,28 @@ static void check_stall(struct gateway *gateway, uint64_t now) {
     gateway->now = now;
 }
 
+/* Returns true if it is time to read all retained messages again on this connection. */
+static bool wants_reading(struct gateway *gateway) {
+    uint64_t since = gateway->now - gateway->reading, last = sizeof pauses / sizeof *pauses - 1;
+    if (mirror_wants_reading(&gateway->mirror)) {
+        gateway->wanted = gateway->now;
+        if (since < pauses[gateway->pause])
+            return false;
+        gateway->pause += gateway->pause < last;
+        return true;
+    }
+    if (gateway->now - gateway->wanted >= QUIET)
+        gateway->pause = 0;
+    /* A broker may have dropped a message. */
+    return gateway->options->reread && since >= gateway->options->reread * 60000;
+}
+
 static void check_mirror(struct gateway *gateway) {
     struct broker *broker = &gateway->broker;
     if (gateway->mirror.is_out_of_memory && broker->client)
         broker_fail(broker, "no memory for a message");
     gateway->mirror.is_out_of_memory = false;
-    if (mirror_wants_reading(&gateway->mirror) && broker->state == BROKER_READY && gateway->now - gateway->reading >= PAUSE_OF_READINGS)
+    if (broker->state == BROKER_READY && wants_reading(gateway))
         broker_read_again(broker, gateway->now);
 }
 
@@ -234,18 +266,17 @@ static bool open_server(struct gateway *gateway) {
 
 static bool open_all(struct gateway *gateway) {
     const struct options *options = gateway->options;
-    struct broker_events events = {.owner = gateway,
-                                   .begins = on_begin,
-                                   .message = exchange_message,
-                                   .complete = on_complete,
-                                   .refused = exchange_refused};
+    struct broker_events events = {.owner = gateway, .begins = on_begin, .message = exchange_message,
+                                   .complete = on_complete, .refused = exchange_refused,
+                                   .acknowledged = exchange_acknowledged};
     gateway->poll = epoll_create1(EPOLL_CLOEXEC);
     if (gateway->poll < 0 || !open_server(gateway) || !peers_open(&gateway->peers, &gateway->server, options, gateway->poll))
         return false;
     gateway->peers.owner = gateway;
     gateway->peers.request = exchange_request;
     if (!mirror_open(&gateway->mirror, &gateway->server, &options->prefix, options->resources) ||
-        !writes_open(&gateway->writes, options->pending * options->connections) || !broker_open(&gateway->broker, options, &events))
+        !broker_open(&gateway->broker, options, &events) ||
+        !writes_open(&gateway->writes, options->in_flight, gateway->broker.run))
         return log_always("no memory"), false;
     gateway->now = milliseconds();
     if (!metrics_write(gateway))

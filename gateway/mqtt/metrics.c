@@ -74,7 +74,9 @@ static void append_all(struct text *text, const struct gateway *gateway) {
     append_number(text, gateway, "left_out", "gauge", "Messages that a limit left out since the last reading began.",
                   gateway->mirror.left_out);
     append_writes(text, gateway);
-    append_number(text, gateway, "pending_writes", "gauge", "Writes that wait for their echo.", gateway->writes.used);
+    append_number(text, gateway, "pending_writes", "gauge", "Writes under way.", gateway->writes.used);
+    append_number(text, gateway, "in_flight_bytes", "gauge", "Bytes that the writes under way count.",
+                  gateway->writes.bytes);
     append_number(text, gateway, "reconnects_total", "counter", "Connections to the broker that ended or failed.",
                   gateway->broker.losses);
     if (metrics->messages)

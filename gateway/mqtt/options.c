@@ -34,6 +34,8 @@ enum {
     STALE,
     HEALTH,
     METRICS,
+    IN_FLIGHT,
+    REREAD,
     LOG,
     AFTER_LAST
 };
@@ -58,6 +60,8 @@ static const struct option names[] = {
     {"stale", required_argument, NULL, STALE},
     {"health", required_argument, NULL, HEALTH},
     {"metrics", required_argument, NULL, METRICS},
+    {"in-flight", required_argument, NULL, IN_FLIGHT},
+    {"reread", required_argument, NULL, REREAD},
     {"log", required_argument, NULL, LOG},
     {"help", no_argument, NULL, 'h'},
     {"version", no_argument, NULL, 'V'},
@@ -95,6 +99,8 @@ static const char help[] =
     "      --stale WHAT      serve (default) or refuse reads while the broker is away\n"
     "      --health PATH     path that says whether the broker is connected, or none (default health)\n"
     "      --metrics FILE    write metrics for Prometheus to this file every 15 seconds\n"
+    "      --in-flight BYTES maximum size of all writes under way (default 16777216)\n"
+    "      --reread MINUTES  read all retained messages again after this time, 0 never (default 60)\n"
     "      --log LEVEL       0 nothing, 1 warnings (default), 2 connections, 3 messages\n"
     "  -h, --help            print this help\n"
     "  -V, --version         print the version\n";
@@ -239,6 +245,8 @@ static bool read_value(struct options *options, int name, const char *text) {
     case STALE: return read_stale(options, text);
     case HEALTH: return read_health(options, text);
     case METRICS: options->metrics = text; return *text != 0;
+    case IN_FLIGHT: return read_size(text, 131072, 1073741824, &options->in_flight);
+    case REREAD: return read_number(text, 0, 10080, &options->reread);
     case LOG: return read_level(options, text);
     default: return read_coap(options, name, text);
     }
@@ -247,7 +255,7 @@ static bool read_value(struct options *options, int name, const char *text) {
 static void set_defaults(struct options *options) {
     *options = (struct options){.address = "127.0.0.1", .port = 5683, .resources = 1000, .max_message = 65536, .max_sent = 65536,
                                 .queue = 131072, .pending = 16, .observers = 16, .connections = 16, .broker_host = "127.0.0.1",
-                                .log_level = LOG_WARNINGS};
+                                .in_flight = 16777216, .reread = 60, .log_level = LOG_WARNINGS};
     read_prefix(options, "shared");
     read_health(options, "health");
 }

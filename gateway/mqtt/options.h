@@ -30,6 +30,8 @@ struct options {
     /* the resources that all gateways share */
     struct path prefix;
     const char *prefix_text;
+    size_t in_flight; /* bytes of writes under way */
+    uint64_t reread;  /* minutes between two readings of all retained messages, 0: never */
     /* operation */
     struct path health;
     const char *health_text; /* NULL: no such resource */

@@ -16,6 +16,7 @@ enum {
     CODE_CHANGED = 2 << 5 | 4,
     CODE_CONTENT = 2 << 5 | 5,
     CODE_BAD_REQUEST = 4 << 5,
+    CODE_FORBIDDEN = 4 << 5 | 3,
     CODE_NOT_FOUND = 4 << 5 | 4,
     CODE_NOT_ALLOWED = 4 << 5 | 5,
     CODE_NOT_ACCEPTABLE = 4 << 5 | 6,
@@ -30,8 +31,9 @@ enum {
 struct request {
     struct dachreup_message message;
     struct path path;
-    bool has_path;   /* a resource can have its path */
-    uint32_t format; /* Content-Format, or DACHREUP_NO_FORMAT */
+    bool has_path;       /* a resource can have its path */
+    bool is_conditional; /* has If-Match or If-None-Match */
+    uint32_t format;     /* Content-Format, or DACHREUP_NO_FORMAT */
 };
 
 /* Reads a request. Returns false if the bytes are no message. */

@@ -16,15 +16,16 @@ import sys
 import tempfile
 
 sys.path.insert(0, os.path.join(os.path.dirname(os.path.abspath(__file__)), "..", "harness"))
-sys.path.insert(0, os.path.dirname(os.path.abspath(__file__)))
+sys.path.insert(0, os.path.join(os.path.dirname(os.path.abspath(__file__)), "mqtt"))
+import gateway_checks  # noqa: E402
 import haproxy  # noqa: E402
-import mqtt  # noqa: E402
 from checks import Checks  # noqa: E402
 from false_brokers import CONNACK, SUBACK, FalseBroker, Relay, SmallBroker, packet  # noqa: E402
 from gateways import (  # noqa: E402
     CHANGED, CONTENT, CREATED, DELETE, DELETED, GET, INTERNAL, LIMIT, NOT_FOUND, PREFIX, PUT, SIZE1, TOO_LARGE,
     UNAVAILABLE, Broker, Gateway, Setting, number, option_of, soon,
 )
+from environment import write_number  # noqa: E402
 from packages import install  # noqa: E402
 from rows import HARNESS  # noqa: E402
 from workspace import ROOT  # noqa: E402
@@ -168,8 +169,8 @@ UNSUITABLE_SETTINGS = {"retain_available false": "keeps no retained messages",
 def alone(stack, program, broker, gateway=7, words=()):
     """Starts a gateway of a broker that is no mosquitto. Does not wait until it listens."""
     folder = stack.enter_context(tempfile.TemporaryDirectory(prefix="coap-mqtt-"))
-    mqtt.write_file(f"{folder}/password", "x\n")
-    started = Gateway(program, mqtt.FakeSetting(broker.port, folder), folder, gateway, words)
+    gateway_checks.write_file(f"{folder}/password", "x\n")
+    started = Gateway(program, gateway_checks.FakeSetting(broker.port, folder), folder, gateway, words)
     started.start(waits=False)
     stack.push(started)
     return started
@@ -265,7 +266,7 @@ def stepped(folder):
     """Returns the words that run a program with a clock that the test sets, and the name of the file with its step."""
     library, step = f"{folder}/clock_step.so", f"{folder}/step"
     run(["gcc", "-O2", "-shared", "-fPIC", "-o", library, f"{HARNESS}/clock_step.c"], check=True)
-    mqtt.write_number(step, 0)
+    write_number(step, 0)
     return ["sh", "-c", f'exec 9<{step}; exec env LD_PRELOAD={library} CLOCK_STEP=9 "$@"', "sh"], step
 
 
@@ -281,7 +282,7 @@ def check_restored(checks, program):
             checks.same("the broker has saved it", broker.saved(b"first"), True)
             checks.same("the first run ends", gateway.stop(), 0)
             shutil.copy(kept, f"{folder}/older.db")
-            mqtt.write_number(step, -3600)
+            write_number(step, -3600)
             gateway.start()
             with gateway.peer() as peer:
                 checks.same("a write of the second run", peer.code(PUT, f"{PREFIX}/a", payload=b"second"), CHANGED)
@@ -309,7 +310,7 @@ FORGED_WHILE_AWAY, LAST = "ffffffffffffffff-9000", "ffffffffffffffff-%d" % (2**6
 def check_forged(checks, program):
     """Checks records of the owner that another program publishes, while the gateway is connected or away."""
     with Setting(program, 0) as setting, Relay(setting.broker.port) as relay, contextlib.ExitStack() as stack:
-        topic, to = f"{PREFIX}/%gateway-1/owner", mqtt.FakeSetting(relay.port, setting.folder)
+        topic, to = f"{PREFIX}/%gateway-1/owner", gateway_checks.FakeSetting(relay.port, setting.folder)
         gateway = stack.enter_context(Gateway(program, to, setting.folder, 1))
         peer, count = stack.enter_context(gateway.peer()), 0
         write = lambda: peer.code(PUT, f"{PREFIX}/a", payload=b"1")  # noqa: E731
@@ -368,8 +369,8 @@ def check_tls_files(checks, program):
         haproxy.certify(folder)
         make_key(folder, "encrypted.key", "-aes128", "-passout", "pass:secret")
         make_key(folder, "traditional.key", "-traditional", "-aes128", "-passout", "pass:secret")
-        mqtt.write_file(f"{folder}/empty", "")
-        mqtt.write_file(f"{folder}/text", "-----BEGIN NOTHING-----\n")
+        gateway_checks.write_file(f"{folder}/empty", "")
+        gateway_checks.write_file(f"{folder}/text", "-----BEGIN NOTHING-----\n")
         run(["openssl", "x509", "-in", f"{folder}/signed.pem", "-out", f"{folder}/signed.crt"], check=True)
         os.mkfifo(f"{folder}/pipe")
         good = {"--cafile": "authority.pem", "--cert": "signed.pem", "--key": "server.key"}
@@ -410,13 +411,13 @@ CHECKS = [check_parts, check_packet_limit, check_prefixes, check_tls_files, chec
 
 
 def main(words):
-    if not install(mqtt.PACKAGES):
-        print("the packages %s cannot be installed\n0 passed, 1 failed" % ", ".join(mqtt.PACKAGES.values()))
+    if not install(gateway_checks.PACKAGES):
+        print("the packages %s cannot be installed\n0 passed, 1 failed" % ", ".join(gateway_checks.PACKAGES.values()))
         return 1
     program, names, total = os.path.abspath(words[0] if words else f"{ROOT}/bin/coap-mqtt"), words[1:], Checks()
     for checks in (it if isinstance(it, list) else [it] for it in CHECKS):
         named = [it for it in checks if not names or it.__name__ in names]
-        total.add(mqtt.made_at_once(named, program) if named else Checks())
+        total.add(gateway_checks.made_at_once(named, program) if named else Checks())
     print("%d passed, %d failed" % (total.passed, total.failed))
     return 1 if total.failed else 0
 

@@ -346,7 +346,8 @@ def check_front(checks, program):
 # ---- metrics ----
 
 NAMES = {"healthy": "gauge", "peers": "gauge", "resources": "gauge", "left_out": "gauge", "writes_total": "counter",
-         "pending_writes": "gauge", "reconnects_total": "counter", "last_message_age_seconds": "gauge"}
+         "pending_writes": "gauge", "in_flight_bytes": "gauge", "reconnects_total": "counter",
+         "last_message_age_seconds": "gauge"}
 
 VALUE = re.compile(r'dachreup_mqtt_(\w+)\{id="(\d+)"(?:,code="(\d\.\d\d)")?\} (\d+)')
 
