@@ -116,10 +116,11 @@ static uint32_t begin(struct gateway *gateway, uint64_t peer, const struct reque
  * two requests with one ETag, the second must see what the first one did.
  */
 static bool must_wait(const struct gateway *gateway, const struct request *request) {
-    if (!request->is_conditional || !request->has_path || request->message.payload.count > REPRESENTATION_BYTES)
+    if (!request->is_conditional || !request->has_path)
         return false;
     const struct lane *lane = writes_lane(&gateway->writes, &request->path);
-    return lane && lane->published;
+    /* A payload that is too large is refused at once. */
+    return lane && lane->published && request->message.payload.count <= room_of(gateway, request);
 }
 
 /* Keeps a request until no write of its path is under way. Returns the code that refuses it, or 0. */

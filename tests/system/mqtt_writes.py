@@ -470,9 +470,10 @@ def check_lost_state(checks, program):
             stack.push(gateway)
             checks.same("it listens", gateway.says("listening on"), True)
             peer = stack.enter_context(gateway.peer())
-            checks.same("PUT", [peer.code(PUT, f"{PREFIX}/{name}", payload=b"new payload") for name in "ab"],
-                        2 * [CREATED])
-            checks.same("the broker has saved them", broker.saved(b"new payload"), True)
+            for name in "ab":
+                payload = b"payload of " + name.encode()
+                checks.same(f"PUT {name}", peer.code(PUT, f"{PREFIX}/{name}", payload=payload), CREATED)
+                checks.same(f"the broker has saved {name}", broker.saved(payload), True)
             checks.same("no line on a connection that was never lost", "resources" in gateway.log(), False)
             again = lambda: [broker.kill(), gateway.says("broker: connection")]  # noqa: E731
             again()
