@@ -3,6 +3,7 @@
 #include <mqtt_protocol.h>
 #include <string.h>
 
+#include "health.h"
 #include "log.h"
 #include "requests.h"
 #include "screen.h"
@@ -27,13 +28,14 @@ static void respond(struct gateway *gateway, uint64_t peer, const struct request
     const struct dachreup_span *token = &request->message.token;
     size_t size = response_write(response, code, token->at, token->count, NULL, code == CODE_TOO_LARGE ? &room : NULL);
     dachreup_server_respond(&gateway->server, peer, response, size, &reply);
+    metrics_count(&gateway->metrics, request->message.code, code);
 }
 
 /* Returns the code that refuses a request whatever the mirror has, or 0. */
 static uint32_t refusal_at_once(const struct gateway *gateway, const struct request *request) {
     if (request->message.code == METHOD_REFUSED)
         return gateway->peers.refuses_reads ? CODE_UNAVAILABLE : CODE_NOT_ALLOWED;
-    return !gateway->broker.is_usable || gateway->broker.fault[0] ? CODE_UNAVAILABLE : 0;
+    return health_is_good(gateway) ? 0 : CODE_UNAVAILABLE;
 }
 
 /* Returns true if a path without a resource may get one. Creations under way have their places already. */
@@ -137,7 +139,9 @@ void exchange_request(void *owner, uint64_t peer, const struct dachreup_span *by
     struct request request;
     if (!request_read(&request, bytes))
         return;
-    uint32_t code = refusal_at_once(gateway, &request);
+    uint32_t code = health_code(gateway, &request);
+    if (code == 0)
+        code = refusal_at_once(gateway, &request);
     if (code == 0 && must_wait(gateway, &request))
         code = wait_for_others(gateway, peer, &request, bytes);
     else if (code == 0)
@@ -158,12 +162,16 @@ static void deliver(struct gateway *gateway, struct write *write, uint32_t code)
     uint8_t response[RESPONSE_ROOM] = {0};
     uint32_t reply = 0;
     if (is_over(gateway, write)) {
+        metrics_count(&gateway->metrics, write->method, CODE_TIMEOUT);
         writes_remove(&gateway->writes, write);
         return;
     }
     const struct path *location = code == CODE_CREATED && write->method == METHOD_POST ? &write->lane->path : NULL;
     size_t size = response_write(response, code, write->token, write->token_length, location, NULL);
-    if (dachreup_server_respond(&gateway->server, write->peer, response, size, &reply) != DACHREUP_RESPOND_NO_ROOM) {
+    uint32_t result = dachreup_server_respond(&gateway->server, write->peer, response, size, &reply);
+    if (result != DACHREUP_RESPOND_NO_ROOM) {
+        /* Without a request, the server has sent 5.04, or the peer is gone. */
+        metrics_count(&gateway->metrics, write->method, result ? CODE_TIMEOUT : code);
         gateway->has_output = true;
         writes_remove(&gateway->writes, write);
         return;
@@ -324,10 +332,24 @@ static void check_write(struct gateway *gateway, struct write *write) {
     struct dachreup_status status;
     /* What is published stays until its echo comes, whether or not somebody waits for it. */
     if (write->stage != WRITE_PUBLISHED) {
-        if (is_over(gateway, write) || dachreup_server_status(&gateway->server, write->peer, &status) != DACHREUP_OK)
+        bool has_ended = is_over(gateway, write);
+        if (has_ended)
+            metrics_count(&gateway->metrics, write->method, CODE_TIMEOUT);
+        if (has_ended || dachreup_server_status(&gateway->server, write->peer, &status) != DACHREUP_OK)
             writes_remove(&gateway->writes, write);
     } else if (is_late(gateway, write) && gateway->broker.client)
         broker_fail(&gateway->broker, "an echo did not come within %d seconds", BROKER_PATIENCE / 1000);
+}
+
+void exchange_end(struct gateway *gateway) {
+    struct writes *writes = &gateway->writes;
+    for (size_t at = 0; at < writes->fresh; at++) {
+        struct write *write = &writes->places[at];
+        if (write->stage == WRITE_WAITS)
+            deliver(gateway, write, CODE_UNAVAILABLE);
+        else if (write->stage == WRITE_PUBLISHED || write->stage == WRITE_LOST)
+            deliver(gateway, write, CODE_TIMEOUT);
+    }
 }
 
 void exchange_check(struct gateway *gateway, bool is_new_second) {

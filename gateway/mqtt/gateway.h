@@ -8,7 +8,9 @@
 #include <stdint.h>
 
 #include "broker.h"
+#include "metrics.h"
 #include "mirror.h"
+#include "notify.h"
 #include "options.h"
 #include "peers.h"
 #include "refusals.h"
@@ -29,6 +31,8 @@ struct gateway {
     struct writes writes;
     struct refusals refusals;
     struct peers peers;
+    struct metrics metrics;
+    struct notify notify;
     int poll;
     int watched;            /* socket of the broker in epoll, or -1 */
     uint32_t interest;      /* its events */
@@ -42,6 +46,9 @@ struct gateway {
     uint64_t ended;         /* connections whose writes have ended */
     uint64_t refused;       /* when a publication was refused on this connection, or 0 */
     int64_t ahead;          /* milliseconds by which the time of the server is ahead of the monotonic clock */
+    uint64_t ends;          /* milliseconds of the monotonic clock when a gateway that is ending has no time left */
+    bool is_ending;         /* a signal has come: writes are refused */
+    bool was_good;          /* the health that systemd was notified of */
     bool is_complete;       /* the mirror was complete once */
     bool has_output;        /* the store changed, so any peer can have output */
 };

@@ -17,14 +17,16 @@ import tempfile
 
 sys.path.insert(0, os.path.join(os.path.dirname(os.path.abspath(__file__)), "..", "harness"))
 sys.path.insert(0, os.path.join(os.path.dirname(os.path.abspath(__file__)), "mqtt"))
+import gateway_checks  # noqa: E402
 import haproxy  # noqa: E402
-from environment import write_number  # noqa: E402
+from checks import Checks  # noqa: E402
 from false_brokers import CONNACK, SUBACK, FalseBroker, Relay, SmallBroker, packet  # noqa: E402
-from gateway_checks import FakeSetting, main, write_file  # noqa: E402
 from gateways import (  # noqa: E402
     CHANGED, CONTENT, CREATED, DELETE, DELETED, GET, INTERNAL, LIMIT, NOT_FOUND, PREFIX, PUT, SIZE1, TOO_LARGE,
     UNAVAILABLE, Broker, Gateway, Setting, number, option_of, soon,
 )
+from environment import write_number  # noqa: E402
+from packages import install  # noqa: E402
 from rows import HARNESS  # noqa: E402
 from workspace import ROOT  # noqa: E402
 
@@ -167,8 +169,8 @@ UNSUITABLE_SETTINGS = {"retain_available false": "keeps no retained messages",
 def alone(stack, program, broker, gateway=7, words=()):
     """Starts a gateway of a broker that is no mosquitto. Does not wait until it listens."""
     folder = stack.enter_context(tempfile.TemporaryDirectory(prefix="coap-mqtt-"))
-    write_file(f"{folder}/password", "x\n")
-    started = Gateway(program, FakeSetting(broker.port, folder), folder, gateway, words)
+    gateway_checks.write_file(f"{folder}/password", "x\n")
+    started = Gateway(program, gateway_checks.FakeSetting(broker.port, folder), folder, gateway, words)
     started.start(waits=False)
     stack.push(started)
     return started
@@ -308,7 +310,7 @@ FORGED_WHILE_AWAY, LAST = "ffffffffffffffff-9000", "ffffffffffffffff-%d" % (2**6
 def check_forged(checks, program):
     """Checks records of the owner that another program publishes, while the gateway is connected or away."""
     with Setting(program, 0) as setting, Relay(setting.broker.port) as relay, contextlib.ExitStack() as stack:
-        topic, to = f"{PREFIX}/%gateway-1/owner", FakeSetting(relay.port, setting.folder)
+        topic, to = f"{PREFIX}/%gateway-1/owner", gateway_checks.FakeSetting(relay.port, setting.folder)
         gateway = stack.enter_context(Gateway(program, to, setting.folder, 1))
         peer, count = stack.enter_context(gateway.peer()), 0
         write = lambda: peer.code(PUT, f"{PREFIX}/a", payload=b"1")  # noqa: E731
@@ -367,8 +369,8 @@ def check_tls_files(checks, program):
         haproxy.certify(folder)
         make_key(folder, "encrypted.key", "-aes128", "-passout", "pass:secret")
         make_key(folder, "traditional.key", "-traditional", "-aes128", "-passout", "pass:secret")
-        write_file(f"{folder}/empty", "")
-        write_file(f"{folder}/text", "-----BEGIN NOTHING-----\n")
+        gateway_checks.write_file(f"{folder}/empty", "")
+        gateway_checks.write_file(f"{folder}/text", "-----BEGIN NOTHING-----\n")
         run(["openssl", "x509", "-in", f"{folder}/signed.pem", "-out", f"{folder}/signed.crt"], check=True)
         os.mkfifo(f"{folder}/pipe")
         good = {"--cafile": "authority.pem", "--cert": "signed.pem", "--key": "server.key"}
@@ -408,5 +410,17 @@ CHECKS = [check_parts, check_packet_limit, check_prefixes, check_tls_files, chec
           [check_unsuitable, check_session_taken, check_ids, check_restored, check_forged, check_pauses]]
 
 
+def main(words):
+    if not install(gateway_checks.PACKAGES):
+        print("the packages %s cannot be installed\n0 passed, 1 failed" % ", ".join(gateway_checks.PACKAGES.values()))
+        return 1
+    program, names, total = os.path.abspath(words[0] if words else f"{ROOT}/bin/coap-mqtt"), words[1:], Checks()
+    for checks in (it if isinstance(it, list) else [it] for it in CHECKS):
+        named = [it for it in checks if not names or it.__name__ in names]
+        total.add(gateway_checks.made_at_once(named, program) if named else Checks())
+    print("%d passed, %d failed" % (total.passed, total.failed))
+    return 1 if total.failed else 0
+
+
 if __name__ == "__main__":
-    sys.exit(main(CHECKS, sys.argv[1:]))
+    sys.exit(main(sys.argv[1:]))

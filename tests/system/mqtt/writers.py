@@ -13,8 +13,8 @@ TOPICS, OUTSTANDING = 1500, 8
 
 SUCCEEDED = (CREATED, CHANGED, DELETED)
 
-# A write: its resource and its payload (None: a DELETE), the epoch in which it was sent, and the code of its response
-# (or None) with its time. An epoch is the time between two ends of the broker.
+# A write: its resource and its payload (None: a DELETE), and the epoch in which it was sent. The others are the code of
+# its response, or None, and the time of this. An epoch is the time between two ends of the broker.
 Written = collections.namedtuple("Written", ["name", "payload", "epoch", "code", "at"])
 
 
