@@ -8,7 +8,6 @@ one whose answers they choose. Each has a broker and gateways of its own, and al
 Every wait is limited in time. The last line is 'N passed, M failed', and the status is 0 if M is 0.
 """
 
-import collections
 import concurrent.futures
 import contextlib
 import os
@@ -20,21 +19,15 @@ import tempfile
 import time
 
 sys.path.insert(0, os.path.join(os.path.dirname(os.path.abspath(__file__)), "..", "harness"))
-from checks import Checks  # noqa: E402
 from false_brokers import Relay  # noqa: E402
+from gateway_checks import FakeSetting, main  # noqa: E402
 from gateways import (  # noqa: E402
-    BAD_REQUEST, CHANGED, CONTENT, CREATED, DELETE, DELETED, DENIED, ETAG, FAULTS, FORBIDDEN, GET, IF_MATCH,
+    BAD_REQUEST, CHANGED, CONTENT, CREATED, DELETE, DELETED, DENIED, ETAG, FORBIDDEN, GET, IF_MATCH,
     IF_NONE_MATCH, INTERNAL, LIMIT, NOT_ACCEPTABLE, NOT_FOUND, OBSERVE, POST, PRECONDITION, PREFIX, PUT, SOON, TIMEOUT,
     UNAVAILABLE, URI_PATH, Broker, Gateway, Setting, encode, option_of, soon,
 )
-from packages import install  # noqa: E402
 from scripted_broker import TAKEN, ScriptedBroker  # noqa: E402
 from workspace import ROOT  # noqa: E402
-
-PACKAGES = {"mosquitto": "mosquitto", "mosquitto_pub": "mosquitto-clients",
-            "/usr/include/mosquitto.h": "libmosquitto-dev", "gcc": "gcc"}
-
-FakeSetting = collections.namedtuple("FakeSetting", ["port", "folder"])
 
 
 @contextlib.contextmanager
@@ -494,44 +487,12 @@ def check_lost_state(checks, program):
                         (b"old payload", NOT_FOUND))
 
 
-CHECKS = [
+CHECKS = [[
     check_table, check_conditions, check_counters, check_order_of_conditions, check_creations, check_removed_under_way,
     check_in_flight, check_peers_gone, check_reasons, check_many_refusals, check_lost_by_refusals, check_slow_writes,
     check_swallowed, check_late_echo, check_pauses, check_reread, check_expiry, check_lost_state,
-]
-
-
-def made(check, program):
-    """Runs a check, prints its counts and returns them. An exception counts as a failure."""
-    began, checks = time.monotonic(), Checks()
-    try:
-        check(checks, program)
-    except Exception as trouble:  # noqa: BLE001
-        checks.same("%s runs to its end" % check.__name__, repr(trouble), None)
-    checks.same("%s: gateways that did not end with status 0" % check.__name__, FAULTS.found, [])
-    FAULTS.found.clear()
-    print("%s: %d passed, %d failed, %.1f s\n" % (check.__name__, checks.passed, checks.failed,
-                                                  time.monotonic() - began), end="", flush=True)
-    return checks
-
-
-def main(words):
-    if not install(PACKAGES):
-        print("the packages %s cannot be installed\n0 passed, 1 failed" % ", ".join(PACKAGES.values()))
-        return 1
-    # The archive is not built again, since that would prove all libraries anew after `rt ci`.
-    make = ["make", "-C", ROOT, "--silent", "-o", "bin/libcoap_proved.a", "bin/coap-mqtt"]
-    if not words and subprocess.run(make).returncode:
-        print("coap-mqtt is not built\n0 passed, 1 failed")
-        return 1
-    program, names, total = os.path.abspath(words[0] if words else f"{ROOT}/bin/coap-mqtt"), words[1:], Checks()
-    chosen = [it for it in CHECKS if not names or it.__name__ in names]
-    with concurrent.futures.ThreadPoolExecutor(len(CHECKS)) as pool:
-        for found in pool.map(made, chosen, [program] * len(chosen)):
-            total.add(found)
-    print("%d passed, %d failed" % (total.passed, total.failed))
-    return 1 if total.failed or not chosen else 0
+]]
 
 
 if __name__ == "__main__":
-    sys.exit(main(sys.argv[1:]))
+    sys.exit(main(CHECKS, sys.argv[1:]))

@@ -1,16 +1,21 @@
-"""Checks peers that send many requests at once, and damaged ones."""
+"""Checks peers that send many requests at once, and damaged ones, and the splitting of their bytes."""
 
 import contextlib
+import os
 import random
+import re
 import socket
+import tempfile
 import time
 
-from gateway_checks import SELDOM
+from gateway_checks import SANITIZED, SELDOM, SOURCES, run
 from gateways import (
     CHANGED, CONTENT, CREATED, DELETE, FORMAT, GET, IF_MATCH, LIMIT, OBSERVE, POST, PREFIX, PUT, URI_PATH, Setting,
     encode,
 )
 from peers import LOCAL
+from rows import HARNESS
+from workspace import ROOT
 
 
 def check_many(checks, program):
@@ -83,3 +88,16 @@ def check_noise(checks, program):
             alive += peer.get(f"{PREFIX}/kept") == (CONTENT, b"kept", None)
         checks.same("another peer is served", alive, 400)
         checks.same("the gateway runs", setting.gateways[0].process.poll(), None)
+
+def check_frames(checks, program):
+    """Compares the splitting of frames with that of the proved library, on bytes at random."""
+    archive = os.path.join(os.path.dirname(program), "libcoap_proved.a")
+    with tempfile.TemporaryDirectory(prefix="coap-mqtt-") as folder:
+        line = ["gcc", "-std=c11", "-Wall", "-Wextra", "-Werror", f"-I{SOURCES}", f"-I{ROOT}/include"]
+        sources = [f"{HARNESS}/mqtt_frames.c", f"{SOURCES}/screen.c", archive, "-o", f"{folder}/frames"]
+        for how, flags, streams in (("", ["-O2"], 20_000), (" with sanitizers", SANITIZED, 2_000)):
+            checks.same(f"compiles{how}", run([*line, *flags, *sources]).stderr, "")
+            done = run([f"{folder}/frames", "8323", str(streams)])
+            found = re.fullmatch(r"(\d+) streams, (\d+) messages, 0 wrong\n", done.stdout)
+            checks.same(f"the splitting{how}", (done.returncode, bool(found) or done.stdout), (0, True))
+            checks.same(f"messages{how}", bool(found) and int(found[2]) > 2 * streams, True)
