@@ -28,9 +28,9 @@ from checks import Checks  # noqa: E402
 from false_brokers import Relay  # noqa: E402
 from gateway_checks import FakeSetting, made_at_once, run  # noqa: E402
 from gateways import (  # noqa: E402
-    CHANGED, CONTENT, CREATED, DELETE, DELETED, ETAG, GET, IF_MATCH, IF_NONE_MATCH, LIMIT, NOT_ALLOWED, NOT_FOUND,
-    OBSERVE, POST, PRECONDITION, PREFIX, PUT, TIMEOUT, UNAVAILABLE, URI_PATH, Gateway, Peer, Setting, encode, option_of,
-    soon,
+    CHANGED, CONTENT, CREATED, DELETE, DELETED, ETAG, GET, IF_MATCH, IF_NONE_MATCH, LIMIT, NOT_ACCEPTABLE, NOT_ALLOWED,
+    NOT_FOUND, OBSERVE, POST, PRECONDITION, PREFIX, PUT, TIMEOUT, UNAVAILABLE, URI_PATH, Gateway, Peer, Setting, encode,
+    option_of, soon,
 )
 from packages import exists, install  # noqa: E402
 from peers import LOCAL, free_port, processor_time, reset  # noqa: E402
@@ -42,6 +42,8 @@ PACKAGES = {"gcc": "gcc", "haproxy": "haproxy", "mosquitto": "mosquitto", "mosqu
 
 # Codes of signalling messages.
 SETTINGS, PING, PONG, RELEASE = 0xE1, 0xE2, 0xE3, 0xE4
+
+URI_QUERY, ACCEPT = 15, 17
 
 
 def signals(peer):
@@ -230,6 +232,9 @@ def check_health(checks, program):
         checks.same("Observe", (observed.code, observed.options, observed.payload), (CONTENT, [], b""))
         for method in (POST, PUT, DELETE, 5, 30, 31):
             checks.same(f"method {method}", peer.code(method, "health", payload=b"x"), NOT_ALLOWED)
+        for option, code in ((IF_MATCH, b""), CONTENT), ((IF_MATCH, b"x"), PRECONDITION), ((ETAG, b"x"), CONTENT), \
+                ((IF_NONE_MATCH, b""), PRECONDITION), ((ACCEPT, b""), NOT_ACCEPTABLE), ((URI_QUERY, b"x"), CONTENT):
+            checks.same(f"the option {option}", peer.code(GET, "health", [option]), code)
         below = ("health/a", ["health", ""], ["health", ".."])
         checks.same("paths below", [peer.code(GET, it) for it in below], 3 * [NOT_FOUND])
         listed = peer.ask(GET, ".well-known/core").payload
