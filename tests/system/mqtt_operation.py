@@ -115,6 +115,24 @@ def check_credentials(checks, program):
         checks.same("a missing credential", (done.returncode, f"{setting.folder}/no\n" in done.stderr), (1, True))
 
 
+def check_flags(checks, program):
+    """Checks that the program is built without a remark by the flags of a distribution, and how it is protected."""
+    with tempfile.TemporaryDirectory(prefix="coap-mqtt-") as folder:
+        for name in ("gateway", "include", "crates.txt", "Makefile", "VERSION"):
+            os.symlink(f"{ROOT}/{name}", f"{folder}/{name}")
+        for name in ("bin", "crates"):
+            os.mkdir(f"{folder}/{name}")
+        os.symlink(f"{os.path.dirname(program)}/libcoap_proved.a", f"{folder}/bin/libcoap_proved.a")
+        flags = ["CPPFLAGS=-Wdate-time -D_FORTIFY_SOURCE=3", "CFLAGS=-g -O2 -Werror=format-security"]
+        built = run(["make", "-C", folder, "--silent", "-o", "bin/libcoap_proved.a", "bin/coap-mqtt", *flags])
+        checks.same("remarks of the compiler", (built.returncode, built.stderr), (0, ""))
+        for of in (program, f"{folder}/bin/coap-mqtt"):
+            parts, entries = (run(["readelf", it, "-W", of]).stdout for it in ("-l", "-d"))
+            wanted = (r"GNU_STACK .* RW +0x", "GNU_RELRO", "BIND_NOW", "PIE")
+            found = [re.search(it, parts + entries) is not None for it in wanted]
+            checks.same(f"protections of {of}", found, 4 * [True])
+
+
 # ---- silent peers ----
 
 def check_idle(checks, program):
@@ -603,8 +621,8 @@ def set_error(name, number):
         file.write(struct.pack("=B", number))
 
 
-CHECKS = [check_options, check_credentials, check_idle, check_unread, check_health, check_front, check_metrics,
-          check_notify, check_end, check_log_end, check_reset, check_failing_calls]
+CHECKS = [check_options, check_credentials, check_flags, check_idle, check_unread, check_health, check_front,
+          check_metrics, check_notify, check_end, check_log_end, check_reset, check_failing_calls]
 
 
 def main(words):
