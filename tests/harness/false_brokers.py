@@ -126,16 +126,21 @@ class Publication:
         return packet(0x40, self.identifier + (bytes([reason, 0]) if reason else b""))
 
 
-class SmallBroker:
-    """A broker for one gateway at a time. It accepts each connection and subscription, and sends each publication back
-    and acknowledges it, unless `reply` returns other bytes for a publication. `properties` are those of its CONNACK. It
-    keeps no message. `connects` has a pair for each CONNECT: its time and its client identifier."""
+# A CONNACK that the gateway is not authorised.
+REFUSAL = packet(0x20, b"\0\x87\0")
 
-    def __init__(self, properties=b"", reply=None, connack=None):
+
+class SmallBroker:
+    """A broker for one gateway at a time. It refuses a number of connections, and accepts each later one and each
+    subscription. It sends each publication back and acknowledges it, unless `reply` returns other bytes for it. It keeps
+    no message. `properties` are those of its CONNACK. `connects` has a pair for each CONNECT: its time and its client
+    identifier."""
+
+    def __init__(self, properties=b"", reply=None, refusals=0):
         self.listener, self.ends, self.reply = socket.create_server((LOCAL, 0)), False, reply or self.send_back
         self.port, self.connects, self.changed = self.listener.getsockname()[1], [], threading.Condition()
-        self.connack = connack or packet(0x20, b"\0\0" + varint(len(properties)) + properties)
-        self.connection = None
+        self.connack = packet(0x20, b"\0\0" + varint(len(properties)) + properties)
+        self.refusals, self.connection = refusals, None
 
     @staticmethod
     def send_back(publication):
@@ -184,7 +189,7 @@ class SmallBroker:
                 length = int.from_bytes(body[start:start + 2], "big")
                 self.connects.append((time.monotonic(), body[start + 2:start + 2 + length]))
                 self.changed.notify_all()
-            return self.connack
+                return REFUSAL if len(self.connects) <= self.refusals else self.connack
         if kind == 8:
             return packet(0x90, body[:2] + b"\0\1")
         if kind == 12:

@@ -20,7 +20,7 @@ sys.path.insert(0, os.path.dirname(os.path.abspath(__file__)))
 import haproxy  # noqa: E402
 import mqtt  # noqa: E402
 from checks import Checks  # noqa: E402
-from false_brokers import CONNACK, SUBACK, FalseBroker, Relay, SmallBroker, packet  # noqa: E402
+from false_brokers import CONNACK, SUBACK, FalseBroker, Relay, SmallBroker  # noqa: E402
 from gateways import (  # noqa: E402
     CHANGED, CONTENT, CREATED, DELETE, DELETED, GET, INTERNAL, LIMIT, NOT_FOUND, PREFIX, PUT, SIZE1, TOO_LARGE,
     UNAVAILABLE, Broker, Gateway, Setting, number, option_of, soon,
@@ -165,11 +165,11 @@ UNSUITABLE_SETTINGS = {"retain_available false": "keeps no retained messages",
                        "max_qos 0": "accepts no publications with QoS 1"}
 
 
-def alone(stack, program, broker, gateway=7, words=()):
+def alone(stack, program, broker, gateway=7, words=(), before=()):
     """Starts a gateway of a broker that is no mosquitto. Does not wait until it listens."""
     folder = stack.enter_context(tempfile.TemporaryDirectory(prefix="coap-mqtt-"))
     mqtt.write_file(f"{folder}/password", "x\n")
-    started = Gateway(program, mqtt.FakeSetting(broker.port, folder), folder, gateway, words)
+    started = Gateway(program, mqtt.FakeSetting(broker.port, folder), folder, gateway, words, before)
     started.start(waits=False)
     stack.push(started)
     return started
@@ -261,16 +261,16 @@ def check_ids(checks, program):
             checks.same("the one that stays serves writes", code, CHANGED)
 
 
-def stepped(folder):
+def stepped(folder, clock="CLOCK_STEP"):
     """Returns the words that run a program with a clock that the test sets, and the name of the file with its step."""
     library, step = f"{folder}/clock_step.so", f"{folder}/step"
     run(["gcc", "-O2", "-shared", "-fPIC", "-o", library, f"{HARNESS}/clock_step.c"], check=True)
     mqtt.write_number(step, 0)
-    return ["sh", "-c", f'exec 9<{step}; exec env LD_PRELOAD={library} CLOCK_STEP=9 "$@"', "sh"], step
+    return ["sh", "-c", f'exec 9<{step}; exec env LD_PRELOAD={library} {clock}=9 "$@"', "sh"], step
 
 
 def check_restored(checks, program):
-    """Checks a run whose clock is an hour less than that of the run before, at a broker that restores an older state."""
+    """Checks a run whose clock is an hour less than that of the run before, at a broker with an older state."""
     with tempfile.TemporaryDirectory(prefix="coap-mqtt-") as folder:
         before, step = stepped(folder)
         with Setting(program, 1, before=before) as setting:
@@ -337,14 +337,33 @@ def check_forged(checks, program):
 
 def check_pauses(checks, program):
     """Checks the pauses between attempts that fail: 1, 2 and 4 seconds, and up to a quarter more."""
-    with SmallBroker(connack=packet(0x20, b"\0\x87\0")) as broker, contextlib.ExitStack() as stack:
+    with SmallBroker(refusals=4) as broker, contextlib.ExitStack() as stack:
         gateway = alone(stack, program, broker)
         times = [at for at, _ in broker.connected(4)]
         gaps = [later - earlier for earlier, later in zip(times, times[1:])]
         # A turn takes up to a second, since time counts in seconds while nothing arrives.
         wanted = [least <= gap <= 1.25 * least + 1.5 for least, gap in zip((1, 2, 4), gaps)]
         checks.same(f"the pauses {gaps}", wanted, 3 * [True])
-        checks.same("the log", gateway.log().count("refused the connection"), 4)
+        checks.same("the log", gateway.says("refused the connection", 4), True)
+
+
+def check_pauses_anew(checks, program):
+    """Checks that the pauses begin anew after a connection of a minute, and not after a shorter one."""
+    with SmallBroker(refusals=2) as broker, contextlib.ExitStack() as stack:
+        folder = stack.enter_context(tempfile.TemporaryDirectory(prefix="coap-mqtt-"))
+        before, step = stepped(folder, "MONOTONIC_STEP")
+        gateway = alone(stack, program, broker, before=before)
+        for seconds, wanted in ((0, (1, 2, 4)), (61, (1, 2, 4, 1))):
+            checks.same("it is connected", gateway.says(" resources", len(wanted) - 2), True)
+            if seconds:
+                # The connection ends, since the gateway seems to have stood still.
+                mqtt.write_number(step, seconds)
+            else:
+                broker.drop()
+            checks.same("the connection is lost", gateway.says("next attempt in ", len(wanted)), True)
+            pauses = [float(it) for it in re.findall(r"next attempt in ([\d.]+) s", gateway.log())]
+            checks.same(f"pauses {pauses}", [least <= it <= 1.25 * least for least, it in zip(wanted, pauses)],
+                        len(wanted) * [True])
 
 
 # ---- files of TLS ----
@@ -382,6 +401,17 @@ def check_tls_files(checks, program):
         checks.same("nothing was connected", broker.connects, [])
 
 
+# Runs a program that has a terminal, on which nobody types.
+WITH_TERMINAL = [sys.executable, "-c", """
+import fcntl, os, sys, termios
+for it in (pair := os.openpty()):
+    os.set_inheritable(it, True)
+os.setsid()
+fcntl.ioctl(pair[1], termios.TIOCSCTTY, 0)
+os.execvp(sys.argv[1], sys.argv[1:])
+"""]
+
+
 def check_key_replaced(checks, program):
     """Checks a key that is encrypted after the start: no password is asked for, and peers are served."""
     with tempfile.TemporaryDirectory(prefix="coap-mqtt-") as folder:
@@ -392,7 +422,7 @@ def check_key_replaced(checks, program):
         own = ["--cafile", f"{folder}/authority.pem", "--cert", f"{folder}/signed.pem"]
         own += ["--key", f"{folder}/gateway.key"]
         with Broker(folder, [("# Only the gateways: each", lines + "# Only the gateways: each")]) as broker:
-            with Gateway(program, broker, folder, 1, own) as gateway, gateway.peer() as peer:
+            with Gateway(program, broker, folder, 1, own, WITH_TERMINAL) as gateway, gateway.peer() as peer:
                 checks.same("a write", peer.code(PUT, f"{PREFIX}/a", payload=b"1"), CREATED)
                 files = ["-in", f"{folder}/server.key", "-out", f"{folder}/gateway.key"]
                 run(["openssl", "pkey", "-aes128", "-passout", "pass:secret", *files], check=True)
@@ -406,7 +436,8 @@ def check_key_replaced(checks, program):
 
 # Checks in the order in which they run. Those of a list mostly wait, and run at once.
 CHECKS = [check_parts, check_packet_limit, check_prefixes, check_tls_files, check_key_replaced,
-          [check_unsuitable, check_session_taken, check_ids, check_restored, check_forged, check_pauses]]
+          [check_unsuitable, check_session_taken, check_ids, check_restored, check_forged, check_pauses,
+           check_pauses_anew]]
 
 
 def main(words):
