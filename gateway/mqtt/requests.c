@@ -26,6 +26,7 @@ bool request_read(struct request *request, const struct dachreup_span *bytes) {
     while (dachreup_option_next(options->at, options->count, &at, &number, &value) == DACHREUP_OK) {
         if (number == URI_PATH)
             request->has_path = path_add(&request->path, value.at, value.count) && request->has_path;
+        request->is_conditional = request->is_conditional || number == IF_MATCH || number == IF_NONE_MATCH;
         /* A later one is not recognised, and Content-Format is not critical (RFC 7252 section 5.4.5). */
         if (number == CONTENT_FORMAT && !has_format)
             request->format = read_format(&value);

@@ -82,121 +82,6 @@ class FalseBroker:
         self.thread.join(LIMIT)
 
 
-def varint(number):
-    """Returns a variable byte integer."""
-    low, rest = number & 127, number >> 7
-    return bytes([low | 128]) + varint(rest) if rest else bytes([low])
-
-
-def packet(kind, body):
-    return bytes([kind]) + varint(len(body)) + body
-
-
-def split_packets(stream):
-    """Returns the whole packets at the start of a stream, each as its first byte and its body, and the rest."""
-    found = []
-    while len(stream) > 1:
-        ends = next((at for at in range(1, len(stream)) if stream[at] < 128), None)
-        size = sum((stream[at] & 127) << 7 * (at - 1) for at in range(1, ends + 1)) if ends else 0
-        if not ends or len(stream) < ends + 1 + size:
-            break
-        found.append((stream[0], stream[ends + 1:ends + 1 + size]))
-        stream = stream[ends + 1 + size:]
-    return found, stream
-
-
-class Publication:
-    """A PUBLISH with QoS 1, as a gateway sends it."""
-
-    def __init__(self, first, body):
-        length = int.from_bytes(body[:2], "big")
-        self.topic, self.identifier, self.is_retained = body[2:2 + length], body[2 + length:4 + length], bool(first & 1)
-        rest = body[4 + length:]
-        ends = next(at for at, byte in enumerate(rest) if byte < 128) + 1
-        size = sum((byte & 127) << 7 * at for at, byte in enumerate(rest[:ends]))
-        self.properties, self.payload = rest[:ends + size], rest[ends + size:]
-
-    def echo(self, is_retained=None):
-        """Returns this message as a subscriber gets it, with QoS 0."""
-        retain = self.is_retained if is_retained is None else is_retained
-        topic = len(self.topic).to_bytes(2, "big") + self.topic
-        return packet(0x31 if retain else 0x30, topic + self.properties + self.payload)
-
-    def acknowledged(self, reason=0):
-        return packet(0x40, self.identifier + (bytes([reason, 0]) if reason else b""))
-
-
-# A CONNACK that the gateway is not authorised.
-REFUSAL = packet(0x20, b"\0\x87\0")
-
-
-class SmallBroker:
-    """A broker for one gateway at a time. It refuses a number of connections, and accepts each later one and each
-    subscription. It sends each publication back and acknowledges it, unless `reply` returns other bytes for it. It keeps
-    no message. `properties` are those of its CONNACK. `connects` has a pair for each CONNECT: its time and its client
-    identifier."""
-
-    def __init__(self, properties=b"", reply=None, refusals=0):
-        self.listener, self.ends, self.reply = socket.create_server((LOCAL, 0)), False, reply or self.send_back
-        self.port, self.connects, self.changed = self.listener.getsockname()[1], [], threading.Condition()
-        self.connack = packet(0x20, b"\0\0" + varint(len(properties)) + properties)
-        self.refusals, self.connection = refusals, None
-
-    @staticmethod
-    def send_back(publication):
-        return publication.echo() + publication.acknowledged()
-
-    def __enter__(self):
-        threading.Thread(target=self.run, daemon=True).start()
-        return self
-
-    def __exit__(self, *_):
-        self.ends = True
-        self.drop()
-        self.listener.close()
-
-    def drop(self):
-        """Ends the connection."""
-        with contextlib.suppress(OSError, AttributeError):
-            self.connection.shutdown(socket.SHUT_RDWR)
-
-    def connected(self, count, seconds=LIMIT):
-        """Waits for a number of connections, and returns the first ones."""
-        with self.changed:
-            self.changed.wait_for(lambda: len(self.connects) >= count, seconds)
-            return self.connects[:count]
-
-    def run(self):
-        while not self.ends:
-            with contextlib.suppress(OSError):
-                self.connection = self.listener.accept()[0]
-                self.serve(self.connection)
-
-    def serve(self, connection):
-        stream = b""
-        with connection:
-            while piece := connection.recv(65536):
-                packets, stream = split_packets(stream + piece)
-                for first, body in packets:
-                    connection.sendall(self.answer(first, body))
-
-    def answer(self, first, body):
-        kind = first >> 4
-        if kind == 1:
-            with self.changed:
-                # The client identifier follows the properties, which have one byte for their length.
-                start = 11 + body[10]
-                length = int.from_bytes(body[start:start + 2], "big")
-                self.connects.append((time.monotonic(), body[start + 2:start + 2 + length]))
-                self.changed.notify_all()
-                return REFUSAL if len(self.connects) <= self.refusals else self.connack
-        if kind == 8:
-            return packet(0x90, body[:2] + b"\0\1")
-        if kind == 12:
-            return packet(0xD0, b"")
-        return self.reply(Publication(first, body)) if kind == 3 else b""
-
-
 class Relay:
     """Relays connections to a broker, at most a number of bytes a second, and can send bytes of its own to the gateway.
     While `open` is not set, it relays no new connection."""
@@ -216,13 +101,21 @@ class Relay:
 
     def run(self):
         while not self.ends:
-            with contextlib.suppress(OSError):
-                gateway = self.listener.accept()[0]
+            # A connection ends at once if the broker is away.
+            with contextlib.suppress(OSError), contextlib.ExitStack() as stack:
+                gateway = stack.enter_context(self.listener.accept()[0])
                 self.open.wait()
                 broker = socket.create_connection((LOCAL, self.to), LIMIT)
+                stack.pop_all()
                 self.gateways.append(gateway)
                 for one, other in ((gateway, broker), (broker, gateway)):
                     threading.Thread(target=self.copy, args=(one, other), daemon=True).start()
+
+    def cut(self):
+        """Ends the connections."""
+        for it in self.gateways:
+            with contextlib.suppress(OSError):
+                it.shutdown(socket.SHUT_RDWR)
 
     def copy(self, one, other):
         with contextlib.suppress(OSError):
