@@ -101,13 +101,21 @@ class Relay:
 
     def run(self):
         while not self.ends:
-            with contextlib.suppress(OSError):
-                gateway = self.listener.accept()[0]
+            # A connection ends at once if the broker is away.
+            with contextlib.suppress(OSError), contextlib.ExitStack() as stack:
+                gateway = stack.enter_context(self.listener.accept()[0])
                 self.open.wait()
                 broker = socket.create_connection((LOCAL, self.to), LIMIT)
+                stack.pop_all()
                 self.gateways.append(gateway)
                 for one, other in ((gateway, broker), (broker, gateway)):
                     threading.Thread(target=self.copy, args=(one, other), daemon=True).start()
+
+    def cut(self):
+        """Ends the connections."""
+        for it in self.gateways:
+            with contextlib.suppress(OSError):
+                it.shutdown(socket.SHUT_RDWR)
 
     def copy(self, one, other):
         with contextlib.suppress(OSError):
