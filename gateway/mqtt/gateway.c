@@ -230,7 +230,8 @@ static bool turn(struct gateway *gateway, const sigset_t *signals) {
 }
 
 /* Adds the entry of a path, whose requests with these methods the gateway answers. */
-static uint32_t add_entry(struct dachreup_applications *entries, const char *path, uint32_t methods, const char *attributes) {
+static uint32_t add_entry(struct dachreup_applications *entries, const char *path, uint32_t methods,
+                          const char *attributes) {
     return dachreup_applications_add(entries, (const uint8_t *)path, strlen(path), methods, (const uint8_t *)attributes,
                                      strlen(attributes));
 }

@@ -20,10 +20,10 @@ static bool is_of_library(const void *address) {
  * The macro assert of every library calls this function, and the program's own comes before that of the C library. Only
  * an assertion of libmosquitto ends a guarded call.
  *
- * The call may leave locks of its client: that of the callbacks, since a callback runs under it, and that of the
- * outgoing or incoming messages, under which waiting publications are sent. Every other call with this client could
- * wait for them for ever. mosquitto_destroy takes none: it destroys them, which POSIX leaves undefined for a lock that
- * is held, and which glibc does not mind. The packet that was read or written is not freed.
+ * The call may leave two locks of its client held: that of the callbacks, since a callback runs under it, and that of
+ * the outgoing messages, under which publications are sent. Most other calls with this client would wait for them for
+ * ever. mosquitto_destroy takes neither: it destroys them, which POSIX leaves undefined for a lock that is held, and
+ * which glibc does not mind. The packet that was being read or written is not freed.
  */
 _Noreturn void __assert_fail(const char *expression, const char *file, unsigned line, const char *function);
 

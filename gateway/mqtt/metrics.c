@@ -47,7 +47,8 @@ static void append_head(struct text *text, const char *name, const char *type, c
 static void append_number(struct text *text, const struct gateway *gateway, const char *name, const char *type,
                           const char *help, uint64_t number) {
     append_head(text, name, type, help);
-    append(text, "dachreup_mqtt_%s{id=\"%u\"} %llu\n", name, (unsigned)gateway->options->id, (unsigned long long)number);
+    append(text, "dachreup_mqtt_%s{id=\"%u\"} %llu\n", name, (unsigned)gateway->options->id,
+           (unsigned long long)number);
 }
 
 /* Returns true if a code is written although no response has it yet, so that its first increase can be seen. */
@@ -57,12 +58,13 @@ static bool is_usual(uint32_t code) {
 }
 
 static void append_writes(struct text *text, const struct gateway *gateway) {
-    const struct metrics *metrics = &gateway->metrics;
+    const uint64_t *writes = gateway->metrics.writes;
+    unsigned id = gateway->options->id;
     append_head(text, "writes_total", "counter", "Responses to PUT, POST and DELETE below the prefix.");
-    for (uint32_t code = 0; code < 256; code++)
-        if (metrics->writes[code] || is_usual(code))
-            append(text, "dachreup_mqtt_writes_total{id=\"%u\",code=\"%u.%02u\"} %llu\n", (unsigned)gateway->options->id,
-                   (unsigned)code >> 5, (unsigned)code & 31, (unsigned long long)metrics->writes[code]);
+    for (unsigned code = 0; code < 256; code++)
+        if (writes[code] || is_usual(code))
+            append(text, "dachreup_mqtt_writes_total{id=\"%u\",code=\"%u.%02u\"} %llu\n", id, code >> 5, code & 31,
+                   (unsigned long long)writes[code]);
 }
 
 static void append_all(struct text *text, const struct gateway *gateway) {
@@ -86,7 +88,7 @@ static void append_all(struct text *text, const struct gateway *gateway) {
 
 /* ---- the file ---- */
 
-/* Writes a new file. Returns false, with errno, if that fails. Other users may read it, whatever the mask of the unit. */
+/* Writes a new file. Returns false, with errno, if that fails. Other users may read it, whatever the unit's mask. */
 static bool write_file(const char *name, const struct text *text) {
     int file = open(name, O_WRONLY | O_CREAT | O_TRUNC | O_CLOEXEC, 0644);
     if (file < 0)

@@ -1,6 +1,6 @@
 /*
- * Numbers about the gateway, as text of Prometheus in a file, for the textfile collector of its node exporter. Peers cannot
- * read them.
+ * Numbers about the gateway, as text of Prometheus in a file, for the textfile collector of its node exporter. Peers
+ * cannot read them.
  */
 #ifndef COAP_MQTT_METRICS_H
 #define COAP_MQTT_METRICS_H
@@ -22,7 +22,7 @@ struct metrics {
 /* Counts a response to a request with this method. GET and methods that are not assigned are no writes. */
 void metrics_count(struct metrics *metrics, uint32_t method, uint32_t code);
 
-/* Writes the file, if `--metrics` names one: a new one, which then replaces the old one. Returns false if that fails. */
+/* Writes the file, if `--metrics` names one: a new one replaces the old one. Returns false if that fails. */
 bool metrics_write(struct gateway *gateway);
 
 /* Called once a second. Writes the file if it is time. Logs the first failure of several. */

@@ -1,6 +1,6 @@
 /*
- * Messages to systemd, if it started the program with Type=notify: sd_notify(3) is one datagram, so no library is needed.
- * No call blocks, and a message that cannot be sent is left out.
+ * Messages to systemd, if it started the program with Type=notify: sd_notify(3) is one datagram, so no library is
+ * needed. No call blocks, and a message that cannot be sent is left out.
  */
 #ifndef COAP_MQTT_NOTIFY_H
 #define COAP_MQTT_NOTIFY_H

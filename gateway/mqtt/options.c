@@ -284,7 +284,8 @@ static bool check(struct options *options) {
     if (!options->cert != !options->key || (options->cert && !options->cafile))
         return log_always("--cert and --key need each other and --cafile"), false;
     if (options->health_text && !are_apart(&options->health, &options->prefix))
-        return log_always("the paths of --health and --prefix overlap: %s and %s", options->health_text, options->prefix_text), false;
+        return log_always("the paths of --health and --prefix overlap: %s and %s", options->health_text,
+                          options->prefix_text), false;
     if (options->password_file && !read_password(options))
         return log_always("cannot read a password of at most %d bytes from %s", PASSWORD_ROOM - 2, options->password_file), false;
     return tls_files_check(options);

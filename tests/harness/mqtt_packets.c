@@ -10,14 +10,17 @@
  * The last line is 'N seen, M wrong', and the status is 0 if M is 0.
  */
 #include <arpa/inet.h>
+#include <assert.h>
 #include <linux/sockios.h>
 #include <mosquitto.h>
 #include <mqtt_protocol.h>
+#include <signal.h>
 #include <stdio.h>
 #include <stdlib.h>
 #include <string.h>
 #include <sys/ioctl.h>
 #include <sys/socket.h>
+#include <sys/wait.h>
 #include <unistd.h>
 
 #include "guard.h"
@@ -219,6 +222,28 @@ static int publish_too_large(struct link *link) {
     return guarded_publish(link->client, NULL, &message);
 }
 
+/* An assertion that is not one of libmosquitto. */
+static int fail_assertion(struct link *link) {
+    assert(link == NULL);
+    return 0;
+}
+
+/* Returns the status of a process that connects and calls a function in the callback. */
+static int status_after(int (*call)(struct link *link)) {
+    int status = 0;
+    pid_t child = fork();
+    if (child == 0) {
+        struct link link = {.on_connect = call};
+        freopen("/dev/null", "w", stderr);
+        open_link(&link, CONNACK, sizeof CONNACK);
+        while (guarded_read(link.client) == 0)
+            ;
+        _exit(0);
+    }
+    waitpid(child, &status, 0);
+    return WIFSIGNALED(status) ? WTERMSIG(status) : -1;
+}
+
 static void check_guard(void) {
     struct link link = {0}, inner = {.on_connect = publish_too_large};
     open_link(&link, CONNACK_100, sizeof CONNACK_100);
@@ -233,6 +258,7 @@ static void check_guard(void) {
     expect_same("connected", (size_t)inner.is_connected, 1);
     expect_same("a publication in a callback", (size_t)result, (size_t)GUARD_FAILED);
     close_link(&inner);
+    expect_same("status after a failed assertion of this program", (size_t)status_after(fail_assertion), SIGABRT);
     struct link again = {0};
     open_link(&again, CONNACK, sizeof CONNACK);
     while (!again.is_connected)

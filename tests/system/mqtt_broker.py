@@ -11,23 +11,23 @@ import os
 import re
 import shutil
 import socket
-import subprocess
 import sys
 import tempfile
+import threading
+import time
 
 sys.path.insert(0, os.path.join(os.path.dirname(os.path.abspath(__file__)), "..", "harness"))
 sys.path.insert(0, os.path.join(os.path.dirname(os.path.abspath(__file__)), "mqtt"))
-import gateway_checks  # noqa: E402
 import haproxy  # noqa: E402
-from checks import Checks  # noqa: E402
-from false_brokers import CONNACK, SUBACK, FalseBroker, Relay, SmallBroker, packet  # noqa: E402
+from environment import write_number  # noqa: E402
+from false_brokers import CONNACK, SUBACK, FalseBroker, Relay  # noqa: E402
+from gateway_checks import FakeSetting, main, run, write_file  # noqa: E402
 from gateways import (  # noqa: E402
     CHANGED, CONTENT, CREATED, DELETE, DELETED, GET, INTERNAL, LIMIT, NOT_FOUND, PREFIX, PUT, SIZE1, TOO_LARGE,
     UNAVAILABLE, Broker, Gateway, Setting, number, option_of, soon,
 )
-from environment import write_number  # noqa: E402
-from packages import install  # noqa: E402
 from rows import HARNESS  # noqa: E402
+from scripted_broker import CONNECT, ScriptedBroker, packet  # noqa: E402
 from workspace import ROOT  # noqa: E402
 
 SOURCES = f"{ROOT}/gateway/mqtt"
@@ -46,10 +46,6 @@ def check_parts(checks, _):
             done = run([f"{folder}/parts", name])
             is_right = done.stdout.endswith(", 0 wrong\n") or done.stdout
             checks.same(f"parts: {name}", (done.returncode, is_right), (0, True))
-
-
-def run(words, **how):
-    return subprocess.run(words, stdin=subprocess.DEVNULL, capture_output=True, text=True, timeout=LIMIT, **how)
 
 
 # ---- Maximum Packet Size ----
@@ -127,20 +123,65 @@ def packet_size_property(size):
     return b"\x27" + size.to_bytes(4, "big")
 
 
-def not_retained(publication):
-    return publication.echo(is_retained=False) + publication.acknowledged()
+# A CONNACK that the gateway is not authorised.
+REFUSAL = packet(0x20, b"\0\x87\0")
 
 
-def refuse_record(publication):
-    return publication.acknowledged(0x87) if publication.is_retained else SmallBroker.send_back(publication)
+class StrictBroker(ScriptedBroker):
+    """A broker that refuses a number of connections. `properties` are those of its later CONNACKs. `reply` returns the
+    bytes for a publication of the gateway for itself, or None for the usual ones. `connects` has a pair for each
+    CONNECT: its time and its client identifier."""
+
+    def __init__(self, properties=b"", reply=lambda published: None, refusals=0):
+        super().__init__()
+        self.connack = packet(0x20, b"\0\0" + bytes([len(properties)]) + properties)
+        self.reply, self.refusals, self.connects, self.changed = reply, refusals, [], threading.Condition()
+
+    def handle(self, connection, head, body):
+        if head >> 4 != CONNECT:
+            super().handle(connection, head, body)
+            return
+        with self.changed:
+            # The client identifier follows the properties, whose length has one byte.
+            start = 11 + body[10]
+            length = int.from_bytes(body[start:start + 2], "big")
+            self.connects.append((time.monotonic(), body[start + 2:start + 2 + length].decode()))
+            self.changed.notify_all()
+            connection.sendall(REFUSAL if len(self.connects) <= self.refusals else self.connack)
+
+    def take(self, connection, published):
+        reply = self.reply(published)
+        if reply is None:
+            super().take(connection, published)
+        else:
+            connection.sendall(reply)
+
+    def connected(self, count):
+        """Waits for a number of connections, and returns the first ones."""
+        with self.changed:
+            self.changed.wait_for(lambda: len(self.connects) >= count, LIMIT)
+            return self.connects[:count]
 
 
-def swallow_record(publication):
-    return publication.acknowledged() if publication.is_retained else SmallBroker.send_back(publication)
+def puback(published, reason=0):
+    return packet(0x40, published.number + bytes([reason, 0]))
 
 
-def no_subscriber(publication):
-    return publication.acknowledged(0x10)
+def clear_retain(published):
+    published.is_retained = False
+    return published.again() + puback(published)
+
+
+def refuse_record(published):
+    return puback(published, 0x87) if published.is_retained else None
+
+
+def swallow_record(published):
+    return puback(published) if published.is_retained else None
+
+
+def miss_subscriber(published):
+    return puback(published, 0x10)
 
 
 # Brokers that no gateway can use, by what they lack: how they are made, and the text of the log.
@@ -151,14 +192,14 @@ UNSUITABLE = {
     "a Maximum Packet Size": ([packet_size_property(NEEDED - 1)], "unsuitable: it accepts packets of at most "
                               f"{NEEDED - 1} bytes, and the gateway sends {NEEDED}"),
     "the least Maximum Packet Size": ([packet_size_property(1)], "unsuitable: it accepts packets of at most 1 bytes"),
-    "no Retain As Published": ([b"", not_retained], "unsuitable: it clears RETAIN"),
+    "no Retain As Published": ([b"", clear_retain], "unsuitable: it clears RETAIN"),
 }
 
 # Brokers that refuse or swallow what the gateway publishes for itself.
 UNWILLING = {
     "a refused record": ([b"", refuse_record], "refused the record of the owner: Not authorized"),
     "a swallowed record": ([b"", swallow_record], "the record of the owner did not come back within 10 seconds"),
-    "no subscriber": ([b"", no_subscriber], "it has lost the subscription"),
+    "no subscriber": ([b"", miss_subscriber], "it has lost the subscription"),
 }
 
 # Settings of mosquitto with which no gateway can use it.
@@ -166,11 +207,11 @@ UNSUITABLE_SETTINGS = {"retain_available false": "keeps no retained messages",
                        "max_qos 0": "accepts no publications with QoS 1"}
 
 
-def alone(stack, program, broker, gateway=7, words=()):
+def alone(stack, program, broker, gateway=7, words=(), before=()):
     """Starts a gateway of a broker that is no mosquitto. Does not wait until it listens."""
     folder = stack.enter_context(tempfile.TemporaryDirectory(prefix="coap-mqtt-"))
-    gateway_checks.write_file(f"{folder}/password", "x\n")
-    started = Gateway(program, gateway_checks.FakeSetting(broker.port, folder), folder, gateway, words)
+    write_file(f"{folder}/password", "x\n")
+    started = Gateway(program, FakeSetting(broker.port, folder), folder, gateway, words, before)
     started.start(waits=False)
     stack.push(started)
     return started
@@ -181,9 +222,9 @@ def check_unsuitable(checks, program):
     with contextlib.ExitStack() as stack:
         running = {}
         for name, (how, text) in {**UNSUITABLE, **UNWILLING}.items():
-            broker = stack.enter_context(SmallBroker(*how))
+            broker = stack.enter_context(StrictBroker(*how))
             running[name] = broker, alone(stack, program, broker), text
-        enough = stack.enter_context(SmallBroker(packet_size_property(NEEDED)))
+        enough = stack.enter_context(StrictBroker(packet_size_property(NEEDED)))
         checks.same("a Maximum Packet Size that is enough", alone(stack, program, enough).says("listening"), True)
         for name, (broker, gateway, text) in running.items():
             checks.same(f"{name}: {text}", gateway.says(text) or gateway.log(), True)
@@ -219,9 +260,9 @@ def check_prefixes(checks, program):
     with contextlib.ExitStack() as stack:
         names = {}
         for gateway, prefix in ((0, PREFIX), (65535, PREFIX), (7, "a"), (7, "b"), (7, "a/b")):
-            broker = stack.enter_context(SmallBroker())
+            broker = stack.enter_context(StrictBroker())
             alone(stack, program, broker, gateway, ["--prefix", prefix])
-            names[gateway, prefix] = broker.connected(1)[0][1].decode()
+            names[gateway, prefix] = broker.connected(1)[0][1]
         # MQTT 5 section 3.1.3.1: every broker accepts 1 to 23 digits and letters.
         others = [it for it in names.values() if not re.fullmatch("[0-9a-zA-Z]{1,23}", it)]
         checks.same("client identifiers that a broker may refuse", others, [])
@@ -262,16 +303,16 @@ def check_ids(checks, program):
             checks.same("the one that stays serves writes", code, CHANGED)
 
 
-def stepped(folder):
+def stepped(folder, clock="CLOCK_STEP"):
     """Returns the words that run a program with a clock that the test sets, and the name of the file with its step."""
     library, step = f"{folder}/clock_step.so", f"{folder}/step"
     run(["gcc", "-O2", "-shared", "-fPIC", "-o", library, f"{HARNESS}/clock_step.c"], check=True)
     write_number(step, 0)
-    return ["sh", "-c", f'exec 9<{step}; exec env LD_PRELOAD={library} CLOCK_STEP=9 "$@"', "sh"], step
+    return ["sh", "-c", f'exec 9<{step}; exec env LD_PRELOAD={library} {clock}=9 "$@"', "sh"], step
 
 
 def check_restored(checks, program):
-    """Checks a run whose clock is an hour less than that of the run before, at a broker that restores an older state."""
+    """Checks a run whose clock is an hour less than that of the run before, at a broker with an older state."""
     with tempfile.TemporaryDirectory(prefix="coap-mqtt-") as folder:
         before, step = stepped(folder)
         with Setting(program, 1, before=before) as setting:
@@ -310,7 +351,7 @@ FORGED_WHILE_AWAY, LAST = "ffffffffffffffff-9000", "ffffffffffffffff-%d" % (2**6
 def check_forged(checks, program):
     """Checks records of the owner that another program publishes, while the gateway is connected or away."""
     with Setting(program, 0) as setting, Relay(setting.broker.port) as relay, contextlib.ExitStack() as stack:
-        topic, to = f"{PREFIX}/%gateway-1/owner", gateway_checks.FakeSetting(relay.port, setting.folder)
+        topic, to = f"{PREFIX}/%gateway-1/owner", FakeSetting(relay.port, setting.folder)
         gateway = stack.enter_context(Gateway(program, to, setting.folder, 1))
         peer, count = stack.enter_context(gateway.peer()), 0
         write = lambda: peer.code(PUT, f"{PREFIX}/a", payload=b"1")  # noqa: E731
@@ -338,14 +379,33 @@ def check_forged(checks, program):
 
 def check_pauses(checks, program):
     """Checks the pauses between attempts that fail: 1, 2 and 4 seconds, and up to a quarter more."""
-    with SmallBroker(connack=packet(0x20, b"\0\x87\0")) as broker, contextlib.ExitStack() as stack:
+    with StrictBroker(refusals=4) as broker, contextlib.ExitStack() as stack:
         gateway = alone(stack, program, broker)
         times = [at for at, _ in broker.connected(4)]
         gaps = [later - earlier for earlier, later in zip(times, times[1:])]
         # A turn takes up to a second, since time counts in seconds while nothing arrives.
         wanted = [least <= gap <= 1.25 * least + 1.5 for least, gap in zip((1, 2, 4), gaps)]
         checks.same(f"the pauses {gaps}", wanted, 3 * [True])
-        checks.same("the log", gateway.log().count("refused the connection"), 4)
+        checks.same("the log", gateway.says("refused the connection", 4), True)
+
+
+def check_pauses_anew(checks, program):
+    """Checks that the pauses begin anew after a connection of a minute, and not after a shorter one."""
+    with StrictBroker(refusals=2) as broker, contextlib.ExitStack() as stack:
+        folder = stack.enter_context(tempfile.TemporaryDirectory(prefix="coap-mqtt-"))
+        before, step = stepped(folder, "MONOTONIC_STEP")
+        gateway = alone(stack, program, broker, before=before)
+        for seconds, wanted in ((0, (1, 2, 4)), (61, (1, 2, 4, 1))):
+            checks.same("it is connected", gateway.says(" resources", len(wanted) - 2), True)
+            if seconds:
+                # The connection ends, since the gateway seems to have stood still.
+                write_number(step, seconds)
+            else:
+                broker.connection.shutdown(socket.SHUT_RDWR)
+            checks.same("the connection is lost", gateway.says("next attempt in ", len(wanted)), True)
+            pauses = [float(it) for it in re.findall(r"next attempt in ([\d.]+) s", gateway.log())]
+            checks.same(f"pauses {pauses}", [least <= it <= 1.25 * least for least, it in zip(wanted, pauses)],
+                        len(wanted) * [True])
 
 
 # ---- files of TLS ----
@@ -365,12 +425,12 @@ BAD_CERTIFICATES = [("server.key", "no certificate in PEM")]
 
 def check_tls_files(checks, program):
     """Checks files of TLS that cannot be used. Each is named, and nothing is connected."""
-    with tempfile.TemporaryDirectory(prefix="coap-mqtt-") as folder, SmallBroker() as broker:
+    with tempfile.TemporaryDirectory(prefix="coap-mqtt-") as folder, StrictBroker() as broker:
         haproxy.certify(folder)
         make_key(folder, "encrypted.key", "-aes128", "-passout", "pass:secret")
         make_key(folder, "traditional.key", "-traditional", "-aes128", "-passout", "pass:secret")
-        gateway_checks.write_file(f"{folder}/empty", "")
-        gateway_checks.write_file(f"{folder}/text", "-----BEGIN NOTHING-----\n")
+        write_file(f"{folder}/empty", "")
+        write_file(f"{folder}/text", "-----BEGIN NOTHING-----\n")
         run(["openssl", "x509", "-in", f"{folder}/signed.pem", "-out", f"{folder}/signed.crt"], check=True)
         os.mkfifo(f"{folder}/pipe")
         good = {"--cafile": "authority.pem", "--cert": "signed.pem", "--key": "server.key"}
@@ -383,6 +443,17 @@ def check_tls_files(checks, program):
         checks.same("nothing was connected", broker.connects, [])
 
 
+# Runs a program that has a terminal, on which nobody types.
+WITH_TERMINAL = [sys.executable, "-c", """
+import fcntl, os, sys, termios
+for it in (pair := os.openpty()):
+    os.set_inheritable(it, True)
+os.setsid()
+fcntl.ioctl(pair[1], termios.TIOCSCTTY, 0)
+os.execvp(sys.argv[1], sys.argv[1:])
+"""]
+
+
 def check_key_replaced(checks, program):
     """Checks a key that is encrypted after the start: no password is asked for, and peers are served."""
     with tempfile.TemporaryDirectory(prefix="coap-mqtt-") as folder:
@@ -393,7 +464,7 @@ def check_key_replaced(checks, program):
         own = ["--cafile", f"{folder}/authority.pem", "--cert", f"{folder}/signed.pem"]
         own += ["--key", f"{folder}/gateway.key"]
         with Broker(folder, [("# Only the gateways: each", lines + "# Only the gateways: each")]) as broker:
-            with Gateway(program, broker, folder, 1, own) as gateway, gateway.peer() as peer:
+            with Gateway(program, broker, folder, 1, own, WITH_TERMINAL) as gateway, gateway.peer() as peer:
                 checks.same("a write", peer.code(PUT, f"{PREFIX}/a", payload=b"1"), CREATED)
                 files = ["-in", f"{folder}/server.key", "-out", f"{folder}/gateway.key"]
                 run(["openssl", "pkey", "-aes128", "-passout", "pass:secret", *files], check=True)
@@ -407,20 +478,10 @@ def check_key_replaced(checks, program):
 
 # Checks in the order in which they run. Those of a list mostly wait, and run at once.
 CHECKS = [check_parts, check_packet_limit, check_prefixes, check_tls_files, check_key_replaced,
-          [check_unsuitable, check_session_taken, check_ids, check_restored, check_forged, check_pauses]]
+          [check_unsuitable, check_session_taken, check_ids, check_restored, check_forged, check_pauses,
+           check_pauses_anew]]
 
-
-def main(words):
-    if not install(gateway_checks.PACKAGES):
-        print("the packages %s cannot be installed\n0 passed, 1 failed" % ", ".join(gateway_checks.PACKAGES.values()))
-        return 1
-    program, names, total = os.path.abspath(words[0] if words else f"{ROOT}/bin/coap-mqtt"), words[1:], Checks()
-    for checks in (it if isinstance(it, list) else [it] for it in CHECKS):
-        named = [it for it in checks if not names or it.__name__ in names]
-        total.add(gateway_checks.made_at_once(named, program) if named else Checks())
-    print("%d passed, %d failed" % (total.passed, total.failed))
-    return 1 if total.failed else 0
 
 
 if __name__ == "__main__":
-    sys.exit(main(sys.argv[1:]))
+    sys.exit(main(CHECKS, sys.argv[1:]))

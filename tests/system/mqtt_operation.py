@@ -8,8 +8,6 @@ status is 0 if M is 0. The script needs Debian's packages gcc, haproxy, mosquitt
 prometheus, and installs the missing ones.
 """
 
-import collections
-import concurrent.futures
 import contextlib
 import csv
 import ctypes
@@ -19,7 +17,6 @@ import re
 import signal
 import socket
 import struct
-import subprocess
 import sys
 import tempfile
 import termios
@@ -29,10 +26,11 @@ sys.path.insert(0, os.path.join(os.path.dirname(os.path.abspath(__file__)), ".."
 import haproxy  # noqa: E402
 from checks import Checks  # noqa: E402
 from false_brokers import Relay  # noqa: E402
+from gateway_checks import FakeSetting, made_at_once, run  # noqa: E402
 from gateways import (  # noqa: E402
-    CHANGED, CONTENT, CREATED, DELETE, DELETED, ETAG, FAULTS, GET, IF_NONE_MATCH, LIMIT, NOT_ALLOWED, NOT_FOUND,
-    OBSERVE, POST, PRECONDITION, PREFIX, PUT, TIMEOUT, UNAVAILABLE, URI_PATH, Gateway, Peer, Setting, encode, option_of,
-    soon,
+    CHANGED, CONTENT, CREATED, DELETE, DELETED, ETAG, GET, IF_MATCH, IF_NONE_MATCH, LIMIT, NOT_ACCEPTABLE, NOT_ALLOWED,
+    NOT_FOUND, OBSERVE, POST, PRECONDITION, PREFIX, PUT, TIMEOUT, UNAVAILABLE, URI_PATH, Gateway, Peer, Setting, encode,
+    option_of, soon,
 )
 from packages import exists, install  # noqa: E402
 from peers import LOCAL, free_port, processor_time, reset  # noqa: E402
@@ -45,12 +43,7 @@ PACKAGES = {"gcc": "gcc", "haproxy": "haproxy", "mosquitto": "mosquitto", "mosqu
 # Codes of signalling messages.
 SETTINGS, PING, PONG, RELEASE = 0xE1, 0xE2, 0xE3, 0xE4
 
-# The broker that a gateway connects to: its port, and the folder with its password.
-At = collections.namedtuple("At", ["port", "folder"])
-
-
-def run(words, **how):
-    return subprocess.run(words, stdin=subprocess.DEVNULL, capture_output=True, text=True, timeout=LIMIT, **how)
+URI_QUERY, ACCEPT = 15, 17
 
 
 def signals(peer):
@@ -120,6 +113,24 @@ def check_credentials(checks, program):
                 checks.same(f"{option} with {name[:20]!r}", (done.returncode, done.stderr), wanted)
         done = run([*given, program, "--username", "a", "--password-file", "credential:no"])
         checks.same("a missing credential", (done.returncode, f"{setting.folder}/no\n" in done.stderr), (1, True))
+
+
+def check_flags(checks, program):
+    """Checks that the program is built without a remark by the flags of a distribution, and how it is protected."""
+    with tempfile.TemporaryDirectory(prefix="coap-mqtt-") as folder:
+        for name in ("gateway", "include", "crates.txt", "Makefile", "VERSION"):
+            os.symlink(f"{ROOT}/{name}", f"{folder}/{name}")
+        for name in ("bin", "crates"):
+            os.mkdir(f"{folder}/{name}")
+        os.symlink(f"{os.path.dirname(program)}/libcoap_proved.a", f"{folder}/bin/libcoap_proved.a")
+        flags = ["CPPFLAGS=-Wdate-time -D_FORTIFY_SOURCE=3", "CFLAGS=-g -O2 -Werror=format-security"]
+        built = run(["make", "-C", folder, "--silent", "-o", "bin/libcoap_proved.a", "bin/coap-mqtt", *flags])
+        checks.same("remarks of the compiler", (built.returncode, built.stderr), (0, ""))
+        for of in (program, f"{folder}/bin/coap-mqtt"):
+            parts, entries = (run(["readelf", it, "-W", of]).stdout for it in ("-l", "-d"))
+            wanted = (r"GNU_STACK .* RW +0x", "GNU_RELRO", "BIND_NOW", "PIE")
+            found = [re.search(it, parts + entries) is not None for it in wanted]
+            checks.same(f"protections of {of}", found, 4 * [True])
 
 
 # ---- silent peers ----
@@ -239,6 +250,9 @@ def check_health(checks, program):
         checks.same("Observe", (observed.code, observed.options, observed.payload), (CONTENT, [], b""))
         for method in (POST, PUT, DELETE, 5, 30, 31):
             checks.same(f"method {method}", peer.code(method, "health", payload=b"x"), NOT_ALLOWED)
+        for option, code in ((IF_MATCH, b""), CONTENT), ((IF_MATCH, b"x"), PRECONDITION), ((ETAG, b"x"), CONTENT), \
+                ((IF_NONE_MATCH, b""), PRECONDITION), ((ACCEPT, b""), NOT_ACCEPTABLE), ((URI_QUERY, b"x"), CONTENT):
+            checks.same(f"the option {option}", peer.code(GET, "health", [option]), code)
         below = ("health/a", ["health", ""], ["health", ".."])
         checks.same("paths below", [peer.code(GET, it) for it in below], 3 * [NOT_FOUND])
         listed = peer.ask(GET, ".well-known/core").payload
@@ -273,8 +287,8 @@ class Front(haproxy.Front):
 
     def start(self, name):
         self.relays[name] = self.stack.enter_context(Relay(self.broker.port))
-        at, number = At(self.relays[name].port, self.broker.folder), list(self.ports).index(name) + 1
-        gateway = Gateway(self.server, at, self.folder, number)
+        way, number = FakeSetting(self.relays[name].port, self.broker.folder), list(self.ports).index(name) + 1
+        gateway = Gateway(self.server, way, self.folder, number)
         gateway.port = self.ports[name]
         self.gateways[name] = self.stack.enter_context(gateway)
 
@@ -499,13 +513,15 @@ def check_end(checks, program):
         with gateway.peer() as peer, gateway.peer() as deaf:
             setting.broker.process.send_signal(signal.SIGSTOP)
             write = peer.send(PUT, f"{PREFIX}/a", payload=b"c")
-            checks.same("another write is under way", peer.code(GET, "time"), CONTENT)
+            waits = peer.send(PUT, f"{PREFIX}/a", [(IF_MATCH, b"")], b"d")
+            checks.same("two writes are under way, of which one waits for the other", peer.code(GET, "time"), CONTENT)
             deaf.socket.sendall(encode(GET, b"d", [(URI_PATH, b"shared"), (URI_PATH, b"large")]) * 200)
             checks.same("a peer that reads nothing does not delay others", peer.code(GET, "time"), CONTENT)
             began = time.monotonic()
             checks.same("the end", gateway.stop(), 0)
             checks.same("it ends within a second again", time.monotonic() - began < 1.5, True)
             checks.same("a write whose echo did not come", peer.wait(write).code, TIMEOUT)
+            checks.same("one that was not published", peer.wait(waits).code, UNAVAILABLE)
             checks.same("its Release", (end_of(peer) is not None, signals(peer)), (True, [SETTINGS, RELEASE]))
             setting.broker.process.send_signal(signal.SIGCONT)
 
@@ -605,22 +621,8 @@ def set_error(name, number):
         file.write(struct.pack("=B", number))
 
 
-CHECKS = [check_options, check_credentials, check_idle, check_unread, check_health, check_front, check_metrics,
-          check_notify, check_end, check_log_end, check_reset, check_failing_calls]
-
-
-def made(check, program):
-    """Runs a check, prints its counts and returns them. An exception counts as a failure."""
-    began, checks = time.monotonic(), Checks()
-    try:
-        check(checks, program)
-    except Exception as trouble:  # noqa: BLE001
-        checks.same("%s runs to its end" % check.__name__, repr(trouble), None)
-    checks.same("%s: gateways that did not end with status 0" % check.__name__, FAULTS.found, [])
-    FAULTS.found.clear()
-    took = time.monotonic() - began
-    print(f"{check.__name__}: {checks.passed} passed, {checks.failed} failed, {took:.1f} s\n", end="", flush=True)
-    return checks
+CHECKS = [check_options, check_credentials, check_flags, check_idle, check_unread, check_health, check_front,
+          check_metrics, check_notify, check_end, check_log_end, check_reset, check_failing_calls]
 
 
 def main(words):
@@ -629,9 +631,7 @@ def main(words):
         return 1
     program, names = os.path.abspath(words[0]), words[1:]
     chosen, total = [it for it in CHECKS if not names or it.__name__ in names], Checks()
-    with concurrent.futures.ThreadPoolExecutor(len(chosen) or 1) as pool:
-        for checks in pool.map(made, chosen, [program] * len(chosen)):
-            total.add(checks)
+    total.add(made_at_once(chosen, program) if chosen else Checks())
     print("%d passed, %d failed" % (total.passed, total.failed))
     return 1 if total.failed or not total.passed else 0
 

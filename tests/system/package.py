@@ -75,7 +75,8 @@ GATEWAY_ENABLED = "/etc/systemd/system/multi-user.target.wants/coap-mqtt@1.servi
 RECORDS = "/var/lib/systemd/deb-systemd-helper-enabled"
 
 # Files that a purge may leave if the maintainer scripts are wrong.
-LEFTOVERS = [OPTIONS, GATEWAY_OPTIONS, ENABLED, GATEWAY_ENABLED, RECORDS + "/coap-server.service.dsh-also", RECORDS + "/multi-user.target.wants/coap-server.service"]
+LEFTOVERS = [OPTIONS, GATEWAY_OPTIONS, ENABLED, GATEWAY_ENABLED, RECORDS + "/coap-server.service.dsh-also",
+             RECORDS + "/multi-user.target.wants/coap-server.service"]
 
 EXAMPLE = "/usr/share/doc/libdachreup-dev/examples/server.c"
 CLIENT_EXAMPLE = "/usr/share/doc/libdachreup-dev/examples/client.c"
@@ -439,7 +440,8 @@ def check_packages(checks, folder, programs, archive):
     check_library(checks, first[1], archive, folder)
     packed = check_content(checks, GATEWAY, first[2])
     checks.same("the gateway's options in the installed file", options_in(packed[GATEWAY_OPTIONS][2].decode()), {})
-    checks.same("the gateway's configuration files", run(["dpkg-deb", "-I", first[2], "conffiles"]), (0, GATEWAY_OPTIONS + "\n"))
+    conffiles = run(["dpkg-deb", "-I", first[2], "conffiles"])
+    checks.same("the gateway's configuration files", conffiles, (0, GATEWAY_OPTIONS + "\n"))
     return list(zip(first, make_deb(checks, trees[1], raise_version(trees[1]))))
 
 
@@ -572,7 +574,7 @@ def check_library_life(checks, package, higher, client):
 
 
 def check_gateway_life(checks, package, higher):
-    """Installs the package of the gateway, changes its options, runs its program, upgrades it, removes it and purges it."""
+    """Installs the package of the gateway, runs its program, changes its options, upgrades, removes and purges it."""
     check_installed(checks, GATEWAY, package)
     check_manuals(checks, ["coap-mqtt"])
     checks.same("the installed gateway", run(["/usr/bin/coap-mqtt", "--version"]), (0, "coap-mqtt %s\n" % version()))
@@ -584,7 +586,8 @@ def check_gateway_life(checks, package, higher):
     os.symlink(GATEWAY_UNIT, GATEWAY_ENABLED)
     check_upgraded(checks, GATEWAY, higher)
     checks.same("the upgraded gateway", run(["/usr/bin/coap-mqtt", "--version"]), (0, "coap-mqtt %s+test\n" % version()))
-    checks.same("options and link after the upgrade", (read(GATEWAY_OPTIONS), os.path.lexists(GATEWAY_ENABLED)), (changed, True))
+    kept = read(GATEWAY_OPTIONS), os.path.lexists(GATEWAY_ENABLED)
+    checks.same("options and link after the upgrade", kept, (changed, True))
     check_ended(checks, GATEWAY, [GATEWAY_OPTIONS])
     checks.same("the link after the purge", os.path.lexists(GATEWAY_ENABLED), False)
 
