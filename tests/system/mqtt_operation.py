@@ -28,9 +28,9 @@ from checks import Checks  # noqa: E402
 from false_brokers import Relay  # noqa: E402
 from gateway_checks import FakeSetting, made_at_once, run  # noqa: E402
 from gateways import (  # noqa: E402
-    CHANGED, CONTENT, CREATED, DELETE, DELETED, ETAG, GET, IF_MATCH, IF_NONE_MATCH, LIMIT, NOT_ALLOWED, NOT_FOUND,
-    OBSERVE, POST, PRECONDITION, PREFIX, PUT, TIMEOUT, UNAVAILABLE, URI_PATH, Gateway, Peer, Setting, encode, option_of,
-    soon,
+    CHANGED, CONTENT, CREATED, DELETE, DELETED, ETAG, GET, IF_MATCH, IF_NONE_MATCH, LIMIT, NOT_ACCEPTABLE, NOT_ALLOWED,
+    NOT_FOUND, OBSERVE, POST, PRECONDITION, PREFIX, PUT, TIMEOUT, UNAVAILABLE, URI_PATH, Gateway, Peer, Setting, encode,
+    option_of, soon,
 )
 from packages import exists, install  # noqa: E402
 from peers import LOCAL, free_port, processor_time, reset  # noqa: E402
@@ -42,6 +42,8 @@ PACKAGES = {"gcc": "gcc", "haproxy": "haproxy", "mosquitto": "mosquitto", "mosqu
 
 # Codes of signalling messages.
 SETTINGS, PING, PONG, RELEASE = 0xE1, 0xE2, 0xE3, 0xE4
+
+URI_QUERY, ACCEPT = 15, 17
 
 
 def signals(peer):
@@ -111,6 +113,24 @@ def check_credentials(checks, program):
                 checks.same(f"{option} with {name[:20]!r}", (done.returncode, done.stderr), wanted)
         done = run([*given, program, "--username", "a", "--password-file", "credential:no"])
         checks.same("a missing credential", (done.returncode, f"{setting.folder}/no\n" in done.stderr), (1, True))
+
+
+def check_flags(checks, program):
+    """Checks that the program is built without a remark by the flags of a distribution, and how it is protected."""
+    with tempfile.TemporaryDirectory(prefix="coap-mqtt-") as folder:
+        for name in ("gateway", "include", "crates.txt", "Makefile", "VERSION"):
+            os.symlink(f"{ROOT}/{name}", f"{folder}/{name}")
+        for name in ("bin", "crates"):
+            os.mkdir(f"{folder}/{name}")
+        os.symlink(f"{os.path.dirname(program)}/libcoap_proved.a", f"{folder}/bin/libcoap_proved.a")
+        flags = ["CPPFLAGS=-Wdate-time -D_FORTIFY_SOURCE=3", "CFLAGS=-g -O2 -Werror=format-security"]
+        built = run(["make", "-C", folder, "--silent", "-o", "bin/libcoap_proved.a", "bin/coap-mqtt", *flags])
+        checks.same("remarks of the compiler", (built.returncode, built.stderr), (0, ""))
+        for of in (program, f"{folder}/bin/coap-mqtt"):
+            parts, entries = (run(["readelf", it, "-W", of]).stdout for it in ("-l", "-d"))
+            wanted = (r"GNU_STACK .* RW +0x", "GNU_RELRO", "BIND_NOW", "PIE")
+            found = [re.search(it, parts + entries) is not None for it in wanted]
+            checks.same(f"protections of {of}", found, 4 * [True])
 
 
 # ---- silent peers ----
@@ -230,6 +250,9 @@ def check_health(checks, program):
         checks.same("Observe", (observed.code, observed.options, observed.payload), (CONTENT, [], b""))
         for method in (POST, PUT, DELETE, 5, 30, 31):
             checks.same(f"method {method}", peer.code(method, "health", payload=b"x"), NOT_ALLOWED)
+        for option, code in ((IF_MATCH, b""), CONTENT), ((IF_MATCH, b"x"), PRECONDITION), ((ETAG, b"x"), CONTENT), \
+                ((IF_NONE_MATCH, b""), PRECONDITION), ((ACCEPT, b""), NOT_ACCEPTABLE), ((URI_QUERY, b"x"), CONTENT):
+            checks.same(f"the option {option}", peer.code(GET, "health", [option]), code)
         below = ("health/a", ["health", ""], ["health", ".."])
         checks.same("paths below", [peer.code(GET, it) for it in below], 3 * [NOT_FOUND])
         listed = peer.ask(GET, ".well-known/core").payload
@@ -598,8 +621,8 @@ def set_error(name, number):
         file.write(struct.pack("=B", number))
 
 
-CHECKS = [check_options, check_credentials, check_idle, check_unread, check_health, check_front, check_metrics,
-          check_notify, check_end, check_log_end, check_reset, check_failing_calls]
+CHECKS = [check_options, check_credentials, check_flags, check_idle, check_unread, check_health, check_front,
+          check_metrics, check_notify, check_end, check_log_end, check_reset, check_failing_calls]
 
 
 def main(words):

@@ -13,6 +13,7 @@ import contextlib
 import os
 import shutil
 import signal
+import socket
 import subprocess
 import sys
 import tempfile
@@ -20,7 +21,7 @@ import time
 
 sys.path.insert(0, os.path.join(os.path.dirname(os.path.abspath(__file__)), "..", "harness"))
 from false_brokers import Relay  # noqa: E402
-from gateway_checks import FakeSetting, main  # noqa: E402
+from gateway_checks import SELDOM, FakeSetting, main  # noqa: E402
 from gateways import (  # noqa: E402
     BAD_REQUEST, CHANGED, CONTENT, CREATED, DELETE, DELETED, DENIED, ETAG, FORBIDDEN, GET, IF_MATCH,
     IF_NONE_MATCH, INTERNAL, LIMIT, NOT_ACCEPTABLE, NOT_FOUND, OBSERVE, POST, PRECONDITION, PREFIX, PUT, SOON, TIMEOUT,
@@ -118,23 +119,53 @@ def check_conditions(checks, program):
         checks.same("another path", peer.wait(elsewhere).code, CHANGED)
 
 
+def count_up(gateway, wanted, values):
+    """Adds one to the counter by its ETag until this has succeeded a number of times. Appends the values to a list."""
+    done, at = 0, f"{PREFIX}/counter"
+    with gateway.peer() as peer:
+        while done < wanted:
+            found = peer.ask(GET, at)
+            value = int(found.payload) + 1
+            code = peer.code(PUT, at, [(IF_MATCH, option_of(found, ETAG))], b"%d" % value)
+            if code == CHANGED:
+                done += 1
+                values.append(value)
+            elif code != PRECONDITION:
+                time.sleep(0.2)
+
+
 def check_counters(checks, program):
     """Checks that no increment is lost of peers that read, add one, and write with the ETag."""
-    def count(gateway):
-        done, at = 0, f"{PREFIX}/counter"
-        with gateway.peer() as peer:
-            while done < 25:
-                found = peer.ask(GET, at)
-                value = b"%d" % (int(found.payload) + 1)
-                done += peer.code(PUT, at, [(IF_MATCH, option_of(found, ETAG))], value) == CHANGED
-        return done
-
-    with Setting(program, 1, changes=[("autosave_interval 1", "autosave_interval 100")]) as setting:
+    values = []
+    with Setting(program, 1, changes=SELDOM) as setting:
         (peer,), gateway = setting.peers(), setting.gateways[0]
         peer.code(PUT, f"{PREFIX}/counter", payload=b"0")
         with concurrent.futures.ThreadPoolExecutor(6) as pool:
-            total = sum(pool.map(count, 6 * [gateway]))
-        checks.same("the counter", (total, int(peer.get(f"{PREFIX}/counter")[1])), (150, 150))
+            list(pool.map(lambda _: count_up(gateway, 25, values), range(6)))
+        checks.same("the counter", int(peer.get(f"{PREFIX}/counter")[1]), 150)
+        checks.same("each value once", sorted(values), list(range(1, 151)))
+
+
+def check_counters_cut(checks, program):
+    """Checks that no two increments have one value, while the connection to the broker is cut again and again."""
+    values = []
+    with Setting(program, 0, changes=SELDOM) as setting, Relay(setting.broker.port) as relay:
+        with Gateway(program, FakeSetting(relay.port, setting.folder), setting.folder, 1) as gateway:
+            with gateway.peer() as peer:
+                checks.same("a counter", peer.code(PUT, f"{PREFIX}/counter", payload=b"0"), CREATED)
+                with concurrent.futures.ThreadPoolExecutor(6) as pool:
+                    runs = [pool.submit(count_up, gateway, 50, values) for _ in range(6)]
+                    for cut in range(1, 4):
+                        checks.same(f"increments before cut {cut}", soon(lambda c=cut: len(values) >= 50 * c, True),
+                                    True)
+                        relay.gateways[-1].shutdown(socket.SHUT_RDWR)
+                        checks.same(f"the gateway connects after cut {cut}", gateway.says("connected again", cut), True)
+                    for run in runs:
+                        run.result(LIMIT)
+                checks.same("increments", (len(values), len(set(values))), (300, 300))
+                # A write without an answer may have been made, so the counter may be ahead.
+                last = int(peer.get(f"{PREFIX}/counter")[1])
+                checks.same("the counter", max(values) <= last <= 300 + 6 * 3 or last, True)
 
 
 def check_order_of_conditions(checks, program):
@@ -239,6 +270,17 @@ def check_in_flight(checks, program):
         checks.same("one after the other", codes(peer, tokens), 2 * [CHANGED])
         checks.same("there is room again", [peer.code(PUT, f"{PREFIX}/2", payload=bytes(60_000)) for _ in range(4)],
                     [CREATED] + 3 * [CHANGED])
+        with stopped(broker):
+            first = peer.send(PUT, f"{PREFIX}/0", payload=bytes(60_000))
+            with setting.gateways[0].peer() as other:
+                other.send(PUT, f"{PREFIX}/0", [(IF_MATCH, b"")], b"never" + bytes(60_000))
+                taken(other)
+                checks.same("no room", peer.code(PUT, f"{PREFIX}/6", payload=bytes(60_000)), UNAVAILABLE)
+            # A write that is accepted has no response while the broker is stopped.
+            again = lambda: peer.code(PUT, f"{PREFIX}/6", payload=bytes(60_000), seconds=0.3)  # noqa: E731
+            checks.same("the room of a request that waited, after its peer has left", soon(again, None, 5), None)
+        checks.same("the first one", peer.wait(first).code, CHANGED)
+        checks.same("it was not published", peer.get(f"{PREFIX}/0")[1], bytes(60_000))
 
 
 def check_peers_gone(checks, program):
@@ -488,9 +530,10 @@ def check_lost_state(checks, program):
 
 
 CHECKS = [[
-    check_table, check_conditions, check_counters, check_order_of_conditions, check_creations, check_removed_under_way,
-    check_in_flight, check_peers_gone, check_reasons, check_many_refusals, check_lost_by_refusals, check_slow_writes,
-    check_swallowed, check_late_echo, check_pauses, check_reread, check_expiry, check_lost_state,
+    check_table, check_conditions, check_counters, check_counters_cut, check_order_of_conditions, check_creations,
+    check_removed_under_way, check_in_flight, check_peers_gone, check_reasons, check_many_refusals,
+    check_lost_by_refusals, check_slow_writes, check_swallowed, check_late_echo, check_pauses, check_reread,
+    check_expiry, check_lost_state,
 ]]
 
 

@@ -37,6 +37,7 @@ def check_unit(checks, _):
 
 
 INSTALLED = {"bin/coap-mqtt": 0o755, "share/man/man1/coap-mqtt.1": 0o644,
+             "share/bash-completion/completions/coap-mqtt": 0o644,
              "lib/systemd/system/coap-mqtt@.service": 0o644, "share/doc/coap-mqtt/examples/mosquitto.conf": 0o644}
 
 

@@ -13,8 +13,8 @@ TOPICS, OUTSTANDING = 1500, 8
 
 SUCCEEDED = (CREATED, CHANGED, DELETED)
 
-# A write: its resource and its payload (None: a DELETE), and the epoch in which it was sent. The others are the code of
-# its response, or None, and the time of this. An epoch is the time between two ends of the broker.
+# A write: its resource and its payload (None: a DELETE), and the epoch in which it was sent. Then the code of its
+# response (or None), and when that came. An epoch is the time between two ends of the broker.
 Written = collections.namedtuple("Written", ["name", "payload", "epoch", "code", "at"])
 
 
@@ -86,8 +86,8 @@ class Writer:
                 self.done.append(Written(*what, response and response.code, time.monotonic()))
 
 
-# An epoch as the recorder saw it: the state at its begin, and the messages in their order. Each message has its resource
-# and its payload (None: a removal). If the broker ended it, the last messages may be missing.
+# An epoch as the recorder saw it: the state at its begin, and the messages in their order. Each message has its
+# resource and its payload (None: a removal). If the broker ended it, the last messages may be missing.
 Epoch = collections.namedtuple("Epoch", ["state", "messages"])
 
 
@@ -157,8 +157,8 @@ def state_after(epoch):
 
 
 def unseen(writes, epoch):
-    """Returns the states of resources by writes of an epoch whose message the recorder did not see, as two dicts of sets.
-    The first one is of writes that succeeded, the second one of writes that may have been made."""
+    """Returns the states of resources by writes of an epoch whose message the recorder did not see, as two dicts of
+    sets. The first one is of writes that succeeded, the second one of writes that may have been made."""
     seen, succeeded, possible = collections.Counter(epoch.messages), {}, {}
     for it in writes:
         seen[it.name, it.payload] -= it.code in SUCCEEDED
