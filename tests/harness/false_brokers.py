@@ -45,7 +45,7 @@ FALSE_BROKERS = {
     "an empty topic": ([CONNACK, SUBACK, publication(b"", b"x")], "broker: "),
     "messages of others": ([CONNACK, SUBACK, b"".join(publication(b"other/%d" % at, b"x") for at in range(300))], "ignored: "),
     "a DISCONNECT": ([CONNACK, SUBACK, bytes.fromhex("e0018b")], "ended the connection: "),
-    "CONNACK again": ([CONNACK, SUBACK + 100 * CONNACK], "no answer to the subscription within 10 seconds"),
+    "CONNACK again": ([CONNACK, SUBACK + 100 * CONNACK], "sent a second CONNACK"),
     "messages before SUBACK": ([CONNACK, publication(b"shared/a", b"x")], "no answer to the subscription within 10 seconds"),
 }
 

@@ -1,15 +1,13 @@
-"""Checks brokers that are none, slow ones, garbage on a good connection, and two gateways with one id."""
+"""Checks brokers that are none, slow ones, and garbage on a good connection."""
 
 import contextlib
-import subprocess
 import tempfile
 import time
 
 import haproxy
-from false_brokers import CONNACK, FALSE_BROKERS, INJECTED, SUBACK, FalseBroker, Relay
+from false_brokers import FALSE_BROKERS, INJECTED, FalseBroker, Relay
 from gateway_checks import FakeSetting, write_file
 from gateways import CHANGED, CONTENT, CREATED, PREFIX, PUT, UNAVAILABLE, Gateway, Setting
-from peers import free_port
 
 
 def check_false_brokers(checks, program):
@@ -70,22 +68,3 @@ def check_injected(checks, program):
                 checks.same(f"the gateway connects again after {name}", gateway.says("resources", count + 1), True)
                 checks.same(f"the same state after {name}", peer.get(path), before)
                 checks.same(f"another write after {name}", peer.code(PUT, path, payload=b"%d" % count), CHANGED)
-
-
-def check_ids(checks, program):
-    """Checks two gateways with one id: the broker gives the session to the later one."""
-    taken = FalseBroker([CONNACK, SUBACK, bytes.fromhex("e0018e")])
-    with tempfile.TemporaryDirectory(prefix="coap-mqtt-") as folder, taken as broker:
-        write_file(f"{folder}/password", "x\n")
-        gateway = Gateway(program, FakeSetting(broker.port, folder), folder, 7)
-        gateway.start(waits=False)
-        checks.same("a DISCONNECT 0x8E", (gateway.ended(), "another gateway has the id 7" in gateway.log()), (4, True))
-    with Setting(program, 1) as setting, Gateway(program, setting.broker, setting.folder, 2) as other:
-        with open(f"{setting.folder}/first.log", "wb") as log:
-            words = [*other.line, "-p", str(free_port()), "--id", "1"]
-            second = subprocess.Popen(words, stdin=subprocess.DEVNULL, stdout=subprocess.DEVNULL, stderr=log)
-        setting.stack.callback(second.wait)
-        setting.stack.callback(second.kill)
-        checks.same("the first one ends", setting.gateways[0].ended(), 4)
-        checks.same("its message", "another gateway has the id 1" in setting.gateways[0].log(), True)
-        checks.same("the others run", (second.poll(), other.process.poll()), (None, None))

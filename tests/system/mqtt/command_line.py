@@ -15,7 +15,7 @@ BAD_OPTIONS = [
     ["--prefix", "a/.."], ["--prefix", "$a"], ["--prefix", "time"], ["--prefix", ".well-known/core"],
     ["--max-sent", "1"], ["--queue", "1152"], ["--pending", "0"], ["--connections", "257"], ["--cert", "x"],
     ["--password-file", "x"], ["--username", "x", "--password-file", "/no"], ["--unknown"],
-    ["word"], ["--broker-port", "0"], ["--broker-host", ""],
+    ["--in-flight", "131071"], ["--reread", "10081"], ["word"], ["--broker-port", "0"], ["--broker-host", ""],
 ]
 
 
@@ -58,6 +58,7 @@ COMPLETED = [
     (["--st"], ["--stale"]), (["--stale", ""], ["serve", "refuse"]), (["--stale", "=", "r"], ["refuse"]),
     (["--log", ""], ["0", "1", "2", "3"]), (["--cafile", "on"], ["one file", "one.txt"]),
     (["--password-file", "=", "t"], ["two"]), (["--broker-port", "8"], ["8883"]), (["--id", ""], []),
+    (["--health", ""], ["health", "none"]), (["--metrics", "on"], ["one file", "one.txt"]), (["--idle", ""], []),
 ]
 
 
@@ -70,7 +71,7 @@ def check_completion(checks, program):
             write_file(f"{folder}/{name}", "")
         wanted = sorted(it for short, long, _ in options for it in (short, long) if it)
         checks.same("the options", (sorted(package.completions(script, ["coap-mqtt", "-"], folder)), len(wanted)),
-                    (wanted, 24))
+                    (wanted, 29))
         for option, value in ((short or long, value) for short, long, value in options if value):
             got = package.completions(script, ["coap-mqtt", option, ""], folder)
             checks.same(f"{option} has no options as its value, and files if it is one",

@@ -37,6 +37,7 @@ def check_unit(checks, _):
 
 
 INSTALLED = {"bin/coap-mqtt": 0o755, "share/man/man1/coap-mqtt.1": 0o644,
+             "share/bash-completion/completions/coap-mqtt": 0o644,
              "lib/systemd/system/coap-mqtt@.service": 0o644, "share/doc/coap-mqtt/examples/mosquitto.conf": 0o644}
 
 
@@ -69,11 +70,14 @@ SYSTEMCTL = r"""#!/bin/sh
 case "$*" in
 "restart mosquitto") mosquitto -c @/etc/mosquitto/mosquitto.conf >>@/log 2>&1 & ;;
 "enable --now coap-mqtt@"*)
-    id=${3#*@} && . "@/etc/default/coap-mqtt-$id"
-    line=$(sed -n 's/^ExecStart=//p' @/usr/local/lib/systemd/system/coap-mqtt@.service)
-    line=$(echo "$line" | sed "s|%i|$id|g; s|[$]{CREDENTIALS_DIRECTORY}|@/etc/coap-mqtt|")
-    line=$(echo "$line" | sed "s|[$]COAP_MQTT_OPTIONS|$COAP_MQTT_OPTIONS|")
-    $line >>@/log 2>&1 & ;;
+    id=${3#*@}
+    for file in @/etc/default/coap-mqtt @/etc/default/coap-mqtt-$id; do . $file; done
+    mkdir -p @/run/coap-mqtt-$id @/credentials
+    for file in @/etc/coap-mqtt/*; do cp $file @/credentials/broker_${file##*/}; done
+    line=$(sed -n '/^ExecStart=/{N;s/\\\n *//;s/^ExecStart=//p}' @/usr/local/lib/systemd/system/coap-mqtt@.service)
+    line=$(echo "$line" | sed "s|%i|$id|g; s|[$]{RUNTIME_DIRECTORY}|@/run/coap-mqtt-$id|")
+    line=$(echo "$line" | sed "s|[$]COAP_MQTT_BROKER|$COAP_MQTT_BROKER|; s|[$]COAP_MQTT_OPTIONS|$COAP_MQTT_OPTIONS|")
+    CREDENTIALS_DIRECTORY=@/credentials $line >>@/log 2>&1 & ;;
 "reload haproxy") haproxy -db -f @/etc/haproxy/haproxy.cfg >>@/log 2>&1 & ;;
 *) exit 1 ;;
 esac
