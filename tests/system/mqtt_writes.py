@@ -270,6 +270,17 @@ def check_in_flight(checks, program):
         checks.same("one after the other", codes(peer, tokens), 2 * [CHANGED])
         checks.same("there is room again", [peer.code(PUT, f"{PREFIX}/2", payload=bytes(60_000)) for _ in range(4)],
                     [CREATED] + 3 * [CHANGED])
+        with stopped(broker):
+            first = peer.send(PUT, f"{PREFIX}/0", payload=bytes(60_000))
+            with setting.gateways[0].peer() as other:
+                other.send(PUT, f"{PREFIX}/0", [(IF_MATCH, b"")], b"never" + bytes(60_000))
+                taken(other)
+                checks.same("no room", peer.code(PUT, f"{PREFIX}/6", payload=bytes(60_000)), UNAVAILABLE)
+            # A write that is accepted has no response while the broker is stopped.
+            again = lambda: peer.code(PUT, f"{PREFIX}/6", payload=bytes(60_000), seconds=0.3)  # noqa: E731
+            checks.same("the room of a request that waited, after its peer has left", soon(again, None, 5), None)
+        checks.same("the first one", peer.wait(first).code, CHANGED)
+        checks.same("it was not published", peer.get(f"{PREFIX}/0")[1], bytes(60_000))
 
 
 def check_peers_gone(checks, program):
@@ -521,7 +532,8 @@ def check_lost_state(checks, program):
 CHECKS = [[
     check_table, check_conditions, check_counters, check_counters_cut, check_order_of_conditions, check_creations,
     check_removed_under_way, check_in_flight, check_peers_gone, check_reasons, check_many_refusals,
-    check_lost_by_refusals, check_slow_writes, check_swallowed, check_late_echo, check_pauses, check_reread, check_expiry, check_lost_state,
+    check_lost_by_refusals, check_slow_writes, check_swallowed, check_late_echo, check_pauses, check_reread,
+    check_expiry, check_lost_state,
 ]]
 
 
