@@ -263,7 +263,7 @@ static void check_guard(void) {
     open_link(&again, CONNACK, sizeof CONNACK);
     while (!again.is_connected)
         guarded_read(again.client);
-    expect_same("a later client", again.is_connected, 1);
+    expect_same("a later client", (size_t)again.is_connected, 1);
     close_link(&again);
 }
 

@@ -7,6 +7,7 @@ The last line is 'N passed, M failed', and the status is 0 if M is 0. tests/syst
 """
 
 import contextlib
+import errno
 import os
 import re
 import shutil
@@ -408,6 +409,25 @@ def check_pauses_anew(checks, program):
                         len(wanted) * [True])
 
 
+def check_unwatched(checks, program):
+    """Checks a socket of the broker that cannot be watched: the log has the reason, and a later one is watched."""
+    with Setting(program, 0) as setting, Relay(setting.broker.port) as relay:
+        library, error = f"{setting.folder}/fail_calls.so", f"{setting.folder}/error"
+        run(["gcc", "-O2", "-shared", "-fPIC", "-o", library, f"{HARNESS}/fail_calls.c"], check=True)
+        write_file(error, "\0")
+        before = ["sh", "-c", f'exec 9<{error}; exec env LD_PRELOAD={library} FAIL_EPOLL=9 "$@"', "sh"]
+        to = FakeSetting(relay.port, setting.folder)
+        with Gateway(program, to, setting.folder, 1, before=before) as gateway, gateway.peer() as peer:
+            checks.same("a write", peer.code(PUT, f"{PREFIX}/a", payload=b"1"), CREATED)
+            write_file(error, chr(errno.ENOMEM))
+            relay.cut()
+            text = "its socket cannot be watched: Cannot allocate memory"
+            checks.same("the reason", gateway.says(text), True)
+            write_file(error, "\0")
+            code = soon(lambda: peer.code(PUT, f"{PREFIX}/a", payload=b"2"), CHANGED)
+            checks.same("a write afterwards", code, CHANGED)
+
+
 # ---- files of TLS ----
 
 def make_key(folder, name, *words):
@@ -479,7 +499,7 @@ def check_key_replaced(checks, program):
 # Checks in the order in which they run. Those of a list mostly wait, and run at once.
 CHECKS = [check_parts, check_packet_limit, check_prefixes, check_tls_files, check_key_replaced,
           [check_unsuitable, check_session_taken, check_ids, check_restored, check_forged, check_pauses,
-           check_pauses_anew]]
+           check_pauses_anew, check_unwatched]]
 
 
 
