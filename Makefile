@@ -1,6 +1,6 @@
 # Proves, builds, runs, tests and measures. Requires Rattle's toolchain (`rt`) and Python 3. `make test` installs Debian's dpkg-dev,
 # g++, gcc, haproxy, libc6-dev, libcoap3-bin, libcoap3-dev, libmosquitto-dev, lintian, mandoc, mosquitto, mosquitto-clients, openssl, pkg-config,
-# systemd, tshark and valgrind if they are missing. `make bench` installs gcc, gnuplot-nox, haproxy, libc6-dev, libcoap3-bin and valgrind. `make lib` needs binutils,
+# prometheus, systemd, tshark and valgrind if they are missing. `make bench` installs gcc, gnuplot-nox, haproxy, libc6-dev, libcoap3-bin and valgrind. `make lib` needs binutils,
 # `make gateway` gcc and libmosquitto-dev too, and `make deb` dpkg-dev too.
 
 .PHONY: all lib gateway run check test mutants faults bench try install install-lib install-gateway uninstall deb clean
@@ -9,6 +9,9 @@
 # is put before the prefix, for packaging.
 PREFIX ?= /usr/local
 DESTDIR ?=
+
+# Folder of the completions of bash below the prefix.
+COMPLETIONS = share/bash-completion/completions
 
 # Proves every crate and builds the programs.
 all: bin/coap-server bin/coap-client bin/coap-explain bin/coap-directory
@@ -36,11 +39,14 @@ bin/coap_proved.pc: install/library/coap_proved.pc.in VERSION
 # Builds the gateway to MQTT: C over the library and libmosquitto. The C is tested, not proved.
 gateway: bin/coap-mqtt
 
-GATEWAY_FLAGS := -std=c11 -D_GNU_SOURCE -O2 -Wall -Wextra -fPIE -fstack-protector-strong -D_FORTIFY_SOURCE=2
+# The variables of a distribution come last, and may have a value of _FORTIFY_SOURCE themselves.
+FORTIFY = $(if $(findstring _FORTIFY_SOURCE,$(CPPFLAGS) $(CFLAGS)),,-D_FORTIFY_SOURCE=2)
+
+GATEWAY_FLAGS = -std=c11 -D_GNU_SOURCE -O2 -Wall -Wextra -fPIE -fstack-protector-strong -fstack-clash-protection $(FORTIFY)
 
 bin/coap-mqtt: $(wildcard gateway/mqtt/*.c gateway/mqtt/*.h) include/coap_proved.h VERSION bin/libcoap_proved.a
-	$(CC) $(GATEWAY_FLAGS) $(CFLAGS) -DCOAP_MQTT_VERSION='"'$$(cat VERSION)'"' -Iinclude gateway/mqtt/*.c bin/libcoap_proved.a \
-	    -pie -Wl,-z,relro,-z,now $(LDFLAGS) -lmosquitto -o $@
+	$(CC) $(GATEWAY_FLAGS) $(CPPFLAGS) $(CFLAGS) -DCOAP_MQTT_VERSION='"'$$(cat VERSION)'"' -Iinclude gateway/mqtt/*.c \
+	    bin/libcoap_proved.a -pie -Wl,-z,relro,-z,now,-z,noexecstack $(LDFLAGS) -lmosquitto -o $@
 
 # Runs the server on short recorded streams, and prints the meaning of each message. If the program is not built yet, the same
 # source runs unproved while the proofs begin. At the end, the program that they build runs.
@@ -67,9 +73,10 @@ mutants:
 	tests/mutants/mutants.py --all $(CRATES)
 
 # Tests that take too long for the gate: all 16,777,216 streams of three bytes, of which the gate plays a quarter, in some minutes
-# on all processors.
-faults: bin/coap-server
+# on all processors. Then 200,000 writes through two gateways to MQTT, in eight minutes.
+faults: bin/coap-server bin/coap-mqtt
 	tests/vectors/bytes.py bin/coap-server --all
+	tests/system/mqtt_soak.py bin/coap-mqtt
 
 # Measures the server and libcoap's, then the server with a record, behind HAProxy, and with observers that do not read. Then counts instructions,
 # copies and memory, and the instructions of the resource directory. Measures changes through two gateways to MQTT, beside mosquitto. Draws the new figures in docs/pictures. Fails if a target is
@@ -88,6 +95,7 @@ install:
 	@test -x bin/coap-server -a -x bin/coap-client -a -x bin/coap-explain -a -x bin/coap-directory || { echo "Run 'make all' first: bin/ does not have all programs." >&2; exit 1; }
 	install -D -m 0755 -t "$(DESTDIR)$(PREFIX)/bin" bin/coap-server bin/coap-client bin/coap-explain bin/coap-directory
 	install -D -m 0644 -t "$(DESTDIR)$(PREFIX)/share/man/man1" man/coap-server.1 man/coap-client.1 man/coap-explain.1 man/coap-directory.1
+	install -D -m 0644 -t "$(DESTDIR)$(PREFIX)/$(COMPLETIONS)" $(addprefix install/completions/,coap-server coap-client coap-explain coap-directory)
 	install -D -m 0644 install/coap-server.service.in "$(DESTDIR)$(PREFIX)/lib/systemd/system/coap-server.service"
 	sed -i 's|@PREFIX@|$(PREFIX)|g' "$(DESTDIR)$(PREFIX)/lib/systemd/system/coap-server.service"
 	install -D -m 0644 -t "$(DESTDIR)$(PREFIX)/share/doc/coap-server/examples" install/haproxy.cfg
@@ -106,6 +114,7 @@ install-lib:
 install-gateway:
 	install -D -m 0755 -t "$(DESTDIR)$(PREFIX)/bin" bin/coap-mqtt
 	install -D -m 0644 -t "$(DESTDIR)$(PREFIX)/share/man/man1" man/coap-mqtt.1
+	install -D -m 0644 -t "$(DESTDIR)$(PREFIX)/$(COMPLETIONS)" install/completions/coap-mqtt
 	install -D -m 0644 install/coap-mqtt.service.in "$(DESTDIR)$(PREFIX)/lib/systemd/system/coap-mqtt@.service"
 	sed -i 's|@PREFIX@|$(PREFIX)|g' "$(DESTDIR)$(PREFIX)/lib/systemd/system/coap-mqtt@.service"
 	install -D -m 0644 -t "$(DESTDIR)$(PREFIX)/share/doc/coap-mqtt/examples" install/mosquitto.conf
@@ -116,6 +125,9 @@ uninstall:
 	rm -f "$(DESTDIR)$(PREFIX)/share/man/man1/coap-server.1" "$(DESTDIR)$(PREFIX)/share/man/man1/coap-client.1"
 	rm -f "$(DESTDIR)$(PREFIX)/share/man/man1/coap-explain.1"
 	rm -f "$(DESTDIR)$(PREFIX)/bin/coap-directory" "$(DESTDIR)$(PREFIX)/share/man/man1/coap-directory.1"
+	for name in coap-server coap-client coap-explain coap-directory coap-mqtt; do \
+	    rm -f "$(DESTDIR)$(PREFIX)/$(COMPLETIONS)/$$name"; \
+	done
 	rm -f "$(DESTDIR)$(PREFIX)/lib/systemd/system/coap-server.service"
 	rm -f "$(DESTDIR)$(PREFIX)/share/doc/coap-server/examples/haproxy.cfg"
 	rm -f "$(DESTDIR)$(PREFIX)/lib/libcoap_proved.a" "$(DESTDIR)$(PREFIX)/lib/pkgconfig/coap_proved.pc"

@@ -1,23 +1,32 @@
 #include "broker.h"
 
 #include <errno.h>
+#include <inttypes.h>
 #include <mosquitto.h>
-#include <mqtt_protocol.h>
 #include <netdb.h>
-#include <stdarg.h>
 #include <stdio.h>
 #include <stdlib.h>
 #include <string.h>
 #include <sys/random.h>
-#include <time.h>
 
 #include "guard.h"
 #include "log.h"
+#include "packets.h"
+#include "pauses.h"
 #include "properties.h"
 #include "resolver.h"
+#include "session.h"
 
-/* Seconds of silence after which libmosquitto sends a PINGREQ, and milliseconds between two connections. */
-enum { KEEPALIVE = 12, PAUSE = 1000 };
+/* Seconds of silence after which libmosquitto sends a PINGREQ. */
+enum { KEEPALIVE = 12 };
+
+/*
+ * Milliseconds of a connection after which the next pause is the first one again: after a loss, and after giving way.
+ */
+enum { GOOD = 60000, GOOD_FOR_LONG = 600000 };
+
+/* Least milliseconds between two lines about an unsuitable broker. */
+enum { REMARK = 60000 };
 
 /* Packets that one turn reads, so that peers are served between. */
 enum { PACKETS_A_TURN = 256 };
@@ -27,194 +36,107 @@ static void enter(struct broker *broker, enum broker_state state, uint64_t now) 
     broker->since = now;
 }
 
-void broker_fail(struct broker *broker, const char *format, ...) {
-    va_list arguments;
-    if (broker->fault[0])
-        return;
-    va_start(arguments, format);
-    vsnprintf(broker->fault, sizeof broker->fault, format, arguments);
-    va_end(arguments);
+/* FNV-1a of a text. */
+static uint32_t hash_of(const char *text) {
+    uint32_t hash = UINT32_C(2166136261);
+    for (; *text; text++)
+        hash = (hash ^ (uint8_t)*text) * UINT32_C(16777619);
+    return hash;
 }
-
-/* ---- callbacks: they record a fault, and the connection ends after libmosquitto has returned ---- */
-
-static void on_connect(struct mosquitto *client, void *owner, int reason, int flags, const mosquitto_property *properties) {
-    struct broker *broker = owner;
-    (void)flags;
-    (void)properties;
-    if (reason) {
-        broker_fail(broker, "refused the connection: %s", mosquitto_reason_string(reason));
-        return;
-    }
-    int result = mosquitto_subscribe_v5(client, NULL, broker->filter, 1, MQTT_SUB_OPT_RETAIN_AS_PUBLISHED, NULL);
-    if (result)
-        broker_fail(broker, "cannot subscribe: %s", mosquitto_strerror(result));
-    broker->state = BROKER_SUBSCRIBING;
-    broker->events.begins(broker->events.owner);
-}
-
-/* Publishes the marker. Its topic is the image of no path, so no gateway takes it for a resource. */
-static void on_subscribe(struct mosquitto *client, void *owner, int message, int count, const int *granted,
-                         const mosquitto_property *properties) {
-    struct broker *broker = owner;
-    char text[ORIGIN_ROOM];
-    (void)message;
-    (void)properties;
-    if (count != 1 || granted[0] != 1) {
-        broker_fail(broker, "refused the subscription: %s", mosquitto_reason_string(count == 1 ? granted[0] : MQTT_RC_UNSPECIFIED));
-        return;
-    }
-    struct origin origin = {broker->run, ++broker->markers};
-    int length = origin_write(text, &origin);
-    int result = mosquitto_publish_v5(client, &broker->marker, broker->marker_topic, length, text, 1, false, NULL);
-    if (result)
-        broker_fail(broker, "cannot publish the marker: %s", mosquitto_strerror(result));
-    broker->state = BROKER_READING;
-}
-
-static void on_publish(struct mosquitto *client, void *owner, int publication, int reason, const mosquitto_property *properties) {
-    struct broker *broker = owner;
-    bool is_marker = publication == broker->marker;
-    (void)client;
-    (void)properties;
-    /* A later publication can have this number again. */
-    if (is_marker)
-        broker->marker = -1;
-    if (reason < 0x80)
-        return;
-    if (is_marker)
-        broker_fail(broker, "refused the marker: %s", mosquitto_reason_string(reason));
-    else
-        broker->events.refused(broker->events.owner, publication, reason);
-}
-
-static void on_disconnect(struct mosquitto *client, void *owner, int reason, const mosquitto_property *properties) {
-    struct broker *broker = owner;
-    (void)client;
-    (void)properties;
-    if (reason == MQTT_RC_SESSION_TAKEN_OVER)
-        broker->is_taken = true;
-    /* libmosquitto reports its own errors here too, as small numbers. The result of the call has them. */
-    if (reason >= 0x80)
-        broker_fail(broker, "ended the connection: %s", mosquitto_reason_string(reason));
-}
-
-static void on_log(struct mosquitto *client, void *owner, int level, const char *text) {
-    char printed[PRINTED_ROOM];
-    (void)client;
-    (void)owner;
-    if (level == MOSQ_LOG_ERR)
-        log_line(LOG_WARNINGS, "broker: %s", printed_name(printed, text, strlen(text)));
-}
-
-/* Reads what a gateway with this id published: its run, and a number. */
-static struct origin control_of(const struct mosquitto_message *message) {
-    char text[ORIGIN_ROOM] = "";
-    if (message->payload && message->payloadlen < ORIGIN_ROOM)
-        memcpy(text, message->payload, (size_t)message->payloadlen);
-    return origin_read(text);
-}
-
-/* Returns true if this run began before another one. Of two equal times, the greater run counts as later. */
-static bool is_older(const struct broker *broker, const struct origin *other) {
-    return other->number > broker->began || (other->number == broker->began && other->run > broker->run);
-}
-
-/*
- * All retained messages have come, and with them the owner of this id. mosquitto 2.0.11 sends no DISCONNECT 0x8E, so a
- * gateway whose session was taken over learns it here. A gateway that has not owned its id yet takes it over itself.
- */
-static void complete(struct broker *broker) {
-    char text[ORIGIN_ROOM];
-    broker->state = BROKER_READY;
-    if (!broker->is_usable && broker->owns && broker->owner.run && is_older(broker, &broker->owner)) {
-        broker->is_taken = true;
-        broker_fail(broker, "the id belongs to another gateway");
-        return;
-    }
-    struct origin origin = {broker->run, broker->began};
-    int length = origin_write(text, &origin);
-    if (!broker->is_usable)
-        mosquitto_publish_v5(broker->client, &broker->marker, broker->owner_topic, length, text, 1, true, NULL);
-    broker->owns = true;
-    broker->is_usable = true;
-    broker->events.complete(broker->events.owner);
-}
-
-/* Handles the messages of gateways to themselves. Their topics are the image of no path. */
-static void on_control(struct broker *broker, const struct mosquitto_message *message) {
-    struct origin origin = control_of(message);
-    bool is_own = origin.run == broker->run;
-    if (!strcmp(message->topic, broker->owner_topic) && !is_own)
-        broker->owner = origin;
-    if (!strcmp(message->topic, broker->marker_topic) && is_own && origin.number == broker->markers && broker->state == BROKER_READING)
-        complete(broker);
-}
-
-static void on_message(struct mosquitto *client, void *owner, const struct mosquitto_message *message,
-                       const mosquitto_property *properties) {
-    struct broker *broker = owner;
-    (void)client;
-    broker->messages++;
-    if (broker->fault[0])
-        return;
-    if (!strncmp(message->topic, broker->control, strlen(broker->control))) {
-        on_control(broker, message);
-        return;
-    }
-    struct broker_message read = {.topic = message->topic,
-                                  .bytes = message->payload ? message->payload : (const void *)"",
-                                  .length = (size_t)message->payloadlen,
-                                  .format = BROKER_NO_FORMAT,
-                                  .is_retained = message->retain,
-                                  .is_removal = message->payloadlen == 0};
-    properties_read(&read, properties);
-    broker->events.message(broker->events.owner, &read);
-}
-
-/* ---- the connection ---- */
 
 bool broker_open(struct broker *broker, const struct options *options, const struct broker_events *events) {
     char topic[TOPIC_ROOM];
-    struct timespec now;
-    *broker = (struct broker){.options = options, .events = *events, .state = BROKER_AWAY, .marker = -1};
+    *broker = (struct broker){.options = options, .events = *events, .state = BROKER_AWAY, .marker = -1, .record = -1};
     while (broker->run == 0)
         if (getrandom(&broker->run, sizeof broker->run, 0) != (ssize_t)sizeof broker->run)
             return false;
+    broker->owner.own.run = broker->run;
     topic_of_path(&options->prefix, topic);
-    snprintf(broker->client_id, sizeof broker->client_id, "coap-mqtt-%u", (unsigned)options->id);
+    /*
+     * Every broker accepts 23 letters and digits. Gateways with one id and different prefixes have different client
+     * ids.
+     */
+    snprintf(broker->client_id, sizeof broker->client_id, "coapmqtt%05u%08" PRIx32, (unsigned)options->id,
+             hash_of(topic));
     snprintf(broker->filter, sizeof broker->filter, "%s/#", topic);
     /* "%g" is no escape, so no path has these topics. */
     snprintf(broker->control, sizeof broker->control, "%s/%%gateway-", topic);
     snprintf(broker->marker_topic, sizeof broker->marker_topic, "%s%u/marker", broker->control, (unsigned)options->id);
     snprintf(broker->owner_topic, sizeof broker->owner_topic, "%s%u/owner", broker->control, (unsigned)options->id);
-    clock_gettime(CLOCK_REALTIME, &now);
-    broker->began = (uint64_t)now.tv_sec * 1000 + (uint64_t)now.tv_nsec / 1000000;
     return mosquitto_lib_init() == MOSQ_ERR_SUCCESS;
 }
 
 void broker_close(struct broker *broker) {
-    if (broker->client) {
-        mosquitto_disconnect(broker->client);
+    /* After a fault, a lock of the client may be held. */
+    if (broker->client && !broker->fault[0])
+        guarded_disconnect(broker->client);
+    if (broker->client)
         mosquitto_destroy(broker->client);
-    }
     broker->client = NULL;
     mosquitto_lib_cleanup();
 }
 
+/* Waits until the next attempt. */
+static void stay_away(struct broker *broker, uint64_t pause, uint64_t now) {
+    enter(broker, BROKER_AWAY, now + pause);
+}
+
+/* Counts an attempt that failed, and returns the pause after it. */
+static uint64_t pause_after_failure(struct broker *broker) {
+    uint64_t pause = pause_after(broker->failures);
+    broker->failures++;
+    return pause;
+}
+
+/*
+ * Returns the pause after a connection. One that was usable leaves the pauses as they are, and they begin anew after
+ * one that was good. A gateway that gives way has pauses of its own: two that keep running take turns, once a minute or
+ * less.
+ */
+static uint64_t pause_after_connection(struct broker *broker, uint64_t now) {
+    uint64_t lasted = broker->is_usable ? now - broker->usable_since : 0;
+    broker->failures = lasted >= GOOD ? 0 : broker->failures;
+    broker->retreats = lasted >= GOOD_FOR_LONG ? 0 : broker->retreats;
+    if (broker->gives_way)
+        return pause_after(broker->retreats++);
+    return broker->is_usable ? pause_after(broker->failures) : pause_after_failure(broker);
+}
+
+/* Names the fault, and the pause. An unsuitable broker is named at most once a minute. */
+static void log_loss(struct broker *broker, uint64_t pause, uint64_t now) {
+    if (broker->is_unsuitable && now < broker->remark)
+        return;
+    if (broker->is_unsuitable)
+        broker->remark = now + REMARK;
+    unsigned tenths = (unsigned)(pause / 100);
+    log_line(LOG_WARNINGS, "broker: %s; next attempt in %u.%u s", broker->fault, tenths / 10, tenths % 10);
+}
+
 /* Ends the connection. The client object goes with it, and with that all messages under way. */
 static void lose(struct broker *broker, uint64_t now) {
-    log_line(LOG_WARNINGS, "broker: %s", broker->fault);
+    uint64_t pause = pause_after_connection(broker, now);
+    log_loss(broker, pause, now);
     mosquitto_destroy(broker->client);
     broker->client = NULL;
+    if (broker->gives_way)
+        owner_give_way(&broker->owner);
     /* An address that was good is tried again, otherwise the next one. */
     broker->address += !broker->is_usable;
-    broker->is_usable = false;
-    broker->marker = -1;
-    broker->owner = (struct origin){0};
+    broker->is_usable = broker->gives_way = broker->is_unsuitable = false;
+    broker->marker = broker->record = -1;
+    broker->usable_since = 0;
     broker->fault[0] = 0;
     broker->losses++;
-    enter(broker, BROKER_AWAY, now + PAUSE);
+    stay_away(broker, pause, now);
+}
+
+/* Refuses to decrypt a key: OpenSSL would ask for the password on a terminal, and the gateway would wait for it. */
+static int no_password(char *buffer, int size, int is_writing, void *data) {
+    (void)buffer;
+    (void)size;
+    (void)is_writing;
+    (void)data;
+    return 0;
 }
 
 /* Sets the options of a new client object. Returns the first error. */
@@ -225,34 +147,38 @@ static int set_up(struct broker *broker) {
     /* The broker sends as many messages at once as it likes, and the gateway as many as the broker allows. */
     result = result ? result : mosquitto_int_option(client, MOSQ_OPT_RECEIVE_MAXIMUM, 65535);
     result = result ? result : mosquitto_int_option(client, MOSQ_OPT_SEND_MAXIMUM, 65535);
-    /* Publications and acknowledgements are small: without this, each waits for the acknowledgement of the one before. */
+    /*
+     * Publications and acknowledgements are small: without this, each waits for the acknowledgement of the one before.
+     */
     result = result ? result : mosquitto_int_option(client, MOSQ_OPT_TCP_NODELAY, 1);
     if (!result && options->username)
-        result = mosquitto_username_pw_set(client, options->username, options->password_file ? options->password : NULL);
+        result = mosquitto_username_pw_set(client, options->username,
+                                           options->password_file ? options->password : NULL);
     if (!result && options->cafile)
-        result = mosquitto_tls_set(client, options->cafile, NULL, options->cert, options->key, NULL);
-    mosquitto_connect_v5_callback_set(client, on_connect);
-    mosquitto_subscribe_v5_callback_set(client, on_subscribe);
-    mosquitto_publish_v5_callback_set(client, on_publish);
-    mosquitto_message_v5_callback_set(client, on_message);
-    mosquitto_disconnect_v5_callback_set(client, on_disconnect);
-    mosquitto_log_callback_set(client, on_log);
+        result = mosquitto_tls_set(client, options->cafile, NULL, options->cert, options->key, no_password);
+    session_watch(client);
     return result;
 }
 
 /* Connects to one of the known addresses. */
 static void connect_to_broker(struct broker *broker, uint64_t now) {
+    const struct options *options = broker->options;
     resolver_select(broker->address);
     enter(broker, BROKER_CONNECTING, now);
+    owner_begin(&broker->owner);
+    broker->packet_limit = PACKET_NO_LIMIT;
+    broker->progress = now;
     broker->client = mosquitto_new(broker->client_id, true, broker);
     if (!broker->client) {
-        enter(broker, BROKER_AWAY, now + PAUSE);
+        log_line(LOG_WARNINGS, "broker: no memory for a connection");
+        stay_away(broker, pause_after_failure(broker), now);
         return;
     }
     int result = set_up(broker);
-    result = result ? result : mosquitto_connect_async(broker->client, broker->options->broker_host, broker->options->broker_port, KEEPALIVE);
+    if (!result)
+        result = mosquitto_connect_async(broker->client, options->broker_host, options->broker_port, KEEPALIVE);
     if (result)
-        broker_fail(broker, "cannot connect: %s", result == MOSQ_ERR_ERRNO ? strerror(errno) : mosquitto_strerror(result));
+        session_fail(broker, "cannot connect", result, errno);
 }
 
 /* Connects if the name of the broker has been resolved. */
@@ -265,7 +191,7 @@ static void check_name(struct broker *broker, uint64_t now) {
         return;
     }
     log_line(LOG_WARNINGS, "broker: cannot resolve its name: %s", gai_strerror(error));
-    enter(broker, BROKER_AWAY, now + PAUSE);
+    stay_away(broker, pause_after_failure(broker), now);
 }
 
 int broker_socket(const struct broker *broker) {
@@ -273,34 +199,46 @@ int broker_socket(const struct broker *broker) {
 }
 
 bool broker_wants_write(const struct broker *broker) {
-    return broker->client && mosquitto_want_write(broker->client);
+    return broker->client && !broker->fault[0] && mosquitto_want_write(broker->client);
 }
 
 /* Records the result of a call. libmosquitto closes the socket of a connection that has ended. */
 static void check(struct broker *broker, int result, int error) {
-    if (result == GUARD_FAILED)
-        broker_fail(broker, "malformed packet");
-    else if (result)
-        broker_fail(broker, "connection failed: %s", result == MOSQ_ERR_ERRNO ? strerror(error) : mosquitto_strerror(result));
+    if (result)
+        session_fail(broker, "connection failed", result, error);
     else if (mosquitto_socket(broker->client) < 0)
         broker_fail(broker, "connection ended");
 }
 
-/* A deadline counts from the last step of the connection, that of the marker from the last message. Callbacks have no time. */
-static void note_step(struct broker *broker, enum broker_state state, uint64_t messages, uint64_t now) {
-    if (broker->state != state || (state == BROKER_READING && broker->messages != messages))
+static void write_packet(struct broker *broker) {
+    errno = 0;
+    int result = guarded_write(broker->client);
+    check(broker, result, errno);
+}
+
+/*
+ * A deadline counts from the last step of the connection, that of the marker from the last message. Callbacks have no
+ * time.
+ */
+static void note_step(struct broker *broker, enum broker_state state, uint64_t packets, uint64_t now) {
+    bool has_progress = broker->packets != packets;
+    if (broker->state != state || (state == BROKER_READING && has_progress))
         broker->since = now;
+    if (has_progress)
+        broker->progress = now;
+    if (broker->is_usable && !broker->usable_since)
+        broker->usable_since = now;
 }
 
 void broker_ready(struct broker *broker, bool may_read, bool may_write, uint64_t now) {
     enum broker_state state = broker->state;
-    uint64_t messages = broker->messages;
+    uint64_t packets = broker->packets;
     if (!broker->client || broker->fault[0])
         return;
     if (may_write)
-        check(broker, mosquitto_loop_write(broker->client, 1), errno);
+        write_packet(broker);
     /* A call reads few packets, and reports by errno alone that there are no more. */
-    for (int packets = 0; may_read && packets < PACKETS_A_TURN && !broker->fault[0]; packets++) {
+    for (int calls = 0; may_read && calls < PACKETS_A_TURN && !broker->fault[0]; calls++) {
         errno = 0;
         int result = guarded_read(broker->client), error = errno;
         check(broker, result, error);
@@ -308,19 +246,27 @@ void broker_ready(struct broker *broker, bool may_read, bool may_write, uint64_t
             break;
     }
     /* The acknowledgements of what was read need no turn of their own. */
-    if (may_read && !broker->fault[0] && broker_wants_write(broker))
-        check(broker, mosquitto_loop_write(broker->client, 1), errno);
-    note_step(broker, state, messages, now);
+    if (may_read && broker_wants_write(broker))
+        write_packet(broker);
+    note_step(broker, state, packets, now);
 }
 
 /* Checks the deadline of a step, and the keep-alive. */
 static void check_time(struct broker *broker, uint64_t now) {
-    static const char *const steps[] = {"", "", "no connection", "no answer to the subscription", "the marker did not come"};
+    static const char *const steps[] = {
+        [BROKER_CONNECTING] = "no connection",
+        [BROKER_SUBSCRIBING] = "no answer to the subscription",
+        [BROKER_READING] = "the marker did not come",
+        [BROKER_OWNING] = "the record of the owner did not come back",
+    };
     bool is_step = broker->state != BROKER_READY;
     if (is_step && now - broker->since > BROKER_PATIENCE)
         broker_fail(broker, "%s within %d seconds", steps[broker->state], BROKER_PATIENCE / 1000);
-    if (!broker->fault[0])
-        check(broker, mosquitto_loop_misc(broker->client), errno);
+    if (broker->fault[0])
+        return;
+    errno = 0;
+    int result = guarded_misc(broker->client);
+    check(broker, result, errno);
 }
 
 void broker_tick(struct broker *broker, uint64_t now) {
@@ -337,27 +283,35 @@ void broker_tick(struct broker *broker, uint64_t now) {
 }
 
 void broker_read_again(struct broker *broker, uint64_t now) {
-    int result = mosquitto_subscribe_v5(broker->client, NULL, broker->filter, 1, MQTT_SUB_OPT_RETAIN_AS_PUBLISHED, NULL);
-    if (result)
-        broker_fail(broker, "cannot subscribe: %s", mosquitto_strerror(result));
+    if (broker->fault[0])
+        return;
+    session_subscribe(broker);
     enter(broker, BROKER_SUBSCRIBING, now);
-    broker->events.begins(broker->events.owner);
 }
 
-enum broker_result broker_publish(struct broker *broker, const char *topic, const uint8_t *bytes, size_t length, uint32_t format,
-                                  uint64_t number, int *publication) {
+size_t broker_room(const struct broker *broker, const char *topic, uint32_t format) {
+    return packet_publish_room(strlen(topic), properties_size(false, format), broker->packet_limit);
+}
+
+enum broker_result broker_publish(struct broker *broker, const char *topic, const uint8_t *bytes, size_t length,
+                                  uint32_t format, uint64_t number, int *publication) {
+    static const uint8_t zero = 0;
     mosquitto_property *properties = NULL;
     int result = MOSQ_ERR_NOMEM;
     struct origin origin = {broker->run, number};
     bool is_empty = bytes && length == 0;
-    if (properties_make(&properties, is_empty, format, &origin))
-        result = mosquitto_publish_v5(broker->client, publication, topic, is_empty ? 1 : (int)length, is_empty ? (const uint8_t *)"" : bytes, 1,
-                                      true, properties);
-    mosquitto_property_free_all(&properties);
-    if (result == MOSQ_ERR_OVERSIZE_PACKET || result == MOSQ_ERR_PAYLOAD_SIZE)
+    struct guarded_message message = {topic, is_empty ? &zero : bytes, is_empty ? 1 : length, true, NULL};
+    if (broker->fault[0])
+        return BROKER_NOT_SENT;
+    if (packet_publish_size(strlen(topic), properties_size(is_empty, format), message.length) > broker->packet_limit)
         return BROKER_TOO_LARGE;
+    if (properties_make(&properties, is_empty, format, &origin)) {
+        message.properties = properties;
+        result = guarded_publish(broker->client, publication, &message);
+    }
+    mosquitto_property_free_all(&properties);
     if (result && result != MOSQ_ERR_NOMEM)
-        broker_fail(broker, "cannot publish: %s", mosquitto_strerror(result));
+        session_fail(broker, "cannot publish", result, errno);
     /* After another error, the broker may have received the message. The next retained messages show it. */
     return result == MOSQ_ERR_NOMEM || result == MOSQ_ERR_NO_CONN ? BROKER_NOT_SENT : BROKER_SENT;
 }

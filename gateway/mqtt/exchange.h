@@ -15,7 +15,16 @@ void exchange_message(void *owner, const struct broker_message *message);
 /* Answers the request whose publication the broker refused. `owner` is the gateway. */
 void exchange_refused(void *owner, int publication, int reason);
 
-/* Sends responses that had no room, and frees the places of publications that can have no response any more. */
+/* Records that the broker acknowledged a publication. `owner` is the gateway. */
+void exchange_acknowledged(void *owner, int publication);
+
+/* Notes that a reading of all retained messages has ended. */
+void exchange_complete(struct gateway *gateway);
+
+/* Answers all writes at the end of the gateway: 5.03 if they were not published, otherwise 5.04. */
+void exchange_end(struct gateway *gateway);
+
+/* Sends responses that had no room, frees places that nobody needs, and ends a connection without echoes. */
 void exchange_check(struct gateway *gateway, bool is_new_second);
 
 #endif

@@ -1,5 +1,6 @@
 #include "gateway.h"
 
+#include <errno.h>
 #include <signal.h>
 #include <string.h>
 #include <sys/epoll.h>
@@ -7,6 +8,7 @@
 #include <unistd.h>
 
 #include "exchange.h"
+#include "health.h"
 #include "log.h"
 #include "screen.h"
 
@@ -14,8 +16,13 @@ enum {
     EVENTS_A_TURN = 64,
     STALLED = 5000,          /* milliseconds of a turn after which the broker may have dropped messages */
     LOOK_FOR_NAME = 20,      /* milliseconds of a turn while the name of the broker is being resolved */
-    PAUSE_OF_READINGS = 1000 /* least time between two readings of all retained messages on one connection */
+    QUIET = 60000,           /* milliseconds without need of a reading, after which the pauses are short again */
+    TIME_FOR_ECHOES = 700,   /* milliseconds after a signal in which echoes are awaited */
+    TIME_TO_END = 950        /* milliseconds after a signal in which queued bytes are written */
 };
+
+/* Least milliseconds between two readings on one connection. A peer can cause one by each DELETE, at every gateway. */
+static const uint64_t pauses[] = {1000, 10000, 60000};
 
 static volatile sig_atomic_t stops;
 
@@ -45,14 +52,27 @@ static void on_begin(void *owner) {
     mirror_begin(&gateway->mirror);
 }
 
+/* Returns what the first reading on a connection says of the broker. The owner record is retained as resources are. */
+static const char *remark(const struct gateway *gateway) {
+    if (gateway->broker.has_own_record)
+        return "connected again";
+    return gateway->mirror.count + gateway->mirror.left_out ? "it has an older state" : "it is empty";
+}
+
 static void on_complete(void *owner) {
     struct gateway *gateway = owner;
-    size_t removed = mirror_end(&gateway->mirror);
+    struct mirror *mirror = &gateway->mirror;
+    bool is_again = gateway->is_complete && gateway->read != gateway->broker.losses;
+    mirror_end(mirror);
+    exchange_complete(gateway);
     gateway->is_complete = true;
     gateway->has_output = true;
     gateway->reading = gateway->now;
-    log_line(LOG_CONNECTIONS, "broker: %zu resources, %zu removed, %llu left out", gateway->mirror.count, removed,
-             (unsigned long long)gateway->mirror.left_out);
+    gateway->read = gateway->broker.losses;
+    log_line(is_again ? LOG_WARNINGS : LOG_CONNECTIONS,
+             "broker: %s%s%zu resources, %llu new, %llu removed, %llu left out", is_again ? remark(gateway) : "",
+             is_again ? ": " : "", mirror->count, (unsigned long long)mirror->came, (unsigned long long)mirror->went,
+             (unsigned long long)mirror->left_out);
 }
 
 /* ---- the loop ---- */
@@ -86,13 +106,49 @@ static void check_stall(struct gateway *gateway, uint64_t now) {
     gateway->now = now;
 }
 
+/* Returns true if it is time to read all retained messages again on this connection. */
+static bool wants_reading(struct gateway *gateway) {
+    uint64_t since = gateway->now - gateway->reading, last = sizeof pauses / sizeof *pauses - 1;
+    if (mirror_wants_reading(&gateway->mirror)) {
+        gateway->wanted = gateway->now;
+        if (since < pauses[gateway->pause])
+            return false;
+        gateway->pause += gateway->pause < last;
+        return true;
+    }
+    if (gateway->now - gateway->wanted >= QUIET)
+        gateway->pause = 0;
+    /* A broker may have dropped a message. */
+    return gateway->options->reread && since >= gateway->options->reread * 60000;
+}
+
 static void check_mirror(struct gateway *gateway) {
     struct broker *broker = &gateway->broker;
     if (gateway->mirror.is_out_of_memory && broker->client)
         broker_fail(broker, "no memory for a message");
     gateway->mirror.is_out_of_memory = false;
-    if (mirror_wants_reading(&gateway->mirror) && broker->state == BROKER_READY && gateway->now - gateway->reading >= PAUSE_OF_READINGS)
+    if (broker->state == BROKER_READY && wants_reading(gateway))
         broker_read_again(broker, gateway->now);
+}
+
+/* Notifies systemd of a change of the health, and once a second the watchdog. */
+static void notify_state(struct gateway *gateway, bool is_new_second) {
+    bool is_good = health_is_good(gateway);
+    if (is_new_second)
+        notify_tick(&gateway->notify, gateway->now);
+    if (is_good == gateway->was_good || gateway->is_ending)
+        return;
+    gateway->was_good = is_good;
+    notify_send(&gateway->notify, is_good ? "STATUS=Connected to the broker, with %zu resources."
+                                          : "STATUS=Not connected to the broker; %zu resources are in the mirror.",
+                gateway->mirror.count);
+}
+
+/* The tasks of each second. */
+static void check_second(struct gateway *gateway) {
+    peers_tick(&gateway->peers);
+    metrics_tick(gateway);
+    log_tick();
 }
 
 /*
@@ -115,16 +171,17 @@ static void watch_broker(struct gateway *gateway) {
         return;
     uint32_t interest = (uint32_t)EPOLLIN | (broker_wants_write(&gateway->broker) ? (uint32_t)EPOLLOUT : 0);
     struct epoll_event event = {.events = interest, .data.u64 = EVENT_BROKER};
-    if (gateway->watched != socket)
-        epoll_ctl(gateway->poll, EPOLL_CTL_ADD, socket, &event);
-    else if (interest != gateway->interest)
-        epoll_ctl(gateway->poll, EPOLL_CTL_MOD, socket, &event);
+    int change = gateway->watched != socket ? EPOLL_CTL_ADD : EPOLL_CTL_MOD;
+    bool is_watched = change == EPOLL_CTL_MOD && interest == gateway->interest;
+    if (!is_watched && epoll_ctl(gateway->poll, change, socket, &event))
+        broker_fail(&gateway->broker, "its socket cannot be watched: %s", strerror(errno));
     gateway->watched = socket;
     gateway->interest = interest;
 }
 
 static void handle(struct gateway *gateway, const struct epoll_event *event) {
     uint32_t events = event->events;
+    gateway->peers.now = milliseconds();
     if (event->data.u64 == EVENT_LISTENER)
         peers_accept(&gateway->peers);
     else if (event->data.u64 == EVENT_BROKER)
@@ -139,7 +196,9 @@ static int wait_of(struct gateway *gateway) {
         return 0;
     if (gateway->broker.state == BROKER_RESOLVING)
         return LOOK_FOR_NAME;
-    return 1001 - (int)(server_time(gateway) % 1000);
+    int wait = 1001 - (int)(server_time(gateway) % 1000);
+    int64_t left = gateway->is_ending ? (int64_t)(gateway->ends - gateway->now) : wait;
+    return left < 0 ? 0 : left < wait ? (int)left : wait;
 }
 
 /* One turn. Returns false if the gateway must end. */
@@ -147,12 +206,16 @@ static bool turn(struct gateway *gateway, const sigset_t *signals) {
     struct epoll_event ready[EVENTS_A_TURN];
     check_stall(gateway, milliseconds());
     bool is_new_second = tick(gateway);
+    gateway->peers.now = gateway->now;
+    if (is_new_second)
+        check_second(gateway);
     exchange_check(gateway, is_new_second);
     check_mirror(gateway);
     broker_tick(&gateway->broker, gateway->now);
-    if (gateway->broker.is_taken || !check_listening(gateway))
+    if (!check_listening(gateway))
         return false;
     gateway->peers.refuses_reads = gateway->options->refuses_stale && !gateway->broker.is_usable;
+    notify_state(gateway, is_new_second);
     /* Requests in the kept bytes of a peer may cause publications, but no change of the store. */
     while (gateway->has_output) {
         gateway->has_output = false;
@@ -166,10 +229,16 @@ static bool turn(struct gateway *gateway, const sigset_t *signals) {
     return true;
 }
 
+/* Adds the entry of a path, whose requests with these methods the gateway answers. */
+static uint32_t add_entry(struct dachreup_applications *entries, const char *path, uint32_t methods,
+                          const char *attributes) {
+    return dachreup_applications_add(entries, (const uint8_t *)path, strlen(path), methods, (const uint8_t *)attributes,
+                                     strlen(attributes));
+}
+
 static bool open_server(struct gateway *gateway) {
     const struct options *options = gateway->options;
     struct dachreup_settings settings = DACHREUP_SETTINGS(options->resources);
-    const char *prefix = options->prefix_text;
     uint32_t methods = 1u << METHOD_POST | 1u << METHOD_PUT | 1u << METHOD_DELETE | 1u << METHOD_REFUSED;
     gateway->started = server_time(gateway) / 1000;
     settings.max_message = options->max_message;
@@ -185,7 +254,9 @@ static bool open_server(struct gateway *gateway) {
     struct dachreup_applications entries = {0};
     uint32_t result = dachreup_applications_new(&entries, DEADLINE);
     if (!result)
-        result = dachreup_applications_add(&entries, (const uint8_t *)prefix, strlen(prefix), methods, (const uint8_t *)"", 0);
+        result = add_entry(&entries, options->prefix_text, methods, "");
+    if (!result && options->health_text)
+        result = add_entry(&entries, options->health_text, 1u << METHOD_GET, "rt=\"dachreup.health\"");
     if (!result)
         result = dachreup_server_new_for(&gateway->server, &settings, &entries);
     if (result)
@@ -196,15 +267,22 @@ static bool open_server(struct gateway *gateway) {
 
 static bool open_all(struct gateway *gateway) {
     const struct options *options = gateway->options;
-    struct broker_events events = {gateway, on_begin, exchange_message, on_complete, exchange_refused};
+    struct broker_events events = {.owner = gateway, .begins = on_begin, .message = exchange_message,
+                                   .complete = on_complete, .refused = exchange_refused,
+                                   .acknowledged = exchange_acknowledged};
     gateway->poll = epoll_create1(EPOLL_CLOEXEC);
     if (gateway->poll < 0 || !open_server(gateway) || !peers_open(&gateway->peers, &gateway->server, options, gateway->poll))
         return false;
     gateway->peers.owner = gateway;
     gateway->peers.request = exchange_request;
     if (!mirror_open(&gateway->mirror, &gateway->server, &options->prefix, options->resources) ||
-        !writes_open(&gateway->writes, options->pending * options->connections) || !broker_open(&gateway->broker, options, &events))
+        !broker_open(&gateway->broker, options, &events) ||
+        !writes_open(&gateway->writes, options->in_flight, gateway->broker.run))
         return log_always("no memory"), false;
+    gateway->now = milliseconds();
+    if (!metrics_write(gateway))
+        return log_always("cannot write %s: %s", options->metrics, strerror(errno)), false;
+    notify_send(&gateway->notify, "READY=1\nSTATUS=Not connected to the broker yet.");
     return true;
 }
 
@@ -222,7 +300,27 @@ static void take_signals(sigset_t *during) {
     sigaction(SIGINT, &action, NULL);
 }
 
+/* Makes turns until a time, as long as there is something to wait for. */
+static void wait_until(struct gateway *gateway, const sigset_t *signals, uint64_t ends, const size_t *something) {
+    gateway->ends = ends;
+    while (*something && milliseconds() < ends && turn(gateway, signals)) {
+    }
+}
+
+/* Ends within a second: writes under way get a response, peers a Release, and queued bytes are written. */
+static void drain(struct gateway *gateway, const sigset_t *signals) {
+    uint64_t now = milliseconds();
+    gateway->is_ending = true;
+    notify_send(&gateway->notify, "STOPPING=1\nSTATUS=Ends.");
+    peers_refuse(&gateway->peers);
+    wait_until(gateway, signals, now + TIME_FOR_ECHOES, &gateway->writes.used);
+    exchange_end(gateway);
+    peers_release(&gateway->peers);
+    wait_until(gateway, signals, now + TIME_TO_END, &gateway->peers.open);
+}
+
 static void close_all(struct gateway *gateway) {
+    notify_close(&gateway->notify);
     broker_close(&gateway->broker);
     peers_close(&gateway->peers);
     writes_close(&gateway->writes);
@@ -235,13 +333,16 @@ static void close_all(struct gateway *gateway) {
 int gateway_run(const struct options *options) {
     struct gateway gateway = {.options = options, .watched = -1, .poll = -1, .peers.listener = -1, .ahead = INT64_MIN};
     sigset_t signals;
+    notify_open(&gateway.notify);
     bool runs = open_all(&gateway);
     take_signals(&signals);
     while (runs && !stops)
         runs = turn(&gateway, &signals);
-    bool is_taken = gateway.broker.is_taken;
+    if (runs)
+        drain(&gateway, &signals);
+    if (gateway.is_ending)
+        metrics_write(&gateway);
     close_all(&gateway);
-    if (is_taken)
-        log_always("another gateway has the id %u: the broker gave it the session (DISCONNECT 0x8E)", (unsigned)options->id);
-    return is_taken ? STATUS_ID_TAKEN : runs ? STATUS_ENDED : STATUS_FAILED;
+    log_close();
+    return runs ? STATUS_ENDED : STATUS_FAILED;
 }

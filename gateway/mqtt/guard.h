@@ -1,18 +1,41 @@
 /*
- * Calls of libmosquitto that parse what the broker sent.
+ * Calls of libmosquitto that can fail an assertion.
  *
- * Version 2.0.11, Debian's, ends the process by a failed assertion if a packet has a property that it does not know: it
- * then logs without a client, which its log function forbids. Here such a packet ends the connection instead.
+ * Version 2.0.11, Debian's, ends the process by one if a packet has a property that it does not know, or if a packet of
+ * its own is too large for the broker: it then logs without a client, which its log function forbids. Here the
+ * connection ends instead. This is the last resort: packets.h keeps packets that are too large from libmosquitto.
+ *
+ * A callback of libmosquitto may make these calls too. An assertion that fails within it leaves the outermost call.
  */
 #ifndef COAP_MQTT_GUARD_H
 #define COAP_MQTT_GUARD_H
 
-struct mosquitto;
+#include <mosquitto.h>
+#include <stdbool.h>
+#include <stddef.h>
 
-/* Returned by guarded_read if an assertion failed. No error of libmosquitto has this number. */
+/* Returned if an assertion failed. No error of libmosquitto has this number. */
 enum { GUARD_FAILED = -1000 };
 
-/* Does the same as mosquitto_loop_read. After GUARD_FAILED, only mosquitto_destroy may be called with the client. */
+/*
+ * These functions do the same as those of libmosquitto, with one packet to read or write, with one filter of QoS 1, and
+ * with publications of QoS 1. After GUARD_FAILED, only mosquitto_destroy may be called with the client.
+ */
 int guarded_read(struct mosquitto *client);
+int guarded_write(struct mosquitto *client);
+int guarded_misc(struct mosquitto *client);
+int guarded_disconnect(struct mosquitto *client);
+int guarded_subscribe(struct mosquitto *client, const char *filter, int options);
+
+/* A publication: its topic, its payload and its properties. */
+struct guarded_message {
+    const char *topic;
+    const void *bytes;
+    size_t length;
+    bool is_retained;
+    const mosquitto_property *properties;
+};
+
+int guarded_publish(struct mosquitto *client, int *publication, const struct guarded_message *message);
 
 #endif

@@ -50,6 +50,19 @@ static void begin_second(const struct timespec *now) {
         left_out = 0;
 }
 
+void log_tick(void) {
+    struct timespec now;
+    clock_gettime(CLOCK_REALTIME, &now);
+    if (left_out && now.tv_sec != second)
+        begin_second(&now);
+}
+
+void log_close(void) {
+    struct timespec now;
+    clock_gettime(CLOCK_REALTIME, &now);
+    begin_second(&now);
+}
+
 void log_line(int level, const char *format, ...) {
     char line[LINE_ROOM];
     struct timespec now;

@@ -16,6 +16,10 @@ int log_is_on(int level);
 /* Writes a line with the time in UTC. At most 100 lines a second are written. */
 void log_line(int level, const char *format, ...) __attribute__((format(printf, 2, 3)));
 
+/* Says how many lines the last second left out, if it did. Called once a second, and at the end. */
+void log_tick(void);
+void log_close(void);
+
 /* Writes a line without a time at every level: the address at the start, and the reason of the end. */
 void log_always(const char *format, ...) __attribute__((format(printf, 1, 2)));
 

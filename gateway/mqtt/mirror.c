@@ -19,12 +19,9 @@ void mirror_close(struct mirror *mirror) {
 
 /* ---- the table of stored paths ---- */
 
-/* FNV-1a. A publisher that finds equal values only makes searches among at most `limit` entries longer. */
+/* A publisher that finds equal values only makes searches among at most `limit` entries longer. */
 static size_t home_of(const struct mirror *mirror, const struct path *path) {
-    uint64_t hash = UINT64_C(14695981039346656037);
-    for (size_t at = 0; at < path->size; at++)
-        hash = (hash ^ path->bytes[at]) * UINT64_C(1099511628211);
-    return (size_t)(hash ^ hash >> 32) & (mirror->places - 1);
+    return (size_t)path_hash(path, 0) & (mirror->places - 1);
 }
 
 /* Returns the entry of a path, or the free place where it belongs. The table is at most half full. */
@@ -43,6 +40,7 @@ static void note(struct mirror *mirror, const struct path *path) {
     if (!entry->reading) {
         entry->path = *path;
         mirror->count++;
+        mirror->came++;
     }
     entry->reading = mirror->reading;
 }
@@ -51,6 +49,7 @@ static void note(struct mirror *mirror, const struct path *path) {
 static void forget(struct mirror *mirror, struct mirrored *entry) {
     size_t mask = mirror->places - 1, gap = (size_t)(entry - mirror->entries);
     mirror->count--;
+    mirror->went++;
     mirror->entries[gap].reading = 0;
     for (size_t at = (gap + 1) & mask; mirror->entries[at].reading; at = (at + 1) & mask) {
         struct mirrored *later = &mirror->entries[at];
@@ -82,7 +81,7 @@ static bool is_equal(const struct dachreup_state *state, const struct broker_mes
            (message->length == 0 || memcmp(state->bytes.at, message->bytes, message->length) == 0);
 }
 
-/* A message that has no place leaves none to the state before it: a reader gets 4.04, not old bytes. */
+/* A message that is not stored leaves no place to the state before it: a reader gets 4.04, not old bytes. */
 static enum mirror_change leave_out(struct mirror *mirror, const struct path *path, const struct broker_message *message, const char *reason) {
     char printed[PRINTED_ROOM];
     mirror->left_out++;
@@ -117,13 +116,16 @@ static enum mirror_change ignore(const struct broker_message *message, const cha
     return MIRROR_IGNORED;
 }
 
-enum mirror_change mirror_apply(struct mirror *mirror, const struct broker_message *message) {
-    struct path path;
+enum mirror_change mirror_apply(struct mirror *mirror, const struct path *path, const struct broker_message *message) {
+    enum mirror_change change;
     if (!message->is_retained)
         return ignore(message, "a message that is not retained");
-    if (!path_of_topic(&path, message->topic) || !path_begins(&path, &mirror->prefix))
+    if (!path || !path_begins(path, &mirror->prefix))
         return ignore(message, "the topic of no path");
-    enum mirror_change change = message->is_removal ? take_away(mirror, &path) : store(mirror, &path, message);
+    /* The broker removes it at some time without a message. So no gateway stores it, and all stay equal. */
+    if (message->expires && !message->is_removal)
+        return leave_out(mirror, path, message, "a message with an expiry interval");
+    change = message->is_removal ? take_away(mirror, path) : store(mirror, path, message);
     return change == MIRROR_IGNORED ? ignore(message, "the path of a built-in resource") : change;
 }
 
@@ -131,12 +133,11 @@ enum mirror_change mirror_apply(struct mirror *mirror, const struct broker_messa
 
 void mirror_begin(struct mirror *mirror) {
     mirror->reading++;
-    mirror->left_out = 0;
+    mirror->came = mirror->went = mirror->left_out = 0;
     mirror->lacks_room = mirror->has_room_again = false;
 }
 
-size_t mirror_end(struct mirror *mirror) {
-    size_t removed = 0;
+void mirror_end(struct mirror *mirror) {
     /* A removal moves later entries into its place, so the place is looked at again. */
     for (size_t at = 0; at < mirror->places;) {
         struct mirrored *entry = &mirror->entries[at];
@@ -147,9 +148,7 @@ size_t mirror_end(struct mirror *mirror) {
         dachreup_server_remove_at(mirror->server, entry->path.bytes, entry->path.size);
         forget(mirror, entry);
         mirror->has_room_again = true;
-        removed++;
     }
-    return removed;
 }
 
 bool mirror_wants_reading(const struct mirror *mirror) {
@@ -160,6 +159,6 @@ bool mirror_state(const struct mirror *mirror, const struct path *path, struct d
     return dachreup_server_state_at(mirror->server, path->bytes, path->size, state) == DACHREUP_OK;
 }
 
-bool mirror_is_full(const struct mirror *mirror) {
-    return mirror->count >= mirror->limit;
+bool mirror_is_full(const struct mirror *mirror, size_t more) {
+    return mirror->count + more >= mirror->limit;
 }

@@ -33,6 +33,13 @@ bool path_equals(const struct path *path, const struct path *other) {
     return path->size == other->size && path_begins(path, other);
 }
 
+uint64_t path_hash(const struct path *path, uint64_t seed) {
+    uint64_t hash = UINT64_C(14695981039346656037) ^ seed;
+    for (size_t at = 0; at < path->size; at++)
+        hash = (hash ^ path->bytes[at]) * UINT64_C(1099511628211);
+    return hash ^ hash >> 32;
+}
+
 bool path_read(struct path *path, const char *text) {
     *path = (struct path){0};
     for (const char *slash; (slash = strchr(text, '/')); text = slash + 1)

@@ -32,6 +32,9 @@ bool path_begins(const struct path *path, const struct path *prefix);
 /* Returns true if two paths have the same segments. */
 bool path_equals(const struct path *path, const struct path *other);
 
+/* Returns the FNV-1a hash of a path, from a seed on. */
+uint64_t path_hash(const struct path *path, uint64_t seed);
+
 /* Reads a path from a text: segments with slashes between them, not escaped. */
 bool path_read(struct path *path, const char *text);
 

@@ -7,6 +7,7 @@
 #include <string.h>
 
 #include "log.h"
+#include "tls_files.h"
 
 #ifndef COAP_MQTT_VERSION
 #define COAP_MQTT_VERSION "unknown"
@@ -20,6 +21,7 @@ enum {
     PENDING,
     OBSERVERS,
     CONNECTIONS,
+    IDLE,
     BROKER_HOST,
     BROKER_PORT,
     USERNAME,
@@ -30,6 +32,10 @@ enum {
     ID,
     PREFIX,
     STALE,
+    HEALTH,
+    METRICS,
+    IN_FLIGHT,
+    REREAD,
     LOG,
     AFTER_LAST
 };
@@ -41,6 +47,7 @@ static const struct option names[] = {
     {"pending", required_argument, NULL, PENDING},
     {"observers", required_argument, NULL, OBSERVERS},
     {"connections", required_argument, NULL, CONNECTIONS},
+    {"idle", required_argument, NULL, IDLE},
     {"broker-host", required_argument, NULL, BROKER_HOST},
     {"broker-port", required_argument, NULL, BROKER_PORT},
     {"username", required_argument, NULL, USERNAME},
@@ -51,6 +58,10 @@ static const struct option names[] = {
     {"id", required_argument, NULL, ID},
     {"prefix", required_argument, NULL, PREFIX},
     {"stale", required_argument, NULL, STALE},
+    {"health", required_argument, NULL, HEALTH},
+    {"metrics", required_argument, NULL, METRICS},
+    {"in-flight", required_argument, NULL, IN_FLIGHT},
+    {"reread", required_argument, NULL, REREAD},
     {"log", required_argument, NULL, LOG},
     {"help", no_argument, NULL, 'h'},
     {"version", no_argument, NULL, 'V'},
@@ -63,7 +74,7 @@ static const char help[] =
     "Serves CoAP over TCP. Resources below a prefix are the retained messages of an MQTT broker.\n"
     "\n"
     "CoAP:\n"
-    "  -A ADDRESS            listen at this IPv4 or IPv6 address (default 0.0.0.0)\n"
+    "  -A ADDRESS            listen at this IPv4 or IPv6 address (default 127.0.0.1)\n"
     "  -p PORT               listen at this TCP port (default 5683)\n"
     "  -d MAX                maximum number of resources, 1 to 1000 (default 1000)\n"
     "      --max-message N   maximum size of a received message (default 65536)\n"
@@ -72,6 +83,7 @@ static const char help[] =
     "      --pending N       maximum number of pending requests of a connection (default 16)\n"
     "      --observers N     maximum number of observations of a connection (default 16)\n"
     "      --connections N   maximum number of connections (default 16)\n"
+    "      --idle SECONDS    end silent connections after this time; 0 for never (default 0)\n"
     "\n"
     "Broker:\n"
     "      --broker-host HOST    name or address of the broker (default 127.0.0.1)\n"
@@ -85,6 +97,10 @@ static const char help[] =
     "\n"
     "      --prefix PATH     path of the shared resources, and their topic (default shared)\n"
     "      --stale WHAT      serve (default) or refuse reads while the broker is away\n"
+    "      --health PATH     path that says whether the broker is connected, or none (default health)\n"
+    "      --metrics FILE    write metrics for Prometheus to this file every 15 seconds\n"
+    "      --in-flight BYTES maximum size of all writes under way (default 16777216)\n"
+    "      --reread MINUTES  read all retained messages again after this time, 0 never (default 60)\n"
     "      --log LEVEL       0 nothing, 1 warnings (default), 2 connections, 3 messages\n"
     "  -h, --help            print this help\n"
     "  -V, --version         print the version\n";
@@ -125,14 +141,64 @@ static bool read_address(struct options *options, const char *text) {
     return inet_pton(AF_INET, text, bytes) == 1 || inet_pton(AF_INET6, text, bytes) == 1;
 }
 
+/* Paths of the server's own resources. */
+static const char *const built_in[] = {"time", "async", ".well-known/core"};
+
 /* The topic of the prefix is a level of its own, so a broker must deliver it to `prefix/#`: not so with a leading dollar. */
 static bool read_prefix(struct options *options, const char *text) {
-    static const char *const built_in[] = {"time", "async", ".well-known/core"};
     options->prefix_text = text;
     for (size_t at = 0; at < sizeof built_in / sizeof *built_in; at++)
         if (strcmp(text, built_in[at]) == 0)
             return false;
     return path_read(&options->prefix, text) && text[0] != '$';
+}
+
+/* Returns true if no path begins with both. */
+static bool are_apart(const struct path *one, const struct path *other) {
+    return !path_begins(one, other) && !path_begins(other, one);
+}
+
+static bool read_health(struct options *options, const char *text) {
+    options->health_text = strcmp(text, "none") == 0 ? NULL : text;
+    if (options->health_text && !path_read(&options->health, text))
+        return false;
+    for (size_t at = 0; options->health_text && at < sizeof built_in / sizeof *built_in; at++) {
+        struct path other;
+        if (path_read(&other, built_in[at]) && !are_apart(&options->health, &other))
+            return false;
+    }
+    return true;
+}
+
+static bool read_idle(struct options *options, const char *text) {
+    uint64_t seconds = 0;
+    bool is_good = read_number(text, 0, UINT32_MAX, &seconds);
+    options->idle = seconds * 1000;
+    return is_good;
+}
+
+/* Returns NAME of a value `credential:NAME`, or NULL. */
+static const char *credential_of(const char *text) {
+    static const char scheme[] = "credential:";
+    return strncmp(text, scheme, sizeof scheme - 1) == 0 ? text + sizeof scheme - 1 : NULL;
+}
+
+/* Reads the name of a file. `credential:NAME` is the file NAME among those that systemd passes to the program. */
+static bool read_file(struct options *options, const char **file, int place, const char *text) {
+    const char *folder = getenv("CREDENTIALS_DIRECTORY"), *name = credential_of(text);
+    *file = text;
+    if (!name)
+        return *text != 0;
+    if (!folder || !*name || strchr(name, '/'))
+        return false;
+    int length = snprintf(options->credentials[place], CREDENTIAL_ROOM, "%s/%s", folder, name);
+    *file = options->credentials[place];
+    return length < CREDENTIAL_ROOM;
+}
+
+/* Returns the end of the message on a bad value. */
+static const char *reason_of(const char *text) {
+    return credential_of(text) && !getenv("CREDENTIALS_DIRECTORY") ? " (systemd passes no credentials)" : "";
 }
 
 static bool read_stale(struct options *options, const char *text) {
@@ -159,6 +225,7 @@ static bool read_coap(struct options *options, int name, const char *text) {
     case PENDING: return read_size(text, 1, 256, &options->pending);
     case OBSERVERS: return read_size(text, 0, 256, &options->observers);
     case CONNECTIONS: return read_size(text, 1, 256, &options->connections);
+    case IDLE: return read_idle(options, text);
     default: return false;
     }
 }
@@ -169,23 +236,28 @@ static bool read_value(struct options *options, int name, const char *text) {
     case BROKER_HOST: options->broker_host = text; return *text != 0;
     case BROKER_PORT: return read_small(text, 1, &options->broker_port);
     case USERNAME: options->username = text; return true;
-    case PASSWORD_FILE: options->password_file = text; return true;
-    case CAFILE: options->cafile = text; return true;
-    case CERT: options->cert = text; return true;
-    case KEY: options->key = text; return true;
+    case PASSWORD_FILE: return read_file(options, &options->password_file, CREDENTIAL_PASSWORD, text);
+    case CAFILE: return read_file(options, &options->cafile, CREDENTIAL_CAFILE, text);
+    case CERT: return read_file(options, &options->cert, CREDENTIAL_CERT, text);
+    case KEY: return read_file(options, &options->key, CREDENTIAL_KEY, text);
     case ID: return read_small(text, 0, &options->id);
     case PREFIX: return read_prefix(options, text);
     case STALE: return read_stale(options, text);
+    case HEALTH: return read_health(options, text);
+    case METRICS: options->metrics = text; return *text != 0;
+    case IN_FLIGHT: return read_size(text, 131072, 1073741824, &options->in_flight);
+    case REREAD: return read_number(text, 0, 10080, &options->reread);
     case LOG: return read_level(options, text);
     default: return read_coap(options, name, text);
     }
 }
 
 static void set_defaults(struct options *options) {
-    *options = (struct options){.address = "0.0.0.0", .port = 5683, .resources = 1000, .max_message = 65536, .max_sent = 65536,
+    *options = (struct options){.address = "127.0.0.1", .port = 5683, .resources = 1000, .max_message = 65536, .max_sent = 65536,
                                 .queue = 131072, .pending = 16, .observers = 16, .connections = 16, .broker_host = "127.0.0.1",
-                                .log_level = LOG_WARNINGS};
+                                .in_flight = 16777216, .reread = 60, .log_level = LOG_WARNINGS};
     read_prefix(options, "shared");
+    read_health(options, "health");
 }
 
 /* The password is in a file, since every user of the machine can read a command line. */
@@ -211,9 +283,12 @@ static bool check(struct options *options) {
         return log_always("--password-file needs --username"), false;
     if (!options->cert != !options->key || (options->cert && !options->cafile))
         return log_always("--cert and --key need each other and --cafile"), false;
+    if (options->health_text && !are_apart(&options->health, &options->prefix))
+        return log_always("the paths of --health and --prefix overlap: %s and %s", options->health_text,
+                          options->prefix_text), false;
     if (options->password_file && !read_password(options))
         return log_always("cannot read a password of at most %d bytes from %s", PASSWORD_ROOM - 2, options->password_file), false;
-    return true;
+    return tls_files_check(options);
 }
 
 /* Returns the name of an option for a message. */
@@ -242,7 +317,7 @@ enum options_result options_read(struct options *options, int count, char **word
             return log_always("%s is given twice", name_of(option, name)), OPTIONS_BAD;
         is_given[option] = true;
         if (!read_value(options, option, optarg))
-            return log_always("bad value for %s: %s", name_of(option, name), optarg), OPTIONS_BAD;
+            return log_always("bad value for %s: %s%s", name_of(option, name), optarg, reason_of(optarg)), OPTIONS_BAD;
     }
     if (optind < count)
         return log_always("unexpected argument: %s", words[optind]), OPTIONS_BAD;

@@ -18,6 +18,12 @@
 /* A message of the largest size fits with its header and its token, whichever of them the size counts. */
 enum { HEADER_ROOM = 128, BACKLOG = 256 };
 
+/* Milliseconds until a CSM, and until a released connection has written its queue, as in coap-server. */
+enum { CSM_PATIENCE = 10000, RELEASE_PATIENCE = 4000 };
+
+/* Milliseconds in which a peer must acknowledge and read what it was sent. */
+enum { UNREAD_PATIENCE = 120000 };
+
 /* An address of either family, as text. */
 struct address {
     struct sockaddr_storage bytes;
@@ -54,15 +60,18 @@ bool peers_open(struct peers *peers, struct dachreup_server *server, const struc
     int yes = 1;
     *peers = (struct peers){.server = server, .options = options, .count = options->connections, .poll = poll,
                             .room = options->max_message + HEADER_ROOM};
+    peers->listener = -1;
     peers->all = calloc(peers->count, sizeof *peers->all);
-    peers->listener = socket(address.bytes.ss_family, SOCK_STREAM | SOCK_NONBLOCK | SOCK_CLOEXEC, 0);
-    if (!peers->all || peers->listener < 0)
-        return log_always("no memory or no descriptor"), false;
+    if (!peers->all)
+        return log_always("no memory"), false;
     for (size_t at = 0; at < peers->count; at++)
         peers->all[at].socket = -1;
-    setsockopt(peers->listener, SOL_SOCKET, SO_REUSEADDR, &yes, sizeof yes);
-    if (bind(peers->listener, (struct sockaddr *)&address.bytes, address.length) == 0)
-        return true;
+    peers->listener = socket(address.bytes.ss_family, SOCK_STREAM | SOCK_NONBLOCK | SOCK_CLOEXEC, 0);
+    if (peers->listener >= 0) {
+        setsockopt(peers->listener, SOL_SOCKET, SO_REUSEADDR, &yes, sizeof yes);
+        if (bind(peers->listener, (struct sockaddr *)&address.bytes, address.length) == 0)
+            return true;
+    }
     print_address(&address);
     return log_always("cannot listen at %s: %s", address.text, strerror(errno)), false;
 }
@@ -74,13 +83,19 @@ void peers_close(struct peers *peers) {
         if (peers->all[at].socket >= 0)
             end(peers, &peers->all[at]);
     free(peers->all);
+    peers_refuse(peers);
+}
+
+void peers_refuse(struct peers *peers) {
     if (peers->listener >= 0)
         close(peers->listener);
+    peers->listener = -1;
+    peers->accepts = false;
 }
 
 /* Watches the listening socket while the server has room for a connection. Further peers wait. */
 static void watch_listener(struct peers *peers) {
-    bool wants = peers->listens && peers->open < peers->count && !peers->is_short;
+    bool wants = peers->listens && peers->listener >= 0 && peers->open < peers->count && !peers->is_short;
     struct epoll_event event = {.events = EPOLLIN, .data.u64 = EVENT_LISTENER};
     if (wants != peers->accepts)
         epoll_ctl(peers->poll, wants ? EPOLL_CTL_ADD : EPOLL_CTL_DEL, peers->listener, &event);
@@ -118,7 +133,10 @@ static size_t flush(struct peers *peers, struct peer *peer) {
     struct iovec both[2] = {{(void *)parts.first.at, parts.first.count}, {(void *)parts.second.at, parts.second.count}};
     struct msghdr message = {.msg_iov = both, .msg_iovlen = 2};
     ssize_t count = sendmsg(peer->socket, &message, MSG_NOSIGNAL | MSG_DONTWAIT);
-    return count > 0 && !dachreup_server_written(peers->server, peer->id, (size_t)count) ? (size_t)count : 0;
+    if (count <= 0 || dachreup_server_written(peers->server, peer->id, (size_t)count))
+        return 0;
+    peer->moved = peers->now;
+    return (size_t)count;
 }
 
 /* Returns the number of bytes to offer to the server: a whole message, or all if they are none. */
@@ -185,10 +203,14 @@ static void serve(struct peers *peers, struct peer *peer) {
         moved += flush(peers, peer);
     }
     finish(peers, peer);
-    if (failed || (!dachreup_server_status(peers->server, peer->id, &status) && status.finished))
+    if (failed || (!dachreup_server_status(peers->server, peer->id, &status) && status.finished)) {
         end(peers, peer);
-    else
-        watch(peers, peer);
+        return;
+    }
+    /* The server processes none of the bytes after a stop. */
+    if (status.phase == DACHREUP_PHASE_STOPPED)
+        peer->kept = 0;
+    watch(peers, peer);
 }
 
 /* Moves the kept bytes to the start of the buffer, if it has no room after them. */
@@ -210,16 +232,39 @@ static bool receive(struct peers *peers, struct peer *peer) {
         return room == 0 || errno == EAGAIN || errno == EINTR;
     peer->has_ended = count == 0;
     peer->kept += (size_t)count;
+    peer->moved = peers->now;
     return true;
+}
+
+/* Forgets the queued bytes of a connection on which nothing can be written any more, so that it accepts messages. */
+static void discard(struct peers *peers, struct peer *peer) {
+    struct dachreup_parts parts = {{0}, {0}};
+    if (!dachreup_server_parts(peers->server, peer->id, &parts))
+        dachreup_server_written(peers->server, peer->id, parts.first.count + parts.second.count);
+}
+
+/*
+ * Serves a connection that was reset. The system still has the bytes that came before: requests that the peer may count
+ * on. One buffer of them is processed a turn, because epoll reports the connection again until it is closed.
+ */
+static void serve_reset(struct peers *peers, struct peer *peer) {
+    bool failed = false, has_room = peer->kept < peers->room;
+    bool has_more = !peer->has_ended && has_room && receive(peers, peer) && !peer->has_ended;
+    for (size_t moved = 1; moved && !failed;) {
+        discard(peers, peer);
+        moved = offer(peers, peer, &failed);
+    }
+    if (failed || !has_more)
+        end(peers, peer);
 }
 
 void peers_ready(struct peers *peers, size_t place, uint32_t events) {
     struct peer *peer = &peers->all[place];
     if (peer->socket < 0)
         return;
-    /* A reset: nothing can be read or written any more. */
-    bool is_gone = events & (EPOLLHUP | EPOLLERR);
-    if (is_gone || (!peer->has_ended && (events & EPOLLIN) && !receive(peers, peer)))
+    if (events & (EPOLLHUP | EPOLLERR))
+        serve_reset(peers, peer);
+    else if (!peer->has_ended && (events & EPOLLIN) && !receive(peers, peer))
         end(peers, peer);
     else
         serve(peers, peer);
@@ -229,47 +274,99 @@ void peers_serve(struct peers *peers) {
     for (size_t at = 0; at < peers->count; at++)
         if (peers->all[at].socket >= 0)
             serve(peers, &peers->all[at]);
+}
+
+/* ---- silent peers, and the end ---- */
+
+/* Sends a Release, or ends a connection that cannot have one. */
+static void release(struct peers *peers, struct peer *peer) {
+    if (dachreup_server_release(peers->server, peer->id)) {
+        end(peers, peer);
+        return;
+    }
+    peer->released = peers->now;
+    serve(peers, peer);
+}
+
+void peers_release(struct peers *peers) {
+    for (size_t at = 0; at < peers->count; at++)
+        if (peers->all[at].socket >= 0 && !peers->all[at].released)
+            release(peers, &peers->all[at]);
+}
+
+/* Ends a connection that has been silent for too long. The rule is that of coap-server. */
+static void check_silence(struct peers *peers, struct peer *peer) {
+    struct dachreup_status status = {0};
+    dachreup_server_status(peers->server, peer->id, &status);
+    bool is_mute = status.phase == DACHREUP_WAITING && peers->now - peer->opened > CSM_PATIENCE;
+    bool is_unread = peer->released && peers->now - peer->released >= RELEASE_PATIENCE;
+    bool is_silent = !status.observers && !status.pending && peers->now - peer->moved > peers->options->idle;
+    if (is_unread || (is_mute && !peer->released))
+        end(peers, peer);
+    else if (is_silent && !peer->released)
+        release(peers, peer);
+}
+
+void peers_tick(struct peers *peers) {
+    for (size_t at = 0; peers->options->idle && at < peers->count; at++)
+        if (peers->all[at].socket >= 0)
+            check_silence(peers, &peers->all[at]);
     peers->is_short = false;
     watch_listener(peers);
 }
 
 /* ---- new peers ---- */
 
-/* A peer that is gone without a word is found after two minutes, as by coap-server. */
+/*
+ * A peer that is gone without a word is found after two minutes, as by coap-server. So is one that reads nothing: its
+ * system answers the probes, so the keep-alive does not find it.
+ */
 static void set_socket(int client) {
-    int yes = 1, idle = 60, interval = 15, probes = 4;
+    int yes = 1, idle = 60, interval = 15, probes = 4, unread = UNREAD_PATIENCE;
     setsockopt(client, IPPROTO_TCP, TCP_NODELAY, &yes, sizeof yes);
     setsockopt(client, SOL_SOCKET, SO_KEEPALIVE, &yes, sizeof yes);
     setsockopt(client, IPPROTO_TCP, TCP_KEEPIDLE, &idle, sizeof idle);
     setsockopt(client, IPPROTO_TCP, TCP_KEEPINTVL, &interval, sizeof interval);
     setsockopt(client, IPPROTO_TCP, TCP_KEEPCNT, &probes, sizeof probes);
+    setsockopt(client, IPPROTO_TCP, TCP_USER_TIMEOUT, &unread, sizeof unread);
 }
 
-/* Gives a client a free place. Returns false if there is no memory for it. */
-static bool admit(struct peers *peers, int client, const char *address) {
+/* Frees the place of a client that was not admitted. Returns the reason. */
+static const char *reject(struct peer *peer, const char *reason) {
+    free(peer->bytes);
+    *peer = (struct peer){.socket = -1};
+    return reason;
+}
+
+/* Gives a client a free place. Returns the reason if that fails, otherwise NULL. */
+static const char *admit(struct peers *peers, int client, const char *address) {
     size_t at = 0;
     while (peers->all[at].socket >= 0)
         at++;
     struct peer *peer = &peers->all[at];
     struct epoll_event event = {.events = EPOLLIN, .data.u64 = at};
     peer->bytes = malloc(peers->room);
-    if (!peer->bytes || dachreup_server_open(peers->server, &peer->id) != DACHREUP_OK) {
-        free(peer->bytes);
-        *peer = (struct peer){.socket = -1};
-        return false;
-    }
+    if (!peer->bytes || dachreup_server_open(peers->server, &peer->id) != DACHREUP_OK)
+        return reject(peer, "no memory");
     if (epoll_ctl(peers->poll, EPOLL_CTL_ADD, client, &event) < 0) {
+        const char *reason = strerror(errno);
         dachreup_server_drop(peers->server, peer->id);
-        free(peer->bytes);
-        *peer = (struct peer){.socket = -1};
-        return false;
+        return reject(peer, reason);
     }
     peer->socket = client;
     peer->interest = EPOLLIN;
+    peer->opened = peer->moved = peers->now;
     peers->open++;
     log_line(LOG_CONNECTIONS, "connection %llu opened by %s", (unsigned long long)peer->id, address);
     serve(peers, peer);
-    return true;
+    return NULL;
+}
+
+/* Pauses after a failure that would come again at once. */
+static void note_accept(struct peers *peers, int error) {
+    peers->is_short = error != EAGAIN && error != EINTR && error != ECONNABORTED;
+    if (peers->is_short)
+        log_line(LOG_WARNINGS, "connections not accepted: %s", strerror(error));
 }
 
 void peers_accept(struct peers *peers) {
@@ -277,15 +374,14 @@ void peers_accept(struct peers *peers) {
         struct address address = {.length = sizeof address.bytes};
         int client = accept4(peers->listener, (struct sockaddr *)&address.bytes, &address.length, SOCK_NONBLOCK | SOCK_CLOEXEC);
         if (client < 0) {
-            peers->is_short = errno == EMFILE || errno == ENFILE || errno == ENOBUFS || errno == ENOMEM;
-            if (peers->is_short)
-                log_line(LOG_WARNINGS, "connections not accepted: %s", strerror(errno));
+            note_accept(peers, errno);
             break;
         }
         set_socket(client);
         print_address(&address);
-        if (!admit(peers, client, address.text)) {
-            log_line(LOG_WARNINGS, "connection not accepted: no memory");
+        const char *reason = admit(peers, client, address.text);
+        if (reason) {
+            log_line(LOG_WARNINGS, "connection not accepted: %s", reason);
             close(client);
             break;
         }

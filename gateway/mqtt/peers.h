@@ -19,6 +19,9 @@ struct peer {
     uint8_t *bytes;
     size_t start, kept;
     uint32_t interest; /* events of epoll */
+    uint64_t opened;   /* milliseconds when the connection was opened */
+    uint64_t moved;    /* milliseconds when bytes last went in either direction */
+    uint64_t released; /* milliseconds when the gateway released it, or 0 */
     bool has_ended;    /* the peer sends nothing more */
     bool is_finished;  /* the server knows that */
     bool is_raw;       /* its bytes are no messages any more, so the server ends the connection */
@@ -32,11 +35,12 @@ struct peers {
     struct peer *all;
     size_t count, open;
     size_t room;        /* bytes of a peer's buffer: more than the largest message */
-    int poll, listener;
+    uint64_t now;       /* milliseconds of the monotonic clock, set by the gateway before each event */
+    int poll, listener; /* listener: -1 after peers_refuse */
     bool listens;       /* the socket listens */
     bool accepts;       /* the socket is watched */
     bool refuses_reads; /* GET below the prefix is answered 5.03 */
-    bool is_short;      /* accept failed for lack of descriptors or memory; it is tried again a second later */
+    bool is_short;      /* accept failed, for example for lack of descriptors; it is tried again a second later */
 };
 
 /* Binds the address, and does not listen yet. Prints the error and returns false if that fails. */
@@ -54,5 +58,14 @@ void peers_ready(struct peers *peers, size_t place, uint32_t events);
 
 /* Serves all peers: after a change of the store, any connection can have output. */
 void peers_serve(struct peers *peers);
+
+/* Accepts again after a failure, and ends silent connections: `--idle`. Called once a second. */
+void peers_tick(struct peers *peers);
+
+/* Stops listening for good. */
+void peers_refuse(struct peers *peers);
+
+/* Sends a Release to each peer. A connection ends when its queue is empty. */
+void peers_release(struct peers *peers);
 
 #endif

@@ -7,11 +7,11 @@
 #include <stdlib.h>
 #include <string.h>
 
-/* Names of the user properties. */
-static const char FORMAT[] = "content-format", EMPTY[] = "empty", ORIGIN[] = "origin";
+/* Names of the user properties, and the value of the second one. */
+static const char FORMAT[] = "content-format", EMPTY[] = "empty", ORIGIN[] = "origin", IS_EMPTY[] = "1";
 
-int origin_write(char *text, const struct origin *origin) {
-    return snprintf(text, ORIGIN_ROOM, "%016" PRIx64 "-%" PRIu64, origin->run, origin->number);
+size_t origin_write(char *text, const struct origin *origin) {
+    return (size_t)snprintf(text, ORIGIN_ROOM, "%016" PRIx64 "-%020" PRIu64, origin->run, origin->number);
 }
 
 /* Reads a decimal number. Returns false if the text is not one, or above `greatest`. */
@@ -32,25 +32,40 @@ struct origin origin_read(const char *text) {
     return read_decimal(text + 17, UINT64_MAX, &origin.number) ? origin : none;
 }
 
-void properties_read(struct broker_message *message, const mosquitto_property *properties) {
-    char *name = NULL, *value = NULL;
-    bool is_later = false, is_empty = false;
-    const mosquitto_property *at = properties;
-    while ((at = mosquitto_property_read_string_pair(at, MQTT_PROP_USER_PROPERTY, &name, &value, is_later))) {
-        uint64_t number = 0;
-        is_later = true;
-        if (!strcmp(name, FORMAT) && read_decimal(value, UINT16_MAX, &number))
-            message->format = (uint32_t)number;
-        if (!strcmp(name, ORIGIN))
-            message->origin = origin_read(value);
-        is_empty = is_empty || !strcmp(name, EMPTY);
+/* Reads one user property. Sets *is_empty if it says so. */
+static void read_one(struct broker_message *message, const char *name, const char *value, bool *is_empty) {
+    uint64_t number = 0;
+    if (!strcmp(name, FORMAT) && read_decimal(value, UINT16_MAX, &number))
+        message->format = (uint32_t)number;
+    if (!strcmp(name, ORIGIN))
+        message->origin = origin_read(value);
+    *is_empty = *is_empty || !strcmp(name, EMPTY);
+}
+
+bool properties_read(struct broker_message *message, const mosquitto_property *properties) {
+    bool is_empty = false;
+    for (const mosquitto_property *at = properties; at; at = mosquitto_property_next(at)) {
+        char *name = NULL, *value = NULL;
+        int identifier = mosquitto_property_identifier(at);
+        message->expires = message->expires || identifier == MQTT_PROP_MESSAGE_EXPIRY_INTERVAL;
+        if (identifier != MQTT_PROP_USER_PROPERTY)
+            continue;
+        /* The property is there, so the call fails for want of memory alone. */
+        if (!mosquitto_property_read_string_pair(at, MQTT_PROP_USER_PROPERTY, &name, &value, false))
+            return false;
+        read_one(message, name, value, &is_empty);
         free(name);
         free(value);
-        name = value = NULL;
     }
     /* A retained message without payload is a removal, so an empty representation is published as one byte. */
     if (is_empty && message->length == 1)
         message->length = 0;
+    return true;
+}
+
+/* Writes the value of the Content-Format. Returns its length, or 0 if there is none. */
+static size_t format_write(char *text, uint32_t format) {
+    return format < BROKER_NO_FORMAT ? (size_t)snprintf(text, ORIGIN_ROOM, "%" PRIu32, format) : 0;
 }
 
 bool properties_make(mosquitto_property **properties, bool is_empty, uint32_t format, const struct origin *origin) {
@@ -58,9 +73,20 @@ bool properties_make(mosquitto_property **properties, bool is_empty, uint32_t fo
     origin_write(text, origin);
     int result = mosquitto_property_add_string_pair(properties, MQTT_PROP_USER_PROPERTY, ORIGIN, text);
     if (!result && is_empty)
-        result = mosquitto_property_add_string_pair(properties, MQTT_PROP_USER_PROPERTY, EMPTY, "1");
-    snprintf(text, sizeof text, "%" PRIu32, format);
-    if (!result && format < BROKER_NO_FORMAT)
+        result = mosquitto_property_add_string_pair(properties, MQTT_PROP_USER_PROPERTY, EMPTY, IS_EMPTY);
+    if (!result && format_write(text, format))
         result = mosquitto_property_add_string_pair(properties, MQTT_PROP_USER_PROPERTY, FORMAT, text);
     return result == MOSQ_ERR_SUCCESS;
+}
+
+/* Returns the size of a user property: its identifier, and two strings after their lengths. */
+static size_t pair_size(size_t name, size_t value) {
+    return 1 + 2 + name + 2 + value;
+}
+
+size_t properties_size(bool is_empty, uint32_t format) {
+    char text[ORIGIN_ROOM];
+    size_t length = format_write(text, format), size = pair_size(strlen(ORIGIN), ORIGIN_LENGTH);
+    size += is_empty ? pair_size(strlen(EMPTY), strlen(IS_EMPTY)) : 0;
+    return size + (length ? pair_size(strlen(FORMAT), length) : 0);
 }

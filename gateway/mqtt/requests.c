@@ -26,6 +26,7 @@ bool request_read(struct request *request, const struct dachreup_span *bytes) {
     while (dachreup_option_next(options->at, options->count, &at, &number, &value) == DACHREUP_OK) {
         if (number == URI_PATH)
             request->has_path = path_add(&request->path, value.at, value.count) && request->has_path;
+        request->is_conditional = request->is_conditional || number == IF_MATCH || number == IF_NONE_MATCH;
         /* A later one is not recognised, and Content-Format is not critical (RFC 7252 section 5.4.5). */
         if (number == CONTENT_FORMAT && !has_format)
             request->format = read_format(&value);
@@ -78,14 +79,15 @@ static void write_limit(uint8_t *options, size_t *length, uint32_t *last, uint32
     dachreup_option_write(options, RESPONSE_ROOM, length, last, SIZE1, bytes, count);
 }
 
-size_t response_write(uint8_t *response, uint32_t code, const uint8_t *token, size_t token_length, const struct path *location, uint32_t limit) {
+size_t response_write(uint8_t *response, uint32_t code, const uint8_t *token, size_t token_length,
+                      const struct path *location, const uint32_t *limit) {
     uint8_t options[RESPONSE_ROOM] = {0};
     size_t options_length = 0, length = 0;
     uint32_t last = 0;
     if (location)
         write_location(options, &options_length, &last, location);
     if (limit)
-        write_limit(options, &options_length, &last, limit);
+        write_limit(options, &options_length, &last, *limit);
     /* A path has at most 255 bytes, so the room is always enough. */
     dachreup_message_write(code, token, token_length, options, options_length, (const uint8_t *)"", 0, response, RESPONSE_ROOM, &length);
     return length;

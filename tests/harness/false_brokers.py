@@ -45,7 +45,7 @@ FALSE_BROKERS = {
     "an empty topic": ([CONNACK, SUBACK, publication(b"", b"x")], "broker: "),
     "messages of others": ([CONNACK, SUBACK, b"".join(publication(b"other/%d" % at, b"x") for at in range(300))], "ignored: "),
     "a DISCONNECT": ([CONNACK, SUBACK, bytes.fromhex("e0018b")], "ended the connection: "),
-    "CONNACK again": ([CONNACK, SUBACK + 100 * CONNACK], "no answer to the subscription within 10 seconds"),
+    "CONNACK again": ([CONNACK, SUBACK + 100 * CONNACK], "sent a second CONNACK"),
     "messages before SUBACK": ([CONNACK, publication(b"shared/a", b"x")], "no answer to the subscription within 10 seconds"),
 }
 
@@ -101,13 +101,21 @@ class Relay:
 
     def run(self):
         while not self.ends:
-            with contextlib.suppress(OSError):
-                gateway = self.listener.accept()[0]
+            # A connection ends at once if the broker is away.
+            with contextlib.suppress(OSError), contextlib.ExitStack() as stack:
+                gateway = stack.enter_context(self.listener.accept()[0])
                 self.open.wait()
                 broker = socket.create_connection((LOCAL, self.to), LIMIT)
+                stack.pop_all()
                 self.gateways.append(gateway)
                 for one, other in ((gateway, broker), (broker, gateway)):
                     threading.Thread(target=self.copy, args=(one, other), daemon=True).start()
+
+    def cut(self):
+        """Ends the connections."""
+        for it in self.gateways:
+            with contextlib.suppress(OSError):
+                it.shutdown(socket.SHUT_RDWR)
 
     def copy(self, one, other):
         with contextlib.suppress(OSError):

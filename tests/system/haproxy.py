@@ -708,7 +708,8 @@ BROKEN = [
     (check_file, "mode tcp", "mode http"),
     (check_file, "timeout connect 2s\n", "timeout conect 2s\n"),
     (check_libcoap, " ssl crt ", " crt "),
-    (check_libcoap, "60e1230100004140", "60e1230200004140"),
+    (check_libcoap, "60e1230100004140\n    tcp-check send-binary 00e2",
+     "60e1230200004140\n    tcp-check send-binary 00e2"),
     (check_libcoap, "    tcp-request content accept if { req.len ge 2 }\n", ""),
     (check_tls, "    tcp-request content reject unless { ssl_fc_alpn coap }\n", ""),
     (check_tls, " alpn coap ssl-min-ver", " ssl-min-ver"),
@@ -734,7 +735,7 @@ BROKEN = [
     (check_killed, "balance source", "balance roundrobin"),
     (check_drained, "level admin", "level operator"),
     (check_stuck, EXCHANGE, "    tcp-check connect\n"),
-    (check_stuck, " on-marked-down shutdown-sessions", ""),
+    (check_stuck, "maxconn 255 on-marked-down shutdown-sessions", "maxconn 255"),
     (check_four, "balance source", "balance roundrobin"),
     (check_four, "balance source", "balance first"),
 ]

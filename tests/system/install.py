@@ -45,6 +45,7 @@ def wanted_files(has_library):
     files = {"bin/%s" % name: 0o755 for name in PROGRAMS}
     files.update({name: 0o644 for name in LIBRARY if has_library})
     files.update({"share/man/man1/%s.1" % name: 0o644 for name in PROGRAMS})
+    files.update({"share/bash-completion/completions/%s" % name: 0o644 for name in PROGRAMS})
     files.update({UNIT: 0o644, FRONT: 0o644})
     return files
 

@@ -66,11 +66,17 @@ UNIT = "/usr/lib/systemd/system/coap-server.service"
 # Link by which `systemctl enable` enables the unit.
 ENABLED = "/etc/systemd/system/multi-user.target.wants/coap-server.service"
 
+# The files of the gateway's package with options and with its unit, and the link that enables gateway 1.
+GATEWAY_OPTIONS = "/etc/default/coap-mqtt"
+GATEWAY_UNIT = "/usr/lib/systemd/system/coap-mqtt@.service"
+GATEWAY_ENABLED = "/etc/systemd/system/multi-user.target.wants/coap-mqtt@1.service"
+
 # Folder of the files by which Debian's maintainer scripts record the links of a unit.
 RECORDS = "/var/lib/systemd/deb-systemd-helper-enabled"
 
 # Files that a purge may leave if the maintainer scripts are wrong.
-LEFTOVERS = [OPTIONS, ENABLED, RECORDS + "/coap-server.service.dsh-also", RECORDS + "/multi-user.target.wants/coap-server.service"]
+LEFTOVERS = [OPTIONS, GATEWAY_OPTIONS, ENABLED, GATEWAY_ENABLED, RECORDS + "/coap-server.service.dsh-also",
+             RECORDS + "/multi-user.target.wants/coap-server.service"]
 
 EXAMPLE = "/usr/share/doc/libdachreup-dev/examples/server.c"
 CLIENT_EXAMPLE = "/usr/share/doc/libdachreup-dev/examples/client.c"
@@ -112,7 +118,8 @@ FILES = {NAME: {
     "/usr/bin/coap-mqtt": (0o755, None),
     "/usr/share/man/man1/coap-mqtt.1.gz": (0o644, None),
     "/usr/share/bash-completion/completions/coap-mqtt": (0o644, "install/completions/coap-mqtt"),
-    "/usr/lib/systemd/system/coap-mqtt@.service": (0o644, None),
+    GATEWAY_UNIT: (0o644, None),
+    GATEWAY_OPTIONS: (0o644, "install/debian/coap-mqtt.default"),
     "/usr/share/doc/dachreup-mqtt/changelog.gz": (0o644, None),
     "/usr/share/doc/dachreup-mqtt/copyright": (0o644, "install/debian/copyright"),
     "/usr/share/doc/dachreup-mqtt/examples/mosquitto.conf": (0o644, "install/mosquitto.conf"),
@@ -144,6 +151,13 @@ SCRIPT_CALLS = [
     ("postrm", ["upgrade", "9"], []),
     ("postrm", ["remove"], ["systemctl --system daemon-reload"]),
     ("postrm", ["purge"], ["deb-systemd-helper purge coap-server.service"]),
+    ("dachreup-mqtt.postinst", ["configure", ""], ["systemctl --system daemon-reload"]),
+    ("dachreup-mqtt.postinst", ["configure", "9"], ["systemctl --system daemon-reload"]),
+    ("dachreup-mqtt.prerm", ["upgrade", "9"], []),
+    ("dachreup-mqtt.prerm", ["remove"], ["deb-systemd-invoke stop coap-mqtt@*.service"]),
+    ("dachreup-mqtt.postrm", ["upgrade", "9"], []),
+    ("dachreup-mqtt.postrm", ["remove"], ["systemctl --system daemon-reload"]),
+    ("dachreup-mqtt.postrm", ["purge"], ["systemctl --system daemon-reload"]),
 ]
 
 # Completes the last of the words after the script. Outside of a completion, `compopt` fails and does nothing.
@@ -303,6 +317,20 @@ def check_scripts(checks):
     with tempfile.TemporaryDirectory() as folder:
         for script, words, wanted in SCRIPT_CALLS:
             checks.same(" ".join([script, *words]), script_calls(script, words, folder), (0, "", wanted))
+        check_links(checks, folder)
+
+
+def check_links(checks, root):
+    """Checks that a purge of the gateway's package removes the links of its unit below another root, and no others."""
+    wants = os.path.join(root, "etc/systemd/system/multi-user.target.wants")
+    os.makedirs(wants)
+    names = ["coap-mqtt@1.service", "coap-mqtt@65535.service", "coap-server.service"]
+    for name in names:
+        os.symlink("/gone", os.path.join(wants, name))
+    script = os.path.join(ROOT, "install/debian/dachreup-mqtt.postrm")
+    for words, left in (["remove"], names), (["purge"], names[2:]):
+        done = run(["sh", script, *words], env={"PATH": os.environ["PATH"], "DPKG_ROOT": root})
+        checks.same("links after %s" % words, (done, sorted(os.listdir(wants))), ((0, ""), left))
 
 
 def copy_tree(tree, programs, archive):
@@ -410,7 +438,10 @@ def check_packages(checks, folder, programs, archive):
     checks.same("files of two packages", sorted(path for path in set(paths) if paths.count(path) > 1), [])
     check_programs(checks, first[0])
     check_library(checks, first[1], archive, folder)
-    check_content(checks, GATEWAY, first[2])
+    packed = check_content(checks, GATEWAY, first[2])
+    checks.same("the gateway's options in the installed file", options_in(packed[GATEWAY_OPTIONS][2].decode()), {})
+    conffiles = run(["dpkg-deb", "-I", first[2], "conffiles"])
+    checks.same("the gateway's configuration files", conffiles, (0, GATEWAY_OPTIONS + "\n"))
     return list(zip(first, make_deb(checks, trees[1], raise_version(trees[1]))))
 
 
@@ -543,13 +574,22 @@ def check_library_life(checks, package, higher, client):
 
 
 def check_gateway_life(checks, package, higher):
-    """Installs the package of the gateway, runs its program, upgrades it, removes it and purges it."""
+    """Installs the package of the gateway, runs its program, changes its options, upgrades, removes and purges it."""
     check_installed(checks, GATEWAY, package)
     check_manuals(checks, ["coap-mqtt"])
     checks.same("the installed gateway", run(["/usr/bin/coap-mqtt", "--version"]), (0, "coap-mqtt %s\n" % version()))
+    checks.same("no gateway is enabled", os.path.lexists(GATEWAY_ENABLED), False)
+    changed = read(GATEWAY_OPTIONS) + 'COAP_MQTT_BROKER="--broker-port 1884"\n'
+    write(changed, GATEWAY_OPTIONS)
+    # As `systemctl enable coap-mqtt@1` does, which needs no systemd but its program.
+    os.makedirs(os.path.dirname(GATEWAY_ENABLED), exist_ok=True)
+    os.symlink(GATEWAY_UNIT, GATEWAY_ENABLED)
     check_upgraded(checks, GATEWAY, higher)
     checks.same("the upgraded gateway", run(["/usr/bin/coap-mqtt", "--version"]), (0, "coap-mqtt %s+test\n" % version()))
-    check_ended(checks, GATEWAY, [])
+    kept = read(GATEWAY_OPTIONS), os.path.lexists(GATEWAY_ENABLED)
+    checks.same("options and link after the upgrade", kept, (changed, True))
+    check_ended(checks, GATEWAY, [GATEWAY_OPTIONS])
+    checks.same("the link after the purge", os.path.lexists(GATEWAY_ENABLED), False)
 
 
 def clean_up():
