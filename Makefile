@@ -3,6 +3,9 @@
 # prometheus, systemd, tshark and valgrind if they are missing. `make bench` installs gcc, gnuplot-nox, haproxy, libc6-dev, libcoap3-bin and valgrind. `make lib` needs binutils,
 # `make gateway` gcc and libmosquitto-dev too, and `make deb` dpkg-dev too.
 
+# Only one build of proofs runs at a time, also with -j: each uses all processors itself.
+.NOTPARALLEL:
+
 .PHONY: all lib gateway run check test mutants faults bench try install install-lib install-gateway uninstall deb clean
 
 # Prefix under which `make install` puts the programs, their manuals, the systemd unit and the configuration of HAProxy. DESTDIR
@@ -21,14 +24,13 @@ SOURCES := $(shell find crates -name out -prune -o -type f -print) crates.txt
 bin/coap-server bin/coap-client &: $(SOURCES)
 	tests/build coap_server coap_client_main
 
-# Waits for the other programs, so that only one build runs at a time.
-bin/coap-explain bin/coap-directory &: $(SOURCES) | bin/coap-server
+bin/coap-explain bin/coap-directory &: $(SOURCES)
 	tests/build coap_explain coap_directory
 
 # Proves the C library and builds its archive and its pkg-config file.
 lib: bin/libcoap_proved.a bin/coap_proved.pc
 
-bin/libcoap_proved.a: $(SOURCES) install/library/build | bin/coap-explain
+bin/libcoap_proved.a: $(SOURCES) install/library/build
 	tests/build coap_c
 	install/library/build crates/coap_c/out/libcoap_c.a bin
 
