@@ -73,9 +73,10 @@ mutants:
 	tests/mutants/mutants.py --all $(CRATES)
 
 # Tests that take too long for the gate: all 16,777,216 streams of three bytes, of which the gate plays a quarter, in some minutes
-# on all processors.
-faults: bin/coap-server
+# on all processors. Then 200,000 writes through two gateways to MQTT, in eight minutes.
+faults: bin/coap-server bin/coap-mqtt
 	tests/vectors/bytes.py bin/coap-server --all
+	tests/system/mqtt_soak.py bin/coap-mqtt
 
 # Measures the server and libcoap's, then the server with a record, behind HAProxy, and with observers that do not read. Then counts instructions,
 # copies and memory, and the instructions of the resource directory. Measures changes through two gateways to MQTT, beside mosquitto. Draws the new figures in docs/pictures. Fails if a target is

@@ -142,14 +142,17 @@ def check_idle(checks, program):
                                  for at, words in enumerate((["--idle", "3"], ["--idle", "60"], []), 1))
         writer = stack.enter_context(patient.peer())
         checks.same("a resource", writer.code(PUT, f"{PREFIX}/a", payload=b"1"), CREATED)
+        checks.same("a large one", writer.code(PUT, f"{PREFIX}/large", payload=bytes(60_000)), CREATED)
         opened = time.monotonic()
         mute = stack.enter_context(socket.create_connection((LOCAL, patient.port)))
         others = [stack.enter_context(socket.create_connection((LOCAL, it.port))) for it in (plain, quick)]
-        observer, pings, silent = (stack.enter_context(quick.peer()) for _ in range(3))
+        observer, pings, silent, deaf = (stack.enter_context(quick.peer()) for _ in range(4))
         soon(lambda: observer.get(f"{PREFIX}/a"), (CONTENT, b"1", None))
         token = observer.send(GET, f"{PREFIX}/a", [(OBSERVE, b"")])
         checks.same("an observer", observer.wait(token).payload, b"1")
         checks.same("a silent peer with a CSM", silent.code(GET, "time"), CONTENT)
+        # More than the sockets and the queue have room for.
+        deaf.socket.sendall(encode(GET, b"d", [(URI_PATH, PREFIX.encode()), (URI_PATH, b"large")]) * 500)
         began, waits = time.monotonic(), stack.enter_context(quick.peer())
         setting.broker.process.send_signal(signal.SIGSTOP)
         write = waits.send(PUT, f"{PREFIX}/b", payload=b"2")
@@ -163,6 +166,9 @@ def check_idle(checks, program):
         checks.same("the observer stays", notified, None)
         checks.same("the silent peer ends after its time", ended is not None and 3 <= ended - began < 8, True)
         checks.same("it has a Release", signals(silent), [SETTINGS, RELEASE])
+        # The one that reads nothing has four seconds for its Release. The write of another one ends after ten seconds.
+        ended = soon(lambda: quick.log().count(" ended"), 3, 2)
+        checks.same("so do two others: one without a CSM, and one that reads nothing", ended, 3)
         checks.same("a peer with a write under way stays", waits.wait(write).code, TIMEOUT)
         setting.broker.process.send_signal(signal.SIGCONT)
         ends = [read_end(it) for it in (mute, others[1])]
