@@ -472,6 +472,24 @@ def check_reread(checks, program):
                     (1, CONTENT, b"1"))
 
 
+def check_reread_under_way(checks, program):
+    """Checks that a path counts again if a reading removes its resource while a write of it is under way."""
+    held, at = (lambda published: (0, published.payload != b"held")), f"{PREFIX}/a"
+    with scripted(program, "--reread", "1", "-d", "1", decide=held) as (_, broker, peer):
+        checks.same("a resource", peer.code(PUT, at, payload=b"1"), CREATED)
+        with broker.lock:
+            del broker.retained[at]
+            broker.keeps_markers = True
+        checks.same("the marker of another reading", soon(lambda: len(broker.kept), 1, 90), 1)
+        token = peer.send(PUT, at, payload=b"held")
+        checks.same("a write is under way", soon(lambda: len(broker.kept), 2), 2)
+        broker.release()
+        checks.same("the reading removes the resource", soon(lambda: peer.code(GET, at), NOT_FOUND), NOT_FOUND)
+        checks.same("another path", peer.code(PUT, f"{PREFIX}/b", payload=b"2"), NOT_ACCEPTABLE)
+        broker.release()
+        checks.same("the write creates it again", peer.wait(token).code, CREATED)
+
+
 def check_expiry(checks, program):
     """Checks that a retained message that expires is stored by no gateway, also by one that starts later."""
     with Setting(program, 1) as setting:
@@ -533,7 +551,7 @@ CHECKS = [[
     check_table, check_conditions, check_counters, check_counters_cut, check_order_of_conditions, check_creations,
     check_removed_under_way, check_in_flight, check_peers_gone, check_reasons, check_many_refusals,
     check_lost_by_refusals, check_slow_writes, check_swallowed, check_late_echo, check_pauses, check_reread,
-    check_expiry, check_lost_state,
+    check_reread_under_way, check_expiry, check_lost_state,
 ]]
 
 
