@@ -75,14 +75,16 @@ def room(topic, limit, form):
 
 
 def put_sizes(checks, peer, path, topic, limit, form, sizes):
-    """PUTs a payload of each size. Each has one right response."""
+    """PUTs a payload of each size. Each has one right response. The first wrong one ends this, as each can take long."""
     largest, accepted = room(topic, limit, form), []
-    responses = [(size, peer.ask(PUT, path, payload=bytes(size), form=form)) for size in sizes]
-    for size, response in responses:
-        fits = publish_size(topic, size, form) <= limit
-        wanted = ((CREATED if not accepted else CHANGED), None) if fits else (TOO_LARGE, number(largest))
+    for size in sizes:
+        response, fits = peer.ask(PUT, path, payload=bytes(size), form=form), publish_size(topic, size, form) <= limit
+        wanted = (CHANGED if accepted else CREATED, None) if fits else (TOO_LARGE, number(largest))
         accepted += [size] if fits else []
-        checks.same(f"{size} bytes, format {form}", (response.code, option_of(response, SIZE1)), wanted)
+        got = (response.code, option_of(response, SIZE1))
+        checks.same(f"{size} bytes, format {form}", got, wanted)
+        if got != wanted:
+            return
     checks.same("sizes on both sides of the limit", (largest in accepted, largest + 1 in accepted), (True, False))
     checks.same("the last one that fits", peer.get(path)[1], bytes(accepted[-1]))
 
