@@ -75,7 +75,7 @@ def room(topic, limit, form):
 
 
 def put_sizes(checks, peer, path, topic, limit, form, sizes):
-    """PUTs a payload of each size. Each has one right response. The first wrong one ends this, as each can take long."""
+    """PUTs a payload of each size. Each has one right response. The first wrong one ends this: each can take long."""
     largest, accepted = room(topic, limit, form), []
     for size in sizes:
         response, fits = peer.ask(PUT, path, payload=bytes(size), form=form), publish_size(topic, size, form) <= limit
