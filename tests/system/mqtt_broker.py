@@ -75,14 +75,16 @@ def room(topic, limit, form):
 
 
 def put_sizes(checks, peer, path, topic, limit, form, sizes):
-    """PUTs a payload of each size. Each has one right response."""
+    """PUTs a payload of each size. Each has one right response. The first wrong one ends this: each can take long."""
     largest, accepted = room(topic, limit, form), []
-    responses = [(size, peer.ask(PUT, path, payload=bytes(size), form=form)) for size in sizes]
-    for size, response in responses:
-        fits = publish_size(topic, size, form) <= limit
-        wanted = ((CREATED if not accepted else CHANGED), None) if fits else (TOO_LARGE, number(largest))
+    for size in sizes:
+        response, fits = peer.ask(PUT, path, payload=bytes(size), form=form), publish_size(topic, size, form) <= limit
+        wanted = (CHANGED if accepted else CREATED, None) if fits else (TOO_LARGE, number(largest))
         accepted += [size] if fits else []
-        checks.same(f"{size} bytes, format {form}", (response.code, option_of(response, SIZE1)), wanted)
+        got = (response.code, option_of(response, SIZE1))
+        checks.same(f"{size} bytes, format {form}", got, wanted)
+        if got != wanted:
+            return
     checks.same("sizes on both sides of the limit", (largest in accepted, largest + 1 in accepted), (True, False))
     checks.same("the last one that fits", peer.get(path)[1], bytes(accepted[-1]))
 
@@ -409,6 +411,25 @@ def check_pauses_anew(checks, program):
                         len(wanted) * [True])
 
 
+def check_retreats_anew(checks, program):
+    """Checks that the pauses after giving way begin anew after a connection of ten minutes."""
+    text = r"taken over the id 7; next attempt in ([\d.]+) s"
+    with StrictBroker() as broker, contextlib.ExitStack() as stack:
+        folder = stack.enter_context(tempfile.TemporaryDirectory(prefix="coap-mqtt-"))
+        before, step = stepped(folder, "MONOTONIC_STEP")
+        gateway = alone(stack, program, broker, before=before)
+        for count, number_of_record in enumerate((5, 50, 500)):
+            checks.same("it is connected", gateway.says(" resources", count + 1), True)
+            if count == 2:
+                write_number(step, 601)
+                checks.same("it is connected again", gateway.says(" resources", count + 2), True)
+            broker.message(f"{PREFIX}/%gateway-7/owner", b"ffffffffffffffff-%d" % number_of_record)
+            checks.same("it gives way", gateway.says("taken over the id 7", count + 1), True)
+        pauses = [float(it) for it in re.findall(text, gateway.log())]
+        are_right = [least <= it <= 1.25 * least for least, it in zip((1, 2, 1), pauses)]
+        checks.same(f"pauses {pauses}", are_right, 3 * [True])
+
+
 def check_unwatched(checks, program):
     """Checks a socket of the broker that cannot be watched: the log has the reason, and a later one is watched."""
     with Setting(program, 0) as setting, Relay(setting.broker.port) as relay:
@@ -499,7 +520,7 @@ def check_key_replaced(checks, program):
 # Checks in the order in which they run. Those of a list mostly wait, and run at once.
 CHECKS = [check_parts, check_packet_limit, check_prefixes, check_tls_files, check_key_replaced,
           [check_unsuitable, check_session_taken, check_ids, check_restored, check_forged, check_pauses,
-           check_pauses_anew, check_unwatched]]
+           check_pauses_anew, check_retreats_anew, check_unwatched]]
 
 
 
