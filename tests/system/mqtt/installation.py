@@ -3,15 +3,15 @@
 import contextlib
 import os
 import re
+import select
 import shutil
 import signal
 import subprocess
 import tempfile
-import time
 
 import haproxy
 from gateway_checks import accepts, run, write_file
-from gateways import CONFIGURATION, PREFIX, Peer, soon
+from gateways import CONFIGURATION, PREFIX, Peer, read_file, soon
 from peers import LOCAL, free_port
 from workspace import ROOT
 
@@ -126,6 +126,15 @@ def installed(folder, program, ports):
     return replaced
 
 
+def end_other(process):
+    """Ends a program that is no child of this one, by SIGTERM or, if it stays, by SIGKILL. Returns after its end."""
+    with contextlib.suppress(ProcessLookupError), os.fdopen(os.pidfd_open(process), "rb", 0) as descriptor:
+        for number in (signal.SIGTERM, signal.SIGKILL):
+            signal.pidfd_send_signal(descriptor.fileno(), number)
+            if select.select([descriptor], [], [], 10)[0]:
+                return
+
+
 def check_documented(checks, program):
     """Runs the commands of docs/DEPLOYING.md, with stand-ins for systemd and apt, below a temporary folder."""
     with tempfile.TemporaryDirectory(prefix="coap-mqtt-") as folder:
@@ -150,8 +159,5 @@ def check_documented(checks, program):
             with Peer(ports["haproxy"], LOCAL, haproxy.context(folder, haproxy.Kind())) as peer:
                 checks.same("GET through HAProxy", soon(lambda: peer.get(f"{PREFIX}/room")[1], b"21.5"), b"21.5")
         finally:
-            with contextlib.suppress(OSError), open(f"{folder}/processes", encoding="ascii") as file:
-                for process in map(int, file.read().split()):
-                    with contextlib.suppress(OSError):
-                        os.kill(process, signal.SIGTERM)
-            time.sleep(0.5)
+            for process in read_file(f"{folder}/processes").split():
+                end_other(int(process))
