@@ -1,5 +1,6 @@
 """Checks requests with conditions, and the table of the writes under way."""
 
+import concurrent.futures
 import socket
 import subprocess
 import tempfile

@@ -107,6 +107,9 @@ def check_restored(checks, program):
 FORGED = [("ffffffffffffffff-18446744073709551615", False), ("0000000000000001-1", False), ("x", False), ("", False),
           ("ffffffffffffffff-5000", True), ("ffffffffffffffff-1", False), ("ffffffffffffffff-5001", True)]
 
+# Two more: the second is the last number that counts as later than one above the first.
+FORGED_WHILE_AWAY, LAST = "ffffffffffffffff-9000", "ffffffffffffffff-%d" % (2**63 - 1 + 9001)
+
 
 def check_forged(checks, program):
     """Checks records of the owner that another program publishes, while the gateway is connected or away."""

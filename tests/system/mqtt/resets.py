@@ -1,0 +1,68 @@
+"""Checks resets of connections, and calls of the system that fail."""
+
+import fcntl
+import re
+import signal
+import struct
+import termios
+
+from gateway_checks import run
+from gateways import CONTENT, GET, PREFIX, PUT, Gateway, Setting, soon
+from peers import free_port, processor_time, reset
+from rows import HARNESS
+
+
+def check_reset(checks, program):
+    """Checks that the requests before a reset are processed, also more than one buffer of them."""
+    with Setting(program, 1, words=["--pending", "256", "--max-message", "1152", "--max-sent", "1152"]) as setting:
+        gateway, (other,) = setting.gateways[0], setting.peers()
+        with gateway.peer() as peer:
+            checks.same("a request", peer.code(GET, "time"), CONTENT)
+            gateway.process.send_signal(signal.SIGSTOP)
+            for at in range(50):
+                peer.send(PUT, f"{PREFIX}/{at}", payload=bytes(900))
+            checks.same("the system of the gateway has all bytes", soon(lambda: unacknowledged(peer.socket), 0), 0)
+            reset(peer.socket)
+            gateway.process.send_signal(signal.SIGCONT)
+        found = soon(lambda: [other.code(GET, f"{PREFIX}/{at}") for at in range(50)], 50 * [CONTENT], 5)
+        checks.same("writes before a reset", found.count(CONTENT), 50)
+        checks.same("the connection has ended", gateway.says(" ended"), True)
+
+
+def unacknowledged(connection):
+    """Returns the number of sent bytes that the other side has not acknowledged."""
+    return struct.unpack("=i", fcntl.ioctl(connection, termios.TIOCOUTQ, bytes(4)))[0]
+
+
+def check_failing_calls(checks, program):
+    """Checks a listening socket that cannot be made, and connections that cannot be accepted."""
+    with Setting(program, 0) as setting:
+        library, errors = f"{setting.folder}/fail_calls.so", f"{setting.folder}/errors"
+        line = ["gcc", "-O2", "-Wall", "-Wextra", "-Werror", "-shared", "-fPIC", "-o", library]
+        built = run([*line, f"{HARNESS}/fail_calls.c"])
+        checks.same("compiles", built.stderr, "")
+        port = free_port()
+        done = run(["env", f"LD_PRELOAD={library}", "FAIL_IPV6=1", program, "-A", "::1", "-p", str(port)])
+        checks.same("no socket", (done.returncode, done.stderr),
+                    (3, f"coap-mqtt: cannot listen at [::1]:{port}: Address family not supported by protocol\n"))
+        set_error(errors, 0)
+        before = ["sh", "-c", f'exec 9<{errors}; exec env LD_PRELOAD={library} FAIL_ACCEPT=9 "$@"', "sh"]
+        with Gateway(program, setting.broker, setting.folder, 1, before=before) as gateway, gateway.peer() as peer:
+            checks.same("a peer", peer.code(GET, "time"), CONTENT)
+            set_error(errors, 1)
+            used = processor_time(gateway.process)
+            with gateway.peer() as waits:
+                text = "connections not accepted: Operation not permitted"
+                checks.same("it tries again", gateway.says(text, 3), True)
+                times = [float(it) for it in re.findall(r"(?m)^\S+:(\d\d\.\d{3})Z .*not accepted", gateway.log())]
+                gaps = [(second - first) % 60 for first, second in zip(times, times[1:])]
+                checks.same("once a second", all(it > 0.5 for it in gaps) or gaps, True)
+                checks.same("processor time meanwhile", processor_time(gateway.process) - used < 0.5, True)
+                token = waits.send(GET, "time")
+                set_error(errors, 0)
+                checks.same("the next peer is served", waits.wait(token).code, CONTENT)
+
+
+def set_error(name, number):
+    with open(name, "wb") as file:
+        file.write(struct.pack("=B", number))
