@@ -1,4 +1,4 @@
-"""What the checks of the connection to the broker share."""
+"""Brokers, gateways and texts that several checks of the connection to the broker need."""
 
 import tempfile
 import threading

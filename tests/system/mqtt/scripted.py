@@ -1,4 +1,4 @@
-"""What the checks of writes share: gateways whose broker is scripted or stopped."""
+"""Gateways whose broker is scripted or stopped, and other functions that several checks of writes need."""
 
 import contextlib
 import signal

@@ -1,4 +1,4 @@
-"""What the checks of the operation share: signalling messages, and ends of connections."""
+"""Signalling messages, and ends of connections, that several checks of the operation need."""
 
 import contextlib
 import time
