@@ -1,6 +1,7 @@
-# Proves, builds, runs, tests and measures. Requires Rattle's toolchain (`rt`) and Python 3. `make test` installs Debian's dpkg-dev,
-# g++, gcc, haproxy, libc6-dev, libcoap3-bin, libcoap3-dev, libmosquitto-dev, lintian, mandoc, mosquitto, mosquitto-clients, openssl, pkg-config,
-# prometheus, systemd, tshark and valgrind if they are missing. `make bench` installs gcc, gnuplot-nox, haproxy, libc6-dev, libcoap3-bin and valgrind. `make lib` needs binutils,
+# Proves, builds, runs, tests and measures. Requires Rattle's toolchain (`rt`) and Python 3. `make test` installs
+# Debian's dpkg-dev, g++, gcc, haproxy, libc6-dev, libcoap3-bin, libcoap3-dev, libmosquitto-dev, lintian, mandoc,
+# mosquitto, mosquitto-clients, openssl, pkg-config, prometheus, systemd, tshark and valgrind if they are missing.
+# `make bench` installs gcc, gnuplot-nox, haproxy, libc6-dev, libcoap3-bin and valgrind. `make lib` needs binutils,
 # `make gateway` gcc and libmosquitto-dev too, and `make deb` dpkg-dev too.
 
 # Only one build of proofs runs at a time, also with -j: each uses all processors itself.
@@ -44,7 +45,8 @@ gateway: bin/coap-mqtt
 # The variables of a distribution come last, and may have a value of _FORTIFY_SOURCE themselves.
 FORTIFY = $(if $(findstring _FORTIFY_SOURCE,$(CPPFLAGS) $(CFLAGS)),,-D_FORTIFY_SOURCE=2)
 
-GATEWAY_FLAGS = -std=c11 -D_GNU_SOURCE -O2 -Wall -Wextra -fPIE -fstack-protector-strong -fstack-clash-protection $(FORTIFY)
+GATEWAY_FLAGS = -std=c11 -D_GNU_SOURCE -O2 -Wall -Wextra -fPIE -fstack-protector-strong -fstack-clash-protection \
+    $(FORTIFY)
 
 bin/coap-mqtt: $(wildcard gateway/mqtt/*.c gateway/mqtt/*.h) include/coap_proved.h VERSION bin/libcoap_proved.a
 	$(CC) $(GATEWAY_FLAGS) $(CPPFLAGS) $(CFLAGS) -DCOAP_MQTT_VERSION='"'$$(cat VERSION)'"' -Iinclude gateway/mqtt/*.c \
@@ -97,7 +99,8 @@ install:
 	@test -x bin/coap-server -a -x bin/coap-client -a -x bin/coap-explain -a -x bin/coap-directory || { echo "Run 'make all' first: bin/ does not have all programs." >&2; exit 1; }
 	install -D -m 0755 -t "$(DESTDIR)$(PREFIX)/bin" bin/coap-server bin/coap-client bin/coap-explain bin/coap-directory
 	install -D -m 0644 -t "$(DESTDIR)$(PREFIX)/share/man/man1" man/coap-server.1 man/coap-client.1 man/coap-explain.1 man/coap-directory.1
-	install -D -m 0644 -t "$(DESTDIR)$(PREFIX)/$(COMPLETIONS)" $(addprefix install/completions/,coap-server coap-client coap-explain coap-directory)
+	install -D -m 0644 -t "$(DESTDIR)$(PREFIX)/$(COMPLETIONS)" \
+	    $(addprefix install/completions/,coap-server coap-client coap-explain coap-directory)
 	install -D -m 0644 install/coap-server.service.in "$(DESTDIR)$(PREFIX)/lib/systemd/system/coap-server.service"
 	sed -i 's|@PREFIX@|$(PREFIX)|g' "$(DESTDIR)$(PREFIX)/lib/systemd/system/coap-server.service"
 	install -D -m 0644 -t "$(DESTDIR)$(PREFIX)/share/doc/coap-server/examples" install/haproxy.cfg

@@ -253,8 +253,9 @@ static bool read_value(struct options *options, int name, const char *text) {
 }
 
 static void set_defaults(struct options *options) {
-    *options = (struct options){.address = "127.0.0.1", .port = 5683, .resources = 1000, .max_message = 65536, .max_sent = 65536,
-                                .queue = 131072, .pending = 16, .observers = 16, .connections = 16, .broker_host = "127.0.0.1",
+    *options = (struct options){.address = "127.0.0.1", .port = 5683, .resources = 1000, .max_message = 65536,
+                                .max_sent = 65536, .queue = 131072, .pending = 16, .observers = 16,
+                                .connections = 16, .broker_host = "127.0.0.1",
                                 .in_flight = 16777216, .reread = 60, .log_level = LOG_WARNINGS};
     read_prefix(options, "shared");
     read_health(options, "health");

@@ -1,6 +1,6 @@
 /*
- * Makes random calls of gateway/mqtt/writes.c, and compares it after each with a list that is searched: mqtt_writes SEED
- * CALLS. Prints the number of calls, and how many differences there were.
+ * Makes random calls of gateway/mqtt/writes.c, and compares it after each with a list that is searched: mqtt_writes
+ * SEED CALLS. Prints the number of calls, and how many differences there were.
  */
 #include <stdio.h>
 #include <stdlib.h>

@@ -1,6 +1,6 @@
-/* Makes one allocation fail, in a program that runs: REFUSE_MEMORY names a file with three numbers of eight bytes. If the
-   first one is N above 0, the Nth allocation from now on fails. The second one counts the allocations that failed, and
-   the third one all. */
+/* Makes one allocation fail, in a program that runs: REFUSE_MEMORY names a file with three numbers of eight bytes. If
+   the first one is N above 0, the Nth allocation from now on fails. The second one counts the allocations that failed,
+   and the third one all. */
 #include <errno.h>
 #include <fcntl.h>
 #include <stdatomic.h>
