@@ -117,7 +117,7 @@ STEPS = [
     Step(["python3", "tests/system/embedding.py", *EXAMPLES, SERVER, CLIENT], 5, 1),
     Step(["python3", "tests/system/c_library.py", SERVER, CLIENT, LIBRARY], 40, 35, (PROVED, ARCHIVE)),
     Step(["python3", "tests/system/mqtt.py", "--build"], 3, 2, (ARCHIVE,), GATEWAY),
-    *parts(["python3", "tests/system/mqtt.py", MQTT], [(60, 8), (45, 8), (60, 15)], (GATEWAY,)),
+    *parts(["python3", "tests/system/mqtt.py", MQTT], [(50, 8), (60, 12), (90, 15), (120, 30)], (GATEWAY,)),
     Step(["python3", "tests/system/hostile.py", SERVER], 8, 1),
     Step(["python3", "tests/system/flood.py", SERVER], 4, 1),
     Step(["python3", "tests/system/manuals.py", *PROGRAMS], 15, 1),
