@@ -61,7 +61,9 @@ impl<F: Write, O: Write> Write for RecordWriter<F, O> {
 }
 
 /// Outlet of the record of a program with this runtime, which notes the bytes that it passes on.
-pub type RecordOutlet<'a, R> = NotedOutlet<WriteOutlet<RecordWriter<<R as Files>::File, Printer<'a, R>>>>;
+pub type RecordOutlet<'a, R> = NotedOutlet<
+    WriteOutlet<RecordWriter<<R as Files>::File, Printer<'a, R>>>,
+>;
 
 /// Record of a server, which writes a line for each call that the server accepts. If it has ended, because a write
 /// failed or its limit is reached, it reports that once, and ignores all further calls.
