@@ -28,8 +28,8 @@ enum { GOOD = 60000, GOOD_FOR_LONG = 600000 };
 /* Least milliseconds between two lines about an unsuitable broker. */
 enum { REMARK = 60000 };
 
-/* Packets that one turn reads, so that peers are served between. */
-enum { PACKETS_A_TURN = 256 };
+/* Reads of one turn, so that peers are served between. libmosquitto may read several packets at once. */
+enum { READS_A_TURN = 256 };
 
 static void enter(struct broker *broker, enum broker_state state, uint64_t now) {
     broker->state = state;
@@ -217,12 +217,27 @@ static void write_packet(struct broker *broker) {
 }
 
 /*
- * A deadline counts from the last step of the connection, that of the marker from the last message. Callbacks have no
- * time.
+ * Returns true if the broker may send other messages before what this step waits for: retained ones before the marker,
+ * and messages that others publish before the answer to a later subscription, or before the record of the owner. Once
+ * the broker has acknowledged the record, that is next.
  */
-static void note_step(struct broker *broker, enum broker_state state, uint64_t packets, uint64_t now) {
-    bool has_progress = broker->packets != packets;
-    if (broker->state != state || (state == BROKER_READING && has_progress))
+static bool is_after_others(const struct broker *broker) {
+    bool is_again = broker->state == BROKER_SUBSCRIBING && broker->is_usable;
+    bool is_sent = broker->state == BROKER_OWNING && broker->record >= 0;
+    return broker->state == BROKER_READING || is_again || is_sent;
+}
+
+/* A connection before packets were read and written. Callbacks have no time. */
+struct step {
+    enum broker_state state;
+    uint64_t packets;
+    bool is_after_others;
+};
+
+/* A deadline counts from the last step of the connection, or from the last message that may come before the next one. */
+static void note_step(struct broker *broker, const struct step *before, uint64_t now) {
+    bool has_progress = broker->packets != before->packets;
+    if (broker->state != before->state || (has_progress && before->is_after_others))
         broker->since = now;
     if (has_progress)
         broker->progress = now;
@@ -231,14 +246,16 @@ static void note_step(struct broker *broker, enum broker_state state, uint64_t p
 }
 
 void broker_ready(struct broker *broker, bool may_read, bool may_write, uint64_t now) {
-    enum broker_state state = broker->state;
-    uint64_t packets = broker->packets;
+    const struct step before = {broker->state, broker->packets, is_after_others(broker)};
     if (!broker->client || broker->fault[0])
         return;
     if (may_write)
         write_packet(broker);
-    /* A call reads few packets, and reports by errno alone that there are no more. */
-    for (int calls = 0; may_read && calls < PACKETS_A_TURN && !broker->fault[0]; calls++) {
+    /*
+     * A call reports by errno alone that there are no more packets. After a publication of a callback, it may report
+     * that too early: then epoll reports the socket again.
+     */
+    for (int calls = 0; may_read && calls < READS_A_TURN && !broker->fault[0]; calls++) {
         errno = 0;
         int result = guarded_read(broker->client), error = errno;
         check(broker, result, error);
@@ -248,7 +265,7 @@ void broker_ready(struct broker *broker, bool may_read, bool may_write, uint64_t
     /* The acknowledgements of what was read need no turn of their own. */
     if (may_read && broker_wants_write(broker))
         write_packet(broker);
-    note_step(broker, state, packets, now);
+    note_step(broker, &before, now);
 }
 
 /* Checks the deadline of a step, and the keep-alive. */

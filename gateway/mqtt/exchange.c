@@ -170,8 +170,9 @@ static void deliver(struct gateway *gateway, struct write *write, uint32_t code)
     size_t size = response_write(response, code, write->token, write->token_length, location, NULL);
     uint32_t result = dachreup_server_respond(&gateway->server, write->peer, response, size, &reply);
     if (result != DACHREUP_RESPOND_NO_ROOM) {
-        /* Without a request, the server has sent 5.04, or the peer is gone. */
-        metrics_count(&gateway->metrics, write->method, result ? CODE_TIMEOUT : code);
+        /* Without a request, the server has sent 5.04. A peer that is gone gets no response. */
+        if (result == DACHREUP_OK || result == DACHREUP_NO_SUCH_REQUEST)
+            metrics_count(&gateway->metrics, write->method, result ? CODE_TIMEOUT : code);
         gateway->has_output = true;
         writes_remove(&gateway->writes, write);
         return;

@@ -144,30 +144,34 @@ static bool read_address(struct options *options, const char *text) {
 /* Paths of the server's own resources. */
 static const char *const built_in[] = {"time", "async", ".well-known/core"};
 
-/* The topic of the prefix is a level of its own, so a broker must deliver it to `prefix/#`: not so with a leading dollar. */
-static bool read_prefix(struct options *options, const char *text) {
-    options->prefix_text = text;
-    for (size_t at = 0; at < sizeof built_in / sizeof *built_in; at++)
-        if (strcmp(text, built_in[at]) == 0)
-            return false;
-    return path_read(&options->prefix, text) && text[0] != '$';
-}
-
 /* Returns true if no path begins with both. */
 static bool are_apart(const struct path *one, const struct path *other) {
     return !path_begins(one, other) && !path_begins(other, one);
 }
 
-static bool read_health(struct options *options, const char *text) {
-    options->health_text = strcmp(text, "none") == 0 ? NULL : text;
-    if (options->health_text && !path_read(&options->health, text))
-        return false;
-    for (size_t at = 0; options->health_text && at < sizeof built_in / sizeof *built_in; at++) {
+static bool is_apart_from_built_in(const struct path *path) {
+    for (size_t at = 0; at < sizeof built_in / sizeof *built_in; at++) {
         struct path other;
-        if (path_read(&other, built_in[at]) && !are_apart(&options->health, &other))
+        if (path_read(&other, built_in[at]) && !are_apart(path, &other))
             return false;
     }
     return true;
+}
+
+/*
+ * The topic of the prefix is a level of its own, so a broker must deliver it to `prefix/#`: not so with a leading
+ * dollar.
+ */
+static bool read_prefix(struct options *options, const char *text) {
+    options->prefix_text = text;
+    return path_read(&options->prefix, text) && text[0] != '$' && is_apart_from_built_in(&options->prefix);
+}
+
+static bool read_health(struct options *options, const char *text) {
+    options->health_text = strcmp(text, "none") == 0 ? NULL : text;
+    if (!options->health_text)
+        return true;
+    return path_read(&options->health, text) && is_apart_from_built_in(&options->health);
 }
 
 static bool read_idle(struct options *options, const char *text) {

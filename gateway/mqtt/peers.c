@@ -97,9 +97,10 @@ void peers_refuse(struct peers *peers) {
 static void watch_listener(struct peers *peers) {
     bool wants = peers->listens && peers->listener >= 0 && peers->open < peers->count && !peers->is_short;
     struct epoll_event event = {.events = EPOLLIN, .data.u64 = EVENT_LISTENER};
-    if (wants != peers->accepts)
-        epoll_ctl(peers->poll, wants ? EPOLL_CTL_ADD : EPOLL_CTL_DEL, peers->listener, &event);
-    peers->accepts = wants;
+    int change = wants ? EPOLL_CTL_ADD : EPOLL_CTL_DEL;
+    /* After a failure, the next second tries again. */
+    if (wants != peers->accepts && !epoll_ctl(peers->poll, change, peers->listener, &event))
+        peers->accepts = wants;
 }
 
 bool peers_listen(struct peers *peers) {
@@ -194,14 +195,16 @@ static void finish(struct peers *peers, struct peer *peer) {
     flush(peers, peer);
 }
 
-/* Offers the kept bytes, and writes what they cause, until nothing moves. */
+/*
+ * Offers the kept bytes, and writes what they cause, until nothing moves. All messages that the queue has room for are
+ * offered before a write: a call of the system for each of many small messages would hold up the other peers.
+ */
 static void serve(struct peers *peers, struct peer *peer) {
     struct dachreup_status status = {0};
     bool failed = false;
-    for (size_t moved = 1; moved && !failed;) {
-        moved = offer(peers, peer, &failed);
-        moved += flush(peers, peer);
-    }
+    for (size_t moved = 1; moved && !failed; moved = flush(peers, peer))
+        while (!failed && offer(peers, peer, &failed)) {
+        }
     finish(peers, peer);
     if (failed || (!dachreup_server_status(peers->server, peer->id, &status) && status.finished)) {
         end(peers, peer);
@@ -249,12 +252,13 @@ static void discard(struct peers *peers, struct peer *peer) {
  */
 static void serve_reset(struct peers *peers, struct peer *peer) {
     bool failed = false, has_room = peer->kept < peers->room;
-    bool has_more = !peer->has_ended && has_room && receive(peers, peer) && !peer->has_ended;
+    bool has_more = !peer->has_ended && (!has_room || (receive(peers, peer) && !peer->has_ended));
+    size_t kept = peer->kept;
     for (size_t moved = 1; moved && !failed;) {
         discard(peers, peer);
         moved = offer(peers, peer, &failed);
     }
-    if (failed || !has_more)
+    if (failed || !has_more || (!has_room && peer->kept == kept))
         end(peers, peer);
 }
 
@@ -288,10 +292,23 @@ static void release(struct peers *peers, struct peer *peer) {
     serve(peers, peer);
 }
 
+/* Sends a Release at the end of the program. Queued bytes are written also if the connection cannot have one. */
+static void release_at_end(struct peers *peers, struct peer *peer) {
+    struct dachreup_status status = {0};
+    dachreup_server_status(peers->server, peer->id, &status);
+    if (!status.waiting) {
+        release(peers, peer);
+        return;
+    }
+    dachreup_server_release(peers->server, peer->id);
+    peer->released = peers->now;
+    serve(peers, peer);
+}
+
 void peers_release(struct peers *peers) {
     for (size_t at = 0; at < peers->count; at++)
         if (peers->all[at].socket >= 0 && !peers->all[at].released)
-            release(peers, &peers->all[at]);
+            release_at_end(peers, &peers->all[at]);
 }
 
 /* Ends a connection that has been silent for too long. The rule is that of coap-server. */

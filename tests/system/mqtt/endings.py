@@ -1,9 +1,12 @@
 """Checks how a gateway ends, and the last lines of its log."""
 
 import contextlib
+import fcntl
 import re
 import signal
 import socket
+import struct
+import termios
 import time
 
 from gateways import (
@@ -56,6 +59,40 @@ def check_end(checks, program):
             checks.same("one that was not published", peer.wait(waits).code, UNAVAILABLE)
             checks.same("its Release", (end_of(peer) is not None, signals(peer)), (True, [SETTINGS, RELEASE]))
             setting.broker.process.send_signal(signal.SIGCONT)
+
+
+def check_end_of_input(checks, program):
+    """Checks that a gateway that ends writes the whole responses to a peer that has ended its input."""
+    with Setting(program, 1, words=["--pending", "256"]) as setting, setting.gateways[0].peer() as peer:
+        gateway, large = setting.gateways[0], bytes(range(250)) * 240
+        checks.same("a large resource", peer.code(PUT, f"{PREFIX}/large", payload=large), CREATED)
+        tokens, is_sent = [], True
+        # Until a response waits in the queue of the gateway, since the systems of both sides have no room for it.
+        while is_sent and len(tokens) < 200:
+            tokens.append(peer.send(GET, f"{PREFIX}/large"))
+            is_sent = soon(lambda: taken_by_system(peer.socket) >= len(tokens) * len(large), True, 0.3)
+        checks.same("responses that no peer has read", 1 < len(tokens) < 200, True)
+        peer.socket.shutdown(socket.SHUT_WR)
+        with gateway.peer() as other:
+            checks.same("the gateway has read the end", other.code(GET, "time"), CONTENT)
+        gateway.note_end()
+        gateway.process.terminate()
+        checks.same("it listens no longer", soon(lambda: listens(gateway.port), False), False)
+        checks.same("the connection ends", end_of(peer) is not None, True)
+        found = [it.payload == large for token in tokens for it in peer.received[token]]
+        checks.same("whole responses", (found, peer.left), (len(tokens) * [True], b""))
+        checks.same("the end", gateway.process.wait(LIMIT), 0)
+
+
+def taken_by_system(connection):
+    """Returns the bytes to a socket that are in the systems of both sides."""
+    here, there = (it[1] for it in (connection.getsockname(), connection.getpeername()))
+    readable = struct.unpack("=i", fcntl.ioctl(connection, termios.FIONREAD, bytes(4)))[0]
+    with open("/proc/net/tcp", encoding="ascii") as file:
+        for words in map(str.split, file):
+            if words[1].endswith(f":{there:04X}") and words[2].endswith(f":{here:04X}"):
+                return readable + int(words[4].split(":")[0], 16)
+    return readable
 
 
 def listens(port):

@@ -1,5 +1,6 @@
 """Checks resets of connections, and calls of the system that fail."""
 
+import errno
 import fcntl
 import re
 import signal
@@ -61,6 +62,16 @@ def check_failing_calls(checks, program):
                 token = waits.send(GET, "time")
                 set_error(errors, 0)
                 checks.same("the next peer is served", waits.wait(token).code, CONTENT)
+        before[-2] = before[-2].replace("FAIL_ACCEPT", "FAIL_EPOLL")
+        words = ["--connections", "1"]
+        with Gateway(program, setting.broker, setting.folder, 2, words, before) as gateway:
+            with gateway.peer() as peer:
+                checks.same("the only peer", peer.code(GET, "time"), CONTENT)
+                set_error(errors, errno.ENOSPC)
+            checks.same("it has ended", gateway.says(" ended"), True)
+            set_error(errors, 0)
+            with gateway.peer() as peer:
+                checks.same("a peer after a listener that could not be watched", peer.code(GET, "time"), CONTENT)
 
 
 def set_error(name, number):
