@@ -2,19 +2,17 @@
 //! (`config::configured`) sets the configuration.
 //!
 //! The event `serve` has the numbers that set up the devices (`devices::devices_set`) and the input bytes. The result
-//! has all calls of the devices in order, and then the result of the run. The event `answer` is the same for the
-//! application of `board.rt`, and its result also has what the application received. The event `faults` writes the
-//! number and the text of each error. The events `door` are those of `door.rt`.
+//! has all calls of the devices in order, and then the result of the run. The event `faults` writes the number and the
+//! text of each error. The events `door` are those of `door.rt`.
 
 mod devices;
 
-use crate::board::{Board, entries};
 use crate::config::{IO_FAULTS, configured};
 use crate::door;
 use coap_io::{Outlet, ReadSource, Source, WriteOutlet};
 use coap_model::Config;
-use coap_server_engine::{IoFault, NoMonitor};
-use coap_server_streams::{Report, serve_one, serve_one_for};
+use coap_server_engine::IoFault;
+use coap_server_streams::{Report, serve_one};
 use devices::{Reader, Setting, Writer, devices_set};
 use probe_support::{RowLine, cut, read_hex};
 use std::alloc::{AllocError, Global};
@@ -48,17 +46,9 @@ fn answered(outcome: &Result<Report, IoFault>, told: &mut RowLine) {
     }
 }
 
-/// Serves bytes over devices with the given setting, for the application if there is one. Writes their calls and the
-/// result. Writes `untold` if a device failed and the result does not say so, or if the result says so and no device
-/// failed.
-fn served(
-    alloc: Global,
-    config: &Config,
-    setting: Setting,
-    rest: &[u8],
-    board: Option<&mut Board>,
-    page: &RefCell<RowLine>,
-) {
+/// Serves bytes over devices with the given setting. Writes their calls and the result. Writes `untold` if a device
+/// failed and the result does not say so, or if the result says so and no device failed.
+fn served(alloc: Global, config: &Config, setting: Setting, rest: &[u8], page: &RefCell<RowLine>) {
     if config.starts().ids == u64::MAX {
         return;
     }
@@ -68,21 +58,7 @@ fn served(
         page,
     });
     let mut outlet = WriteOutlet::new(Writer { setting, page });
-    let outcome = match board {
-        None => serve_one(alloc, &mut source, &mut outlet, config),
-        Some(board) => match entries(alloc) {
-            Ok(entries) => serve_one_for(
-                alloc,
-                &mut source,
-                &mut outlet,
-                config,
-                entries,
-                board,
-                &mut NoMonitor,
-            ),
-            Err(AllocError) => Err(IoFault::Memory),
-        },
-    };
+    let outcome = serve_one(alloc, &mut source, &mut outlet, config);
     let is_told = source.failed() == (outcome == Err(IoFault::Read))
         && outlet.failed() == (outcome == Err(IoFault::Write));
     if let Ok(mut told) = page.try_borrow_mut() {
@@ -95,21 +71,14 @@ fn served(
 
 /// Serves the bytes of a row. The devices own the result line during the run. The line in its place has no capacity, so
 /// that `RowLine::new` allocates nothing.
-fn serve(
-    alloc: Global,
-    config: &Config,
-    text: &str,
-    board: Option<&mut Board>,
-    bytes: &mut Vec<u8>,
-    told: &mut RowLine,
-) {
+fn serve(alloc: Global, config: &Config, text: &str, bytes: &mut Vec<u8>, told: &mut RowLine) {
     let (setting, rest) = devices_set(text);
     read_hex(rest, bytes);
     let Ok(none) = RowLine::new(alloc, 0) else {
         return told.word("memory");
     };
     let page = RefCell::new(mem::replace(told, none));
-    served(alloc, config, setting, bytes, board, &page);
+    served(alloc, config, setting, bytes, &page);
     *told = page.into_inner();
 }
 
@@ -123,13 +92,7 @@ pub(crate) fn play(
 ) {
     let (word, rest) = cut(event);
     match word {
-        "serve" => serve(alloc, config, rest, None, bytes, told),
-        "answer" => {
-            let mut board = Board::new();
-            serve(alloc, config, rest, Some(&mut board), bytes, told);
-            told.word("");
-            board.tell(told);
-        }
+        "serve" => serve(alloc, config, rest, bytes, told),
         "door" => door::play(alloc, config, rest, bytes, told),
         "faults" => {
             for fault in IO_FAULTS {

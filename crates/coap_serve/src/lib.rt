@@ -35,7 +35,7 @@ pub use coap_server_engine::{
 pub use coap_server_listener::{
     Service, SilenceWatch, serve_door, serve_door_for, serve_door_timed, serve_door_with,
 };
-pub use coap_server_streams::{Report, serve_one, serve_one_for, serve_one_with};
+pub use coap_server_streams::{Report, serve_one, serve_one_with};
 pub use coap_store::{PathKey, Present, State, StoreFault, request_path};
 pub use coap_text::{bytes_in, number_in};
 pub use coap_wire::{

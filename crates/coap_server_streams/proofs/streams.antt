@@ -6,5 +6,3 @@ pub mod FlushShown
 pub mod TakeLemmas
 pub mod PieceLemmas
 pub mod RunLemmas
-pub mod ApplicationLemmas
-pub mod ApplicationTurns

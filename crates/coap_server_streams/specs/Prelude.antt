@@ -73,7 +73,7 @@ pub use Rattle.coap_server_streams.specs.streams.StdioRun.{LeavesNothingWaiting}
 -- ---- coap_server_engine and coap_server_session
 pub use Rattle.coap_server_session.specs.values.Deadlines.{sooner}
 pub use Rattle.coap_server_engine.specs.values.InResults.{InResult, IsPartialIn, ShowsMore, ShowsPartlyFed, in_result, fed_more}
-pub use Rattle.coap_server_engine.specs.values.Calls.{TellsPartlyFed, call_value, Following}
+pub use Rattle.coap_server_engine.specs.values.Calls.{call_value, Following}
 unfoldable pub use Rattle.coap_server_engine.specs.values.Calls.{FollowsMore}
 pub use Rattle.coap_server_engine.specs.values.InResults.{took, where_there}
 unfoldable pub use Rattle.coap_server_engine.specs.values.InResults.{fed_turns, took_turns}
@@ -99,20 +99,3 @@ unfoldable pub use Rattle.coap_server_session.specs.values.Sessions.{session_set
 unfoldable pub use Rattle.coap_server_session.specs.values.Sessions.{taking}
 pub use Rattle.coap_server_session.specs.views.SessionShows.{session_shown}
 pub use Rattle.coap_server_engine.specs.world.Shows.{Shows, ShowsRefused}
--- ---- an application
-pub use Rattle.coap_conn.specs.declared.phase.Reply.{Reply}
-pub use Rattle.coap_io.specs.declared.output.WriteFailed.{WriteFailed}
-pub use Rattle.coap_model.specs.declared.answers.ResponseFault.{ResponseFault}
-pub use Rattle.coap_wire.specs.Message.{Message}
-pub use Rattle.coap_wire.specs.Spelling.{spelling}
-pub use Rattle.coap_server_engine.specs.values.Servers.{config_with, server_ended}
-pub use Rattle.coap_server_engine.specs.values.ServerAnswers.{handled_by, responded_refusal, IsReplyOn}
-pub use Rattle.coap_server_engine.specs.values.HandedRequests.{handed_by}
-pub use Rattle.coap_server_engine.specs.values.Exchanges.{Answering, Exchange, Gone, Offered, Given}
-unfoldable pub use Rattle.coap_server_engine.specs.values.Exchanges.{AnswersMore}
-pub use Rattle.coap_server_engine.specs.values.ApplicationCalls.{IsTakenFor, IsNotTakenFor, IsAskedLater, IsGivenLater, asked_by, asks_for, failure_with, offered_events, response_for, server_offered}
-unfoldable pub use Rattle.coap_server_engine.specs.values.ApplicationCalls.{message_limit}
-pub use Rattle.coap_server_streams.specs.streams.ApplicationRun.{RunState, state_opened, state_flushed, state_cut, state_taken, state_refused, state_given, state_ended}
-pub use Rattle.coap_server_streams.specs.streams.ApplicationRun.{IsWholeFlush, IsCutState, IsToTake, AreMessages, IsChunk, IsOutcome, AreLater, HasNoLater, IsAsked, IsTurned, IsUnflushed, IsCutTurn, IsRefusedTurn}
-pub use Rattle.coap_server_streams.specs.streams.ApplicationRun.{AreTurns, IsGoing, IsLastRead, IsInputEnd, IsReportedTo, EndsIn, IsRecorded, IsRecordedGone, IsUnbegun, IsBegun, IsApplicationRun}
-pub use Rattle.coap_server_streams.specs.streams.ApplicationProgress.{IsAt, IsAtRest, IsChunkDone, IsFailed, IsChunkResult, IsLaterDone, IsLaterCut, IsLaterResult, IsEndTurn, IsChunkTurn, IsFailedTurn, IsTurnResult, HasEndedIn}

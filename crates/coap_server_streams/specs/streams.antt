@@ -3,5 +3,3 @@
 pub mod StdioRun
 pub mod StdioCalls
 pub mod StdioProgress
-pub mod ApplicationRun
-pub mod ApplicationProgress

@@ -27,17 +27,17 @@ pub struct Report {
 }
 
 /// Maximum number of bytes of one read.
-pub(crate) const PIECE: usize = 4_096;
+const PIECE: usize = 4_096;
 
 /// Result of one turn: of one read and the processing of its bytes.
 #[derive(Clone, Copy)]
-pub(crate) struct Turn {
+struct Turn {
     /// Number of bytes read.
-    pub(crate) read: usize,
+    read: usize,
     /// Number of messages processed.
-    pub(crate) messages: u64,
+    messages: u64,
     /// Reason to end the run, or `None` if it continues.
-    pub(crate) stop: Option<Reason>,
+    stop: Option<Reason>,
 }
 
 /// Serves one connection over an input and an output until the run ends.
@@ -305,7 +305,7 @@ fn serve_piece<W: Outlet, M: Monitor<()>>(
 
 /// Returns the number of messages that a call of `Server::take` processed: 0 or 1. The reasons `Format`, `TooLarge` and
 /// `TokenLength` are those of malformed input, which is no message.
-pub(crate) fn handled(what: Handled) -> u64
+fn handled(what: Handled) -> u64
     ensures { result ≡ count_of what }
 {
     match what {

@@ -27,14 +27,12 @@ written so:
 Each run ends after the number of turns in the settings. After `answer`, the result ends with the numbers of requests,
 of later responses that were accepted, and of connections that ended. `{3*a }` is 3 times `a `, and `{1..3 #a }` is
 `1a 2a 3a `.
-
-`input BYTES => WRITTEN RESULT` is a run for the application over one input and one output.
 """
 
 import re
 
 from layers import Step
-from layers.stdio import DEVICES, LIMITS, calls_of, settings, told_counts
+from layers.stdio import LIMITS, settings
 from layers.target import repeated
 from message_syntax import bytes_of, spelled
 
@@ -96,25 +94,17 @@ def told(line):
     return "; ".join([" ".join(calls) or "-", *accepted, *([result] if result else [])])
 
 
-def told_input(line):
-    """Returns the line of a run over one input in the form of the row."""
-    return told_counts(*calls_of(line), {})
-
-
 def steps(opening, rows):
     last = ""
     for row in rows:
         event, _, wanted = row.partition(" => ")
-        if event.startswith("input "):
-            said, event = {}, f"answer {' '.join(map(str, DEVICES.values()))} {spelled(event.removeprefix('input '))}"
-        else:
-            said, event = event_of(event)
+        said, event = event_of(event)
         said = {**settings(opening), **said}
         create = "= stdio " + " ".join(str(said.get(name, usual)) for name, usual in LIMITS.items())
         if create != last:
             yield Step(create, "")
         last = create
-        yield Step(event, spelled(expanded(wanted)), told_input if event.startswith("answer ") else told)
+        yield Step(event, spelled(expanded(wanted)), told)
 
 
 def struck(step, line, again, line_again):
