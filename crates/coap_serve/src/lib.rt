@@ -59,7 +59,8 @@ pub mod laws {
     pub use coap_server_engine::laws::{
         each_message_taken_is_handled_once, lent_requests_are_handed_over, no_change_is_lost,
         only_stores_allocate, responses_at_once_have_room, script_segmentation_is_irrelevant,
-        segmentation_is_irrelevant, waiting_until_next_deadline_is_safe,
+        segmentation_is_irrelevant, unanswered_requests_change_nothing,
+        waiting_until_next_deadline_is_safe,
     };
     pub use coap_server_listener::laws::{
         idle_connections_may_be_skipped, recorded_interests_stay_valid, stamps_do_not_repeat,

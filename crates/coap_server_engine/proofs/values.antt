@@ -7,5 +7,6 @@ pub mod ServerTakenLemmas
 pub mod ChangedLemmas
 pub mod ResponseLemmas
 pub mod ServingLemmas
+pub mod UnansweredLemmas
 pub mod AtOnceLemmas
 pub mod DueAtOnceLemmas

@@ -110,7 +110,7 @@ pub use Rattle.coap_server_engine.specs.script.RequestLines.{request_text, reque
 pub use Rattle.coap_server_engine.specs.script.RequestLines.{IsUnlisted, IsUnfinishedIn, IsUnlistedAfter, IsUnfinishedAfter}
 unfoldable pub use Rattle.coap_server_engine.specs.script.RequestLines.{request_turns}
 -- ---- this crate: values
-pub use Rattle.coap_server_engine.specs.values.Calls.{call_value, TellsPartlyFed, Following}
+pub use Rattle.coap_server_engine.specs.values.Calls.{call_value, Following}
 unfoldable pub use Rattle.coap_server_engine.specs.values.Calls.{FollowsMore}
 pub use Rattle.coap_server_session.specs.values.Causes.{change_hash, path_hash}
 pub use Rattle.coap_server_session.specs.values.Causes.{IsUnaffected}
@@ -162,7 +162,7 @@ pub use Rattle.coap_server_engine.specs.values.HandedRequests.{handed_on, handed
 unfoldable pub use Rattle.coap_server_engine.specs.values.HandedRequests.{handed_frame}
 pub use Rattle.coap_server_engine.specs.values.ChangedRequests.{changing_on, request_key, frame_key, DifferAt, DifferBy, ChangesBy}
 unfoldable pub use Rattle.coap_server_engine.specs.values.ChangedRequests.{changing_frame}
-pub use Rattle.coap_server_engine.specs.values.Exchanges.{Exchange, Asked, Offered, Given, Gone, Answering, offers}
+pub use Rattle.coap_server_engine.specs.values.Exchanges.{Exchange, Asked, Offered, Given, Gone, Answering, AreUnanswered, offers}
 unfoldable pub use Rattle.coap_server_engine.specs.values.Exchanges.{AnswersMore}
 pub use Rattle.coap_server_engine.specs.values.ApplicationCalls.{server_offered, offered_events, failure_with, response_for, AskResult, asking, ServeResult}
 pub use Rattle.coap_server_engine.specs.values.ApplicationCalls.{asks_for, asked_by, limit_of, IsTakenFor, IsNotTakenFor, unserved, served_more, AreMade, IsServed, IsPartlyServed}

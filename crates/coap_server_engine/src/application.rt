@@ -1,7 +1,8 @@
 //! The interface through which a program answers the requests that its server hands to it.
 
-ghost use Rattle.std.specs.Prelude.{◌≡◌, ℕ, List, [], ◌∷◌, Option, Some, None, IfNone};
+ghost use Rattle.std.specs.Prelude.{◌≡◌, ℕ, List, [], ◌∷◌, false, Option, Some, None, IfNone};
 ghost use Rattle.coap_server_engine.specs.Prelude.{Exchange, Asked, Offered, Given, Gone, AnswersMore, offers};
+ghost use Rattle.coap_server_engine.specs.Prelude.{AreUnanswered};
 
 use coap_conn::Reply;
 use coap_io::Wait;
@@ -65,6 +66,16 @@ pub trait Application {
         Wait::Forever
     }
 
+    /// Returns `false` if the application writes no response, whatever it is asked. A caller may then do without asking
+    /// it.
+    fn answers(&self) -> bool
+        ensures follows { result ≡ false →
+            (more : List Exchange) → AreUnanswered more → AnswersMore (follows self.now) (follows self.now) more }
+        ensures idle { result ≡ false → idle self.now }
+    {
+        true
+    }
+
     /// Receives the end of a connection. No response is accepted for it from now on.
     fn gone(&mut self, from: ConnId)
         ensures { AnswersMore (follows self.old) (follows self.new) (Gone from ∷ []) };
@@ -75,7 +86,10 @@ pub trait Application {
 pub struct NoApplication;
 
 impl Application for NoApplication {
-    #[tactic(auto, unfolding(crate::specs::values::Exchanges::AnswersMore))]
+    // It has written no byte.
+    ghost follows = { λ _ exchanges. AreUnanswered exchanges };
+
+    #[tactic(auto, using(crate::proofs::values::ResponseLemmas::unanswered_then))]
     fn request(
         &mut self,
         _from: ConnId,
@@ -84,14 +98,19 @@ impl Application for NoApplication {
         _response: &mut Vec<u8>,
     ) {}
 
-    #[tactic(auto, unfolding(crate::specs::values::Exchanges::AnswersMore))]
+    #[tactic(auto, using(crate::proofs::values::ResponseLemmas::unanswered_then))]
     fn next_response(&mut self, _response: &mut Vec<u8>) -> Option<ConnId> {
         None
     }
 
-    #[tactic(auto, unfolding(crate::specs::values::Exchanges::AnswersMore))]
+    #[tactic(auto, using(crate::proofs::values::ResponseLemmas::unanswered_then))]
     fn responded(&mut self, _to: ConnId, _outcome: Result<Reply, ResponseFault>) {}
 
-    #[tactic(auto, unfolding(crate::specs::values::Exchanges::AnswersMore))]
+    #[tactic(auto, using(crate::proofs::values::ResponseLemmas::unanswered_then))]
+    fn answers(&self) -> bool {
+        false
+    }
+
+    #[tactic(auto, using(crate::proofs::values::ResponseLemmas::unanswered_then))]
     fn gone(&mut self, _from: ConnId) {}
 }

@@ -12,6 +12,7 @@ ghost use Rattle.coap_server_engine.specs.Prelude.{IsRefusedStored, StoresNothin
 ghost use Rattle.coap_server_engine.specs.Prelude.{replayed, DifferInCuts, AreInTime, lines_of, other_lines};
 ghost use Rattle.coap_server_engine.specs.Prelude.{Message, message_of, ResponseFault, handed_by, server_taken};
 ghost use Rattle.coap_server_engine.specs.Prelude.{responded_refusal, response_for, request_in, IsAccepted};
+ghost use Rattle.coap_server_engine.specs.Prelude.{AreUnanswered, IsServed, took};
 ghost use Rattle.std.specs.Option.{option_to_list};
 ghost use Rattle.coap_model.specs.world.Fates.{handed_requests, requests_on};
 ghost use Rattle.coap_conn.specs.Responses.{is_plain_response};
@@ -114,6 +115,15 @@ pub fn only_stores_allocate()
 pub fn waiting_until_next_deadline_is_safe()
     ensures { (v : ServerValue) (later : ℕ) → IsStore v.host.store → AreSettled v.host v.sessions → v.host.now ≤ later →
         later < 2 ^ 64 → WaitsForDeadlines v later }
+{}
+
+/// States that an application that writes no response changes nothing. The calls of `take` that `Server::take_all_for`
+/// makes for it, such as for `NoApplication`, have the result of `Server::take_all`. They are the same events, and no
+/// response is among them.
+pub fn unanswered_requests_change_nothing()
+    ensures { (v after : ServerValue) (id count : ℕ) (bytes : List ℕ) (events : List AcceptedCall) →
+        IsServed v id bytes count after (λ all. events ≡ all) (λ exchanges. AreUnanswered exchanges) →
+        (after ≡ (in_result v id bytes).server) × (count ≡ (in_result v id bytes).count) × (events ≡ took v id bytes) }
 {}
 
 /// States that each accepted message is processed once.

@@ -81,7 +81,7 @@ pub use Rattle.coap_server_listener.specs.streams.RecordedInterests.{WhilePassed
 pub use Rattle.coap_server_listener.specs.streams.RecordedInterests.{IsNoted, Served}
 pub use Rattle.coap_server_listener.specs.streams.Serving.{HasTurned, IsAskedOnce, IsTurnOf, IsTurnBy, HasGoneOn, AreServed}
 pub use Rattle.coap_server_listener.specs.streams.Serving.{asked_by, HadItsPart, HasOneMore, IsOpening, IsRound, IsServing}
-pub use Rattle.coap_server_listener.specs.streams.Serving.{AreCallsBetween, HasAccepted, HasServedBy, HasTurnedBy, HasOpened, dropped_events, events_left, exchanges_left, gone_exchanges, gone_on, TakingSteps, AreTakenAlone, AreTakenWith, NoneTaken, AreStepsBy, opened_if, NoMore, PassedOver, opening, Unrecorded}
+pub use Rattle.coap_server_listener.specs.streams.Serving.{AreCallsBetween, HasAccepted, HasServedBy, HasTurnedBy, HasOpened, dropped_events, events_left, exchanges_left, gone_exchanges, gone_on, TakingSteps, AreTakenWith, NoneTaken, AreStepsBy, opened_if, NoMore, PassedOver, opening, Unrecorded}
 pub use Rattle.coap_server_listener.specs.streams.Sleepers.{AreAsleep, IsOutside, MaySleep, bit_of, is_known_ready, known}
 pub use Rattle.coap_server_listener.specs.streams.Turns.{end_of, agenda_past, IsIdle, IsInTurn, agenda_with, wait_of}
 pub use Rattle.coap_server_listener.specs.streams.Turns.{Taking, IsTakenAlone, IsTakenWith, IsTakenInPart, rest_behind, IsServedOnce, IsServedOnceBy, IsLaidOut, is_heard, heard_events, refused_events, server_heard, server_wrote, wrote_events}
@@ -96,7 +96,7 @@ pub use Rattle.coap_server_engine.specs.values.InResults.{InResult, IsPartialIn,
 pub use Rattle.coap_server_engine.specs.values.Exchanges.{Answering, Exchange, Gone}
 unfoldable pub use Rattle.coap_server_engine.specs.values.Exchanges.{AnswersMore}
 pub use Rattle.coap_server_engine.specs.values.ApplicationCalls.{AreAskedLater, IsAskedLater}
-pub use Rattle.coap_server_engine.specs.values.Calls.{TellsPartlyFed, call_value, Following}
+pub use Rattle.coap_server_engine.specs.values.Calls.{call_value, Following}
 unfoldable pub use Rattle.coap_server_engine.specs.values.Calls.{FollowsMore}
 pub use Rattle.coap_server_engine.specs.values.InResults.{took, where_there}
 unfoldable pub use Rattle.coap_server_engine.specs.values.InResults.{fed_turns, took_turns}

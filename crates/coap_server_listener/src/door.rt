@@ -16,7 +16,6 @@ mod removal;
 mod service;
 mod silence;
 mod sweep;
-mod taker;
 mod turn;
 
 pub use application_run::serve_door_for;

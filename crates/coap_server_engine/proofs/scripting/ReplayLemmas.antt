@@ -10,7 +10,7 @@ use Rattle.coap_server_engine.specs.Prelude.{event_value, EventResult, fed_turns
 use Rattle.coap_server_engine.specs.Prelude.{IsRefusedAt, IsCutAt, where_there, took_turns, took, events_ran, ShowsMore, ShowsPartlyFed}
 use Rattle.coap_server_engine.specs.Prelude.{ShowsPart, events_made, ShowsRefusedAt, AddsBytes, WritesPart, SessionValue}
 use Rattle.coap_server_engine.specs.Prelude.{InResult, ServerValue, server_taken, count_taken, is_there, session_of, IsNotTaken, IsRun}
-use Rattle.coap_server_engine.specs.Prelude.{IsDrainable, Took, Drained, OutputLine, Shows, AcceptedCall, FollowsMore, Following, TellsPartlyFed}
+use Rattle.coap_server_engine.specs.Prelude.{IsDrainable, Took, Drained, OutputLine, Shows, AcceptedCall}
 use Rattle.coap_script.specs.declared.event.Event.{Event}
 use Rattle.coap_server_engine.specs.script.Replay.{behind}
 use Rattle.coap_server_engine.specs.values.InResults.{goes_on}
@@ -91,10 +91,6 @@ all_turns_made v id bytes n is m few =
 abbrev pub ShowsTake : ServerValue → ℕ → List ℕ → ServerValue → Type 0
 ShowsTake now id left after = ShowsMore now after (where_there (session_of id now.sessions) (λ s. Took id (take (count_taken now id left) left)))
 
--- A monitor received one more take.
-abbrev pub TellsTake : Following → Following → ServerValue → ℕ → List ℕ → Type 0
-TellsTake b c now id left = FollowsMore b c (where_there (session_of id now.sessions) (λ s. Took id (take (count_taken now id left) left)))
-
 module _ (v : ServerValue) (id : ℕ) (bytes : List ℕ) (now : ServerValue) (taken : ℕ) (feeds : Feeds v id bytes now taken) (left : taken < length bytes) where
   pub turn_more_feeds : fed_turns (feeds.turns + 1) v id bytes ≡ record { server = server_taken now id (drop taken bytes); count = taken + count_taken now id (drop taken bytes); done = count_taken now id (drop taken bytes) == 0 }
   unfolding fed_turns
@@ -104,12 +100,6 @@ module _ (v : ServerValue) (id : ℕ) (bytes : List ℕ) (now : ServerValue) (ta
   unfolding took_turns
   shows_more after more =
       rw (add-one, feeds.so_far, lt-ltb taken (length bytes) left) (shows_then v now after (took_turns feeds.turns v id bytes) _ feeds.shows more)
-
-  -- A monitor received the takes so far, and then one more.
-  told_more : (a b c : Following) → FollowsMore a b (took_turns feeds.turns v id bytes) → TellsTake b c now id (drop taken bytes) → FollowsMore a c (took_turns (feeds.turns + 1) v id bytes)
-  unfolding took_turns
-  told_more a b c so_far more =
-      rw (add-one, feeds.so_far, lt-ltb taken (length bytes) left) (followed_then a b c (took_turns feeds.turns v id bytes) _ so_far more)
 
   -- A take accepted some bytes.
   pub feeds_more : (k : ℕ) (after : ServerValue) → k ≤ length (drop taken bytes) → k ≡ count_taken now id (drop taken bytes) → k ≢ 0 → after ≡ server_taken now id (drop taken bytes) → ShowsTake now id (drop taken bytes) after → Feeds v id bytes after (taken + k)
@@ -126,11 +116,6 @@ module _ (v : ServerValue) (id : ℕ) (bytes : List ℕ) (now : ServerValue) (ta
   unfolding feeds_more
   turns_of_more k after within counted some is more = refl
 
-  pub feeds_told : (a b c : Following) (k : ℕ) (after : ServerValue) (within : k ≤ length (drop taken bytes)) (counted : k ≡ count_taken now id (drop taken bytes)) (some : k ≢ 0) (is : after ≡ server_taken now id (drop taken bytes)) (more : ShowsTake now id (drop taken bytes) after)
-      → FollowsMore a b (took_turns feeds.turns v id bytes) → TellsTake b c now id (drop taken bytes) → FollowsMore a c (took_turns (feeds_more k after within counted some is more).turns v id bytes)
-  unfolding feeds_more
-  feeds_told a b c k after within counted some is more so_far tells = told_more a b c so_far tells
-
   -- A take accepted none.
   stops_there : (after : ServerValue) → count_taken now id (drop taken bytes) ≡ 0 → after ≡ server_taken now id (drop taken bytes)
       → (in_result v id bytes ≡ record { server = after; count = taken; done = true }) × (took v id bytes ≡ took_turns (feeds.turns + 1) v id bytes)
@@ -144,10 +129,6 @@ module _ (v : ServerValue) (id : ℕ) (bytes : List ℕ) (now : ServerValue) (ta
 
   pub stopped_shows : (after : ServerValue) → count_taken now id (drop taken bytes) ≡ 0 → after ≡ server_taken now id (drop taken bytes) → ShowsTake now id (drop taken bytes) after → ShowsMore v after (took v id bytes)
   stopped_shows after none is more = shows_as v after _ _ (sym (stops_there after none is).1) (shows_more after more)
-
-  pub stopped_told : (a b c : Following) (after : ServerValue) → count_taken now id (drop taken bytes) ≡ 0 → after ≡ server_taken now id (drop taken bytes)
-      → FollowsMore a b (took_turns feeds.turns v id bytes) → TellsTake b c now id (drop taken bytes) → FollowsMore a c (took v id bytes)
-  stopped_told a b c after none is so_far tells = rw (stops_there after none is).1 (told_more a b c so_far tells)
 
   -- Allocation failed.
   pub short : (count : ℕ) (after : ServerValue) → IsNotTaken now id (drop taken bytes) (taking.Memory count) after → IsPartialIn v id bytes after
@@ -166,16 +147,6 @@ module _ (v : ServerValue) (id : ℕ) (bytes : List ℕ) (now : ServerValue) (ta
     shows = shows_then v now after (took_turns feeds.turns v id bytes) _ feeds.shows more;
   }
 
-  pub short_told : (a b c : Following) (count : ℕ) (after : ServerValue) → IsNotTaken now id (drop taken bytes) (taking.Memory count) after → ShowsMore now after (Took id (take count (drop taken bytes)) ∷ [])
-      → FollowsMore a b (took_turns feeds.turns v id bytes) → FollowsMore b c (Took id (take count (drop taken bytes)) ∷ []) → TellsPartlyFed (FollowsMore a c) v id bytes after
-  unfolding short
-  short_told a b c count after refused more so_far tells = record {
-    more = _;
-    part = record { in_result = short count after refused; made = rw feeds.so_far };
-    shows = shows_then v now after (took_turns feeds.turns v id bytes) _ feeds.shows more;
-    tells = followed_then a b c (took_turns feeds.turns v id bytes) _ so_far tells;
-  }
-
 -- No byte is left.
 module _ (v : ServerValue) (id : ℕ) (bytes : List ℕ) (now : ServerValue) (taken : ℕ) (feeds : Feeds v id bytes now taken) (none : length bytes ≤ taken) where
   all_used : AreTurnsOf v id bytes (length bytes) feeds.turns
@@ -186,9 +157,6 @@ module _ (v : ServerValue) (id : ℕ) (bytes : List ℕ) (now : ServerValue) (ta
 
   pub used_up_shows : ShowsMore v now (took v id bytes)
   used_up_shows = shows_as v now _ _ (sym all_used.1) feeds.shows
-
-  pub used_up_told : (a b : Following) → FollowsMore a b (took_turns feeds.turns v id bytes) → FollowsMore a b (took v id bytes)
-  used_up_told a b tells = rw all_used.1 tells
 
 -- No connection has this id.
 module _ (v : ServerValue) (id : ℕ) (none : session_of id v.sessions ≡ None) where
@@ -220,16 +188,6 @@ module _ (v : ServerValue) (id : ℕ) (none : session_of id v.sessions ≡ None)
             ap (λ (f : InResult). f.server) all,
             stopped_shows v id bytes v 0 (feeds_nothing bytes) left v (takes_nothing rest) (stays_as_it_is rest) (rw none (shows_same v v refl)),
           )
-
-  pub told_nothing : (a : Following) (bytes : List ℕ) → FollowsMore a a (took v id bytes)
-  unfolding took_turns feeds_nothing
-  told_nothing a bytes = told_cases (length bytes) refl
-    where
-      told_cases : (n : ℕ) → length bytes ≡ n → FollowsMore a a (took v id bytes)
-      told_cases zero is = used_up_told v id bytes v 0 (feeds_nothing bytes) (omega (arith, is)) a a (followed_none a)
-      told_cases (suc n) is =
-          let rest = drop 0 bytes in
-          stopped_told v id bytes v 0 (feeds_nothing bytes) (omega (arith, is)) a a a v (takes_nothing rest) (stays_as_it_is rest) (followed_none a) (rw none (followed_none a))
 
 -- ---- several events
 

@@ -7,7 +7,7 @@ use Rattle.std.proofs.lemmas.Bool.{eqb-true}
 use Rattle.coap_server_engine.specs.Prelude.{Message, message_of, RefusedBy, ResponseFault}
 use Rattle.coap_server_engine.specs.Prelude.{ServerValue, LiesAt, session_of, server_given, session_given_by, responded_refusal, responded_refusal_on, response_event}
 use Rattle.coap_server_engine.specs.Prelude.{spelling}
-use Rattle.coap_server_engine.specs.Prelude.{server_offered, offered_events, response_for, failure_with, Exchange, Answering, AnswersMore}
+use Rattle.coap_server_engine.specs.Prelude.{server_offered, offered_events, response_for, failure_with, Exchange, Answering, AnswersMore, AreUnanswered}
 use Rattle.coap_server_engine.proofs.values.ServerLemmas.{lies_where_taken}
 
 -- ---- exchanges
@@ -19,6 +19,15 @@ answers_none a earlier so_far = rw append-nil so_far
 pub answers_then : (a b c : Answering) (xs ys : List Exchange) → AnswersMore a b xs → AnswersMore b c ys → AnswersMore a c (xs ++ ys)
 unfolding AnswersMore
 answers_then a b c xs ys p q earlier so_far = rw (← append_assoc earlier xs ys) (q (earlier ++ xs) (p earlier so_far))
+
+-- An application that has written no byte still has not.
+pub unanswered_then : (more : List Exchange) → AreUnanswered more → AnswersMore (λ exchanges. AreUnanswered exchanges) (λ exchanges. AreUnanswered exchanges) more
+unfolding AnswersMore
+unanswered_then more none earlier so_far = by earlier so_far
+  where
+    by : (all : List Exchange) → AreUnanswered all → AreUnanswered (all ++ more)
+    by [] holds = none
+    by (x ∷ xs) holds = (holds.0, by xs holds.1)
 
 -- ---- results
 

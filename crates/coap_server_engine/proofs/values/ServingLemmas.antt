@@ -3,8 +3,8 @@ use Rattle.std.proofs.Common.{◌≡◌, ◌≢◌, ℕ, ◌+◌, ◌<◌, ◌�
 use Rattle.std.proofs.lemmas.Bool.{ne_eqb, eq-eqb, le-ltb}
 use Rattle.std.proofs.lemmas.List.{append-nil, length-drop}
 use Rattle.std.proofs.Math.Bool.{and-false}
-use Rattle.coap_server_engine.specs.Prelude.{ServerValue, session_of, count_taken, AcceptedCall, Took, ShowsMore, Following, FollowsMore}
-use Rattle.coap_server_engine.specs.Prelude.{InResult, Exchange, Answering, AnswersMore, AskResult, asked_by, served, AreMade}
+use Rattle.coap_server_engine.specs.Prelude.{ServerValue, session_of, is_there, count_taken, AcceptedCall, Took, ShowsMore, Following, FollowsMore}
+use Rattle.coap_server_engine.specs.Prelude.{InResult, Exchange, Answering, AnswersMore, AreUnanswered, AskResult, asked_by, served, AreMade}
 use Rattle.coap_server_engine.specs.Prelude.{IsServed, IsPartlyServed, IsTakenFor, IsNotTakenFor, asking, asks_for, handed_by, message_limit, server_offered, offered_events, response_for}
 use Rattle.coap_server_engine.specs.Prelude.{Message, LiesAt, server_taken, server_taken_on, taking, host_changed, Offered, Given}
 use Rattle.coap_server_engine.specs.Prelude.{AreGivenLater, NothingGiven, OneMoreGiven, IsAskedLater, AreAskedLater}
@@ -12,10 +12,11 @@ use Rattle.coap_server_engine.proofs.values.ServerLemmas.{lies_where_taken}
 use Rattle.coap_server_engine.specs.values.InResults.{goes_on}
 use Rattle.coap_server_engine.proofs.scripting.ShownLemmas.{shows_same, shows_then}
 use Rattle.coap_server_engine.proofs.scripting.FollowLemmas.{followed_none, followed_then}
-use Rattle.coap_server_engine.proofs.values.ResponseLemmas.{answers_none, answers_then}
+use Rattle.coap_server_engine.proofs.values.ResponseLemmas.{answers_none, answers_then, nothing_offered, nothing_told}
 
 -- Some takes accepted bytes, and the server is `now`.
 pub record Serves (v : ServerValue) (id : ℕ) (bytes : List ℕ) (now : ServerValue) (taken : ℕ) (told : List AcceptedCall → Type 0) (asks : List Exchange → Type 0) : Type 0 where
+  pub there : true ≡ is_there (session_of id v.sessions)
   pub responses : List (List ℕ)
   pub made : AreMade v id bytes responses
   pub within : taken ≤ length bytes
@@ -24,9 +25,10 @@ pub record Serves (v : ServerValue) (id : ℕ) (bytes : List ℕ) (now : ServerV
   pub tells : told (served v id bytes responses).events
   pub exchanged : asks (served v id bytes responses).exchanges
 
-pub serves_nothing : (v : ServerValue) (id : ℕ) (bytes : List ℕ) (a : Following) (x : Answering) → Serves v id bytes v 0 (FollowsMore a a) (AnswersMore x x)
+pub serves_nothing : (v : ServerValue) (id : ℕ) (bytes : List ℕ) (a : Following) (x : Answering) → true ≡ is_there (session_of id v.sessions) → Serves v id bytes v 0 (FollowsMore a a) (AnswersMore x x)
 unfolding served
-serves_nothing v id bytes a x = record {
+serves_nothing v id bytes a x there = record {
+  there = there;
   responses = [];
   made = tt;
   within = omega arith;
@@ -43,6 +45,7 @@ serves_nobody v id bytes a x nobody = record {
   responses = [];
   made = tt;
   over = λ going. nobody;
+  nobody = λ _. refl;
   counted = refl;
   server = refl;
   shows = shows_same v v refl;
@@ -51,12 +54,16 @@ serves_nobody v id bytes a x nobody = record {
 }
 
 module _ (v : ServerValue) (id : ℕ) (bytes : List ℕ) (now : ServerValue) (taken : ℕ) (a b c : Following) (x y z : Answering) (so : Serves v id bytes now taken (FollowsMore a b) (AnswersMore x y)) where
+  present : {P : Type 0} → session_of id v.sessions ≡ None → P
+  present none = absurd (let gone : true ≡ false = so.there ∙ ap is_there none in cc gone)
+
   -- No byte is left.
   pub serves_all : length bytes ≤ taken → IsServed v id bytes taken now (FollowsMore a b) (AnswersMore x y)
   serves_all none = record {
     responses = so.responses;
     made = so.made;
     over = λ going. absurd (let more : (nat_lt taken (length bytes) && true) ≡ true = rw so.so_far at going in cc (le-ltb taken (length bytes) none, more));
+    nobody = present;
     counted = ap (λ (f : InResult). f.count) (sym so.so_far);
     server = ap (λ (f : InResult). f.server) (sym so.so_far);
     shows = so.shows;
@@ -109,6 +116,7 @@ module _ (v : ServerValue) (id : ℕ) (bytes : List ℕ) (now : ServerValue) (ta
       -- A take accepted some bytes.
       pub serves_more : k ≤ length (drop taken bytes) → k ≢ 0 → Serves v id bytes after (taken + k) (FollowsMore a c) (AnswersMore x z)
       serves_more within some = record {
+        there = so.there;
         responses = more;
         made = (going, so.made);
         within = omega (arith, within, left, length-drop taken bytes);
@@ -127,6 +135,7 @@ module _ (v : ServerValue) (id : ℕ) (bytes : List ℕ) (now : ServerValue) (ta
             responses = more;
             made = (going, so.made);
             over = λ goes. absurd (let more_left : (nat_lt taken (length bytes) && false) ≡ true = rw fed at goes in cc (and-false (nat_lt taken (length bytes)), more_left));
+            nobody = present;
             counted = ap (λ (f : InResult). f.count) (sym fed);
             server = ap (λ (f : InResult). f.server) (sym fed);
             shows = more_shows;
@@ -162,6 +171,17 @@ module _ (v u after : ServerValue) (id : ℕ) (left response : List ℕ) (k : �
         tells = rw effect (followed_then a b c (Took id (take k left) ∷ []) _ told told_it);
         exchanged = rw effect (rw handed at asked);
       }
+
+-- The application was not asked: it has written no byte.
+unasked : (v : ServerValue) (id limit : ℕ) (o : Option Message) → ((asking v id limit [] o).server ≡ v) × ((asking v id limit [] o).events ≡ []) × AreUnanswered (asking v id limit [] o).exchanges
+unasked v id limit None = (refl, refl, tt)
+unasked v id limit (Some m) = (nothing_offered v id, nothing_told v id, (refl, tt))
+
+pub taken_unasked : (v u : ServerValue) (id : ℕ) (left : List ℕ) (k : ℕ) (a b : Following) → u ≡ server_taken v id left → ShowsMore v u (Took id (take k left) ∷ []) → FollowsMore a b (Took id (take k left) ∷ [])
+    → IsTakenFor v id left [] k u (FollowsMore a b) (λ exchanges. AreUnanswered exchanges)
+taken_unasked v u id left k a b took shows told =
+    let none = unasked (server_taken v id left) id (message_limit v id) (handed_by v id left) in
+    record { server = took ∙ sym none.0; shows = rw none.1 shows; tells = rw none.1 told; exchanged = none.2 }
 
 -- ---- later responses
 

@@ -66,7 +66,7 @@ one_settled host id (e ∷ es) s all is =
     ]
 
 -- The connection after a call on it, when all have settled.
-becomes_settled : (host : ServerState) (id : ℕ) (f : SessionValue → SessionValue) (es : Entries) (s : SessionValue) → session_of id es ≡ Some s → session_of id (map (settled_entry host) (map (session_becomes id f) es)) ≡ Some (session_settled host (f s))
+pub becomes_settled : (host : ServerState) (id : ℕ) (f : SessionValue → SessionValue) (es : Entries) (s : SessionValue) → session_of id es ≡ Some s → session_of id (map (settled_entry host) (map (session_becomes id f) es)) ≡ Some (session_settled host (f s))
 unfolding session_of
 becomes_settled host id f [] s is = absurd cc
 becomes_settled host id f (e ∷ es) s is =

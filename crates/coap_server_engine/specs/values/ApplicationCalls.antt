@@ -127,6 +127,7 @@ pub record IsServed (v : ServerValue) (id : ℕ) (bytes : List ℕ) (count : ℕ
   pub responses : List (List ℕ)
   pub made : AreMade v id bytes responses
   pub over : goes_on bytes (served v id bytes responses).fed ≡ true → session_of id v.sessions ≡ None
+  pub nobody : session_of id v.sessions ≡ None → responses ≡ []
   pub counted : count ≡ (served v id bytes responses).fed.count
   pub server : after ≡ (served v id bytes responses).fed.server
   pub shows : ShowsMore v after (served v id bytes responses).events

@@ -7,8 +7,6 @@ use Rattle.coap_model.specs.world.Events.{AcceptedCall}
 use Rattle.coap_model.specs.world.Events as event
 use Rattle.coap_server_engine.specs.declared.monitor.Call.{Call}
 use Rattle.coap_server_engine.specs.declared.monitor.Call.TheVariants as call
-use Rattle.coap_server_engine.specs.values.InResults.{IsPartlyTaken, ShowsMore}
-use Rattle.coap_server_engine.specs.values.Servers.{ServerValue}
 
 -- The message that was read. For bytes that encode none, which no server accepts as a response, this is the empty message.
 abbrev pub response_in : Result Message FormatFault → Message
@@ -35,11 +33,3 @@ Following = List ℕ → List AcceptedCall → Type 0
 -- After the calls that it had received before, a monitor has received these.
 unfoldable pub FollowsMore : Following → Following → List AcceptedCall → Type 0
 FollowsMore before after more = (start : List ℕ) (calls : List AcceptedCall) → before start calls → after start (calls ++ more)
-
--- Holds if an allocation failed in a take. The server shows the events of the takes before it, and of the bytes which
--- the failing take accepted. `told` holds of these events.
-pub record TellsPartlyFed (told : List AcceptedCall → Type 0) (v : ServerValue) (id : ℕ) (bytes : List ℕ) (after : ServerValue) : Type 0 where
-  pub more : List AcceptedCall
-  pub part : IsPartlyTaken v id bytes after more
-  pub shows : ShowsMore v after more
-  pub tells : told more

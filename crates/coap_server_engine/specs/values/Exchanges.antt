@@ -1,5 +1,6 @@
 -- Defined by this project: what a server shows to its application, and what the application answers, in order.
-use Rattle.std.specs.Prelude.{ℕ, List, [], ◌∷◌, ◌++◌, Option, Some, None, Result}
+use Rattle.std.specs.Prelude.{◌≡◌, ℕ, List, [], ◌∷◌, ◌++◌, Option, Some, None, Result}
+use Rattle.std.specs.List.{AllByRecursion}
 use Rattle.coap_wire.specs.Message.{Message}
 use Rattle.coap_conn.specs.declared.phase.Reply.{Reply}
 use Rattle.coap_model.specs.declared.answers.ResponseFault.{ResponseFault}
@@ -20,6 +21,16 @@ pub data Exchange : Type 0 where
 abbrev pub offers : Option ℕ → List ℕ → List Exchange
 offers None response = []
 offers (Some id) response = Offered id response ∷ []
+
+-- The application wrote no byte in this exchange.
+abbrev pub IsUnanswered : Exchange → Type 0
+IsUnanswered (Asked id request limit response) = response ≡ []
+IsUnanswered (Offered id response) = ⊥
+IsUnanswered (Given id outcome) = Unit {0}
+IsUnanswered (Gone id) = Unit {0}
+
+abbrev pub AreUnanswered : List Exchange → Type 0
+AreUnanswered exchanges = AllByRecursion IsUnanswered exchanges
 
 -- A statement of an application on the exchanges so far.
 abbrev pub Answering : Type 1

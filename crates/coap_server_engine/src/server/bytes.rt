@@ -2,7 +2,7 @@
 
 use super::sessions::{find, flush_at, settle_after, what_was_handled, written_at};
 use super::{FlushStep, Server};
-use crate::monitor::{Call, Monitor, NoMonitor};
+use crate::monitor::{Call, Monitor};
 use coap_io::{Outlet, WriteFailed};
 use coap_model::{ConnId, Handled, TakeFault, Taken, WrittenFault};
 use std::alloc::AllocError;
@@ -16,7 +16,8 @@ impl Server {
     ghost use Rattle.coap_server_engine.specs.Prelude.{server_taken, server_written, can_take_on, handled_by};
     ghost use Rattle.coap_server_engine.specs.Prelude.{IsNotTaken, written_refusal, front_of, stop_on, LiesAt};
     ghost use Rattle.coap_server_engine.specs.Prelude.{AcceptedCall, Took, Wrote, takes, handled_in, Shows};
-    ghost use Rattle.coap_server_engine.specs.Prelude.{ShowsRefused, IsRefusedFor, FollowsMore, TellsPartlyFed};
+    ghost use Rattle.coap_server_engine.specs.Prelude.{ShowsRefused, IsRefusedFor, FollowsMore, IsTakenFor};
+    ghost use Rattle.coap_server_engine.specs.Prelude.{IsNotTakenFor, AreUnanswered};
     ghost use Rattle.coap_server_engine.specs.contracts.server.Server.{the_row};
 
     /// Returns `true` if a connection accepts bytes.
@@ -123,6 +124,52 @@ impl Server {
         }
     }
 
+    /// Accepts bytes once as `take_at` does, of the remaining bytes `rest`, and returns their number. The monitor receives the
+    /// call, also if it accepts no byte or allocation fails.
+    ///
+    /// # Errors
+    ///
+    /// Returns `AllocError` if allocation fails in the take.
+    pub(super) fn take_unasked<W, M: Monitor<W>>(
+        &mut self,
+        at: usize,
+        id: ConnId,
+        rest: &[u8],
+        monitor: &mut M,
+    ) -> Result<usize, AllocError>
+        requires { LiesAt id at self.old.sessions }
+        ensures within { IfOk result (λ n. n ≤ length rest.now) }
+        ensures count { IfOk result (λ n. n ≡ count_taken self.old id rest.now) }
+        ensures there { OnOk result (is_there (session_of id self.old.sessions) ≡ true) }
+        ensures ok { IfOk result (λ n. IsTakenFor self.old id rest.now [] n self.new
+            (FollowsMore (M.follows monitor.old) (M.follows monitor.new)) AreUnanswered) }
+        ensures lies { OnOk result (LiesAt id at self.new.sessions) }
+        ensures err { OnErr result (IsNotTakenFor self.old id rest.now self.new
+            (FollowsMore (M.follows monitor.old) (M.follows monitor.new))) }
+    {
+        match self.take_at(at, id, rest) {
+            Ok(taken) => {
+                let took = Call::Took {
+                    id,
+                    bytes: &rest[..taken.bytes],
+                    handled: taken.handled,
+                };
+                monitor.accepted(took, self);
+                Ok(taken.bytes)
+            }
+            Err(TakeFault::NoSuch) => unreachable!(),
+            Err(TakeFault::Memory { bytes }) => {
+                let took = Call::Took {
+                    id,
+                    bytes: &rest[..bytes],
+                    handled: Handled::Nothing,
+                };
+                monitor.accepted(took, self);
+                Err(AllocError)
+            }
+        }
+    }
+
     /// Accepts bytes until none is left or none is accepted, and returns the number accepted.
     ///
     /// Returns 0 if no connection has this id.
@@ -138,58 +185,20 @@ impl Server {
         ensures err { OnErr result (IsPartialIn self.old id bytes.now self.new) }
         ensures shows_refused { OnErr result (ShowsPartlyFed self.old id bytes.now self.new) }
     {
-        self.take_all_with::<(), NoMonitor>(id, bytes, &mut NoMonitor)
-    }
-
-    /// Accepts bytes as `take_all` does. The monitor receives each call of `take`, also one that accepts no byte.
-    ///
-    /// # Errors
-    ///
-    /// Returns `AllocError` if allocation fails. The messages before the failure were processed then.
-    pub fn take_all_with<W, M: Monitor<W>>(
-        &mut self,
-        id: ConnId,
-        bytes: &[u8],
-        monitor: &mut M,
-    ) -> Result<usize, AllocError>
-        ensures count { IfOk result (λ n. n ≡ (in_result self.old id bytes.now).count) }
-        ensures within { IfOk result (λ n. n ≤ length bytes.now) }
-        ensures after { OnOk result (self.new ≡ (in_result self.old id bytes.now).server) }
-        ensures shows { OnOk result (ShowsMore self.old self.new (took self.old id bytes.now)) }
-        ensures told { OnOk result (FollowsMore (M.follows monitor.old) (M.follows monitor.new) (took self.old id bytes.now)) }
-        ensures err { OnErr result (IsPartialIn self.old id bytes.now self.new) }
-        ensures told_partly { OnErr result (TellsPartlyFed (FollowsMore (M.follows monitor.old) (M.follows monitor.new))
-            self.old id bytes.now self.new) }
-    {
         let Some(at) = find(&self.sessions, id) else {
             return Ok(0);
         };
         let mut taken = 0;
         while taken < bytes.len() {
-            let rest = &bytes[taken..];
-            match self.take_at(at, id, rest) {
+            match self.take_at(at, id, &bytes[taken..]) {
                 Ok(piece) => {
-                    let took = Call::Took {
-                        id,
-                        bytes: &rest[..piece.bytes],
-                        handled: piece.handled,
-                    };
-                    monitor.accepted(took, self);
                     if piece.bytes == 0 {
                         return Ok(taken);
                     }
                     taken += piece.bytes;
                 }
                 Err(TakeFault::NoSuch) => return Ok(taken),
-                Err(TakeFault::Memory { bytes: count }) => {
-                    let took = Call::Took {
-                        id,
-                        bytes: &rest[..count],
-                        handled: Handled::Nothing,
-                    };
-                    monitor.accepted(took, self);
-                    return Err(AllocError);
-                }
+                Err(TakeFault::Memory { .. }) => return Err(AllocError),
             }
         }
         Ok(taken)

@@ -287,6 +287,9 @@ impl Server {
         ensures silent { OnErr result (application.new ≡ application.old) }
     {
         response.clear();
+        if !application.answers() {
+            return self.take_unasked::<W, M>(at, id, rest, monitor);
+        }
         let limit = self.message_limit(at, id);
         match self.take_and_ask(at, id, rest, application, limit, response) {
             Ok((taken, token)) => {
@@ -314,8 +317,9 @@ impl Server {
         }
     }
 
-    /// Accepts bytes as `take_all_with` does, and shows each request that is handed over to the application. A response
-    /// that the application writes at once is given as `respond` gives it, directly after the take.
+    /// Accepts bytes as `take_all` does, and shows each request that is handed over to the application. A response that the
+    /// application writes at once is given as `respond` gives it, directly after the take. The monitor receives each call of
+    /// `take`, also one that accepts no byte.
     ///
     /// If the server does not accept the response, it sends 5.00 (Internal Server Error) with the token of the request. The
     /// monitor receives `Call::Responded` after `Call::Took`. `response` is the buffer for the responses: it is cleared, and

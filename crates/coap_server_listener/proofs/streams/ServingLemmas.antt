@@ -1,12 +1,15 @@
 -- The events of the parts of a turn.
-use Rattle.std.proofs.Common.{◌≡◌, ◌≢◌, ℕ, zero, suc, ◌+◌, Bool, true, false, List, [], ◌∷◌, ◌++◌, length, take, drop, Option, Some, None, Result, append_assoc, arith, refl, sym, ◌∙◌, inl, inr}
+use Rattle.std.proofs.Common.{◌≡◌, ◌≢◌, ℕ, zero, suc, ◌+◌, Bool, true, false, List, [], ◌∷◌, ◌++◌, length, take, drop, Option, Some, None, Result, append_assoc, arith, refl, sym, ◌∙◌, ◌⊎◌, inl, inr}
 use Rattle.std.proofs.lemmas.List.{append-nil}
-use Rattle.coap_server_listener.specs.Prelude.{AllByRecursion, InResult, fed_turns, where_there, took_turns, took, ShowsMore, in_result}
-use Rattle.coap_server_listener.specs.Prelude.{TellsPartlyFed, FollowsMore, Following, IsServing, HasTurned, opening, ServerValue, session_of}
+use Rattle.coap_server_listener.specs.Prelude.{AllByRecursion, InResult, fed_turns, where_there, took_turns, took, ShowsMore}
+use Rattle.coap_server_listener.specs.Prelude.{FollowsMore, Following, IsServing, HasTurned, opening, ServerValue, session_of}
 use Rattle.coap_server_listener.specs.Prelude.{SessionValue, AcceptedCall, Opened, Took, Ended, Wrote, Dropped, server_dropped, server_opened}
-use Rattle.coap_server_listener.specs.Prelude.{Answering, AnswersMore, Exchange, Gone, HasServedBy, HasTurnedBy, HasOpened, TakingSteps, AreTakenAlone, AreTakenWith, NoneTaken, AreStepsBy, IsTakenWith}
+use Rattle.coap_server_listener.specs.Prelude.{Answering, AnswersMore, Exchange, Gone, HasServedBy, HasTurnedBy, HasOpened, TakingSteps, AreTakenWith, NoneTaken, AreStepsBy, IsTakenWith}
 use Rattle.coap_server_listener.specs.Prelude.{AreCallsBetween, HasAccepted, IsTakenAlone, Got, Bytes, End, Failed, Later, dropped_events, gone_exchanges, gone_on, heard_events, is_ok, is_there, server_heard, server_wrote, wrote_events}
-use Rattle.coap_server_listener.specs.Prelude.{AreServed, HadItsPart, IsCarriedOn, IsServedOnceBy, NoMore, Over, PassedOver, Peer, PeerOutcome, WireTrace, events_left, has_failed}
+use Rattle.coap_server_listener.specs.Prelude.{AreServed, HadItsPart, IsCarriedOn, IsServedOnceBy, IsTakenInPart, IsTurnBy, IsTurnOf, NoMore, Over, PassedOver, Peer, PeerOutcome, Wait, DoorCall, WireTrace, events_left, has_failed, rest_behind}
+use Rattle.coap_server_listener.specs.streams.Serving.{IsServedInTurn, exchanges_left}
+use Rattle.coap_server_engine.specs.Prelude.{AreUnanswered}
+use Rattle.coap_server_engine.proofs.values.UnansweredLemmas.{unanswered_parts, unanswered_take, unanswered_is_alone}
 use Rattle.coap_server_listener.specs.declared.door.peer.PeerOutcome.TheVariants.{Open}
 use Rattle.coap_server_listener.specs.streams.Serving.{NoStep, OneTaken, OneEnded, OneWrote, OneDropped}
 use Rattle.coap_server_engine.specs.values.InResults.{goes_on}
@@ -157,33 +160,6 @@ takes_serving (suc turns) v id bytes =
 one_taken : (S : TakingSteps) (v after : ServerValue) (es : List AcceptedCall) (xs : List Exchange) → S v after es xs → AreStepsBy S v after es xs
 one_taken S v after es xs step = OneTaken v after [] es [] xs NoStep step
 
-pub takes_served : (a b : Following) (p : Answering) (v after : ServerValue) (id : ℕ) (bytes : List ℕ) → ShowsMore v after (took v id bytes) → FollowsMore a b (took v id bytes) → HasServedBy AreTakenAlone (FollowsMore a b) (AnswersMore p p) v after
-takes_served a b p v after id bytes shows received = record {
-  events = took v id bytes;
-  exchanges = [];
-  steps = one_taken AreTakenAlone v after (took v id bytes) [] (takes_serving (length bytes) v id bytes);
-  shows = shows;
-  tells = received;
-  exchanged = answered_none p;
-}
-
-pub alone_accepted : (a b : Following) (p : Answering) (v after : ServerValue) (id count : ℕ) (bytes : List ℕ) → count ≡ (in_result v id bytes).count → after ≡ (in_result v id bytes).server → ShowsMore v after (took v id bytes) → FollowsMore a b (took v id bytes) → HasAccepted (IsTakenAlone v id bytes after count) (FollowsMore a b) (AnswersMore p p) v after
-alone_accepted a b p v after id count bytes counted is shows received =
-    record { events = took v id bytes; exchanges = []; made = (is, counted, refl, refl); accepted = (shows, received); exchanged = answered_none p }
-
-pub part_served : (a b : Following) (p : Answering) (v after : ServerValue) (id : ℕ) (bytes : List ℕ) → TellsPartlyFed (FollowsMore a b) v id bytes after → HasServedBy AreTakenAlone (FollowsMore a b) (AnswersMore p p) v after
-part_served a b p v after id bytes part =
-    let made = part.part in
-    let serving = all_append IsServing (took_turns made.in_result.turns v id bytes) _ (takes_serving made.in_result.turns v id bytes) (tt, tt) in
-    record {
-      events = part.more;
-      exchanges = [];
-      steps = one_taken AreTakenAlone v after part.more [] (rw made.made serving);
-      shows = part.shows;
-      tells = part.tells;
-      exchanged = answered_none p;
-    }
-
 -- ---- calls of take for an application
 
 pub with_accepted : {A : Type 0} (follows : A → Answering) (one other : A) (a b : Following) (v after : ServerValue) (id count : ℕ) (bytes : List ℕ) → IsServedWith v id bytes count after (FollowsMore a b) (AnswersMore (follows one) (follows other)) → HasAccepted (IsTakenWith follows v id bytes after count) (FollowsMore a b) (AnswersMore (follows one) (follows other)) v after
@@ -194,6 +170,7 @@ with_accepted follows one other a b v after id count bytes part = record {
     responses = part.responses;
     made = part.made;
     over = part.over;
+    nobody = part.nobody;
     counted = part.counted;
     server = part.server;
     shows = part.shows;
@@ -203,6 +180,12 @@ with_accepted follows one other a b v after id count bytes part = record {
   accepted = (part.shows, part.tells);
   exchanged = part.exchanged;
 }
+
+-- The bytes that are kept.
+pub taken_in_part : {A : Type 0} (follows : A → Answering) (one other : A) (a b : Following) (v after : ServerValue) (id count : ℕ) (bytes left : List ℕ) → IsServedWith v id bytes count after (FollowsMore a b) (AnswersMore (follows one) (follows other)) → left ≡ rest_behind after id count bytes → HasAccepted (IsTakenInPart (IsTakenWith follows) v id bytes after left) (FollowsMore a b) (AnswersMore (follows one) (follows other)) v after
+taken_in_part follows one other a b v after id count bytes left part rest =
+    let taken = with_accepted follows one other a b v after id count bytes part in
+    record { events = taken.events; exchanges = taken.exchanges; made = record { count = count; took = taken.made; rest = rest }; accepted = taken.accepted; exchanged = taken.exchanged }
 
 pub with_served : (a b : Following) (p q : Answering) (v after : ServerValue) (id count : ℕ) (bytes : List ℕ) → IsServedWith v id bytes count after (FollowsMore a b) (AnswersMore p q) → HasServedBy AreTakenWith (FollowsMore a b) (AnswersMore p q) v after
 with_served a b p q v after id count bytes part = record {
@@ -217,6 +200,7 @@ with_served a b p q v after id count bytes part = record {
         responses = part.responses;
         made = part.made;
         over = part.over;
+        nobody = part.nobody;
         counted = part.counted;
         server = part.server;
         shows = part.shows;
@@ -290,16 +274,119 @@ turned_so_far S a b p {v} {w} one = record {
 pub turned_as_before : (S : TakingSteps) (a : Following) (p : Answering) (v after : ServerValue) → after ≡ v → HasTurnedBy S (FollowsMore a a) (AnswersMore p p) v after
 turned_as_before S a p v after is = turned_so_far S a a p (none_opened a v after is)
 
--- The events of steps in which no application responds.
-alone_serving : {v w : ServerValue} {es : List AcceptedCall} {xs : List Exchange} → AreStepsBy AreTakenAlone v w es xs → AllByRecursion IsServing es
-alone_serving NoStep = tt
-alone_serving (OneTaken w after events more exchanges others so_far step) = all_append IsServing events more (alone_serving so_far) step
-alone_serving (OneEnded w events exchanges id so_far) = all_append IsServing events (Ended id ∷ []) (alone_serving so_far) (tt, tt)
-alone_serving (OneWrote w events exchanges id n so_far) = all_append IsServing events (Wrote id n ∷ []) (alone_serving so_far) (tt, tt)
-alone_serving (OneDropped w events exchanges id so_far) = all_append IsServing events (Dropped id ∷ []) (alone_serving so_far) (tt, tt)
+-- ---- no application responds
 
-pub turned_alone : (monitor : List AcceptedCall → Type 0) (asks : List Exchange → Type 0) (v w : ServerValue) → HasTurnedBy AreTakenAlone monitor asks v w → HasTurned monitor v w
-turned_alone monitor asks v w one = record { opens = one.opens; events = one.events; serving = alone_serving one.steps; shows = one.shows; tells = one.tells }
+-- An application that has written no byte had these exchanges.
+unanswered : (xs : List Exchange) → AnswersMore (λ all. AreUnanswered all) (λ all. AreUnanswered all) xs → AreUnanswered xs
+unfolding AnswersMore
+unanswered xs answered = answered [] tt
+
+served_alone : (v : ServerValue) (id : ℕ) (bytes : List ℕ) (responses : List (List ℕ)) → AreUnanswered (served v id bytes responses).exchanges → AllByRecursion IsServing (served v id bytes responses).events
+unfolding served
+served_alone v id bytes [] none = tt
+served_alone v id bytes (response ∷ responses) none =
+    let so_far = served v id bytes responses in
+    let left = drop so_far.fed.count bytes in
+    let split = unanswered_parts so_far.exchanges _ none in
+    all_append IsServing so_far.events _ (served_alone v id bytes responses split.0) (rw (unanswered_take so_far.fed.server id left response split.1).events (tt, tt))
+
+taken_alone : (v after : ServerValue) (events : List AcceptedCall) (exchanges : List Exchange) → AreTakenWith v after events exchanges → AreUnanswered exchanges → AllByRecursion IsServing events
+taken_alone v after events exchanges step none = by step.how
+  where
+    by : ((count : ℕ) × IsServedWith v step.id step.bytes count after (λ all. events ≡ all) (λ all. exchanges ≡ all)) ⊎ IsPartlyServed v step.id step.bytes after (λ all. events ≡ all) (λ all. exchanges ≡ all) → AllByRecursion IsServing events
+    by (inl whole) = rw whole.1.tells (served_alone v step.id step.bytes whole.1.responses (rw whole.1.exchanged at none))
+    by (inr part) = rw part.tells (all_append IsServing (served v step.id step.bytes part.responses).events _ (served_alone v step.id step.bytes part.responses (rw part.exchanged at none)) (tt, tt))
+
+steps_alone : {v w : ServerValue} {es : List AcceptedCall} {xs : List Exchange} → AreStepsBy AreTakenWith v w es xs → AreUnanswered xs → AllByRecursion IsServing es
+steps_alone NoStep none = tt
+steps_alone (OneTaken w after events more exchanges others so_far step) none =
+    let split = unanswered_parts exchanges others none in
+    all_append IsServing events more (steps_alone so_far split.0) (taken_alone w after more others step split.1)
+steps_alone (OneEnded w events exchanges id so_far) none = all_append IsServing events (Ended id ∷ []) (steps_alone so_far none) (tt, tt)
+steps_alone (OneWrote w events exchanges id n so_far) none = all_append IsServing events (Wrote id n ∷ []) (steps_alone so_far none) (tt, tt)
+steps_alone (OneDropped w events exchanges id so_far) none = all_append IsServing events (Dropped id ∷ []) (steps_alone so_far (unanswered_parts exchanges (Gone id ∷ []) none).0) (tt, tt)
+
+pub turned_alone : (monitor : List AcceptedCall → Type 0) (v w : ServerValue) → HasTurnedBy AreTakenWith monitor (AnswersMore (λ all. AreUnanswered all) (λ all. AreUnanswered all)) v w → HasTurned monitor v w
+turned_alone monitor v w one = record { opens = one.opens; events = one.events; serving = steps_alone one.steps (unanswered one.exchanges one.exchanged); shows = one.shows; tells = one.tells }
+
+module _ (A : Type 0) where
+  abbrev Silent : A → Answering
+  Silent a exchanges = AreUnanswered exchanges
+
+  carried_alone : (failed may_write : Bool) (v : ServerValue) (id : ℕ) (bytes : List ℕ) (wire : WireTrace) (after : ServerValue) (left : List ℕ) (wire_after : WireTrace) (course : PeerOutcome) (events : List AcceptedCall) (exchanges : List Exchange) → IsCarriedOn (IsTakenWith Silent) failed may_write v id bytes wire after left wire_after course events exchanges → IsCarriedOn IsTakenAlone failed may_write v id bytes wire after left wire_after course events []
+  carried_alone true may_write v id bytes wire after left wire_after course events exchanges carried = (carried.0, carried.1, carried.2, carried.3, refl)
+  carried_alone false may_write v id bytes wire after left wire_after course events exchanges carried =
+      let took = carried.part.took in
+      let alone = unanswered_is_alone v carried.taken id carried.part.count bytes (λ all. carried.takes ≡ all)
+      (record { responses = took.responses; made = took.made; over = took.over; nobody = took.nobody; counted = took.counted; server = took.server; shows = took.shows; tells = took.tells; exchanged = unanswered _ took.exchanged.3 }) in
+      record {
+        taken = carried.taken;
+        takes = carried.takes;
+        part = record { count = carried.part.count; took = (alone.0, alone.1, alone.2, refl); rest = carried.part.rest };
+        wrote = carried.wrote;
+        offered = carried.offered;
+        server = carried.server;
+        outcome = carried.outcome;
+        all = carried.all;
+      }
+
+  module _ {W : Type 0} (readable writable : W → Option Bool) (trace : W → WireTrace) where
+    part_alone : (v : ServerValue) (e : ℕ × Peer W) (after : ServerValue) (left : List (ℕ × Peer W)) (events : List AcceptedCall) (exchanges : List Exchange) → IsServedInTurn (IsTakenWith Silent) readable writable trace v e after left events exchanges → (others : List Exchange) × IsServedInTurn IsTakenAlone readable writable trace v e after left events others
+    part_alone v e after left events exchanges one =
+        let once = one.part.part in (
+          exchanges_left one.course one.served e.0,
+          record {
+            served = one.served;
+            peer = one.peer;
+            course = one.course;
+            serving = one.serving;
+            asked = [];
+            part = record {
+              may_read = one.part.may_read;
+              may_write = one.part.may_write;
+              read = one.part.read;
+              write = one.part.write;
+              part = record {
+                heard = once.heard;
+                bytes = once.bytes;
+                between = once.between;
+                laid = once.laid;
+                later = once.later;
+                carried = carried_alone (has_failed once.heard) one.part.may_write (server_heard v e.0 once.heard) e.0 once.bytes once.between one.served one.peer.rest (trace one.peer.wire) one.course once.later one.asked once.carried;
+                all = once.all;
+              };
+            };
+            server = one.server;
+            far_end = one.far_end;
+            all = one.all;
+            exchanged = refl;
+          },
+        )
+
+    all_alone : {n : ℕ} {v after : ServerValue} {es left : List (ℕ × Peer W)} {changed : Bool} {events : List AcceptedCall} {exchanges : List Exchange} → AreServed (IsTakenWith Silent) readable writable trace n v es changed after left events exchanges → (others : List Exchange) × AreServed IsTakenAlone readable writable trace n v es changed after left events others
+    all_alone (NoMore n v) = ([], NoMore n v)
+    all_alone (PassedOver n v e es changed after left events exchanges idle others) = let rest = all_alone others in (rest.0, PassedOver n v e es changed after left events rest.0 idle rest.1)
+    all_alone (HadItsPart n v e es between its own asked changed after left events exchanges in_turn part others) =
+        let first = part_alone v e between its own asked part in
+        let rest = all_alone others in
+        (first.0 ++ rest.0, HadItsPart n v e es between its own first.0 changed after left events rest.0 in_turn first.1 rest.1)
+
+    pub turn_alone : (door : List (DoorCall W) → Type 0) (monitor : List AcceptedCall → Type 0) (asks : List Exchange → Type 0) (v : ServerValue) (es : List (ℕ × Peer W)) (after : ServerValue) (left : List (ℕ × Peer W)) (wait : Wait) → IsTurnBy (IsTakenWith Silent) readable writable trace door monitor asks v es after left wait → IsTurnOf readable writable trace door monitor v es after left wait
+    turn_alone door monitor asks v es after left wait turn =
+        let alone = all_alone turn.served in
+        record {
+          opens = turn.opens;
+          server = turn.server;
+          entries = turn.entries;
+          opened = turn.opened;
+          changed = turn.changed;
+          events = turn.events;
+          exchanges = alone.0;
+          served = alone.1;
+          waits = turn.waits;
+          accepted = turn.accepted;
+          exchanged = tt;
+        }
 
 -- ---- the events of a turn in which no application responds
 

@@ -63,10 +63,6 @@ TakingSteps = ServerValue → ServerValue → List AcceptedCall → List Exchang
 abbrev pub NoneTaken : TakingSteps
 NoneTaken v after events exchanges = ⊥
 
--- No application responds.
-abbrev pub AreTakenAlone : TakingSteps
-AreTakenAlone v after events exchanges = AllByRecursion IsServing events
-
 -- Bytes were passed to a connection for an application, until none was left or accepted, or an allocation failed.
 pub record AreTakenWith (v after : ServerValue) (events : List AcceptedCall) (exchanges : List Exchange) : Type 0 where
   pub id : ℕ

@@ -11,7 +11,6 @@ use super::removal::record_on;
 use super::service::Service;
 use super::silence::SilenceWatch;
 use super::sweep::sweep;
-use super::taker::{ForApplication, Taker};
 use super::turn::take_turn;
 use coap_application::Applications;
 use coap_io::{Door, Ready, Wait, Wire};
@@ -61,46 +60,6 @@ impl<W: Wire + Ready + Drop> Service<W> {
         })
     }
 
-    /// Runs one turn of the event loop. `T` is the way in which it passes received bytes to the server.
-    #[tactic(auto, using(crate::proofs::streams::ServingLemmas::turned_as_before))]
-    pub(super) fn turn_by<D: Door<Wire = W>, A, T: Taker<A>, M: Monitor<W>>(
-        &mut self,
-        door: &mut D,
-        application: &mut A,
-        monitor: &mut M,
-    ) -> Result<Wait, IoFault>
-        ensures shows { HasTurnedBy T.steps (FollowsMore (M.follows monitor.old) (M.follows monitor.new))
-            (AnswersMore (T.follows application.old) (T.follows application.new)) self.old.server self.new.server }
-        ensures asks { self.old.is_spent ≡ false
-            → IsAskedOnce (TellsMore (D.calls door.old) (D.calls door.new)) self.old.server }
-        ensures turn { IfOk result (λ wait. IsTurnBy T.takes W.readable W.writable
-            (trace_by W.given W.written W.answers W.rooms) (TellsMore (D.calls door.old) (D.calls door.new))
-            (FollowsMore (M.follows monitor.old) (M.follows monitor.new))
-            (AnswersMore (T.follows application.old) (T.follows application.new))
-            self.old.server self.old.peers.entries self.new.server self.new.peers.entries wait) }
-        ensures fault { IfErr result IsMemory }
-        ensures ready { OnOk result (self.new.is_spent ≡ false) }
-        ensures spent { OnErr result (self.new.is_spent ≡ true) }
-        ensures over { self.old.is_spent ≡ true → (self.new ≡ self.old) × (result ≡ Err fault.Memory) }
-    {
-        if self.is_spent {
-            return Err(IoFault::Memory);
-        }
-        self.is_spent = true;
-        let wait = take_turn::<D, A, T, M>(
-            self.alloc,
-            &mut self.server,
-            &mut self.peers,
-            &mut self.awake,
-            door,
-            application,
-            &mut self.response,
-            monitor,
-        )?;
-        self.is_spent = false;
-        Ok(wait)
-    }
-
     /// Runs one turn of the event loop as `turn_with` does, for an application.
     ///
     /// The application receives each request that it answers directly after the call of `take` that accepted it. A
@@ -110,6 +69,7 @@ impl<W: Wire + Ready + Drop> Service<W> {
     /// # Errors
     ///
     /// - `Memory`: an allocation failed, in this turn or in an earlier one. No later turn does anything.
+    #[tactic(auto, using(crate::proofs::streams::ServingLemmas::turned_as_before))]
     pub fn turn_for<D: Door<Wire = W>, A: Application, M: Monitor<W>>(
         &mut self,
         door: &mut D,
@@ -137,38 +97,22 @@ impl<W: Wire + Ready + Drop> Service<W> {
         ensures spent { OnErr result (self.new.is_spent ≡ true) }
         ensures over { self.old.is_spent ≡ true → (self.new ≡ self.old) × (result ≡ Err fault.Memory) }
     {
-        self.turn_by::<D, A, ForApplication, M>(door, application, monitor)
-    }
-
-    /// Releases or drops the silent connections as `end_silent` does. `T` is the way in which the application receives the
-    /// end of each connection that is dropped.
-    pub(super) fn end_silent_by<A, T: Taker<A>, M: Monitor<W>>(
-        &mut self,
-        idle: u32,
-        now: u64,
-        application: &mut A,
-        watch: &mut SilenceWatch<M>,
-    )
-        ensures has { self.old.is_spent ≡ false → HasSwept
-            (FollowsMore (M.follows watch.old.monitor) (M.follows watch.new.monitor))
-            (swept idle now self.old.server watch.old.activities.entries self.old.peers.entries) self.old.server
-            self.new.server watch.new.activities.entries }
-        ensures gone { self.old.is_spent ≡ false →
-            AnswersMore (T.follows application.old) (T.follows application.new)
-            (swept idle now self.old.server watch.old.activities.entries self.old.peers.entries).exchanges }
-        ensures entries { self.old.is_spent ≡ false → self.new.peers.entries
-            ≡ (swept idle now self.old.server watch.old.activities.entries self.old.peers.entries).entries }
-        ensures now { self.old.is_spent ≡ false → watch.new.now ≡ now }
-        ensures over { self.old.is_spent ≡ true → (self.new ≡ self.old) × (watch.new ≡ watch.old)
-            × (application.new ≡ application.old) }
-        ensures spent { self.new.is_spent ≡ self.old.is_spent }
-    {
         if self.is_spent {
-            return;
+            return Err(IoFault::Memory);
         }
-        watch.now = now;
-        sweep::<W, A, T, M>(&mut self.server, &mut self.peers, idle, application, watch);
-        self.awake.wake_all();
+        self.is_spent = true;
+        let wait = take_turn::<D, A, M>(
+            self.alloc,
+            &mut self.server,
+            &mut self.peers,
+            &mut self.awake,
+            door,
+            application,
+            &mut self.response,
+            monitor,
+        )?;
+        self.is_spent = false;
+        Ok(wait)
     }
 
     /// Releases or drops the silent connections as `end_silent` does. The application receives the end of each connection
@@ -197,7 +141,12 @@ impl<W: Wire + Ready + Drop> Service<W> {
             × (application.new ≡ application.old) }
         ensures spent { self.new.is_spent ≡ self.old.is_spent }
     {
-        self.end_silent_by::<A, ForApplication, M>(idle, now, application, watch);
+        if self.is_spent {
+            return;
+        }
+        watch.now = now;
+        sweep::<W, A, M>(&mut self.server, &mut self.peers, idle, application, watch);
+        self.awake.wake_all();
     }
 
     /// Asks the application for later responses, until it has none or has given 256 of them, and gives each as

@@ -1,8 +1,9 @@
 //! The transport side of a connection, and how a turn serves it.
 
 ghost use Rattle.std.specs.Prelude.{◌≡◌, ◌≢◌, false, [], length, is_some, OnOk, OnErr, IfOk, IfErr};
-ghost use Rattle.coap_server_listener.specs.Prelude.{AddsBytes, AnswersMore, AreCallsBetween, But, FollowsMore};
-ghost use Rattle.coap_server_listener.specs.Prelude.{GoesOnSparing, HasAccepted, HasServedBy, IsTakenInPart, TellsMore};
+ghost use Rattle.coap_server_listener.specs.Prelude.{AddsBytes, AnswersMore, AreCallsBetween, AreTakenWith, But};
+ghost use Rattle.coap_server_listener.specs.Prelude.{FollowsMore, GoesOnSparing, HasAccepted, HasServedBy};
+ghost use Rattle.coap_server_listener.specs.Prelude.{IsTakenInPart, IsTakenWith, TellsMore};
 ghost use Rattle.coap_server_listener.specs.Prelude.{heard_events, wrote_events};
 ghost use Rattle.coap_server_listener.specs.Prelude.{IsServedOnceBy, trace_by, IsLaidOut, is_heard, server_heard};
 ghost use Rattle.coap_server_listener.specs.Prelude.{server_wrote, waiting_once, is_over_in, has_failed};
@@ -12,11 +13,12 @@ ghost use Rattle.coap_server_listener.specs.declared.door.peer.PeerOutcome.TheVa
 ghost use Rattle.coap_io.specs.declared.wire.Got.TheVariants.{Later, End};
 
 use super::peer_interest::{PeerInterest, wants_by};
-use super::taker::Taker;
 use coap_conn::first_part;
 use coap_io::{Got, ReadBuffer, Ready, Wire};
 use coap_model::ConnId;
-use coap_server_engine::{Call, ChangeStamp, ConnectionWork, IoFault, Monitor, Server};
+use coap_server_engine::{
+    Application, Call, ChangeStamp, ConnectionWork, IoFault, Monitor, Server,
+};
 use indexmap::IndexMap;
 
 /// Transport side of a connection.
@@ -83,7 +85,7 @@ pub(super) enum PeerOutcome {
 /// # Errors
 ///
 /// - `Memory`: an allocation failed.
-pub(super) fn serve_peer<W: Wire, A, T: Taker<A>, M: Monitor<W>>(
+pub(super) fn serve_peer<W: Wire, A: Application, M: Monitor<W>>(
     server: &mut Server,
     id: ConnId,
     peer: &mut Peer<W>,
@@ -95,13 +97,13 @@ pub(super) fn serve_peer<W: Wire, A, T: Taker<A>, M: Monitor<W>>(
 ) -> Result<PeerOutcome, IoFault>
     // The wire is read once if a read is due, and written once if bytes are queued and `may_write` is `true`. Otherwise
     // it is not touched. The monitor receives the calls of these steps, and no others.
-    ensures part { IfOk result (λ course. HasAccepted (IsServedOnceBy T.takes may_read may_write server.old id
+    ensures part { IfOk result (λ course. HasAccepted (IsServedOnceBy (IsTakenWith A.follows) may_read may_write server.old id
         peer.old.rest (trace_by W.given W.written W.answers W.rooms peer.old.wire) server.new peer.new.rest
         (trace_by W.given W.written W.answers W.rooms peer.new.wire) course)
         (FollowsMore (M.follows monitor.old) (M.follows monitor.new))
-        (AnswersMore (T.follows application.old) (T.follows application.new)) server.old server.new) }
-    ensures shows { HasServedBy T.steps (FollowsMore (M.follows monitor.old) (M.follows monitor.new))
-        (AnswersMore (T.follows application.old) (T.follows application.new)) server.old server.new }
+        (AnswersMore (A.follows application.old) (A.follows application.new)) server.old server.new) }
+    ensures shows { HasServedBy AreTakenWith (FollowsMore (M.follows monitor.old) (M.follows monitor.new))
+        (AnswersMore (A.follows application.old) (A.follows application.new)) server.old server.new }
     // The other connections are spared.
     ensures spared { OnOk result (GoesOnSparing (But id) server.old server.new) }
     ensures wants { IfOk result (λ course. course ≡ Open → peer.new.wants ≡ wants_of server.new id peer.new.rest) }
@@ -111,7 +113,7 @@ pub(super) fn serve_peer<W: Wire, A, T: Taker<A>, M: Monitor<W>>(
     if failed(heard) {
         return Ok(PeerOutcome::Over);
     }
-    take_buffered::<W, A, T, M>(server, id, &mut peer.rest, application, response, monitor)?;
+    take_buffered::<W, A, M>(server, id, &mut peer.rest, application, response, monitor)?;
     let wrote = write_once(server, id, &mut peer.wire, may_write, monitor);
     let outlook = server.outlook(id);
     peer.wants = wants_by(outlook, peer.rest.is_empty(), server.stamp());
@@ -180,7 +182,8 @@ fn read_wire<W: Wire, M: Monitor<W>>(
 /// # Errors
 ///
 /// - `Memory`: an allocation failed for a representation that a message stores.
-fn take_buffered<W, A, T: Taker<A>, M: Monitor<W>>(
+#[tactic(auto, using(crate::proofs::streams::NoteLemmas::with_spares, crate::proofs::streams::ServingLemmas::with_served, crate::proofs::streams::ServingLemmas::with_part_served, crate::proofs::streams::ServingLemmas::taken_in_part))]
+fn take_buffered<W, A: Application, M: Monitor<W>>(
     server: &mut Server,
     id: ConnId,
     rest: &mut ReadBuffer,
@@ -188,15 +191,15 @@ fn take_buffered<W, A, T: Taker<A>, M: Monitor<W>>(
     response: &mut Vec<u8>,
     monitor: &mut M,
 ) -> Result<(), IoFault>
-    ensures taken { OnOk result (HasAccepted (IsTakenInPart T.takes server.old id rest.old server.new rest.new)
+    ensures taken { OnOk result (HasAccepted (IsTakenInPart (IsTakenWith A.follows) server.old id rest.old server.new rest.new)
         (FollowsMore (M.follows monitor.old) (M.follows monitor.new))
-        (AnswersMore (T.follows application.old) (T.follows application.new)) server.old server.new) }
+        (AnswersMore (A.follows application.old) (A.follows application.new)) server.old server.new) }
     ensures spared { OnOk result (GoesOnSparing (But id) server.old server.new) }
-    ensures shows { HasServedBy T.steps (FollowsMore (M.follows monitor.old) (M.follows monitor.new))
-        (AnswersMore (T.follows application.old) (T.follows application.new)) server.old server.new }
+    ensures shows { HasServedBy AreTakenWith (FollowsMore (M.follows monitor.old) (M.follows monitor.new))
+        (AnswersMore (A.follows application.old) (A.follows application.new)) server.old server.new }
     ensures fault { IfErr result IsMemory }
 {
-    let taken = T::take_all::<W, M>(server, id, rest.bytes(), application, response, monitor);
+    let taken = server.take_all_for::<W, M, A>(id, rest.bytes(), application, response, monitor);
     let Ok(count) = taken else {
         return Err(IoFault::Memory);
     };

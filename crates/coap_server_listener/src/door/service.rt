@@ -8,7 +8,6 @@ use super::awake::Awake;
 use super::peer::Peers;
 use super::removal::record_on;
 use super::silence::SilenceWatch;
-use super::taker::Alone;
 use coap_io::{Door, Ready, Wait, Wire};
 use coap_model::{Backwards, Config, ConnId, NoSuch, ReleaseFault, Status};
 use coap_server_engine::{Call, IoFault, Monitor, NoApplication, NoMonitor, Server};
@@ -330,7 +329,7 @@ impl<W: Wire + Ready + Drop> Service<W> {
         ensures over { self.old.is_spent ≡ true → (self.new ≡ self.old) × (watch.new ≡ watch.old) }
         ensures spent { self.new.is_spent ≡ self.old.is_spent }
     {
-        self.end_silent_by::<NoApplication, Alone, M>(idle, now, &mut NoApplication, watch);
+        self.end_silent_for::<NoApplication, M>(idle, now, &mut NoApplication, watch);
     }
 
     /// Returns a wait that lasts at most until the next second of the server's time, if there is a connection.
@@ -408,6 +407,6 @@ impl<W: Wire + Ready + Drop> Service<W> {
         ensures spent { OnErr result (self.new.is_spent ≡ true) }
         ensures over { self.old.is_spent ≡ true → (self.new ≡ self.old) × (result ≡ Err fault.Memory) }
     {
-        self.turn_by::<D, NoApplication, Alone, M>(door, &mut NoApplication, monitor)
+        self.turn_for::<D, NoApplication, M>(door, &mut NoApplication, monitor)
     }
 }

@@ -10,13 +10,12 @@ ghost use Rattle.coap_server_listener.specs.declared.door.silence.SilenceAction.
 use super::peer::Peers;
 use super::removal::record_at;
 use super::silence::{SilenceAction, SilenceWatch, silence_action};
-use super::taker::Taker;
 use coap_model::ConnId;
-use coap_server_engine::{Call, Monitor, Server};
+use coap_server_engine::{Application, Call, Monitor, Server};
 
 /// Releases or drops the silent connections, in order of their numbers. The monitor receives each call, and the
 /// application the end of each connection that is dropped.
-pub(super) fn sweep<W: Drop, A, T: Taker<A>, M: Monitor<W>>(
+pub(super) fn sweep<W: Drop, A: Application, M: Monitor<W>>(
     server: &mut Server,
     peers: &mut Peers<W>,
     idle: u32,
@@ -27,7 +26,7 @@ pub(super) fn sweep<W: Drop, A, T: Taker<A>, M: Monitor<W>>(
     ensures has { HasSwept (FollowsMore (M.follows watch.old.monitor) (M.follows watch.new.monitor))
         (swept idle watch.old.now server.old watch.old.activities.entries peers.old.entries) server.old server.new
         watch.new.activities.entries }
-    ensures gone { AnswersMore (T.follows application.old) (T.follows application.new)
+    ensures gone { AnswersMore (A.follows application.old) (A.follows application.new)
         (swept idle watch.old.now server.old watch.old.activities.entries peers.old.entries).exchanges }
     ensures entries { peers.new.entries
         ≡ (swept idle watch.old.now server.old watch.old.activities.entries peers.old.entries).entries }
@@ -36,12 +35,12 @@ pub(super) fn sweep<W: Drop, A, T: Taker<A>, M: Monitor<W>>(
 {
     let mut at = 0;
     while at < peers.len() {
-        at = sweep_at::<W, A, T, M>(server, peers, at, idle, application, watch);
+        at = sweep_at::<W, A, M>(server, peers, at, idle, application, watch);
     }
 }
 
 /// Sweeps the connection at an index. Returns the index of the next one.
-fn sweep_at<W: Drop, A, T: Taker<A>, M: Monitor<W>>(
+fn sweep_at<W: Drop, A: Application, M: Monitor<W>>(
     server: &mut Server,
     peers: &mut Peers<W>,
     at: usize,
@@ -57,7 +56,7 @@ fn sweep_at<W: Drop, A, T: Taker<A>, M: Monitor<W>>(
         (swept_one idle watch.old.now server.old watch.old.activities.entries e) server.old peers.old.entries at
         server.new watch.new.activities.entries peers.new.entries result) }
     ensures gone { IfSome (slice_get peers.old.entries at) (λ e.
-        AnswersMore (T.follows application.old) (T.follows application.new)
+        AnswersMore (A.follows application.old) (A.follows application.new)
         (swept_one idle watch.old.now server.old watch.old.activities.entries e).exchanges) }
     ensures noted { AreNoted server.new peers.new.entries }
     ensures within { result ≤ length peers.new.entries }
@@ -75,20 +74,13 @@ fn sweep_at<W: Drop, A, T: Taker<A>, M: Monitor<W>>(
     let activity = watch.activities.get(&id).copied();
     match silence_action(idle, watch.now, Some(status), activity) {
         SilenceAction::Keep => at + 1,
-        SilenceAction::Release => release_at::<W, A, T, M>(
-            server,
-            peers,
-            at,
-            id,
-            application,
-            watch,
-        ),
-        SilenceAction::Drop => drop_at::<W, A, T, M>(server, peers, at, id, application, watch),
+        SilenceAction::Release => release_at::<W, A, M>(server, peers, at, id, application, watch),
+        SilenceAction::Drop => drop_at::<W, A, M>(server, peers, at, id, application, watch),
     }
 }
 
 /// Releases the connection at an index, or drops it if it cannot be released. Returns the index of the next one.
-fn release_at<W: Drop, A, T: Taker<A>, M: Monitor<W>>(
+fn release_at<W: Drop, A: Application, M: Monitor<W>>(
     server: &mut Server,
     peers: &mut Peers<W>,
     at: usize,
@@ -106,7 +98,7 @@ fn release_at<W: Drop, A, T: Taker<A>, M: Monitor<W>>(
         (acted Release (released_refusal server.old e.0) watch.old.now server.old watch.old.activities.entries e)
         server.old peers.old.entries at server.new watch.new.activities.entries peers.new.entries result) }
     ensures gone { IfSome (slice_get peers.old.entries at) (λ e.
-        AnswersMore (T.follows application.old) (T.follows application.new)
+        AnswersMore (A.follows application.old) (A.follows application.new)
         (acted Release (released_refusal server.old e.0) watch.old.now server.old watch.old.activities.entries
         e).exchanges) }
     ensures noted { AreNoted server.new peers.new.entries }
@@ -115,7 +107,7 @@ fn release_at<W: Drop, A, T: Taker<A>, M: Monitor<W>>(
     ensures now { watch.new.now ≡ watch.old.now }
 {
     let Ok(()) = server.release(id) else {
-        return drop_at::<W, A, T, M>(server, peers, at, id, application, watch);
+        return drop_at::<W, A, M>(server, peers, at, id, application, watch);
     };
     watch.accepted(Call::Released(id), server);
     record_at(server, peers, at);
@@ -123,7 +115,7 @@ fn release_at<W: Drop, A, T: Taker<A>, M: Monitor<W>>(
 }
 
 /// Drops the connection at an index. Returns the index of the next one, which is the same.
-fn drop_at<W: Drop, A, T: Taker<A>, M: Monitor<W>>(
+fn drop_at<W: Drop, A: Application, M: Monitor<W>>(
     server: &mut Server,
     peers: &mut Peers<W>,
     at: usize,
@@ -140,7 +132,7 @@ fn drop_at<W: Drop, A, T: Taker<A>, M: Monitor<W>>(
         (drop_one watch.old.now server.old watch.old.activities.entries e) server.old peers.old.entries at
         server.new watch.new.activities.entries peers.new.entries result) }
     ensures gone { IfSome (slice_get peers.old.entries at) (λ e.
-        AnswersMore (T.follows application.old) (T.follows application.new)
+        AnswersMore (A.follows application.old) (A.follows application.new)
         (drop_one watch.old.now server.old watch.old.activities.entries e).exchanges) }
     ensures noted { AreNoted server.new peers.new.entries }
     ensures within { result ≤ length peers.new.entries }
@@ -151,7 +143,7 @@ fn drop_at<W: Drop, A, T: Taker<A>, M: Monitor<W>>(
         unreachable!()
     };
     watch.accepted(Call::Dropped(id), server);
-    T::gone(application, id);
+    application.gone(id);
     let _ = peers.shift_remove_index(at);
     at
 }

@@ -8,17 +8,16 @@ ghost use Rattle.coap_server_listener.specs.Prelude.{AreCallsBetween, FollowsMor
 ghost use Rattle.coap_server_listener.specs.Prelude.{gone_exchanges, opening, trace_by};
 ghost use Rattle.coap_server_listener.specs.Prelude.{IsServed, IsAgendaOf, concerns_earlier, end_of, wants_of};
 ghost use Rattle.coap_server_listener.specs.Prelude.{IsMemory, stamp_of, open_refusal, AreSettled, server_dropped};
-ghost use Rattle.coap_server_listener.specs.Prelude.{AnswersMore, AreAsleep, HasOpened, HasServedBy, HasTurnedBy};
-ghost use Rattle.coap_server_listener.specs.Prelude.{IsTurnBy};
+ghost use Rattle.coap_server_listener.specs.Prelude.{AnswersMore, AreAsleep, AreTakenWith, HasOpened, HasServedBy};
+ghost use Rattle.coap_server_listener.specs.Prelude.{HasTurnedBy, IsTakenWith, IsTurnBy};
 ghost use Rattle.coap_server_listener.specs.declared.door.peer.PeerOutcome.TheVariants.{Open};
 
 use super::awake::Awake;
 use super::next_wakeup::{NextWakeup, TurnProgress, affects_served_peers, skip_idle};
 use super::peer::{Peer, PeerOutcome, Peers, serve_peer};
 use super::peer_interest::wants_on;
-use super::taker::Taker;
 use coap_io::{Door, ReadBuffer, Ready, Wait, Wire};
-use coap_server_engine::{Call, IoFault, Monitor, Server};
+use coap_server_engine::{Application, Call, IoFault, Monitor, Server};
 use std::alloc::Global;
 
 /// Runs one turn: opens at most one connection, if the listener returns one, and serves each connection. Returns how
@@ -27,7 +26,7 @@ use std::alloc::Global;
 /// # Errors
 ///
 /// - `Memory`: an allocation failed.
-pub(super) fn take_turn<D: Door, A, T: Taker<A>, M: Monitor<D::Wire>>(
+pub(super) fn take_turn<D: Door, A: Application, M: Monitor<D::Wire>>(
     alloc: Global,
     server: &mut Server,
     peers: &mut Peers<D::Wire>,
@@ -39,16 +38,16 @@ pub(super) fn take_turn<D: Door, A, T: Taker<A>, M: Monitor<D::Wire>>(
 ) -> Result<Wait, IoFault>
     requires noted { AreNoted server.old peers.old.entries }
     requires asleep { AreAsleep D.Wire.readable D.Wire.writable awake.old peers.old.entries }
-    ensures shows { HasTurnedBy T.steps (FollowsMore (M.follows monitor.old) (M.follows monitor.new))
-        (AnswersMore (T.follows application.old) (T.follows application.new)) server.old server.new }
+    ensures shows { HasTurnedBy AreTakenWith (FollowsMore (M.follows monitor.old) (M.follows monitor.new))
+        (AnswersMore (A.follows application.old) (A.follows application.new)) server.old server.new }
     // The listener is asked once if another connection may be opened, and not otherwise.
     ensures asks { IsAskedOnce (TellsMore (D.calls door.old) (D.calls door.new)) server.old }
     // Each connection is served, and the result is the time that the listener may wait. The monitor receives the calls of
     // this turn, and no others.
-    ensures turn { IfOk result (λ wait. IsTurnBy T.takes D.Wire.readable D.Wire.writable
+    ensures turn { IfOk result (λ wait. IsTurnBy (IsTakenWith A.follows) D.Wire.readable D.Wire.writable
         (trace_by D.Wire.given D.Wire.written D.Wire.answers D.Wire.rooms)
         (TellsMore (D.calls door.old) (D.calls door.new)) (FollowsMore (M.follows monitor.old) (M.follows monitor.new))
-        (AnswersMore (T.follows application.old) (T.follows application.new)) server.old peers.old.entries server.new
+        (AnswersMore (A.follows application.old) (A.follows application.new)) server.old peers.old.entries server.new
         peers.new.entries wait) }
     ensures noted { OnOk result (AreNoted server.new peers.new.entries) }
     ensures asleep { OnOk result (AreAsleep D.Wire.readable D.Wire.writable awake.new peers.new.entries) }
@@ -57,14 +56,7 @@ pub(super) fn take_turn<D: Door, A, T: Taker<A>, M: Monitor<D::Wire>>(
 {
     awake.wake_places(door.woken());
     let opens = accept(alloc, server, peers, awake, door, monitor)?;
-    let agenda = serve_each::<D::Wire, A, T, M>(
-        server,
-        peers,
-        awake,
-        application,
-        response,
-        monitor,
-    )?;
+    let agenda = serve_each::<D::Wire, A, M>(server, peers, awake, application, response, monitor)?;
     Ok(agenda.with(opens, None).wait())
 }
 
@@ -127,7 +119,7 @@ fn accept<D: Door, M: Monitor<D::Wire>>(
 /// # Errors
 ///
 /// - `Memory`: an allocation failed.
-fn serve_each<W: Wire + Ready + Drop, A, T: Taker<A>, M: Monitor<W>>(
+fn serve_each<W: Wire + Ready + Drop, A: Application, M: Monitor<W>>(
     server: &mut Server,
     peers: &mut Peers<W>,
     awake: &mut Awake,
@@ -137,13 +129,13 @@ fn serve_each<W: Wire + Ready + Drop, A, T: Taker<A>, M: Monitor<W>>(
 ) -> Result<NextWakeup, IoFault>
     requires noted { AreNoted server.old peers.old.entries }
     requires asleep { AreAsleep W.readable W.writable awake.old peers.old.entries }
-    ensures shows { HasServedBy T.steps (FollowsMore (M.follows monitor.old) (M.follows monitor.new))
-        (AnswersMore (T.follows application.old) (T.follows application.new)) server.old server.new }
+    ensures shows { HasServedBy AreTakenWith (FollowsMore (M.follows monitor.old) (M.follows monitor.new))
+        (AnswersMore (A.follows application.old) (A.follows application.new)) server.old server.new }
     // Each connection in order is served, except those that are idle, and the result is the work that remains.
-    ensures round { IfOk result (λ agenda. HasAccepted (IsRound T.takes W.readable W.writable
+    ensures round { IfOk result (λ agenda. HasAccepted (IsRound (IsTakenWith A.follows) W.readable W.writable
         (trace_by W.given W.written W.answers W.rooms) server.old peers.old.entries agenda server.new
         peers.new.entries) (FollowsMore (M.follows monitor.old) (M.follows monitor.new))
-        (AnswersMore (T.follows application.old) (T.follows application.new)) server.old server.new) }
+        (AnswersMore (A.follows application.old) (A.follows application.new)) server.old server.new) }
     ensures noted { OnOk result (AreNoted server.new peers.new.entries) }
     ensures asleep { OnOk result (AreAsleep W.readable W.writable awake.new peers.new.entries) }
     ensures settled { OnOk result (AreSettled server.new.host server.new.sessions) }
@@ -151,7 +143,7 @@ fn serve_each<W: Wire + Ready + Drop, A, T: Taker<A>, M: Monitor<W>>(
 {
     let mut seen = skip_idle(peers, awake, TurnProgress::none(), server.stamp());
     while seen.at < peers.len() {
-        let served = serve_next::<W, A, T, M>(
+        let served = serve_next::<W, A, M>(
             server,
             peers,
             awake,
@@ -170,7 +162,7 @@ fn serve_each<W: Wire + Ready + Drop, A, T: Taker<A>, M: Monitor<W>>(
 /// # Errors
 ///
 /// - `Memory`: an allocation failed.
-fn serve_next<W: Wire + Ready + Drop, A, T: Taker<A>, M: Monitor<W>>(
+fn serve_next<W: Wire + Ready + Drop, A: Application, M: Monitor<W>>(
     server: &mut Server,
     peers: &mut Peers<W>,
     awake: &mut Awake,
@@ -183,13 +175,13 @@ fn serve_next<W: Wire + Ready + Drop, A, T: Taker<A>, M: Monitor<W>>(
     requires fits { length peers.old.entries < 2 ^ 64 }
     requires noted { AreNoted server.old peers.old.entries }
     requires asleep { AreAsleep W.readable W.writable awake.old peers.old.entries }
-    ensures shows { HasServedBy T.steps (FollowsMore (M.follows monitor.old) (M.follows monitor.new))
-        (AnswersMore (T.follows application.old) (T.follows application.new)) server.old server.new }
+    ensures shows { HasServedBy AreTakenWith (FollowsMore (M.follows monitor.old) (M.follows monitor.new))
+        (AnswersMore (A.follows application.old) (A.follows application.new)) server.old server.new }
     // The connection was served, and the others are unchanged.
-    ensures part { IfOk result (λ later. HasAccepted (HasGoneOn T.takes W.readable W.writable
+    ensures part { IfOk result (λ later. HasAccepted (HasGoneOn (IsTakenWith A.follows) W.readable W.writable
         (trace_by W.given W.written W.answers W.rooms) server.old peers.old.entries seen.at server.new
         peers.new.entries later.at) (FollowsMore (M.follows monitor.old) (M.follows monitor.new))
-        (AnswersMore (T.follows application.old) (T.follows application.new)) server.old server.new) }
+        (AnswersMore (A.follows application.old) (A.follows application.new)) server.old server.new) }
     ensures noted { OnOk result (AreNoted server.new peers.new.entries) }
     ensures asleep { OnOk result (AreAsleep W.readable W.writable awake.new peers.new.entries) }
     // The work that remains on it is added to that of the connections before it.
@@ -206,12 +198,12 @@ fn serve_next<W: Wire + Ready + Drop, A, T: Taker<A>, M: Monitor<W>>(
     ensures fault { IfErr result IsMemory }
 {
     let before = server.stamp();
-    let course = serve_at::<W, A, T, M>(server, peers, seen.at, application, response, monitor)?;
+    let course = serve_at::<W, A, M>(server, peers, seen.at, application, response, monitor)?;
     let concerned = affects_served_peers(seen.at, before, server.stamp());
     let agenda = seen.agenda.with(concerned, None);
     match course {
         PeerOutcome::Over => {
-            drop_at::<W, A, T, M>(server, peers, seen.at, application, monitor);
+            drop_at::<W, A, M>(server, peers, seen.at, application, monitor);
             awake.wake_all();
             Ok(TurnProgress { agenda, ..seen })
         }
@@ -233,7 +225,7 @@ fn serve_next<W: Wire + Ready + Drop, A, T: Taker<A>, M: Monitor<W>>(
 /// # Errors
 ///
 /// - `Memory`: an allocation failed.
-fn serve_at<W: Wire + Ready, A, T: Taker<A>, M: Monitor<W>>(
+fn serve_at<W: Wire + Ready, A: Application, M: Monitor<W>>(
     server: &mut Server,
     peers: &mut Peers<W>,
     at: usize,
@@ -244,15 +236,15 @@ fn serve_at<W: Wire + Ready, A, T: Taker<A>, M: Monitor<W>>(
     requires there { at < length peers.old.entries }
     requires settled { AreSettled server.old.host server.old.sessions }
     requires noted { AreNoted server.old peers.old.entries }
-    ensures shows { HasServedBy T.steps (FollowsMore (M.follows monitor.old) (M.follows monitor.new))
-        (AnswersMore (T.follows application.old) (T.follows application.new)) server.old server.new }
+    ensures shows { HasServedBy AreTakenWith (FollowsMore (M.follows monitor.old) (M.follows monitor.new))
+        (AnswersMore (A.follows application.old) (A.follows application.new)) server.old server.new }
     ensures part { IfSome (slice_get peers.old.entries at)
         (λ was. IfSome (slice_get peers.new.entries at)
-        (λ is. IfOk result (λ course. HasAccepted (IsServed T.takes (W.readable was.1.wire) (W.writable was.1.wire)
+        (λ is. IfOk result (λ course. HasAccepted (IsServed (IsTakenWith A.follows) (W.readable was.1.wire) (W.writable was.1.wire)
         server.old was.0 was.1.rest (trace_by W.given W.written W.answers W.rooms was.1.wire) server.new is.1.rest
         (trace_by W.given W.written W.answers W.rooms is.1.wire) course)
         (FollowsMore (M.follows monitor.old) (M.follows monitor.new))
-        (AnswersMore (T.follows application.old) (T.follows application.new)) server.old server.new))) }
+        (AnswersMore (A.follows application.old) (A.follows application.new)) server.old server.new))) }
     ensures wants { IfSome (slice_get peers.new.entries at)
         (λ is. IfOk result (λ course. course ≡ Open → is.1.wants ≡ wants_of server.new is.0 is.1.rest)) }
     // The recorded interests of the others are still correct, and so is that of this connection if it stays open.
@@ -268,7 +260,7 @@ fn serve_at<W: Wire + Ready, A, T: Taker<A>, M: Monitor<W>>(
     let (id, peer) = peers.pair_mut(at);
     let may_read = peer.wire.may_read();
     let may_write = peer.wire.may_write();
-    serve_peer::<W, A, T, M>(
+    serve_peer::<W, A, M>(
         server,
         *id,
         peer,
@@ -282,7 +274,7 @@ fn serve_at<W: Wire + Ready, A, T: Taker<A>, M: Monitor<W>>(
 
 /// Drops the connection at an index.
 #[tactic(auto, using(crate::proofs::streams::ServingLemmas::none_served, crate::proofs::streams::ServingLemmas::dropped_served))]
-fn drop_at<W: Wire + Drop, A, T: Taker<A>, M: Monitor<W>>(
+fn drop_at<W: Wire + Drop, A: Application, M: Monitor<W>>(
     server: &mut Server,
     peers: &mut Peers<W>,
     at: usize,
@@ -292,8 +284,8 @@ fn drop_at<W: Wire + Drop, A, T: Taker<A>, M: Monitor<W>>(
     requires there { at < length peers.old.entries }
     requires settled { AreSettled server.old.host server.old.sessions }
     requires noted { AreNoted server.old (remove peers.old.entries at) }
-    ensures shows { HasServedBy T.steps (FollowsMore (M.follows monitor.old) (M.follows monitor.new))
-        (AnswersMore (T.follows application.old) (T.follows application.new)) server.old server.new }
+    ensures shows { HasServedBy AreTakenWith (FollowsMore (M.follows monitor.old) (M.follows monitor.new))
+        (AnswersMore (A.follows application.old) (A.follows application.new)) server.old server.new }
     ensures noted { AreNoted server.new peers.new.entries }
     ensures peers { peers.new.entries ≡ remove peers.old.entries at }
     ensures host { server.new.host ≡ server.old.host }
@@ -303,13 +295,13 @@ fn drop_at<W: Wire + Drop, A, T: Taker<A>, M: Monitor<W>>(
         (λ id. AreCallsBetween (FollowsMore (M.follows monitor.old) (M.follows monitor.new)) server.old server.new
         (dropped_events server.old id)) }
     ensures exchanged { IfSome (slice_get (keys_of peers.old.entries) at)
-        (λ id. AnswersMore (T.follows application.old) (T.follows application.new) (gone_exchanges server.old id)) }
+        (λ id. AnswersMore (A.follows application.old) (A.follows application.new) (gone_exchanges server.old id)) }
 {
     if let Some((id, _)) = peers.shift_remove_index(at) {
         match server.drop_conn(id) {
             Ok(()) => {
                 monitor.accepted(Call::Dropped(id), server);
-                T::gone(application, id);
+                application.gone(id);
             }
             Err(_) => {}
         }

@@ -2,6 +2,7 @@ use Rattle.std.proofs.Common.{◌≡◌, ◌≤◌, None, length, subst, arith}
 use Rattle.coap_server_engine.specs.Prelude.{LiesAt, session_of}
 use Rattle.coap_io.proofs.streams.WriteLemmas.{rest_of}
 use Rattle.coap_server_engine.proofs.values.ResponseLemmas.{on_err}
+use Rattle.coap_server_engine.proofs.values.ServerLemmas.{is_there_at}
 use Rattle.coap_server_engine.proofs.values.ServingLemmas.{serves_nothing, serves_nobody, serves_all, serves_partly, serves_more, serves_stopped}
 use Rattle.coap_server_engine.proofs.server.Server.take_all_for.Goals as goal
 
@@ -14,7 +15,7 @@ returns-in_default-clause-served g c =
 pub loop-taken-init : goal.loop-taken-init
 loop-taken-init g c =
     let lies = subst (λ v. LiesAt c.args.id c.in-Some.at v.sessions) c.self.view_is c.in-Some.ensures.some in
-    (serves_nothing c.args.self.now c.args.id c.args.bytes.now (g.M.Monitor.follows c.args.monitor.now) (g.A.Application.follows c.args.application.now), lies)
+    (serves_nothing c.args.self.now c.args.id c.args.bytes.now (g.M.Monitor.follows c.args.monitor.now) (g.A.Application.follows c.args.application.now) (is_there_at c.args.id c.in-Some.at c.args.self.now.sessions lies), lies)
 
 -- Allocation failed in a take.
 pub returns-in_err-count-clause-partly : goal.returns-in_err-count-clause-partly

@@ -1,42 +1,42 @@
 use Rattle.std.proofs.Common.{sym, ap, ◌∙◌}
-use Rattle.coap_server_listener.specs.Prelude.{trace_by, course_of, is_over_in}
+use Rattle.coap_server_listener.specs.Prelude.{AreTakenWith, IsTakenWith, trace_by, course_of, is_over_in}
 use Rattle.coap_server_listener.proofs.streams.PeerLemmas.{failed_read_is_a_part, steps_are_a_part}
 use Rattle.coap_server_listener.proofs.streams.NoteLemmas.{part_spares, heard_spares}
 use Rattle.coap_server_listener.proofs.streams.ServingLemmas.{heard_served, served_aside, served_further, wrote_served}
 use Rattle.coap_server_listener.proofs.door.peer.serve_peer.Goals as goal
 
 pub returns-then-failed-clause-shows : goal.returns-then-failed-clause-shows
-returns-then-failed-clause-shows g c = served_aside g.T.Taker.steps (g.M.Monitor.follows c.args.monitor.now) (g.M.Monitor.follows c.read_wire-heard.new.monitor) (g.T.Taker.follows c.args.application.now) (heard_served (g.M.Monitor.follows c.args.monitor.now) (g.M.Monitor.follows c.read_wire-heard.new.monitor) c.args.server.now c.read_wire-heard.new.server c.args.id c.read_wire-heard.result c.read_wire-heard.ensures.server c.read_wire-heard.ensures.accepted)
+returns-then-failed-clause-shows g c = served_aside AreTakenWith (g.M.Monitor.follows c.args.monitor.now) (g.M.Monitor.follows c.read_wire-heard.new.monitor) (g.A.Application.follows c.args.application.now) (heard_served (g.M.Monitor.follows c.args.monitor.now) (g.M.Monitor.follows c.read_wire-heard.new.monitor) c.args.server.now c.read_wire-heard.new.server c.args.id c.read_wire-heard.result c.read_wire-heard.ensures.server c.read_wire-heard.ensures.accepted)
 
 pub returns-in_err-take_buffered-clause-shows : goal.returns-in_err-take_buffered-clause-shows
 returns-in_err-take_buffered-clause-shows g c =
-    let idle = g.T.Taker.follows c.args.application.now in
+    let idle = g.A.Application.follows c.args.application.now in
     let first = g.M.Monitor.follows c.args.monitor.now in
     let heard = g.M.Monitor.follows c.read_wire-heard.new.monitor in
-    served_further g.T.Taker.steps first heard (g.M.Monitor.follows c.take_buffered.new.monitor) idle idle (g.T.Taker.follows c.take_buffered.new.application)
-    (served_aside g.T.Taker.steps first heard idle (heard_served (g.M.Monitor.follows c.args.monitor.now) (g.M.Monitor.follows c.read_wire-heard.new.monitor) c.args.server.now c.read_wire-heard.new.server c.args.id c.read_wire-heard.result c.read_wire-heard.ensures.server c.read_wire-heard.ensures.accepted)) c.take_buffered.ensures.shows
+    served_further AreTakenWith first heard (g.M.Monitor.follows c.take_buffered.new.monitor) idle idle (g.A.Application.follows c.take_buffered.new.application)
+    (served_aside AreTakenWith first heard idle (heard_served (g.M.Monitor.follows c.args.monitor.now) (g.M.Monitor.follows c.read_wire-heard.new.monitor) c.args.server.now c.read_wire-heard.new.server c.args.id c.read_wire-heard.result c.read_wire-heard.ensures.server c.read_wire-heard.ensures.accepted)) c.take_buffered.ensures.shows
 
 pub returns-clause-shows : goal.returns-clause-shows
 returns-clause-shows g c =
-    let idle = g.T.Taker.follows c.args.application.now in
-    let answered = g.T.Taker.follows c.take_buffered.new.application in
+    let idle = g.A.Application.follows c.args.application.now in
+    let answered = g.A.Application.follows c.take_buffered.new.application in
     let first = g.M.Monitor.follows c.args.monitor.now in
     let heard = g.M.Monitor.follows c.read_wire-heard.new.monitor in
     let taken = g.M.Monitor.follows c.take_buffered.new.monitor in
     let wrote = g.M.Monitor.follows c.write_once-wrote.new.monitor in
-    served_further g.T.Taker.steps first taken wrote idle answered answered
-    (served_further g.T.Taker.steps first heard taken idle idle answered (served_aside g.T.Taker.steps first heard idle (heard_served (g.M.Monitor.follows c.args.monitor.now) (g.M.Monitor.follows c.read_wire-heard.new.monitor) c.args.server.now c.read_wire-heard.new.server c.args.id c.read_wire-heard.result c.read_wire-heard.ensures.server c.read_wire-heard.ensures.accepted)) c.take_buffered.ensures.shows)
-    (served_aside g.T.Taker.steps taken wrote answered (wrote_served taken wrote c.take_buffered.new.server c.write_once-wrote.new.server c.args.id c.write_once-wrote.result c.write_once-wrote.ensures.server c.write_once-wrote.ensures.accepted))
+    served_further AreTakenWith first taken wrote idle answered answered
+    (served_further AreTakenWith first heard taken idle idle answered (served_aside AreTakenWith first heard idle (heard_served (g.M.Monitor.follows c.args.monitor.now) (g.M.Monitor.follows c.read_wire-heard.new.monitor) c.args.server.now c.read_wire-heard.new.server c.args.id c.read_wire-heard.result c.read_wire-heard.ensures.server c.read_wire-heard.ensures.accepted)) c.take_buffered.ensures.shows)
+    (served_aside AreTakenWith taken wrote answered (wrote_served taken wrote c.take_buffered.new.server c.write_once-wrote.new.server c.args.id c.write_once-wrote.result c.write_once-wrote.ensures.server c.write_once-wrote.ensures.accepted))
 
 pub returns-clause-part : goal.returns-clause-part
 returns-clause-part g c =
     let trace = trace_by g.W.Wire.given g.W.Wire.written g.W.Wire.answers g.W.Wire.rooms in
     let wrote = c.write_once-wrote.ensures in
-    steps_are_a_part g.T.Taker.takes c.args.may_read c.args.may_write c.args.server.now c.read_wire-heard.new.server c.take_buffered.new.server c.write_once-wrote.new.server c.args.id
+    steps_are_a_part (IsTakenWith g.A.Application.follows) c.args.may_read c.args.may_write c.args.server.now c.read_wire-heard.new.server c.take_buffered.new.server c.write_once-wrote.new.server c.args.id
     c.args.peer.now.rest c.read_wire-heard.new.peer.rest c.take_buffered.new.rest
     (trace c.args.peer.now.wire) (trace c.read_wire-heard.new.peer.wire) (trace c.write_once-wrote.new.wire) c.read_wire-heard.result c.write_once-wrote.result c.outcome.result
     (g.M.Monitor.follows c.args.monitor.now) (g.M.Monitor.follows c.read_wire-heard.new.monitor) (g.M.Monitor.follows c.take_buffered.new.monitor) (g.M.Monitor.follows c.write_once-wrote.new.monitor)
-    (g.T.Taker.follows c.args.application.now) (g.T.Taker.follows c.take_buffered.new.application)
+    (g.A.Application.follows c.args.application.now) (g.A.Application.follows c.take_buffered.new.application)
     c.read_wire-heard.ensures.server c.read_wire-heard.ensures.laid (sym c.failed.ensures ∙ c.if-failed.false)
     c.in_ok-take_buffered.ensures.taken
     (record {
@@ -55,8 +55,8 @@ returns-then-failed-clause-spared g c = heard_spares c.args.server.now c.read_wi
 pub returns-then-failed-clause-part : goal.returns-then-failed-clause-part
 returns-then-failed-clause-part g c =
     let trace = trace_by g.W.Wire.given g.W.Wire.written g.W.Wire.answers g.W.Wire.rooms in
-    failed_read_is_a_part g.T.Taker.takes c.args.may_read c.args.may_write c.args.server.now c.read_wire-heard.new.server c.args.id
+    failed_read_is_a_part (IsTakenWith g.A.Application.follows) c.args.may_read c.args.may_write c.args.server.now c.read_wire-heard.new.server c.args.id
     c.args.peer.now.rest c.read_wire-heard.new.peer.rest c.read_wire-heard.new.peer.rest
     (trace c.args.peer.now.wire) (trace c.read_wire-heard.new.peer.wire) c.read_wire-heard.result
-    (g.M.Monitor.follows c.args.monitor.now) (g.M.Monitor.follows c.read_wire-heard.new.monitor) (g.T.Taker.follows c.args.application.now)
+    (g.M.Monitor.follows c.args.monitor.now) (g.M.Monitor.follows c.read_wire-heard.new.monitor) (g.A.Application.follows c.args.application.now)
     c.read_wire-heard.ensures.server c.read_wire-heard.ensures.laid (sym c.failed.ensures ∙ c.if-failed.true) c.read_wire-heard.ensures.accepted

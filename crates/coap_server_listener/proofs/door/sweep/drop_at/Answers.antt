@@ -13,7 +13,7 @@ returns-clause-part g c =
 
 pub returns-clause-gone : goal.returns-clause-gone
 returns-clause-gone g c =
-    dropped_told (g.T.Taker.follows c.args.application.now) (g.T.Taker.follows c.gone.new.application) c.args.watch.now.now c.args.id c.args.at c.args.server.now c.args.watch.now.activities.entries c.args.peers.now.entries
+    dropped_told (g.A.Application.follows c.args.application.now) (g.A.Application.follows c.gone.new.self) c.args.watch.now.now c.args.id c.args.at c.args.server.now c.args.watch.now.activities.entries c.args.peers.now.entries
     c.requires.there c.requires.number c.gone.ensures
 
 pub returns-clause-noted : goal.returns-clause-noted

@@ -11,12 +11,12 @@ returns-in_default-clause-part g c =
 
 pub returns-in_default-clause-gone : goal.returns-in_default-clause-gone
 returns-in_default-clause-gone g c =
-    refused_told (g.T.Taker.follows c.args.application.now) (g.T.Taker.follows c.drop_at.new.application) c.args.watch.now.now c.args.id c.args.at c.args.server.now c.args.watch.now.activities.entries c.args.peers.now.entries
+    refused_told (g.A.Application.follows c.args.application.now) (g.A.Application.follows c.drop_at.new.application) c.args.watch.now.now c.args.id c.args.at c.args.server.now c.args.watch.now.activities.entries c.args.peers.now.entries
     c.requires.there c.requires.number (c.in_default.field-0, c.in_default.ensures.answer) c.drop_at.ensures.gone
 
 pub returns-clause-gone : goal.returns-clause-gone
 returns-clause-gone g c =
-    released_told (g.T.Taker.follows c.args.application.now) c.args.watch.now.now c.args.id c.args.at c.args.server.now c.args.watch.now.activities.entries c.args.peers.now.entries c.requires.there c.requires.number c.in-Ok.ensures.answer
+    released_told (g.A.Application.follows c.args.application.now) c.args.watch.now.now c.args.id c.args.at c.args.server.now c.args.watch.now.activities.entries c.args.peers.now.entries c.requires.there c.requires.number c.in-Ok.ensures.answer
 
 pub returns-clause-part : goal.returns-clause-part
 returns-clause-part g c =

@@ -9,7 +9,7 @@ loop-at-init g c = (
   none_swept (g.M.Monitor.follows c.args.watch.now.monitor) c.args.idle c.args.watch.now.now c.args.server.now c.args.watch.now.activities.entries c.args.peers.now.entries,
   c.requires,
   refl,
-  none_told (g.T.Taker.follows c.args.application.now) (swept c.args.idle c.args.watch.now.now c.args.server.now c.args.watch.now.activities.entries c.args.peers.now.entries).exchanges,
+  none_told (g.A.Application.follows c.args.application.now) (swept c.args.idle c.args.watch.now.now c.args.server.now c.args.watch.now.activities.entries c.args.peers.now.entries).exchanges,
 )
 
 pub loop-at-preserved : goal.loop-at-preserved
@@ -22,7 +22,7 @@ loop-at-preserved g c =
           (omega (arith, c.loop-at-test.true, c.len.ensures.len)) c.loop-at.invariant.1 (rw now at c.sweep_at-at.ensures.part),
       c.sweep_at-at.ensures.noted,
       c.sweep_at-at.ensures.now ∙ now,
-      one_more_told (g.T.Taker.follows c.args.application.now) (g.T.Taker.follows c.loop-at.application) (g.T.Taker.follows c.sweep_at-at.new.application)
+      one_more_told (g.A.Application.follows c.args.application.now) (g.A.Application.follows c.loop-at.application) (g.A.Application.follows c.sweep_at-at.new.application)
           (swept c.args.idle c.args.watch.now.now c.args.server.now c.args.watch.now.activities.entries c.args.peers.now.entries).exchanges c.args.idle c.args.watch.now.now c.loop-at.server c.sweep_at-at.new.server
           c.loop-at.watch.activities.entries c.sweep_at-at.new.watch.activities.entries c.loop-at.peers.entries c.sweep_at-at.new.peers.entries c.loop-at.at c.sweep_at-at.result
           (FollowsMore (g.M.Monitor.follows c.loop-at.watch.monitor) (g.M.Monitor.follows c.sweep_at-at.new.watch.monitor)) (omega (arith, c.loop-at-test.true, c.len.ensures.len)) c.loop-at.invariant.4
@@ -44,5 +44,5 @@ returns-clause-entries g c =
 pub returns-clause-gone : goal.returns-clause-gone
 returns-clause-gone g c =
     let most : length c.loop-at.peers.entries ≤ c.loop-at.at = omega (arith, c.loop-at-test.false, c.len.ensures.len) in
-    all_told (g.T.Taker.follows c.args.application.now) (g.T.Taker.follows c.loop-at.application) (swept c.args.idle c.args.watch.now.now c.args.server.now c.args.watch.now.activities.entries c.args.peers.now.entries).exchanges
+    all_told (g.A.Application.follows c.args.application.now) (g.A.Application.follows c.loop-at.application) (swept c.args.idle c.args.watch.now.now c.args.server.now c.args.watch.now.activities.entries c.args.peers.now.entries).exchanges
     c.args.idle c.args.watch.now.now c.loop-at.server c.loop-at.watch.activities.entries c.loop-at.peers.entries c.loop-at.at most c.loop-at.invariant.4

@@ -10,7 +10,7 @@ invariant-loop-at g l =
     × IsSweptTo (FollowsMore (g.M.Monitor.follows l.fn.watch.monitor) (g.M.Monitor.follows l.watch.monitor)) (swept l.fn.idle l.fn.watch.now l.fn.server l.fn.watch.activities.entries l.fn.peers.entries) l.fn.idle l.fn.watch.now l.fn.server l.server
     l.watch.activities.entries (take l.at l.peers.entries) (drop l.at l.peers.entries)
     × AreNoted l.server l.peers.entries × (l.watch.now ≡ l.fn.watch.now)
-    × IsToldTo (g.T.Taker.follows l.fn.application) (g.T.Taker.follows l.application) (swept l.fn.idle l.fn.watch.now l.fn.server l.fn.watch.activities.entries l.fn.peers.entries).exchanges
+    × IsToldTo (g.A.Application.follows l.fn.application) (g.A.Application.follows l.application) (swept l.fn.idle l.fn.watch.now l.fn.server l.fn.watch.activities.entries l.fn.peers.entries).exchanges
     (swept l.fn.idle l.fn.watch.now l.server l.watch.activities.entries (drop l.at l.peers.entries)).exchanges
 
 abbrev pub decreases-loop-at : goal.decreases-loop-at

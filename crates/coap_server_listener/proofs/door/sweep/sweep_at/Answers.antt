@@ -25,13 +25,13 @@ returns-in-Keep-clause-part g c =
 
 pub returns-in_default-status-clause-gone : goal.returns-in_default-status-clause-gone
 returns-in_default-status-clause-gone g c =
-    acted_told (g.T.Taker.follows c.args.application.now) (g.T.Taker.follows c.args.application.now) c.args.idle c.args.watch.now.now c.in-Some.id.now c.args.at c.args.server.now c.args.watch.now.activities.entries c.args.peers.now.entries
+    acted_told (g.A.Application.follows c.args.application.now) (g.A.Application.follows c.args.application.now) c.args.idle c.args.watch.now.now c.in-Some.id.now c.args.at c.args.server.now c.args.watch.now.activities.entries c.args.peers.now.entries
     Keep c.requires.there (its_number c.args.peers.now.entries c.args.at (c.in-Some.id.now, c.in-Some.field-0-1.now) (sym c.in-Some.ensures.entry)) (rw (← c.status.ensures, c.in_default-status.is) refl)
-    (kept_told (g.T.Taker.follows c.args.application.now) c.args.watch.now.now c.args.at c.args.server.now c.args.watch.now.activities.entries c.args.peers.now.entries c.requires.there)
+    (kept_told (g.A.Application.follows c.args.application.now) c.args.watch.now.now c.args.at c.args.server.now c.args.watch.now.activities.entries c.args.peers.now.entries c.requires.there)
 
 pub returns-in-Keep-clause-gone : goal.returns-in-Keep-clause-gone
 returns-in-Keep-clause-gone g c =
     let act : c.copied-activity.result ≡ lookup (nat_eq c.in-Some.id.now) c.args.watch.now.activities.entries = c.copied-activity.ensures ∙ c.get.ensures.value in
-    acted_told (g.T.Taker.follows c.args.application.now) (g.T.Taker.follows c.args.application.now) c.args.idle c.args.watch.now.now c.in-Some.id.now c.args.at c.args.server.now c.args.watch.now.activities.entries c.args.peers.now.entries
+    acted_told (g.A.Application.follows c.args.application.now) (g.A.Application.follows c.args.application.now) c.args.idle c.args.watch.now.now c.in-Some.id.now c.args.at c.args.server.now c.args.watch.now.activities.entries c.args.peers.now.entries
     Keep c.requires.there (its_number c.args.peers.now.entries c.args.at (c.in-Some.id.now, c.in-Some.field-0-1.now) (sym c.in-Some.ensures.entry)) (rw (← c.status.ensures, c.in-Some-status.is, ← act) (sym c.in-Keep.is ∙ c.silence_action.ensures))
-    (kept_told (g.T.Taker.follows c.args.application.now) c.args.watch.now.now c.args.at c.args.server.now c.args.watch.now.activities.entries c.args.peers.now.entries c.requires.there)
+    (kept_told (g.A.Application.follows c.args.application.now) c.args.watch.now.now c.args.at c.args.server.now c.args.watch.now.activities.entries c.args.peers.now.entries c.requires.there)

@@ -1,6 +1,6 @@
 use Rattle.std.proofs.Common.{arith, sym, ◌∙◌}
 use Rattle.std.proofs.lemmas.List.Edits.{length-remove}
-use Rattle.coap_server_listener.specs.Prelude.{end_of, trace_by}
+use Rattle.coap_server_listener.specs.Prelude.{AreTakenWith, IsTakenWith, end_of, trace_by}
 use Rattle.coap_server_listener.proofs.streams.AgendaLemmas.{served_later, front_stays, open_step, stamp_noted, same_length, one_open, one_over}
 use Rattle.coap_server_listener.proofs.streams.ServingLemmas.{served_further}
 use Rattle.coap_server_listener.proofs.streams.SleepLemmas.{stamp_followed, one_visited, visited_sleeps}
@@ -39,21 +39,21 @@ returns-in-Open-clause-fewer g c =
 
 pub returns-in-Over-clause-part : goal.returns-in-Over-clause-part
 returns-in-Over-clause-part g c =
-    one_over g.T.Taker.takes g.W.Ready.readable g.W.Ready.writable (trace_by g.W.Wire.given g.W.Wire.written g.W.Wire.answers g.W.Wire.rooms)
+    one_over (IsTakenWith g.A.Application.follows) g.W.Ready.readable g.W.Ready.writable (trace_by g.W.Wire.given g.W.Wire.written g.W.Wire.answers g.W.Wire.rooms)
     c.args.server.now c.serve_at.new.server c.args.peers.now.entries c.serve_at.new.peers.entries c.args.seen.at
     c.requires.there c.serve_at.ensures.same c.serve_at.ensures.before c.serve_at.ensures.beside
-    (g.M.Monitor.follows c.args.monitor.now) (g.M.Monitor.follows c.serve_at.new.monitor) (g.T.Taker.follows c.args.application.now) (g.T.Taker.follows c.serve_at.new.application) c.in_ok-course.course c.in_ok-course.ensures.part
-    (g.M.Monitor.follows c.drop_at.new.monitor) (g.T.Taker.follows c.drop_at.new.application) c.drop_at.new.server c.drop_at.new.peers.entries c.in-Over.is c.drop_at.ensures.peers c.drop_at.ensures.server c.drop_at.ensures.accepted c.drop_at.ensures.exchanged
+    (g.M.Monitor.follows c.args.monitor.now) (g.M.Monitor.follows c.serve_at.new.monitor) (g.A.Application.follows c.args.application.now) (g.A.Application.follows c.serve_at.new.application) c.in_ok-course.course c.in_ok-course.ensures.part
+    (g.M.Monitor.follows c.drop_at.new.monitor) (g.A.Application.follows c.drop_at.new.application) c.drop_at.new.server c.drop_at.new.peers.entries c.in-Over.is c.drop_at.ensures.peers c.drop_at.ensures.server c.drop_at.ensures.accepted c.drop_at.ensures.exchanged
 
 pub returns-in-Open-clause-part : goal.returns-in-Open-clause-part
 returns-in-Open-clause-part g c =
-    one_open g.T.Taker.takes g.W.Ready.readable g.W.Ready.writable (trace_by g.W.Wire.given g.W.Wire.written g.W.Wire.answers g.W.Wire.rooms)
+    one_open (IsTakenWith g.A.Application.follows) g.W.Ready.readable g.W.Ready.writable (trace_by g.W.Wire.given g.W.Wire.written g.W.Wire.answers g.W.Wire.rooms)
     c.args.server.now c.serve_at.new.server c.args.peers.now.entries c.serve_at.new.peers.entries c.args.seen.at
     c.requires.there c.serve_at.ensures.same c.serve_at.ensures.before c.serve_at.ensures.beside
-    (g.M.Monitor.follows c.args.monitor.now) (g.M.Monitor.follows c.serve_at.new.monitor) (g.T.Taker.follows c.args.application.now) (g.T.Taker.follows c.serve_at.new.application) c.in_ok-course.course c.in_ok-course.ensures.part c.in-Open.is
+    (g.M.Monitor.follows c.args.monitor.now) (g.M.Monitor.follows c.serve_at.new.monitor) (g.A.Application.follows c.args.application.now) (g.A.Application.follows c.serve_at.new.application) c.in_ok-course.course c.in_ok-course.ensures.part c.in-Open.is
 
 pub returns-in-Over-clause-shows : goal.returns-in-Over-clause-shows
-returns-in-Over-clause-shows g c = served_further g.T.Taker.steps (g.M.Monitor.follows c.args.monitor.now) (g.M.Monitor.follows c.serve_at.new.monitor) (g.M.Monitor.follows c.drop_at.new.monitor) (g.T.Taker.follows c.args.application.now) (g.T.Taker.follows c.serve_at.new.application) (g.T.Taker.follows c.drop_at.new.application) c.serve_at.ensures.shows c.drop_at.ensures.shows
+returns-in-Over-clause-shows g c = served_further AreTakenWith (g.M.Monitor.follows c.args.monitor.now) (g.M.Monitor.follows c.serve_at.new.monitor) (g.M.Monitor.follows c.drop_at.new.monitor) (g.A.Application.follows c.args.application.now) (g.A.Application.follows c.serve_at.new.application) (g.A.Application.follows c.drop_at.new.application) c.serve_at.ensures.shows c.drop_at.ensures.shows
 
 pub returns-in-Open-clause-asleep : goal.returns-in-Open-clause-asleep
 returns-in-Open-clause-asleep g c =

@@ -1,16 +1,16 @@
-use Rattle.coap_server_listener.specs.Prelude.{opening}
+use Rattle.coap_server_listener.specs.Prelude.{AreTakenWith, opening}
 use Rattle.coap_server_listener.proofs.streams.NoteLemmas.{wait_so}
 use Rattle.coap_server_listener.proofs.streams.ServingLemmas.{accepted_then, turned_further, turned_so_far}
 use Rattle.coap_server_listener.proofs.door.turn.take_turn.Goals as goal
 
 pub returns-in_err-opens-clause-shows : goal.returns-in_err-opens-clause-shows
-returns-in_err-opens-clause-shows g c = turned_so_far g.T.Taker.steps (g.M.Monitor.follows c.args.monitor.now) (g.M.Monitor.follows c.accept.new.monitor) (g.T.Taker.follows c.args.application.now) c.accept.ensures.shows
+returns-in_err-opens-clause-shows g c = turned_so_far AreTakenWith (g.M.Monitor.follows c.args.monitor.now) (g.M.Monitor.follows c.accept.new.monitor) (g.A.Application.follows c.args.application.now) c.accept.ensures.shows
 
 pub returns-in_err-agenda-clause-shows : goal.returns-in_err-agenda-clause-shows
-returns-in_err-agenda-clause-shows g c = turned_further g.T.Taker.steps (g.M.Monitor.follows c.args.monitor.now) (g.M.Monitor.follows c.accept.new.monitor) (g.M.Monitor.follows c.serve_each.new.monitor) (g.T.Taker.follows c.args.application.now) (g.T.Taker.follows c.serve_each.new.application) c.accept.ensures.shows c.serve_each.ensures.shows
+returns-in_err-agenda-clause-shows g c = turned_further AreTakenWith (g.M.Monitor.follows c.args.monitor.now) (g.M.Monitor.follows c.accept.new.monitor) (g.M.Monitor.follows c.serve_each.new.monitor) (g.A.Application.follows c.args.application.now) (g.A.Application.follows c.serve_each.new.application) c.accept.ensures.shows c.serve_each.ensures.shows
 
 pub returns-clause-shows : goal.returns-clause-shows
-returns-clause-shows g c = turned_further g.T.Taker.steps (g.M.Monitor.follows c.args.monitor.now) (g.M.Monitor.follows c.accept.new.monitor) (g.M.Monitor.follows c.serve_each.new.monitor) (g.T.Taker.follows c.args.application.now) (g.T.Taker.follows c.serve_each.new.application) c.accept.ensures.shows c.serve_each.ensures.shows
+returns-clause-shows g c = turned_further AreTakenWith (g.M.Monitor.follows c.args.monitor.now) (g.M.Monitor.follows c.accept.new.monitor) (g.M.Monitor.follows c.serve_each.new.monitor) (g.A.Application.follows c.args.application.now) (g.A.Application.follows c.serve_each.new.application) c.accept.ensures.shows c.serve_each.ensures.shows
 
 pub returns-clause-turn : goal.returns-clause-turn
 returns-clause-turn g c =
