@@ -88,15 +88,22 @@ LIBRARY, MQTT = bin_of("libcoap_proved.a", "coap-mqtt")
 # The proof of the C library, over what `rt ci` keeps.
 BUILD_ARCHIVE = Step(["python3", "tests/system/c_library.py", "--archive"], 180, 450, (PROVED,), ARCHIVE)
 
-STEPS = [
-    Step(["python3", "tests/harness/rows.py"], 4, 8, (PROBES,)),
-    Step(["python3", "tests/harness/rows.py", "--by-rattle"], 4, 8, (BY_RATTLE,)),
-    Step(["python3", "tests/harness/rows.py", "--refuse"], 90, 160, (PROBES,)),
-    Step(["python3", "tests/vectors/row_list.py"], 1, 1),
+# Steps that read sources alone, in seconds. `rt ci` finds some of these errors too, after an hour.
+SOURCES = [
+    Step(["python3", "tests/tools/layout.py"], 10, 16),
     Step(["python3", "tests/tools/crate_limits.py"], 1, 1),
     Step(["python3", "tests/tools/conformance.py"], 1, 1),
     Step(["python3", "tests/tools/examples.py"], 1, 1),
     Step(["python3", "tests/tools/prose.py"], 5, 5),
+    Step(["python3", "tests/vectors/row_list.py"], 1, 1),
+    Step(["python3", "tests/mutants/mutants.py", "--quotes"], 1, 1),
+]
+
+STEPS = [
+    *SOURCES,
+    Step(["python3", "tests/harness/rows.py"], 4, 8, (PROBES,)),
+    Step(["python3", "tests/harness/rows.py", "--by-rattle"], 4, 8, (BY_RATTLE,)),
+    Step(["python3", "tests/harness/rows.py", "--refuse"], 90, 160, (PROBES,)),
     Step(["python3", "tests/vectors/segmentation.py"], 2, 2, (PROBES,)),
     Step(["python3", "tests/vectors/scripts.py", SERVER], 2, 1),
     Step(["python3", "tests/vectors/stdio.py", SERVER], 12, 12),

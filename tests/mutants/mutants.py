@@ -8,6 +8,7 @@
     tests/mutants/mutants.py --rows [CRATE ..]  those alone that rows detect
     tests/mutants/mutants.py --tests [CRATE ..]  those alone that tests of the programs detect
     tests/mutants/mutants.py --types [CRATE ..]  tries no edit; checks that all edits are well typed
+    tests/mutants/mutants.py --quotes [CRATE ..]  tries no edit; checks that each quotes a clause and applies, in a second
     tests/mutants/mutants.py --list [CRATE ..]  tries no edit; prints for each its function, the clause that rejects it, and its name
 
 An edit is a file tests/mutants/edits/CRATE/NAME.edit. Its first line has what detects it. Each of its parts has four lines:
@@ -100,7 +101,7 @@ FUNCTION = re.compile(r"( *)(?:pub(?:\([a-z ]+\))? )?(?:const )?(?:extern \S+ )?
 BLOCK = re.compile(r"(?:pub(?:\([a-z]+\))? )?(?:impl\b *(.*?)|trait (\w+).*?) ?\{?$")
 # The layers of the edits that tests of a program detect.
 PROGRAMS = tuple(CRATES)
-MODES = {"--all", "--control", "--list", "--rows", "--tests", "--types"}
+MODES = {"--all", "--control", "--list", "--quotes", "--rows", "--tests", "--types"}
 # Maximum number of edits that the gate tries beside the control.
 MOST_IN_GATE = 50
 FIRST_LINE = re.compile(
@@ -303,6 +304,18 @@ def tell_wrong_quotes(edits):
         if why:
             print(f"edit {name}: {why}", flush=True)
     return sum(map(bool, wrong.values()))
+
+
+def tell_not_applied(edits):
+    """Prints each edit whose old text is not once in its function, and returns their number. (The check of types finds these too.)"""
+    count = 0
+    for edit in edits:
+        try:
+            edit.applied({})
+        except (BadEdit, ValueError, OSError) as why:
+            print(f"edit {edit.crate}/{edit.name}: {why}", flush=True)
+            count += 1
+    return count
 
 
 def tell_wrong_counts(edits):
@@ -757,8 +770,13 @@ def main(words):
     every = edits_of(f"{ROOT}/tests/mutants/edits", names or below)
     unquoted = tell_wrong_quotes(every)
     miscounted = 0 if names else tell_wrong_counts(every)
+    if modes & {"--list", "--quotes"}:
+        unquoted += tell_not_applied(every)
     if "--list" in modes:
         print("\n".join("  ".join(it) for it in sorted(it.row() for it in every)))
+        return 1 if unquoted + miscounted else 0
+    if "--quotes" in modes:
+        print(f"{len(every) - unquoted} passed, {unquoted + miscounted} failed")
         return 1 if unquoted + miscounted else 0
     is_whole = modes == {"--all"} and not names
     commit = changes.unchanged_head() if is_whole else ""
