@@ -1,6 +1,6 @@
 //! Transport connections, the listener that hands them out, and the clock.
 
-ghost use Rattle.std.specs.Prelude.{◌≡◌, ℕ, Bool, List, [], ◌∷◌, length, Option, None};
+ghost use Rattle.std.specs.Prelude.{◌≡◌, ℕ, Bool, List, [], ◌∷◌, length, Option, None, option_and_then};
 ghost use Rattle.coap_io.specs.Prelude.{AddsBytes, TellsMore, DoorCall, Asked, Waited, IsWithin, MatchesTrace};
 ghost use Rattle.coap_io.specs.Prelude.{bytes_passed, Got, wait_at_most};
 
@@ -133,4 +133,20 @@ pub trait Clock {
     /// Returns the time, in seconds.
     fn now(&mut self) -> u64
         ensures { TellsMore (moments self.old) (moments self.new) (result ∷ []) };
+}
+
+/// Clock that may be absent. An absent one always returns 0, and records nothing.
+impl<C: Clock> Clock for Option<C> {
+    ghost moments = { λ clock. option_and_then C.moments clock };
+
+    fn now(&mut self) -> u64
+        ensures told { TellsMore (option_and_then C.moments self.old) (option_and_then C.moments self.new) (result ∷ []) }
+        ensures absent { self.old ≡ None → result ≡ 0 }
+        ensures stays { self.old ≡ None → self.new ≡ None }
+    {
+        match self {
+            Some(clock) => clock.now(),
+            None => 0,
+        }
+    }
 }

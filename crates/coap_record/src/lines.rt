@@ -207,6 +207,6 @@ pub fn write_call<O: Outlet>(outlet: &mut O, call: &Call<'_>) -> Result<(), Writ
         Call::Released(id) => write_all(outlet, word_line("release", *id).as_slice()),
         Call::Responded(id, response) => write_responded(outlet, *id, response_of(response)),
         Call::Announced(id, size) => write_announced(outlet, *id, *size),
-        Call::Dropped(id) => write_all(outlet, word_line("drop", *id).as_slice()),
+        Call::Dropped(id, _) => write_all(outlet, word_line("drop", *id).as_slice()),
     }
 }

@@ -21,18 +21,12 @@ impl<A, B> MonitorPair<A, B> {
         MonitorPair { first, second }
     }
 
-    /// Returns the first monitor.
-    pub fn first(&self) -> &A
-        ensures { result.now ≡ self.now.first }
+    /// Returns both monitors.
+    pub fn into_parts(self) -> (A, B)
+        ensures first { result.0 ≡ self.first }
+        ensures second { result.1 ≡ self.second }
     {
-        &self.first
-    }
-
-    /// Returns the second monitor.
-    pub fn second(&self) -> &B
-        ensures { result.now ≡ self.now.second }
-    {
-        &self.second
+        (self.first, self.second)
     }
 }
 

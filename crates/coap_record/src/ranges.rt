@@ -78,6 +78,6 @@ pub fn read_range(call: &Call<'_>)
             read_number(*id);
             read_number(u64::from(*size));
         }
-        Call::Dropped(id) => read_number(*id),
+        Call::Dropped(id, _) => read_number(*id),
     }
 }

@@ -28,7 +28,7 @@ mod taken_request;
 
 pub use application::{Application, NoApplication};
 pub use io_fault::IoFault;
-pub use monitor::{Call, Monitor, NoMonitor};
+pub use monitor::{Call, DropReason, Monitor, NoMonitor};
 pub use replay::ReplayFault;
 pub use server::{ChangeStamp, ConnectionWork, FlushStep, MOST_LATER_RESPONSES, Server};
 pub use taken_request::TakenRequest;

@@ -1,7 +1,7 @@
 //! The interface through which a program follows the calls that a server accepts, for a log or a record.
 
 ghost use Rattle.std.specs.Prelude.{◌≡◌, false, ℕ, List, [], ◌∷◌};
-ghost use Rattle.coap_server_engine.specs.Prelude.{AcceptedCall, Opened, FollowsMore, call_value};
+ghost use Rattle.coap_server_engine.specs.Prelude.{AcceptedCall, Opened, FollowsMore, call_value, follows_if};
 
 use crate::server::Server;
 use coap_model::{ConnId, Handled};
@@ -35,8 +35,21 @@ pub enum Call<'a> {
     Responded(ConnId, &'a [u8]),
     /// Connection and the message size that was announced on it, in bytes.
     Announced(ConnId, u32),
-    /// Connection that was removed.
-    Dropped(ConnId),
+    /// Connection that was removed, and the reason.
+    Dropped(ConnId, DropReason),
+}
+
+/// Reason for which a connection was removed.
+#[derive(Clone, Copy, Debug, PartialEq, Eq)]
+pub enum DropReason {
+    /// Transport connection that failed.
+    Failed,
+    /// Connection on which nothing more will be written: it has stopped, and its queue is empty.
+    Finished,
+    /// Silent connection that was not released (`coap_server_listener`).
+    Silent,
+    /// Call of the embedding program.
+    Requested,
 }
 
 /// Receiver of the calls that a server accepts, each once and in their order. `W` is the type of the transport
@@ -67,6 +80,37 @@ pub trait Monitor<W> {
     /// Receives the end of a turn of the event loop: the caller waits or reads next.
     fn turn_ended(&mut self)
         ensures { FollowsMore (follows self.old) (follows self.new) [] };
+}
+
+/// Monitor that may be absent. An absent one ignores all calls.
+#[tactic(auto, unfolding(crate::specs::values::Calls::FollowsMore))]
+impl<W, M: Monitor<W>> Monitor<W> for Option<M> {
+    ghost follows = { follows_if M.follows };
+
+    fn opened(&mut self, id: ConnId, wire: &W, server: &Server) {
+        if let Some(monitor) = self {
+            monitor.opened(id, wire, server);
+        }
+    }
+
+    fn accepted(&mut self, call: Call<'_>, server: &Server) {
+        if let Some(monitor) = self {
+            monitor.accepted(call, server);
+        }
+    }
+
+    fn listens(&self) -> bool {
+        match self {
+            Some(monitor) => monitor.listens(),
+            None => false,
+        }
+    }
+
+    fn turn_ended(&mut self) {
+        if let Some(monitor) = self {
+            monitor.turn_ended();
+        }
+    }
 }
 
 /// Monitor that ignores all calls.

@@ -1,5 +1,5 @@
 -- Defined by this project: the calls that a monitor receives, as events of a server.
-use Rattle.std.specs.Prelude.{◌+◌, ◌++◌, List, [], length, ℕ, Result, Ok, Err}
+use Rattle.std.specs.Prelude.{◌+◌, ◌++◌, List, [], length, ℕ, Option, Some, None, Result, Ok, Err}
 use Rattle.coap_wire.specs.Message.{Message}
 use Rattle.coap_wire.specs.Reading.{message_of}
 use Rattle.coap_wire.specs.declared.fault.FormatFault.{FormatFault}
@@ -24,11 +24,16 @@ call_value (call.Ended id) = event.Ended id
 call_value (call.Released id) = event.Released id
 call_value (call.Responded id bytes) = event.Responded id (response_in (message_of bytes.now))
 call_value (call.Announced id size) = event.Announced id size
-call_value (call.Dropped id) = event.Dropped id
+call_value (call.Dropped id reason) = event.Dropped id
 
 -- A statement of a monitor: a relation of the text that it had before, and the calls that it received since.
 abbrev pub Following : Type 1
 Following = List ℕ → List AcceptedCall → Type 0
+
+-- The statement of a monitor that may be absent. Nothing is stated of an absent one.
+abbrev pub follows_if : {M : Type 0} → (M → Following) → Option M → Following
+follows_if follows None start calls = Unit {0}
+follows_if follows (Some m) start calls = follows m start calls
 
 -- After the calls that it had received before, a monitor has received these.
 unfoldable pub FollowsMore : Following → Following → List AcceptedCall → Type 0
