@@ -20,7 +20,7 @@ use crate::wires::Moments;
 use coap_io::Polled;
 use coap_model::Config;
 use coap_server_engine::{IoFault, NoMonitor};
-use coap_server_listener::{serve_door, serve_door_for};
+use coap_server_listener::{Clocks, ServiceConfig, serve_door, serve_door_with};
 use devices::{CallLog, DoorClock, ScriptedDoor};
 use probe_support::{RowLine, cut, number, read_hex};
 use std::alloc::{AllocError, Global};
@@ -28,16 +28,23 @@ use std::fmt::Write;
 use std::mem;
 
 /// Runs a server for an application. Writes the result, and what the application received.
-fn answer(alloc: Global, config: Config, mut door: ScriptedDoor, mut clock: DoorClock) {
+fn answer(alloc: Global, config: Config, mut door: ScriptedDoor, clock: DoorClock) {
     let log = door.log;
     let mut board = Board::new();
+    let mut clocks = Clocks {
+        time: clock,
+        uptime: None::<DoorClock>,
+    };
     let result = match entries(alloc) {
-        Ok(applications) => serve_door_for(
+        Ok(applications) => serve_door_with(
             alloc,
             &mut door,
-            &mut clock,
-            config,
-            applications,
+            &mut clocks,
+            ServiceConfig {
+                config,
+                applications: Some(applications),
+                idle: None,
+            },
             &mut board,
             &mut NoMonitor,
         ),

@@ -3,5 +3,5 @@ pub use Rattle.coap_server_streams.specs.streams.StdioRun
 pub use Rattle.coap_server_streams.specs.streams.StdioCalls
 pub use Rattle.coap_server_listener.specs.streams.Turns
 pub use Rattle.coap_server_listener.specs.streams.Serving
-pub use Rattle.coap_server_listener.specs.streams.DoorRun
-pub use Rattle.coap_server_listener.specs.streams.TimedRun
+pub use Rattle.coap_server_listener.specs.streams.Run
+pub use Rattle.coap_server_listener.specs.streams.Silence

@@ -29,11 +29,11 @@ pub use coap_model::{
 };
 pub use coap_script::{Event, ScriptFault, script, scripts_go_on_behind_whole_lines};
 pub use coap_server_engine::{
-    Application, Call, IoFault, Monitor, NoApplication, NoMonitor, ReplayFault, Server,
+    Application, Call, DropReason, IoFault, Monitor, NoApplication, NoMonitor, ReplayFault, Server,
     TakenRequest,
 };
 pub use coap_server_listener::{
-    Service, SilenceWatch, serve_door, serve_door_for, serve_door_timed, serve_door_with,
+    Clocks, Service, ServiceConfig, Times, serve_door, serve_door_with,
 };
 pub use coap_server_streams::{Report, serve_one, serve_one_with};
 pub use coap_store::{PathKey, Present, State, StoreFault, request_path};
@@ -63,7 +63,8 @@ pub mod laws {
         waiting_until_next_deadline_is_safe,
     };
     pub use coap_server_listener::laws::{
-        idle_connections_may_be_skipped, recorded_interests_stay_valid, stamps_do_not_repeat,
+        a_run_announces_no_size, idle_connections_may_be_skipped, recorded_interests_stay_valid,
+        stamps_do_not_repeat,
     };
     pub use coap_server_streams::laws::a_flush_leaves_nothing_waiting;
     pub use coap_store::laws as resources;

@@ -8,10 +8,8 @@ pub mod RemovalLemmas
 pub mod SweepLemmas
 pub mod NextPartLemmas
 pub mod ServiceLemmas
-pub mod DoorLemmas
-pub mod TimedLemmas
-pub mod WatchLemmas
 pub mod IndexSetLemmas
 pub mod SleepLemmas
 pub mod LaterLemmas
-pub mod ApplicationRunLemmas
+pub mod RunLemmas
+pub mod RunCallLemmas

@@ -66,30 +66,30 @@ pub use Rattle.coap_server_engine.specs.declared.io_fault.IoFault.TheVariants.{M
 pub use Rattle.coap_server_engine.specs.declared.server.ConnectionWork.{ConnectionWork}
 pub use Rattle.coap_server_engine.specs.declared.server.ChangeStamp.{ChangeStamp}
 -- ---- runs
-pub use Rattle.coap_server_listener.specs.streams.DoorRun.{IsDoorCall, IsDoorRun, waited_behind, moved_calls, moved_to, ticked_calls, EndsWith, HasTurnedSo, IsCutRun}
-pub use Rattle.coap_server_listener.specs.streams.DoorRun.{NoneYet, OneMore}
+pub use Rattle.coap_server_listener.specs.declared.door.service.ServiceConfig.{ServiceConfig}
+pub use Rattle.coap_server_listener.specs.declared.door.service.Times.{Times}
+pub use Rattle.coap_server_listener.specs.streams.Run.{moved_to, ticked_calls, moved_calls, AreRunSteps, IsRunCall, HasRun, wait_within, limit_for, short_wait}
+pub use Rattle.coap_server_listener.specs.streams.Run.{ServiceValue, service_of, IsBegun, IsTurnFor, IsCutTurn, waited_behind, waited_before, config_of, new_service}
+pub use Rattle.coap_server_listener.specs.streams.Run.{RunTrace, no_trace, trace_then, AreTurns, RunTells, run_tells, clock_and_door, Matches}
+pub use Rattle.coap_server_listener.specs.streams.Run.{IsWholeRun, IsCutRun, EndsRun, EndsRunWith, IsRun, Resting, Silent, plain_config}
+pub use Rattle.coap_server_listener.specs.streams.Silence.{silence_action, quiet_action, action_for, Sweep, unswept, swept_one, swept_both, acted}
+pub use Rattle.coap_server_listener.specs.streams.Silence.{HasSwept, HasSweptAt, drop_one, release_one, due_sweep}
+unfoldable pub use Rattle.coap_server_listener.specs.streams.Silence.{swept}
 pub use Rattle.coap_server_engine.specs.values.Faults.{is_read_fault, is_write_fault, IsMemory, IsMemoryOrTurns}
-pub use Rattle.coap_server_listener.specs.streams.Silence.{silence_action, quiet_action, action_for, new_activity, activities_after}
-pub use Rattle.coap_server_listener.specs.streams.Silence.{changed_by, changed_from, moved_by, Sweep, swept_one, swept_both, acted}
-pub use Rattle.coap_server_listener.specs.streams.Silence.{HasSwept, HasSweptAt, drop_one, release_one, IsWatchedCall, AreWatchedCalls, text_of, activities_in, number_of, time_in}
-unfoldable pub use Rattle.coap_server_listener.specs.streams.Silence.{swept, watched}
-pub use Rattle.coap_server_listener.specs.streams.ApplicationRun.{AreRunSteps, HasRun, HasMadeTurns, IsCutRunFor, IsCutTurn, IsRunFor, IsTurnFor, limit_for, wait_within}
-pub use Rattle.coap_server_listener.specs.streams.TimedRun.{short_wait, due_sweep, is_sweep_due, IsTimedRun, TimedEndsWith}
-pub use Rattle.coap_server_listener.specs.streams.TimedRun.{HasTimedTurns, IsCutTimedRun, IsWholeTimedRun, NoneSoFar, OneSoFar}
 pub use Rattle.coap_server_listener.specs.streams.RecordedInterests.{true_end, recorded, recorded_on, AreNoted, IsNoEarlier, KeepsNotes}
-pub use Rattle.coap_server_listener.specs.streams.RecordedInterests.{WhilePassedOver, AtFirst, Follows, GoesOnSparing, But, AreRecorded, unrecorded}
+pub use Rattle.coap_server_listener.specs.streams.RecordedInterests.{WhilePassedOver, AtFirst, Follows, GoesOnSparing, But, AreRecorded, unrecorded, released_at, released_on}
 pub use Rattle.coap_server_listener.specs.streams.RecordedInterests.{IsNoted, Served}
-pub use Rattle.coap_server_listener.specs.streams.Serving.{HasTurned, IsAskedOnce, IsTurnOf, IsTurnBy, HasGoneOn, AreServed}
-pub use Rattle.coap_server_listener.specs.streams.Serving.{asked_by, HadItsPart, HasOneMore, IsOpening, IsRound, IsServing}
-pub use Rattle.coap_server_listener.specs.streams.Serving.{AreCallsBetween, HasAccepted, HasServedBy, HasTurnedBy, HasOpened, dropped_events, events_left, exchanges_left, gone_exchanges, gone_on, TakingSteps, AreTakenWith, NoneTaken, AreStepsBy, opened_if, NoMore, PassedOver, opening, Unrecorded}
+pub use Rattle.coap_server_listener.specs.streams.Serving.{IsAskedOnce, IsTurnBy, HasGoneOn, AreServed}
+pub use Rattle.coap_server_listener.specs.streams.Serving.{asked_by, HadItsPart, HasOneMore, IsOpening, IsRound, IsServedAt, IsVisited}
+pub use Rattle.coap_server_listener.specs.streams.Serving.{AreCallsBetween, HasAccepted, HasServedBy, HasTurnedBy, HasOpened, dropped_events, events_left, exchanges_left, gone_exchanges, gone_on, TakingSteps, AreTakenWith, NoneTaken, AreStepsBy, opened_if, NoMore, PassedOver, opening}
 pub use Rattle.coap_server_listener.specs.streams.Sleepers.{AreAsleep, IsOutside, MaySleep, bit_of, is_known_ready, known}
 pub use Rattle.coap_server_listener.specs.streams.Turns.{end_of, agenda_past, IsIdle, IsInTurn, agenda_with, wait_of}
 pub use Rattle.coap_server_listener.specs.streams.Turns.{Taking, IsTakenAlone, IsTakenWith, IsTakenInPart, rest_behind, IsServedOnce, IsServedOnceBy, IsLaidOut, is_heard, heard_events, refused_events, server_heard, server_wrote, wrote_events}
 pub use Rattle.coap_server_listener.specs.streams.Turns.{waiting_once, rest_left, is_over_in, has_failed, course_of, wants_of}
-pub use Rattle.coap_server_listener.specs.streams.Turns.{IsAsked, CanGoOn, IsRestAnswer, IsServed, IsAgendaOf, IsWaitAfter}
+pub use Rattle.coap_server_listener.specs.streams.Turns.{IsAsked, CanGoOn, IsRestAnswer, IsAgendaOf, IsWaitAfter}
 pub use Rattle.coap_server_listener.specs.streams.Turns.{wants_in, IsNoOp, can_go_on, PeerStatus, IsCarriedOn}
 pub use Rattle.coap_server_listener.specs.streams.Turns.{IsTakenAndWritten, least_with, left_behind, IsOffered, CanAnyGoOn}
-pub use Rattle.coap_server_listener.specs.streams.Turns.{concerns_earlier, wait_for}
+pub use Rattle.coap_server_listener.specs.streams.Turns.{concerns_earlier, wait_for, IsTakenInPartOf, activity_after, has_written, have_moved, new_activity}
 -- ---- coap_server_engine and coap_server_session
 pub use Rattle.coap_server_session.specs.values.Deadlines.{sooner}
 pub use Rattle.coap_server_engine.specs.values.InResults.{InResult, IsPartialIn, ShowsMore, ShowsPartlyFed, in_result, fed_more}

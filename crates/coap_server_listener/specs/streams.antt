@@ -1,10 +1,7 @@
--- Runs of `serve_one` and `serve_door`: their errors, progress, turns and recorded interests, and the definition of
--- each run.
+-- Runs of `serve_door`: progress, turns and recorded interests, silent connections, and the definition of a run.
 pub mod Turns
 pub mod RecordedInterests
 pub mod Sleepers
 pub mod Serving
-pub mod DoorRun
 pub mod Silence
-pub mod TimedRun
-pub mod ApplicationRun
+pub mod Run

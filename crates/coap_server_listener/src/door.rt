@@ -1,15 +1,13 @@
 //! Runs a server over the connections that a listener (`Door`) accepts.
 
-ghost use Rattle.coap_server_listener.specs.Prelude.{IsDoorRun, waited_behind, TellsMore, FollowsMore, trace_by};
-ghost use Rattle.coap_server_listener.specs.Prelude.{IsMemoryOrTurns};
-ghost use Rattle.coap_server_listener.specs.Prelude.{HasSwept, IsTimedRun, Unrecorded, due_sweep, is_sweep_due};
+ghost use Rattle.coap_server_listener.specs.Prelude.{AnswersMore, FollowsMore, IsMemoryOrTurns, IsRun, Resting, Silent};
+ghost use Rattle.coap_server_listener.specs.Prelude.{TellsMore, clock_and_door, plain_config, run_tells, trace_by, waited_behind};
 ghost use Rattle.std.specs.Prelude.{◌≡◌, false};
 
-mod application_run;
-mod applications;
 mod awake;
 mod index_set;
 mod next_wakeup;
+mod parts;
 mod peer;
 mod peer_interest;
 mod removal;
@@ -17,14 +15,33 @@ mod service;
 mod silence;
 mod sweep;
 mod turn;
+mod wait;
 
-pub use application_run::serve_door_for;
-use coap_io::{Clock, Door, Ready, Wait, Wire};
+use coap_io::{Clock, Door, Wait};
 use coap_model::Config;
-use coap_server_engine::{IoFault, Monitor, NoMonitor};
-pub use service::Service;
-pub use silence::SilenceWatch;
+use coap_server_engine::{Application, IoFault, Monitor, NoApplication, NoMonitor};
+pub use service::{Service, ServiceConfig, Times};
 use std::alloc::Global;
+
+/// Clocks of a run.
+#[derive(Drop)]
+pub struct Clocks<C, U> {
+    /// Clock of the server.
+    pub time: C,
+    /// Clock that never goes back, such as `RunClock` of `coap_sockets`. Without a limit of silence, it may be an absent
+    /// clock (`None`).
+    pub uptime: U,
+}
+
+/// Clock that always returns 0.
+#[derive(Clone, Copy)]
+struct NoUptime;
+
+impl Clock for NoUptime {
+    fn now(&mut self) -> u64 {
+        0
+    }
+}
 
 /// Serves the connections that a listener accepts, for as many turns as the configuration allows.
 ///
@@ -69,116 +86,91 @@ pub fn serve_door<D: Door, C: Clock>(
 ) -> Result<(), IoFault>
     ensures fault { IsMemoryOrTurns result }
     // The run consists of whole turns, as the traces of the clock and of the listener record them. They are all allowed
-    // turns, or those before an allocation failed.
-    ensures run { let tells = TellsMore (C.moments clock.old) (C.moments clock.new) in
-        IsDoorRun D.Wire.readable D.Wire.writable
-        (trace_by D.Wire.given D.Wire.written D.Wire.answers D.Wire.rooms) config tells
-        (TellsMore (D.calls door.old) (D.calls door.new)) Unrecorded result }
+    // turns, or those before an allocation failed. No application responds.
+    ensures run { IsRun Silent Resting D.Wire.readable D.Wire.writable
+        (trace_by D.Wire.given D.Wire.written D.Wire.answers D.Wire.rooms) (plain_config config)
+        (clock_and_door (TellsMore (C.moments clock.old) (C.moments clock.new))
+        (TellsMore (D.calls door.old) (D.calls door.new))) result }
 {
-    serve_door_with(alloc, door, clock, config, &mut NoMonitor)
+    let config = ServiceConfig::new(config);
+    run(
+        alloc,
+        door,
+        clock,
+        &mut NoUptime,
+        config,
+        &mut NoApplication,
+        &mut NoMonitor,
+    )
 }
 
-/// Serves the connections that a listener accepts, as `serve_door` does. The monitor receives each call that the server
-/// accepts, in order, and the end of each turn.
+/// Serves the connections that a listener accepts, as `serve_door` does, for an application and with a limit of silence.
+/// Each turn is one of `Service::turn`. The monitor receives each call that the server accepts, in order, and the end of
+/// each turn.
 ///
 /// # Errors
 ///
 /// Those of `serve_door`.
-pub fn serve_door_with<D: Door, C: Clock, M: Monitor<D::Wire>>(
+pub fn serve_door_with<D: Door, C: Clock, U: Clock, A: Application, M: Monitor<D::Wire>>(
     alloc: Global,
     door: &mut D,
-    clock: &mut C,
-    config: Config,
+    clocks: &mut Clocks<C, U>,
+    config: ServiceConfig,
+    application: &mut A,
     monitor: &mut M,
 ) -> Result<(), IoFault>
     ensures fault { IsMemoryOrTurns result }
-    // The monitor received exactly the calls of the run: those that the server shows at its end.
-    ensures run { let tells = TellsMore (C.moments clock.old) (C.moments clock.new) in
-        IsDoorRun D.Wire.readable D.Wire.writable
-        (trace_by D.Wire.given D.Wire.written D.Wire.answers D.Wire.rooms) config tells
+    // The monitor received exactly the events of the run. The application had exactly its exchanges: the requests that
+    // the server handed over, in order, and the responses that it gave.
+    ensures run { IsRun A.follows A.idle D.Wire.readable D.Wire.writable
+        (trace_by D.Wire.given D.Wire.written D.Wire.answers D.Wire.rooms) config
+        (run_tells (TellsMore (C.moments clocks.old.time) (C.moments clocks.new.time))
+        (TellsMore (U.moments clocks.old.uptime) (U.moments clocks.new.uptime))
         (TellsMore (D.calls door.old) (D.calls door.new)) (FollowsMore (M.follows monitor.old) (M.follows monitor.new))
-        result }
+        (AnswersMore (A.follows application.old) (A.follows application.new))) result }
 {
-    let Ok(mut service) = Service::new(alloc, config) else {
-        return Err(IoFault::Memory);
-    };
-    let mut wait = Wait::No;
-    for turn in 0..config.turns() {
-        wait_after_turn(door, turn, wait, service.can_open());
-        let _ = service.tick_with(clock.now(), monitor);
-        wait = service.turn_with(door, monitor)?;
-        monitor.turn_ended();
-    }
-    Err(IoFault::Turns)
+    run(
+        alloc,
+        door,
+        &mut clocks.time,
+        &mut clocks.uptime,
+        config,
+        application,
+        monitor,
+    )
 }
 
-/// Serves the connections that a listener accepts, as `serve_door_with` does, and ends those that are silent.
-///
-/// `uptime` is read once in each turn, after the time was set. It must be a clock that never goes back, such as
-/// `RunClock` of `coap_sockets`. If its time differs from that of the last sweep by `watch`, silent connections are
-/// released or dropped (`Service::end_silent`) before the turn goes on. While a connection exists, the listener waits at
-/// most until the next second.
-///
-/// # Errors
-///
-/// Those of `serve_door`.
-pub fn serve_door_timed<D: Door, C: Clock, U: Clock, M: Monitor<D::Wire>>(
+/// Runs turns of a new service, at most as many as the configuration allows.
+fn run<D: Door, C: Clock, U: Clock, A: Application, M: Monitor<D::Wire>>(
     alloc: Global,
     door: &mut D,
     clock: &mut C,
     uptime: &mut U,
-    config: Config,
-    idle: u32,
-    watch: &mut SilenceWatch<M>,
+    config: ServiceConfig,
+    application: &mut A,
+    monitor: &mut M,
 ) -> Result<(), IoFault>
     ensures fault { IsMemoryOrTurns result }
-    // The run consists of whole turns, as the traces of both clocks and of the listener record them. Before each turn,
-    // silent connections are ended if the time differs from that of the last sweep. Their activities follow the calls
-    // that the monitor received.
-    ensures run { IsTimedRun D.Wire.readable D.Wire.writable
-        (trace_by D.Wire.given D.Wire.written D.Wire.answers D.Wire.rooms) config idle watch.old.now
-        watch.old.activities.entries
-        (TellsMore (C.moments clock.old) (C.moments clock.new)) (TellsMore (U.moments uptime.old) (U.moments uptime.new))
-        (TellsMore (D.calls door.old) (D.calls door.new))
-        (FollowsMore (M.follows watch.old.monitor) (M.follows watch.new.monitor)) result }
+    ensures run { IsRun A.follows A.idle D.Wire.readable D.Wire.writable
+        (trace_by D.Wire.given D.Wire.written D.Wire.answers D.Wire.rooms) config
+        (run_tells (TellsMore (C.moments clock.old) (C.moments clock.new))
+        (TellsMore (U.moments uptime.old) (U.moments uptime.new)) (TellsMore (D.calls door.old) (D.calls door.new))
+        (FollowsMore (M.follows monitor.old) (M.follows monitor.new))
+        (AnswersMore (A.follows application.old) (A.follows application.new))) result }
 {
+    let turns = config.config.turns();
     let Ok(mut service) = Service::new(alloc, config) else {
         return Err(IoFault::Memory);
     };
     let mut wait = Wait::No;
-    for turn in 0..config.turns() {
+    for turn in 0..turns {
         wait_after_turn(door, turn, wait, service.can_open());
+        let now = clock.now();
         let second = uptime.now();
-        end_silent_after(&mut service, second, idle, watch);
-        // A response that is due now keeps its connection until its bytes have been written.
-        let _ = service.tick_with(clock.now(), watch);
-        let asked = service.turn_with(door, watch)?;
-        wait = service.at_most_a_second(asked);
-        watch.turn_ended();
+        let times = Times { now, second };
+        wait = service.turn(door, times, application, monitor)?;
     }
     Err(IoFault::Turns)
-}
-
-/// Ends the silent connections of a service, if the time differs from that of the last sweep.
-fn end_silent_after<W: Wire + Ready + Drop, M: Monitor<W>>(
-    service: &mut Service<W>,
-    second: u64,
-    idle: u32,
-    watch: &mut SilenceWatch<M>,
-)
-    requires { service.old.is_spent ≡ false }
-    ensures swept { HasSwept (FollowsMore (M.follows watch.old.monitor) (M.follows watch.new.monitor))
-        (due_sweep (is_sweep_due watch.old.now second) idle second service.old.server watch.old.activities.entries
-        service.old.peers.entries) service.old.server service.new.server watch.new.activities.entries }
-    ensures entries { service.new.peers.entries
-        ≡ (due_sweep (is_sweep_due watch.old.now second) idle second service.old.server watch.old.activities.entries
-        service.old.peers.entries).entries }
-    ensures now { watch.new.now ≡ second }
-    ensures spent { service.new.is_spent ≡ false }
-{
-    if second != watch.now {
-        service.end_silent(idle, second, watch);
-    }
 }
 
 /// Lets the listener wait after a turn; `turns` is the number of turns made. There is no wait before the first turn.

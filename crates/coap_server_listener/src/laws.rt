@@ -1,10 +1,11 @@
-//! Theorems on an event loop that skips idle connections. Each is the contract of a function with an empty body.
+//! Theorems on an event loop that skips idle connections, and on the calls of a run. Each is the contract of a function with an empty body.
 
-ghost use Rattle.std.specs.Prelude.{◌≡◌, ℕ, Bool, ◌+◌, ◌≤◌, List, false};
+ghost use Rattle.std.specs.Prelude.{◌≡◌, ℕ, Bool, ◌+◌, ◌≤◌, List, All, false};
 ghost use Rattle.coap_server_listener.specs.Prelude.{AcceptedCall, ConfigValues, ServerValue, AreSettled, LiesAt};
 ghost use Rattle.coap_server_listener.specs.Prelude.{server_opened, server_ticked, server_dropped, IsNoOp};
 ghost use Rattle.coap_server_listener.specs.Prelude.{IsServedOnce, can_go_on};
 ghost use Rattle.coap_server_listener.specs.Prelude.{is_over_in, wants_of, IsNoEarlier, KeepsNotes, WhilePassedOver};
+ghost use Rattle.coap_server_listener.specs.Prelude.{AreRunSteps, Exchange, IsRunCall};
 ghost use Rattle.coap_server_listener.specs.Prelude.{WireTrace, PeerOutcome, ChangeStamp, outlook_of, stamp_of};
 
 /// States that an idle connection may be skipped.
@@ -64,4 +65,11 @@ pub fn recorded_interests_stay_valid()
         AreSettled v.host v.sessions → WhilePassedOver id v after → stamp_of after.host ≡ stamp_of v.host →
         LiesAt id i after.sessions → can_go_on (wants_of v id rest) may_read may_write ≡ false →
         is_over_in (outlook_of v id) ≡ false → IsNoOp may_read may_write after id rest }
+{}
+
+/// States that a run stores and removes no resource for the embedding program, and announces no message size. So a script
+/// makes each call of a run again, from its line in a record alone.
+pub fn a_run_announces_no_size()
+    ensures { (v after : ServerValue) (events : List AcceptedCall) (exchanges : List Exchange) →
+        AreRunSteps v after events exchanges → All IsRunCall events }
 {}

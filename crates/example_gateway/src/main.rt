@@ -6,7 +6,10 @@
 #![tactic(auto)]
 
 use anyhow::{Context, Result, bail};
-use coap_serve::{Clock, Config, Door, Limits, PathKey, Service, Starts};
+use coap_serve::{
+    Clock, Config, Door, Limits, NoApplication, NoMonitor, PathKey, Service, ServiceConfig, Starts,
+    Times,
+};
 use coap_sockets::{SocketDoor, SystemClock};
 use std::io::Read;
 use std::net::{Net, SocketAddr};
@@ -51,14 +54,16 @@ fn turn<R: Files + AllocGlobal, D: Door>(
     service: &mut Service<D::Wire>,
 ) -> Result<()> {
     let value = measured(rt, file)?;
-    let _ = service.tick(now);
     // Each `put` notifies the observers, so only a new value is stored. `put` fails if a client deleted the
     // resource and stored another one, since the server stores only one. It is then repeated in the next turn.
-    if stored.as_ref() != Some(&value) && service.put(path, Some(0), &value).is_ok() {
+    if stored.as_ref() != Some(&value)
+        && service.put(path, Some(0), &value, &mut NoMonitor).is_ok()
+    {
         *stored = Some(value);
     }
+    let times = Times { now, second: 0 };
     let wait = service
-        .turn(door)
+        .turn(door, times, &mut NoApplication, &mut NoMonitor)
         .context("no memory to serve the connections")?;
     door.wait(wait.at_most(now.saturating_add(1)), service.can_open());
     Ok(())
@@ -80,7 +85,9 @@ fn serve(
         "example_gateway: listening on {}",
         door.address().unwrap_or(address)
     )?;
-    let mut service = Service::new(rt.alloc(), config).context("no memory for the server")?;
+    let mut service = Service::new(rt.alloc(), ServiceConfig::new(config)).context(
+        "no memory for the server",
+    )?;
     run(
         rt,
         file,

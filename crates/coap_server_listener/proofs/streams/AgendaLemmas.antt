@@ -3,7 +3,9 @@ use Rattle.std.proofs.Common.{◌≡◌, ◌⊎◌, ℕ, suc, ◌+◌, ◌≤◌
 use Rattle.std.proofs.lemmas.Bool.Decides.{nat_tests}
 use Rattle.coap_server_listener.specs.Prelude.{AllByRecursion, keys_of, values_of, NextWakeup, PeerOutcome, Over, PeerInterest, ServerState, ConnectionWork}
 use Rattle.coap_server_listener.specs.Prelude.{ChangeStamp, sooner, stamp_of, outlook_of, ServerValue, server_opened}
-use Rattle.coap_server_listener.specs.Prelude.{server_dropped, PeerStatus, agenda_with, agenda_past, IsAsked, IsServed, Taking, CanGoOn}
+use Rattle.coap_server_listener.specs.Prelude.{server_dropped, PeerStatus, agenda_with, agenda_past, IsAsked, Taking, CanGoOn}
+use Rattle.coap_server_listener.specs.streams.Serving.{IsVisited}
+use Rattle.coap_server_listener.specs.streams.Turns.{new_activity}
 use Rattle.coap_server_listener.specs.Prelude.{IsIdle, IsInTurn, IsAgendaOf, least_with, wants_in, wants_of, end_of}
 use Rattle.coap_server_listener.specs.Prelude.{insert_entry, Peer, open_refusal, HasGoneOn, HasOneMore, AreServed, NoMore}
 use Rattle.coap_server_listener.specs.Prelude.{AcceptedCall, AreCallsBetween, Following, FollowsMore, HasAccepted, Answering, AnswersMore, Exchange, dropped_events, events_left, exchanges_left, gone_exchanges}
@@ -14,6 +16,7 @@ use Rattle.std.proofs.lemmas.List.Sums.{fold-append}
 use Rattle.std.proofs.lemmas.Option.{same_Some, slice_get_cases, slice_get-map, slice_get_within, get_or_from_slice_get}
 use Rattle.std.proofs.lemmas.Bool.{or_parts, or_left}
 use Rattle.std.proofs.Math.Bool.{or_assoc, or-false}
+use Rattle.coap_server_engine.specs.declared.monitor.DropReason.{DropReason}
 use Rattle.coap_server_listener.specs.declared.door.peer.PeerOutcome.TheVariants.{Open}
 use Rattle.coap_model.proofs.world.EntryLemmas.{all_append}
 use Rattle.coap_model.proofs.OptionLemmas.{one_made}
@@ -184,15 +187,16 @@ stamp_noted es i {p} v at noted open_now =
     rw (← there.2, ap (λ (w : PeerInterest). w.stamp) (note open_now)) (stamp_in (outlook_of v there.0.0) _ (stamp_of v.host))
 
 -- Another connection was opened.
-pub one_more_opened : {W : Type 0} (v after : ServerValue) (id : ℕ) (p : Peer W) (es now : List (ℕ × Peer W)) → open_refusal v ≡ None → id ≡ v.ids + 1 → after ≡ server_opened v → now ≡ insert_entry nat_eq es id p → p.rest ≡ [] → HasOneMore p.wire v es after now
-one_more_opened v after id p es now may number opened entries rest = record { peer = p; may = may; server = opened; entries = rw (← number) entries; rest = rest; handed = refl }
+pub one_more_opened : {W : Type 0} (v after : ServerValue) (id : ℕ) (p : Peer W) (es now : List (ℕ × Peer W)) → open_refusal v ≡ None → id ≡ v.ids + 1 → after ≡ server_opened v → now ≡ insert_entry nat_eq es id p → p.rest ≡ []
+    → (second : ℕ) → p.activity ≡ new_activity second → HasOneMore second p.wire v es after now
+one_more_opened v after id p es now may number opened entries rest second times = record { activity = times; peer = p; may = may; server = opened; entries = rw (← number) entries; rest = rest; handed = refl }
 
-module _ {W : Type 0} (Takes : Taking) (readable writable : W → Option Bool) (trace : W → WireTrace) where
+module _ {W : Type 0} (Takes : Taking) (second : ℕ) (readable writable : W → Option Bool) (trace : W → WireTrace) where
   -- ---- one after the other
 
   -- Two lists that were served, one after the other.
-  both_served : {n : ℕ} {u v w : ServerValue} {es fs ls ms : List (ℕ × Peer W)} {one other : Bool} {xs ys : List AcceptedCall} {ps qs : List Exchange} (m : ℕ) → m ≡ n + length ls → AreServed Takes readable writable trace n u es one v ls xs ps → AreServed Takes readable writable trace m v fs other w ms ys qs
-      → AreServed Takes readable writable trace n u (es ++ fs) (one || other) w (ls ++ ms) (xs ++ ys) (ps ++ qs)
+  both_served : {n : ℕ} {u v w : ServerValue} {es fs ls ms : List (ℕ × Peer W)} {one other : Bool} {xs ys : List AcceptedCall} {ps qs : List Exchange} (m : ℕ) → m ≡ n + length ls → AreServed Takes second readable writable trace n u es one v ls xs ps → AreServed Takes second readable writable trace m v fs other w ms ys qs
+      → AreServed Takes second readable writable trace n u (es ++ fs) (one || other) w (ls ++ ms) (xs ++ ys) (ps ++ qs)
   both_served m many (NoMore n start) two = let same : m ≡ n = omega (arith, many) in rw same at two
   both_served m many (PassedOver n start e others changed after left events exchanges rests rest) two =
       PassedOver n start e _ _ _ _ _ _ rests (both_served m (omega (arith, many)) rest two)
@@ -201,7 +205,7 @@ module _ {W : Type 0} (Takes : Taking) (readable writable : W → Option Bool) (
       (HadItsPart n start e _ between its own asked _ _ _ _ _ in_turn part (both_served m (omega (arith, many, length-append its left)) rest two))
 
   -- Idle connections only.
-  all_passed : (n : ℕ) (v : ServerValue) (es : List (ℕ × Peer W)) → AllByRecursion (IsIdle (stamp_of v.host)) (map (λ e. end_of readable writable e.1) es) → AreServed Takes readable writable trace n v es false v es [] []
+  all_passed : (n : ℕ) (v : ServerValue) (es : List (ℕ × Peer W)) → AllByRecursion (IsIdle (stamp_of v.host)) (map (λ e. end_of readable writable e.1) es) → AreServed Takes second readable writable trace n v es false v es [] []
   all_passed n v [] rests = NoMore n v
   all_passed n v (e ∷ es) rests = PassedOver n v e es false v es [] [] rests.0 (all_passed (n + 1) v es rests.1)
 
@@ -209,7 +213,7 @@ module _ {W : Type 0} (Takes : Taking) (readable writable : W → Option Bool) (
   pub record AreServedTo (u : ServerValue) (all : List (ℕ × Peer W)) (v : ServerValue) (now : List (ℕ × Peer W)) (at : ℕ) (changed : Bool) (events : List AcceptedCall) (exchanges : List Exchange) : Type 0 where
     pub done : List (ℕ × Peer W)
     pub all_of_them : all ≡ done ++ drop at now
-    pub served : AreServed Takes readable writable trace 0 u done changed v (take at now) events exchanges
+    pub served : AreServed Takes second readable writable trace 0 u done changed v (take at now) events exchanges
 
   -- The connections up to another index were skipped.
   pub passed_on : {u v : ServerValue} {all now : List (ℕ × Peer W)} (from to : ℕ) {changed : Bool} {stamp : ChangeStamp} {events : List AcceptedCall} {exchanges : List Exchange} → stamp ≡ stamp_of v.host → from ≤ to → to ≤ length now → AllByRecursion (IsIdle stamp) (map (λ e. end_of readable writable e.1) (drop from (take to now)))
@@ -218,11 +222,11 @@ module _ {W : Type 0} (Takes : Taking) (readable writable : W → Option Bool) (
     done = before.done ++ drop from (take to now);
     all_of_them =
         rw (append_assoc, ← drop-append-le from (take to now) (drop to now) (omega (arith, length-take to now)), take-append-drop) before.all_of_them;
-    served = subst (λ ls. AreServed Takes readable writable trace 0 u (before.done ++ drop from (take to now)) changed v ls events exchanges) (front_between now from to order)
+    served = subst (λ ls. AreServed Takes second readable writable trace 0 u (before.done ++ drop from (take to now)) changed v ls events exchanges) (front_between now from to order)
         (rw (or-false changed, append-nil events, append-nil exchanges) at (both_served from (omega (arith, length-take-le from now (omega (arith, order, within)))) before.served (all_passed from v (drop from (take to now)) (rw is at rests))));
   }
 
-  pub one_further : {u v w : ServerValue} {all es now : List (ℕ × Peer W)} {i at : ℕ} {changed : Bool} {xs ys : List AcceptedCall} {ps qs : List Exchange} → IfSome (slice_get es i) (λ e. IsInTurn (stamp_of v.host) (end_of readable writable e.1)) → HasGoneOn Takes readable writable trace v es i w now at ys qs → AreServedTo u all v es i changed xs ps
+  pub one_further : {u v w : ServerValue} {all es now : List (ℕ × Peer W)} {i at : ℕ} {changed : Bool} {xs ys : List AcceptedCall} {ps qs : List Exchange} → IfSome (slice_get es i) (λ e. IsInTurn (stamp_of v.host) (end_of readable writable e.1)) → HasGoneOn Takes second readable writable trace v es i w now at ys qs → AreServedTo u all v es i changed xs ps
       → AreServedTo u all w now at (changed || concerns_earlier i (stamp_of v.host) (stamp_of w.host)) (xs ++ ys) (ps ++ qs)
   one_further {v = v} {w = w} {es = es} {i = i} {ys = ys} {qs = qs} in_turn gone before =
       let within = slice_get_within es i gone.e gone.there in
@@ -233,7 +237,7 @@ module _ {W : Type 0} (Takes : Taking) (readable writable : W → Option Bool) (
         served = rw gone.front (both_served i (omega (arith, length-take-le i es (omega (arith, within)))) before.served (rw (append-nil gone.its, append-nil ys, append-nil qs, or-false) at one));
       }
 
-  pub all_are_served : {u v : ServerValue} {all now : List (ℕ × Peer W)} {at : ℕ} {changed : Bool} {events : List AcceptedCall} {exchanges : List Exchange} → length now ≤ at → AreServedTo u all v now at changed events exchanges → AreServed Takes readable writable trace 0 u all changed v now events exchanges
+  pub all_are_served : {u v : ServerValue} {all now : List (ℕ × Peer W)} {at : ℕ} {changed : Bool} {events : List AcceptedCall} {exchanges : List Exchange} → length now ≤ at → AreServedTo u all v now at changed events exchanges → AreServed Takes second readable writable trace 0 u all changed v now events exchanges
   all_are_served {now = now} {at = at} most before = rw (before.all_of_them, drop_all at now most, append-nil) (rw (take_all at now most) at before.served)
 
   -- The progress of a turn through the connections, with the work that remains on those before an index.
@@ -261,11 +265,11 @@ module _ {W : Type 0} (Takes : Taking) (readable writable : W → Option Bool) (
     back_same = append_cancel_left (take i es) (drop (suc i) mid) (drop (suc i) es) (rw before at beside)
 
     module _ (a b : Following) (p q : Answering) (course : PeerOutcome)
-        (part : IfSome (slice_get es i) (λ was. IfSome (slice_get mid i) (λ is. HasAccepted (IsServed Takes (readable was.1.wire) (writable was.1.wire) v was.0 was.1.rest (trace was.1.wire) between is.1.rest (trace is.1.wire) course) (FollowsMore a b) (AnswersMore p q) v between))) where
-      its_part : HasAccepted (IsServed Takes (readable entry_was_there.0.1.wire) (writable entry_was_there.0.1.wire) v entry_was_there.0.0 entry_was_there.0.1.rest (trace entry_was_there.0.1.wire) between is_there.0.rest (trace is_there.0.wire) course) (FollowsMore a b) (AnswersMore p q) v between
+        (part : IfSome (slice_get es i) (λ was. IfSome (slice_get mid i) (λ is. HasAccepted (IsVisited Takes second (readable was.1.wire) (writable was.1.wire) trace v was between is.1 course) (FollowsMore a b) (AnswersMore p q) v between))) where
+      its_part : HasAccepted (IsVisited Takes second (readable entry_was_there.0.1.wire) (writable entry_was_there.0.1.wire) trace v entry_was_there.0 between is_there.0 course) (FollowsMore a b) (AnswersMore p q) v between
       its_part = rw is_there.1 at (rw entry_was_there.1 at part)
 
-      pub one_open : course ≡ Open → HasAccepted (HasGoneOn Takes readable writable trace v es i between mid (i + 1)) (FollowsMore a b) (AnswersMore p q) v between
+      pub one_open : course ≡ Open → HasAccepted (HasGoneOn Takes second readable writable trace v es i between mid (i + 1)) (FollowsMore a b) (AnswersMore p q) v between
       one_open open_now = record {
         events = its_part.events;
         exchanges = its_part.exchanges;
@@ -292,8 +296,8 @@ module _ {W : Type 0} (Takes : Taking) (readable writable : W → Option Bool) (
         exchanged = its_part.exchanged;
       }
 
-      pub one_over : (c : Following) (r : Answering) (after : ServerValue) (now : List (ℕ × Peer W)) → course ≡ Over → now ≡ remove mid i → IfSome (slice_get (keys_of mid) i) (λ id. after ≡ server_dropped between id)
-          → IfSome (slice_get (keys_of mid) i) (λ id. AreCallsBetween (FollowsMore b c) between after (dropped_events between id)) → IfSome (slice_get (keys_of mid) i) (λ id. AnswersMore q r (gone_exchanges between id)) → HasAccepted (HasGoneOn Takes readable writable trace v es i after now i) (FollowsMore a c) (AnswersMore p r) v after
+      pub one_over : (c : Following) (r : Answering) (after : ServerValue) (now : List (ℕ × Peer W)) {reason : DropReason} → course ≡ Over reason → now ≡ remove mid i → IfSome (slice_get (keys_of mid) i) (λ id. after ≡ server_dropped between id)
+          → IfSome (slice_get (keys_of mid) i) (λ id. AreCallsBetween (FollowsMore b c) between after (dropped_events between id)) → IfSome (slice_get (keys_of mid) i) (λ id. AnswersMore q r (gone_exchanges between id)) → HasAccepted (HasGoneOn Takes second readable writable trace v es i after now i) (FollowsMore a c) (AnswersMore p r) v after
       one_over c r after now over removed dropped accepted gone = record {
         events = its_part.events ++ dropped_events between entry_was_there.0.0;
         exchanges = its_part.exchanges ++ gone_exchanges between entry_was_there.0.0;

@@ -8,7 +8,7 @@ use Rattle.coap_server_engine.specs.values.ApplicationCalls.{AreGivenLater, Noth
 use Rattle.coap_server_engine.proofs.scripting.ShownLemmas.{shows_same, shows_then}
 use Rattle.coap_server_engine.proofs.scripting.FollowLemmas.{followed_none, followed_then}
 use Rattle.coap_server_listener.proofs.streams.NoteLemmas.{offers_sparing, stays_noted}
-use Rattle.coap_server_listener.proofs.streams.RemovalLemmas.{all_recorded}
+use Rattle.coap_server_listener.proofs.streams.RemovalLemmas.{all_noted_on, recorded_noted}
 use Rattle.coap_server_listener.proofs.streams.ServingLemmas.{answered_none, answered_then}
 
 -- This number of later responses was given, with these events and exchanges.
@@ -22,6 +22,10 @@ pub record HasGivenLater (v : ServerValue) (number : ℕ) (after : ServerValue) 
 
 pub none_given : (a : Following) (p : Answering) (v : ServerValue) → HasGivenLater v 0 v (FollowsMore a a) (AnswersMore p p)
 none_given a p v = record { events = []; exchanges = []; given = NothingGiven; shows = shows_same v v refl; tells = followed_none a; exchanged = answered_none p }
+
+-- The application was not asked.
+pub not_asked : (a : Following) (p : Answering) (v : ServerValue) → AreAskedLater v 256 false v (FollowsMore a a) (AnswersMore p p)
+not_asked a p v = record { number = 0; events = []; exchanges = []; given = NothingGiven; within = omega arith; over = refl; shows = shows_same v v refl; tells = followed_none a; exchanged = answered_none p }
 
 -- One more response was given.
 pub one_more_given : (a b c : Following) (p q r : Answering) (v u w : ServerValue) (n : ℕ) (id : Option ℕ) (is_one : Bool) → HasGivenLater v n u (FollowsMore a b) (AnswersMore p q) → is_one ≡ is_some id → IsAskedLater u id w (FollowsMore b c) (AnswersMore q r) → is_one ≡ true
@@ -52,20 +56,6 @@ no_more_given a b c p q r v u w n most None is_one so_far is asked none within =
   exchanged = answered_then p q r so_far.exchanges [] so_far.exchanged asked.1.1;
 }
 
--- As many as are asked for were given.
-pub all_given : (v w : ServerValue) (n most : ℕ) (monitor : List AcceptedCall → Type 0) (asks : List Exchange → Type 0) → HasGivenLater v n w monitor asks → n ≡ most → AreAskedLater v most (n == most) w monitor asks
-all_given v w n most monitor asks so_far all = record {
-  number = n;
-  events = so_far.events;
-  exchanges = so_far.exchanges;
-  given = so_far.given;
-  within = omega (arith, all);
-  over = refl;
-  shows = so_far.shows;
-  tells = so_far.tells;
-  exchanged = so_far.exchanged;
-}
-
 -- ---- the recorded interests
 
 -- To record an interest changes nothing else.
@@ -85,4 +75,4 @@ pub noted_where_given : {W : Type 0} (monitor : List AcceptedCall → Type 0) (a
     → All (IsNoted v) es → All (IsNoted after) now
 noted_where_given monitor asks v after id es now settled asked is noted =
     rw is (All-from_recursion (IsNoted after) (recorded_on after id es)
-    (all_recorded v after id (stays_noted (offers_sparing v after id asked.bytes asked.server) settled) es (recursion_from_All (IsNoted v) es noted)))
+    (all_noted_on (recorded after) v after id (stays_noted (offers_sparing v after id asked.bytes asked.server) settled) (recorded_noted after) es (recursion_from_All (IsNoted v) es noted)))

@@ -215,8 +215,8 @@ served_no_earlier may_read may_write v id rest after left course part = (served_
 pub dropped_on : (v : ServerValue) (id : ℕ) → GoesOnSparing (But id) v (server_dropped v id)
 dropped_on v id = entries_settle (But id) v v.host v.ids (filter (is_other id) v.sessions) (follows_itself v.host) (λ other. other_is_kept other id v.sessions)
 
-pub released_on : (v : ServerValue) (id : ℕ) → GoesOnSparing (But id) v (server_released v id)
-released_on v id = one_happens v id session_released v.host (follows_itself v.host)
+pub released_on_it : (v : ServerValue) (id : ℕ) → GoesOnSparing (But id) v (server_released v id)
+released_on_it v id = one_happens v id session_released v.host (follows_itself v.host)
 
 opened_on : (v : ServerValue) → GoesOnSparing (But (v.ids + 1)) v (server_opened v)
 opened_on v = entries_settle (But (v.ids + 1)) v v.host (v.ids + 1) _ (follows_itself v.host) (λ other. other_is_there other (v.ids + 1) _ v.sessions)

@@ -1,53 +1,83 @@
 -- The steps of serving a connection, and a value written at an index of a map whose keys are numbers.
-use Rattle.std.proofs.Common.{◌≡◌, ℕ, zero, suc, Bool, true, false, List, [], ◌∷◌, ◌++◌, take, Some, refl, ap, slice_get, remove}
-use Rattle.coap_server_listener.specs.Prelude.{set_value_at, ServerValue, WireTrace, Got, PeerOutcome, Taking, IsTakenInPart, is_heard}
+use Rattle.std.proofs.Common.{◌≡◌, ℕ, zero, suc, Bool, true, false, List, [], ◌∷◌, ◌++◌, take, Some, refl, sym, ap, ◌∙◌, ◌||◌, nat_lt, slice_get, remove}
+use Rattle.coap_server_listener.specs.Prelude.{set_value_at, AcceptedCall, ServerValue, WireTrace, Got, Bytes, End, Failed, Later, PeerOutcome, Taking, is_heard}
 use Rattle.coap_server_listener.specs.Prelude.{server_heard, server_wrote, has_failed, course_of, is_over_in, outlook_of}
 use Rattle.coap_server_listener.specs.Prelude.{waiting_once, IsLaidOut, IsOffered, IsServedOnceBy}
 use Rattle.coap_server_listener.specs.Prelude.{Answering, AnswersMore, AreCallsBetween, Following, FollowsMore, HasAccepted, Over, heard_events, wrote_events}
 use Rattle.std.proofs.lemmas.List.{append-nil}
-use Rattle.coap_server_listener.proofs.streams.ServingLemmas.{accepted_then, answered_none}
+use Rattle.coap_server_listener.proofs.streams.ServingLemmas.{accepted_then, answered_none, moved_then}
+use Rattle.coap_server_listener.specs.streams.Turns.{IsTakenInPartOf, activity_after, have_moved, has_written}
+use Rattle.coap_server_engine.specs.declared.monitor.DropReason.TheVariants as drop
+use Rattle.coap_server_listener.specs.declared.door.silence.Activity.{Activity}
+use Rattle.std.proofs.Math.Bool.{or-false}
+
+-- ---- transfers
+
+none_heard : (id : ℕ) (heard : Got) → have_moved (heard_events id heard) ≡ false
+none_heard id (Bytes n) = refl
+none_heard id Later = refl
+none_heard id End = refl
+none_heard id Failed = refl
+
+some_written : (id : ℕ) (wrote : Got) → have_moved (wrote_events id wrote) ≡ has_written wrote
+some_written id (Bytes n) = or-false (nat_lt 0 n)
+some_written id Later = refl
+some_written id End = refl
+some_written id Failed = refl
+
+-- The calls of a read, of takes that accepted this number of bytes, and of a write.
+all_moved : (id : ℕ) (heard wrote : Got) (takes : List AcceptedCall) (n : ℕ) → have_moved takes ≡ nat_lt 0 n
+    → have_moved (heard_events id heard ++ (takes ++ wrote_events id wrote)) ≡ (nat_lt 0 n || has_written wrote)
+all_moved id heard wrote takes n moved =
+    rw (moved_then (heard_events id heard) (takes ++ wrote_events id wrote), none_heard id heard, moved_then takes (wrote_events id wrote), moved, some_written id wrote) refl
+
+-- ---- the steps of a visit
 
 -- A read that did not fail, then the processing of its bytes, then a write.
-pub steps_are_a_part : (Takes : Taking) (may_read may_write : Bool) (v heard_by taken after : ServerValue) (id : ℕ) (rest bytes left : List ℕ) (wire between wire_after : WireTrace) (heard wrote : Got) (course : PeerOutcome) (a b c d : Following) (p q : Answering)
+pub steps_are_a_part : (Takes : Taking) (may_read may_write : Bool) (v heard_by taken after : ServerValue) (id : ℕ) (rest bytes left : List ℕ) (wire between wire_after : WireTrace) (heard wrote : Got) (course : PeerOutcome) (a b c d : Following) (p q : Answering) (second n : ℕ) (times later : Activity)
     → heard_by ≡ server_heard v id heard → IsLaidOut (is_heard may_read v id rest) rest wire heard bytes between → has_failed heard ≡ false
-    → HasAccepted (IsTakenInPart Takes heard_by id bytes taken left) (FollowsMore b c) (AnswersMore p q) heard_by taken → IsOffered (waiting_once may_write id taken) between wrote wire_after
+    → HasAccepted (IsTakenInPartOf Takes heard_by id bytes taken left n) (FollowsMore b c) (AnswersMore p q) heard_by taken → IsOffered (waiting_once may_write id taken) between wrote wire_after
     → after ≡ server_wrote taken id wrote → course ≡ course_of wrote (is_over_in (outlook_of after id))
     → AreCallsBetween (FollowsMore a b) v heard_by (heard_events id heard) → AreCallsBetween (FollowsMore c d) taken after (wrote_events id wrote)
-    → HasAccepted (IsServedOnceBy Takes may_read may_write v id rest wire after left wire_after course) (FollowsMore a d) (AnswersMore p q) v after
-steps_are_a_part Takes may_read may_write v heard_by taken after id rest bytes left wire between wire_after heard wrote course a b c d p q heard_so laid works part offered wrote_so outcome heard_accepted wrote_accepted = record {
+    → later ≡ activity_after second (nat_lt 0 n || has_written wrote) times
+    → HasAccepted (λ events exchanges. IsServedOnceBy Takes may_read may_write v id rest wire after left wire_after course events exchanges × (later ≡ activity_after second (have_moved events) times)) (FollowsMore a d) (AnswersMore p q) v after
+steps_are_a_part Takes may_read may_write v heard_by taken after id rest bytes left wire between wire_after heard wrote course a b c d p q second n times later heard_so laid works part offered wrote_so outcome heard_accepted wrote_accepted after_so = record {
   events = heard_events id heard ++ (part.events ++ wrote_events id wrote);
   exchanges = part.exchanges;
-  made = record {
-    heard = heard;
-    bytes = bytes;
-    between = between;
-    laid = laid;
-    later = part.events ++ wrote_events id wrote;
-    carried = rw works (record {
-      taken = taken;
-      takes = part.events;
-      part = rw (← heard_so) part.made;
-      wrote = wrote;
-      offered = offered;
-      server = wrote_so;
-      outcome = outcome;
+  made = (
+    record {
+      heard = heard;
+      bytes = bytes;
+      between = between;
+      laid = laid;
+      later = part.events ++ wrote_events id wrote;
+      carried = rw works (record {
+        taken = taken;
+        takes = part.events;
+        part = rw (← heard_so) part.made.part;
+        wrote = wrote;
+        offered = offered;
+        server = wrote_so;
+        outcome = outcome;
+        all = refl;
+      });
       all = refl;
-    });
-    all = refl;
-  };
+    },
+    after_so ∙ ap (λ moved. activity_after second moved times) (sym (all_moved id heard wrote part.events n part.made.moved)),
+  );
   accepted = accepted_then a b d v heard_by after (heard_events id heard) (part.events ++ wrote_events id wrote) heard_accepted
       (accepted_then b c d heard_by taken after part.events (wrote_events id wrote) part.accepted wrote_accepted);
   exchanged = part.exchanged;
 }
 
 -- A read that failed.
-pub failed_read_is_a_part : (Takes : Taking) (may_read may_write : Bool) (v after : ServerValue) (id : ℕ) (rest bytes left : List ℕ) (wire between : WireTrace) (heard : Got) (a b : Following) (p : Answering)
+pub failed_read_is_a_part : (Takes : Taking) (may_read may_write : Bool) (v after : ServerValue) (id : ℕ) (rest bytes left : List ℕ) (wire between : WireTrace) (heard : Got) (a b : Following) (p : Answering) (second : ℕ) (times : Activity)
     → after ≡ server_heard v id heard → IsLaidOut (is_heard may_read v id rest) rest wire heard bytes between → has_failed heard ≡ true → AreCallsBetween (FollowsMore a b) v after (heard_events id heard)
-    → HasAccepted (IsServedOnceBy Takes may_read may_write v id rest wire after left between Over) (FollowsMore a b) (AnswersMore p p) v after
-failed_read_is_a_part Takes may_read may_write v after id rest bytes left wire between heard a b p heard_so laid fails accepted = record {
+    → HasAccepted (λ events exchanges. IsServedOnceBy Takes may_read may_write v id rest wire after left between (Over drop.Failed) events exchanges × (times ≡ activity_after second (have_moved events) times)) (FollowsMore a b) (AnswersMore p p) v after
+failed_read_is_a_part Takes may_read may_write v after id rest bytes left wire between heard a b p second times heard_so laid fails accepted = record {
   events = heard_events id heard ++ [];
   exchanges = [];
-  made = record { heard = heard; bytes = bytes; between = between; laid = laid; later = []; carried = rw fails (heard_so, refl, refl, refl, refl); all = refl };
+  made = (record { heard = heard; bytes = bytes; between = between; laid = laid; later = []; carried = rw fails (heard_so, refl, refl, refl, refl); all = refl }, sym (ap (λ moved. activity_after second moved times) (all_moved id heard Later [] 0 refl)));
   accepted = rw append-nil accepted;
   exchanged = answered_none p;
 }

@@ -1,21 +1,19 @@
 -- The events of the parts of a turn.
-use Rattle.std.proofs.Common.{◌≡◌, ◌≢◌, ℕ, zero, suc, ◌+◌, Bool, true, false, List, [], ◌∷◌, ◌++◌, length, take, drop, Option, Some, None, Result, append_assoc, arith, refl, sym, ◌∙◌, ◌⊎◌, inl, inr}
-use Rattle.std.proofs.lemmas.List.{append-nil}
-use Rattle.coap_server_listener.specs.Prelude.{AllByRecursion, InResult, fed_turns, where_there, took_turns, took, ShowsMore}
-use Rattle.coap_server_listener.specs.Prelude.{FollowsMore, Following, IsServing, HasTurned, opening, ServerValue, session_of}
+use Rattle.std.proofs.Common.{◌≡◌, ◌≢◌, ℕ, ◌+◌, ◌<◌, ◌||◌, not, nat_lt, true, false, List, [], ◌∷◌, ◌++◌, length, take, drop, Option, Some, None, Result, append_assoc, arith, refl, sym, ap, ◌∙◌, inl, inr}
+use Rattle.std.proofs.lemmas.Bool.{and_parts, ltb-true}
+use Rattle.std.proofs.lemmas.Bool.Decides.{nat_tests}
+use Rattle.std.proofs.lemmas.List.{append-nil, length-drop, length-take}
+use Rattle.std.proofs.Math.Bool.{or_assoc}
+use Rattle.coap_server_listener.specs.Prelude.{where_there, ShowsMore, FollowsMore, Following, opening, ServerValue, session_of, count_taken, server_taken}
 use Rattle.coap_server_listener.specs.Prelude.{SessionValue, AcceptedCall, Opened, Took, Ended, Wrote, Dropped, server_dropped, server_opened}
 use Rattle.coap_server_listener.specs.Prelude.{Answering, AnswersMore, Exchange, Gone, HasServedBy, HasTurnedBy, HasOpened, TakingSteps, AreTakenWith, NoneTaken, AreStepsBy, IsTakenWith}
-use Rattle.coap_server_listener.specs.Prelude.{AreCallsBetween, HasAccepted, IsTakenAlone, Got, Bytes, End, Failed, Later, dropped_events, gone_exchanges, gone_on, heard_events, is_ok, is_there, server_heard, server_wrote, wrote_events}
-use Rattle.coap_server_listener.specs.Prelude.{AreServed, HadItsPart, IsCarriedOn, IsServedOnceBy, IsTakenInPart, IsTurnBy, IsTurnOf, NoMore, Over, PassedOver, Peer, PeerOutcome, Wait, DoorCall, WireTrace, events_left, has_failed, rest_behind}
-use Rattle.coap_server_listener.specs.streams.Serving.{IsServedInTurn, exchanges_left}
-use Rattle.coap_server_engine.specs.Prelude.{AreUnanswered}
-use Rattle.coap_server_engine.proofs.values.UnansweredLemmas.{unanswered_parts, unanswered_take, unanswered_is_alone}
-use Rattle.coap_server_listener.specs.declared.door.peer.PeerOutcome.TheVariants.{Open}
+use Rattle.coap_server_listener.specs.Prelude.{AreCallsBetween, HasAccepted, Got, Bytes, End, Failed, Later, dropped_events, gone_exchanges, gone_on, heard_events, is_ok, is_there, server_heard, server_wrote, wrote_events}
+use Rattle.coap_server_listener.specs.streams.Turns.{IsTakenInPartOf, have_moved, moves, rest_behind}
 use Rattle.coap_server_listener.specs.streams.Serving.{NoStep, OneTaken, OneEnded, OneWrote, OneDropped}
-use Rattle.coap_server_engine.specs.values.InResults.{goes_on}
-use Rattle.coap_server_engine.specs.values.ApplicationCalls.{served, IsPartlyServed, IsServed as IsServedWith}
+use Rattle.coap_server_engine.specs.Prelude.{Message}
+use Rattle.coap_server_engine.specs.values.HandedRequests.{handed_by}
+use Rattle.coap_server_engine.specs.values.ApplicationCalls.{AreMade, asked_by, asking, message_limit, offered_events, response_for, served, IsPartlyServed, IsServed as IsServedWith}
 use Rattle.coap_server_engine.proofs.scripting.ShownLemmas.{shows_same, shows_then}
-use Rattle.coap_model.proofs.world.EntryLemmas.{all_append, all_if}
 use Rattle.coap_server_engine.proofs.scripting.FollowLemmas.{followed_none, followed_then}
 
 -- ---- exchanges one after the other
@@ -145,20 +143,41 @@ no_drop_accepted a v after id r answer err is = rw (not_there_called (Dropped id
 
 -- ---- calls of take
 
-there_serving : (id : ℕ) (bytes : List ℕ) (o : Option SessionValue) → AllByRecursion IsServing (where_there o (λ s. Took id bytes))
-there_serving id bytes o = grind arith
-
-takes_serving : (turns : ℕ) (v : ServerValue) (id : ℕ) (bytes : List ℕ) → AllByRecursion IsServing (took_turns turns v id bytes)
-unfolding took_turns
-takes_serving zero v id bytes = tt
-takes_serving (suc turns) v id bytes =
-    let f : InResult = fed_turns turns v id bytes in
-    all_append IsServing (took_turns turns v id bytes) _ (takes_serving turns v id bytes)
-    (all_if IsServing (goes_on bytes f) _ (there_serving id _ (session_of id f.server.sessions)))
-
 -- One call that passes bytes.
 one_taken : (S : TakingSteps) (v after : ServerValue) (es : List AcceptedCall) (xs : List Exchange) → S v after es xs → AreStepsBy S v after es xs
 one_taken S v after es xs step = OneTaken v after [] es [] xs NoStep step
+
+-- ---- transfers
+
+pub moved_then : (xs ys : List AcceptedCall) → have_moved (xs ++ ys) ≡ (have_moved xs || have_moved ys)
+moved_then [] ys = refl
+moved_then (x ∷ xs) ys = rw (moved_then xs ys, or_assoc (moves x) (have_moved xs) (have_moved ys)) refl
+
+-- A response transfers no byte.
+none_offered : (v : ServerValue) (id : ℕ) (bytes : List ℕ) → have_moved (offered_events v id bytes) ≡ false
+none_offered v id bytes = grind arith
+
+none_asked : (v : ServerValue) (id limit : ℕ) (response : List ℕ) (o : Option Message) → have_moved (asking v id limit response o).events ≡ false
+none_asked v id limit response None = refl
+none_asked v id limit response (Some m) = none_offered v id (response_for v id m.token response)
+
+-- Some bytes are left, and a take accepted `k` of them.
+some_taken : (c k : ℕ) (left : List ℕ) → 0 < length left → (nat_lt 0 c || (nat_lt 0 (length (take k left)) || false)) ≡ nat_lt 0 (c + k)
+some_taken c k left some = grind (arith, nat_tests, length-take k left)
+
+-- The takes of a connection transfer bytes if they accept some.
+served_moved : (v : ServerValue) (id : ℕ) (bytes : List ℕ) (responses : List (List ℕ)) → AreMade v id bytes responses
+    → have_moved (served v id bytes responses).events ≡ nat_lt 0 (served v id bytes responses).fed.count
+unfolding served
+served_moved v id bytes [] made = refl
+served_moved v id bytes (response ∷ responses) made =
+    let f = (served v id bytes responses).fed in
+    let more = ltb-true f.count (length bytes) (and_parts (nat_lt f.count (length bytes)) (not f.done) made.0).0 in
+    let left : List ℕ = drop f.count bytes in
+    let k : ℕ = count_taken f.server id left in
+    moved_then (served v id bytes responses).events (Took id (take k left) ∷ (asked_by f.server id left response).events)
+    ∙ rw (served_moved v id bytes responses made.1, none_asked (server_taken f.server id left) id (message_limit f.server id) response (handed_by f.server id left))
+    (some_taken f.count k left (omega (arith, more, length-drop f.count bytes)))
 
 -- ---- calls of take for an application
 
@@ -182,10 +201,22 @@ with_accepted follows one other a b v after id count bytes part = record {
 }
 
 -- The bytes that are kept.
-pub taken_in_part : {A : Type 0} (follows : A → Answering) (one other : A) (a b : Following) (v after : ServerValue) (id count : ℕ) (bytes left : List ℕ) → IsServedWith v id bytes count after (FollowsMore a b) (AnswersMore (follows one) (follows other)) → left ≡ rest_behind after id count bytes → HasAccepted (IsTakenInPart (IsTakenWith follows) v id bytes after left) (FollowsMore a b) (AnswersMore (follows one) (follows other)) v after
+pub taken_in_part : {A : Type 0} (follows : A → Answering) (one other : A) (a b : Following) (v after : ServerValue) (id count : ℕ) (bytes left : List ℕ)
+    → IsServedWith v id bytes count after (FollowsMore a b) (AnswersMore (follows one) (follows other)) → left ≡ rest_behind after id count bytes
+    → HasAccepted (IsTakenInPartOf (IsTakenWith follows) v id bytes after left count) (FollowsMore a b) (AnswersMore (follows one) (follows other)) v after
+unfolding with_accepted served
 taken_in_part follows one other a b v after id count bytes left part rest =
     let taken = with_accepted follows one other a b v after id count bytes part in
-    record { events = taken.events; exchanges = taken.exchanges; made = record { count = count; took = taken.made; rest = rest }; accepted = taken.accepted; exchanged = taken.exchanged }
+    record {
+      events = taken.events;
+      exchanges = taken.exchanges;
+      made = record {
+        part = record { count = count; took = taken.made; rest = rest };
+        moved = served_moved v id bytes part.responses part.made ∙ ap (λ n. nat_lt 0 n) (sym part.counted);
+      };
+      accepted = taken.accepted;
+      exchanged = taken.exchanged;
+    }
 
 pub with_served : (a b : Following) (p q : Answering) (v after : ServerValue) (id count : ℕ) (bytes : List ℕ) → IsServedWith v id bytes count after (FollowsMore a b) (AnswersMore p q) → HasServedBy AreTakenWith (FollowsMore a b) (AnswersMore p q) v after
 with_served a b p q v after id count bytes part = record {
@@ -270,161 +301,3 @@ turned_so_far S a b p {v} {w} one = record {
   tells = rw append-nil one.tells;
   exchanged = answered_none p;
 }
-
-pub turned_as_before : (S : TakingSteps) (a : Following) (p : Answering) (v after : ServerValue) → after ≡ v → HasTurnedBy S (FollowsMore a a) (AnswersMore p p) v after
-turned_as_before S a p v after is = turned_so_far S a a p (none_opened a v after is)
-
--- ---- no application responds
-
--- An application that has written no byte had these exchanges.
-unanswered : (xs : List Exchange) → AnswersMore (λ all. AreUnanswered all) (λ all. AreUnanswered all) xs → AreUnanswered xs
-unfolding AnswersMore
-unanswered xs answered = answered [] tt
-
-served_alone : (v : ServerValue) (id : ℕ) (bytes : List ℕ) (responses : List (List ℕ)) → AreUnanswered (served v id bytes responses).exchanges → AllByRecursion IsServing (served v id bytes responses).events
-unfolding served
-served_alone v id bytes [] none = tt
-served_alone v id bytes (response ∷ responses) none =
-    let so_far = served v id bytes responses in
-    let left = drop so_far.fed.count bytes in
-    let split = unanswered_parts so_far.exchanges _ none in
-    all_append IsServing so_far.events _ (served_alone v id bytes responses split.0) (rw (unanswered_take so_far.fed.server id left response split.1).events (tt, tt))
-
-taken_alone : (v after : ServerValue) (events : List AcceptedCall) (exchanges : List Exchange) → AreTakenWith v after events exchanges → AreUnanswered exchanges → AllByRecursion IsServing events
-taken_alone v after events exchanges step none = by step.how
-  where
-    by : ((count : ℕ) × IsServedWith v step.id step.bytes count after (λ all. events ≡ all) (λ all. exchanges ≡ all)) ⊎ IsPartlyServed v step.id step.bytes after (λ all. events ≡ all) (λ all. exchanges ≡ all) → AllByRecursion IsServing events
-    by (inl whole) = rw whole.1.tells (served_alone v step.id step.bytes whole.1.responses (rw whole.1.exchanged at none))
-    by (inr part) = rw part.tells (all_append IsServing (served v step.id step.bytes part.responses).events _ (served_alone v step.id step.bytes part.responses (rw part.exchanged at none)) (tt, tt))
-
-steps_alone : {v w : ServerValue} {es : List AcceptedCall} {xs : List Exchange} → AreStepsBy AreTakenWith v w es xs → AreUnanswered xs → AllByRecursion IsServing es
-steps_alone NoStep none = tt
-steps_alone (OneTaken w after events more exchanges others so_far step) none =
-    let split = unanswered_parts exchanges others none in
-    all_append IsServing events more (steps_alone so_far split.0) (taken_alone w after more others step split.1)
-steps_alone (OneEnded w events exchanges id so_far) none = all_append IsServing events (Ended id ∷ []) (steps_alone so_far none) (tt, tt)
-steps_alone (OneWrote w events exchanges id n so_far) none = all_append IsServing events (Wrote id n ∷ []) (steps_alone so_far none) (tt, tt)
-steps_alone (OneDropped w events exchanges id so_far) none = all_append IsServing events (Dropped id ∷ []) (steps_alone so_far (unanswered_parts exchanges (Gone id ∷ []) none).0) (tt, tt)
-
-pub turned_alone : (monitor : List AcceptedCall → Type 0) (v w : ServerValue) → HasTurnedBy AreTakenWith monitor (AnswersMore (λ all. AreUnanswered all) (λ all. AreUnanswered all)) v w → HasTurned monitor v w
-turned_alone monitor v w one = record { opens = one.opens; events = one.events; serving = steps_alone one.steps (unanswered one.exchanges one.exchanged); shows = one.shows; tells = one.tells }
-
-module _ (A : Type 0) where
-  abbrev Silent : A → Answering
-  Silent a exchanges = AreUnanswered exchanges
-
-  carried_alone : (failed may_write : Bool) (v : ServerValue) (id : ℕ) (bytes : List ℕ) (wire : WireTrace) (after : ServerValue) (left : List ℕ) (wire_after : WireTrace) (course : PeerOutcome) (events : List AcceptedCall) (exchanges : List Exchange) → IsCarriedOn (IsTakenWith Silent) failed may_write v id bytes wire after left wire_after course events exchanges → IsCarriedOn IsTakenAlone failed may_write v id bytes wire after left wire_after course events []
-  carried_alone true may_write v id bytes wire after left wire_after course events exchanges carried = (carried.0, carried.1, carried.2, carried.3, refl)
-  carried_alone false may_write v id bytes wire after left wire_after course events exchanges carried =
-      let took = carried.part.took in
-      let alone = unanswered_is_alone v carried.taken id carried.part.count bytes (λ all. carried.takes ≡ all)
-      (record { responses = took.responses; made = took.made; over = took.over; nobody = took.nobody; counted = took.counted; server = took.server; shows = took.shows; tells = took.tells; exchanged = unanswered _ took.exchanged.3 }) in
-      record {
-        taken = carried.taken;
-        takes = carried.takes;
-        part = record { count = carried.part.count; took = (alone.0, alone.1, alone.2, refl); rest = carried.part.rest };
-        wrote = carried.wrote;
-        offered = carried.offered;
-        server = carried.server;
-        outcome = carried.outcome;
-        all = carried.all;
-      }
-
-  module _ {W : Type 0} (readable writable : W → Option Bool) (trace : W → WireTrace) where
-    part_alone : (v : ServerValue) (e : ℕ × Peer W) (after : ServerValue) (left : List (ℕ × Peer W)) (events : List AcceptedCall) (exchanges : List Exchange) → IsServedInTurn (IsTakenWith Silent) readable writable trace v e after left events exchanges → (others : List Exchange) × IsServedInTurn IsTakenAlone readable writable trace v e after left events others
-    part_alone v e after left events exchanges one =
-        let once = one.part.part in (
-          exchanges_left one.course one.served e.0,
-          record {
-            served = one.served;
-            peer = one.peer;
-            course = one.course;
-            serving = one.serving;
-            asked = [];
-            part = record {
-              may_read = one.part.may_read;
-              may_write = one.part.may_write;
-              read = one.part.read;
-              write = one.part.write;
-              part = record {
-                heard = once.heard;
-                bytes = once.bytes;
-                between = once.between;
-                laid = once.laid;
-                later = once.later;
-                carried = carried_alone (has_failed once.heard) one.part.may_write (server_heard v e.0 once.heard) e.0 once.bytes once.between one.served one.peer.rest (trace one.peer.wire) one.course once.later one.asked once.carried;
-                all = once.all;
-              };
-            };
-            server = one.server;
-            far_end = one.far_end;
-            all = one.all;
-            exchanged = refl;
-          },
-        )
-
-    all_alone : {n : ℕ} {v after : ServerValue} {es left : List (ℕ × Peer W)} {changed : Bool} {events : List AcceptedCall} {exchanges : List Exchange} → AreServed (IsTakenWith Silent) readable writable trace n v es changed after left events exchanges → (others : List Exchange) × AreServed IsTakenAlone readable writable trace n v es changed after left events others
-    all_alone (NoMore n v) = ([], NoMore n v)
-    all_alone (PassedOver n v e es changed after left events exchanges idle others) = let rest = all_alone others in (rest.0, PassedOver n v e es changed after left events rest.0 idle rest.1)
-    all_alone (HadItsPart n v e es between its own asked changed after left events exchanges in_turn part others) =
-        let first = part_alone v e between its own asked part in
-        let rest = all_alone others in
-        (first.0 ++ rest.0, HadItsPart n v e es between its own first.0 changed after left events rest.0 in_turn first.1 rest.1)
-
-    pub turn_alone : (door : List (DoorCall W) → Type 0) (monitor : List AcceptedCall → Type 0) (asks : List Exchange → Type 0) (v : ServerValue) (es : List (ℕ × Peer W)) (after : ServerValue) (left : List (ℕ × Peer W)) (wait : Wait) → IsTurnBy (IsTakenWith Silent) readable writable trace door monitor asks v es after left wait → IsTurnOf readable writable trace door monitor v es after left wait
-    turn_alone door monitor asks v es after left wait turn =
-        let alone = all_alone turn.served in
-        record {
-          opens = turn.opens;
-          server = turn.server;
-          entries = turn.entries;
-          opened = turn.opened;
-          changed = turn.changed;
-          events = turn.events;
-          exchanges = alone.0;
-          served = alone.1;
-          waits = turn.waits;
-          accepted = turn.accepted;
-          exchanged = tt;
-        }
-
--- ---- the events of a turn in which no application responds
-
-heard_serving : (id : ℕ) (heard : Got) → AllByRecursion IsServing (heard_events id heard)
-heard_serving id (Bytes n) = tt
-heard_serving id Later = tt
-heard_serving id End = (tt, tt)
-heard_serving id Failed = tt
-
-wrote_serving : (id : ℕ) (wrote : Got) → AllByRecursion IsServing (wrote_events id wrote)
-wrote_serving id (Bytes n) = (tt, tt)
-wrote_serving id Later = tt
-wrote_serving id End = tt
-wrote_serving id Failed = tt
-
-dropped_serving : (id : ℕ) (o : Option SessionValue) → AllByRecursion IsServing (where_there o (λ s. Dropped id))
-dropped_serving id None = tt
-dropped_serving id (Some s) = (tt, tt)
-
-left_serving : (course : PeerOutcome) (v : ServerValue) (id : ℕ) → AllByRecursion IsServing (events_left course v id)
-left_serving Open v id = tt
-left_serving Over v id = dropped_serving id (session_of id v.sessions)
-
-carried_serving : (failed may_write : Bool) (v : ServerValue) (id : ℕ) (bytes : List ℕ) (wire : WireTrace) (after : ServerValue) (left : List ℕ) (wire_after : WireTrace) (course : PeerOutcome) (events : List AcceptedCall) (exchanges : List Exchange) → IsCarriedOn IsTakenAlone failed may_write v id bytes wire after left wire_after course events exchanges → AllByRecursion IsServing events
-carried_serving true may_write v id bytes wire after left wire_after course events exchanges carried = rw carried.3 tt
-carried_serving false may_write v id bytes wire after left wire_after course events exchanges carried =
-    rw (carried.all, carried.part.took.2) (all_append IsServing (took v id bytes) (wrote_events id carried.wrote) (takes_serving (length bytes) v id bytes) (wrote_serving id carried.wrote))
-
-once_serving : (may_read may_write : Bool) (v : ServerValue) (id : ℕ) (rest : List ℕ) (wire : WireTrace) (after : ServerValue) (left : List ℕ) (wire_after : WireTrace) (course : PeerOutcome) (events : List AcceptedCall) (exchanges : List Exchange) → IsServedOnceBy IsTakenAlone may_read may_write v id rest wire after left wire_after course events exchanges → AllByRecursion IsServing events
-once_serving may_read may_write v id rest wire after left wire_after course events exchanges part =
-    rw part.all (all_append IsServing (heard_events id part.heard) part.later (heard_serving id part.heard)
-    (carried_serving (has_failed part.heard) may_write (server_heard v id part.heard) id part.bytes part.between after left wire_after course part.later exchanges part.carried))
-
-module _ {W : Type 0} (readable writable : W → Option Bool) (trace : W → WireTrace) where
-  pub served_serving : {n : ℕ} {v after : ServerValue} {es left : List (ℕ × Peer W)} {changed : Bool} {events : List AcceptedCall} {exchanges : List Exchange} → AreServed IsTakenAlone readable writable trace n v es changed after left events exchanges → AllByRecursion IsServing events
-  served_serving (NoMore n v) = tt
-  served_serving (PassedOver n v e es changed after left events exchanges idle others) = served_serving others
-  served_serving (HadItsPart n v e es between its own asked changed after left events exchanges in_turn part others) =
-      let once = part.part in
-      let first = once_serving once.may_read once.may_write v e.0 e.1.rest (trace e.1.wire) part.served part.peer.rest (trace part.peer.wire) part.course part.serving part.asked once.part in
-      all_append IsServing own events (rw part.all (all_append IsServing part.serving (events_left part.course part.served e.0) first (left_serving part.course part.served e.0))) (served_serving others)

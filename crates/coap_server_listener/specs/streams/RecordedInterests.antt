@@ -1,9 +1,10 @@
 -- Defined by this project: the recorded I/O interest of a connection, and how long it is correct.
-use Rattle.std.specs.Prelude.{◌≡◌, ◌≢◌, ◌≤◌, ◌+◌, ℕ, Bool, List, Option, map, nat_eq, if◌then◌else◌}
+use Rattle.std.specs.Prelude.{◌≡◌, ◌≢◌, ◌≤◌, ◌+◌, ℕ, Bool, List, Option, Some, map, nat_eq, if◌then◌else◌}
 use Rattle.std.specs.List.{AllByRecursion}
 use Rattle.coap_model.specs.world.Events.{AcceptedCall}
 use Rattle.coap_server_engine.specs.values.Servers.{ServerValue, AreSettled, session_of, server_opened, server_ticked, server_dropped}
 use Rattle.coap_server_engine.specs.values.ServerDeadlines.{stamp_of}
+use Rattle.coap_server_listener.specs.declared.door.silence.Activity.{Activity}
 use Rattle.coap_server_listener.specs.streams.Turns.{IsServedOnce, wants_of, PeerStatus}
 use Rattle.coap_server_session.specs.declared.server_state.ServerState.{ServerState}
 use Rattle.coap_io.specs.streams.Wires.{WireTrace}
@@ -36,9 +37,17 @@ recorded v e = record e.1 { wants = wants_of v e.0 e.1.rest }
 abbrev pub recorded_on : {W : Type 0} → ServerValue → ℕ → List (ℕ × Peer W) → List (ℕ × Peer W)
 recorded_on v id es = map (λ e. if nat_eq id e.0 then (e.0, recorded v e) else e) es
 
--- A connection without its recorded interest: its number, its wire, and the bytes left from its reads.
-abbrev pub unrecorded : {W : Type 0} → ℕ × Peer W → ℕ × W × List ℕ
-unrecorded e = (e.0, e.1.wire, e.1.rest)
+-- The transport side of a connection that the server releases at this time.
+abbrev pub released_at : {W : Type 0} → (now : ℕ) → Peer W → Peer W
+released_at now p = record p { activity = record p.activity { released = Some now } }
+
+-- The entries after the connection with this number was released, if it has an entry.
+abbrev pub released_on : {W : Type 0} → (now : ℕ) → ServerValue → ℕ → List (ℕ × Peer W) → List (ℕ × Peer W)
+released_on now v id es = map (λ e. if nat_eq id e.0 then (e.0, released_at now (recorded v e)) else e) es
+
+-- A connection without its recorded interest: its number, its wire, the bytes left from its reads, and its times.
+abbrev pub unrecorded : {W : Type 0} → ℕ × Peer W → ℕ × W × List ℕ × Activity
+unrecorded e = (e.0, e.1.wire, e.1.rest, e.1.activity)
 
 -- At most the recorded interests differ.
 abbrev pub AreRecorded : {W : Type 0} → (es now : List (ℕ × Peer W)) → Type 0

@@ -5,18 +5,20 @@ use Rattle.coap_conn.specs.declared.reason.Reason.{Reason}
 use Rattle.coap_server_engine.specs.values.Servers.{ServerValue, session_of, server_ended, server_written}
 use Rattle.coap_server_engine.specs.values.ServerAnswers.{can_take_on, stop_on}
 use Rattle.coap_server_session.specs.values.Deadlines.{sooner}
-use Rattle.coap_model.specs.world.Events.{AcceptedCall, Took, Wrote, Ended}
+use Rattle.coap_model.specs.world.Events.{AcceptedCall, Opened, Took, Wrote, Ticked, Stored, Removed, Ended, Released, Announced, Responded, Dropped}
 use Rattle.coap_server_engine.specs.values.InResults.{in_result, took}
 use Rattle.coap_server_engine.specs.values.Exchanges.{Answering, AnswersMore, Exchange}
 use Rattle.coap_server_engine.specs.values.ApplicationCalls.{IsServed as IsServedWith}
 use Rattle.coap_server_engine.specs.values.ServerDeadlines.{outlook_of, stamp_of, same_stamp}
 use Rattle.coap_server_engine.specs.values.Flushes.{waiting_at}
 use Rattle.coap_io.specs.streams.Wires.{MatchesTrace, WireTrace, IsReadOnce, IsWrittenOnce}
+use Rattle.coap_server_engine.specs.declared.monitor.DropReason.TheVariants as drop
 use Rattle.coap_server_listener.specs.declared.door.peer.PeerOutcome.{PeerOutcome}
 use Rattle.coap_server_listener.specs.declared.door.peer.PeerOutcome.TheVariants.{Open, Over}
 use Rattle.coap_server_listener.specs.declared.door.peer_interest.PeerInterest.{PeerInterest}
 use Rattle.coap_server_listener.specs.declared.door.peer.Peer.{Peer}
 use Rattle.coap_server_listener.specs.declared.door.next_wakeup.NextWakeup.{NextWakeup}
+use Rattle.coap_server_listener.specs.declared.door.silence.Activity.{Activity}
 use Rattle.coap_io.specs.declared.wire.Wait.{Wait}
 use Rattle.coap_io.specs.declared.wire.Wait.TheVariants.{No, Until, Forever}
 use Rattle.coap_server_engine.specs.declared.server.ConnectionWork.{ConnectionWork}
@@ -84,6 +86,42 @@ abbrev pub is_over_in : Option ConnectionWork → Bool
 is_over_in None = true
 is_over_in (Some o) = o.finished
 
+-- ---- the times of a connection
+
+-- A call that transfers bytes on a connection.
+abbrev pub moves : AcceptedCall → Bool
+moves (Opened id) = false
+moves (Took id bytes) = nat_lt 0 (length bytes)
+moves (Wrote id n) = nat_lt 0 n
+moves (Ticked now) = false
+moves (Stored path format bytes) = false
+moves (Removed path) = false
+moves (Ended id) = false
+moves (Released id) = false
+moves (Announced id size) = false
+moves (Responded id m) = false
+moves (Dropped id) = false
+
+-- `true` if one of these calls transferred bytes.
+abbrev pub have_moved : List AcceptedCall → Bool
+have_moved [] = false
+have_moved (e ∷ es) = moves e || have_moved es
+
+-- `true` if a write with this result accepted bytes.
+abbrev pub has_written : Got → Bool
+has_written (Bytes n) = nat_lt 0 n
+has_written Later = false
+has_written End = false
+has_written Failed = false
+
+-- The times of a connection that is opened.
+abbrev pub new_activity : (second : ℕ) → Activity
+new_activity second = record { opened = second; moved = second; released = None }
+
+-- The times of a connection after bytes were transferred at the time `second`, if they were.
+abbrev pub activity_after : (second : ℕ) → (moved : Bool) → Activity → Activity
+activity_after second moved a = if moved then record a { moved = second } else a
+
 -- ---- serving one connection
 
 -- The effect of received bytes on a connection. The arguments are the server before, the number of the connection, and
@@ -109,7 +147,7 @@ has_failed Failed = true
 
 -- The outcome for a connection, by the result of its write and by whether nothing more will be written.
 abbrev pub course_of : (wrote : Got) (is_over : Bool) → PeerOutcome
-course_of wrote is_over = if has_failed wrote || is_over then Over else Open
+course_of wrote is_over = if has_failed wrote then Over drop.Failed else (if is_over then Over drop.Finished else Open)
 
 -- The bytes to be processed, and the trace of the wire. If a read is due, the wire was read once and gave these bytes.
 -- Otherwise they are left from earlier reads, and the wire was not touched.
@@ -122,6 +160,11 @@ pub record IsTakenInPart (Takes : Taking) (v : ServerValue) (id : ℕ) (bytes : 
   pub count : ℕ
   pub took : Takes v id bytes taken count events exchanges
   pub rest : left ≡ rest_behind taken id count bytes
+
+-- The same, and the connection accepted this number of bytes.
+pub record IsTakenInPartOf (Takes : Taking) (v : ServerValue) (id : ℕ) (bytes : List ℕ) (taken : ServerValue) (left : List ℕ) (n : ℕ) (events : List AcceptedCall) (exchanges : List Exchange) : Type 0 where
+  pub part : IsTakenInPart Takes v id bytes taken left events exchanges
+  pub moved : have_moved events ≡ nat_lt 0 n
 
 -- If the bytes offered to a wire are not empty, the wire was written once. Otherwise it was not touched.
 pub record IsOffered (bytes : List ℕ) (wire : WireTrace) (wrote : Got) (after : WireTrace) : Type 0 where
@@ -140,9 +183,9 @@ pub record IsTakenAndWritten (Takes : Taking) (may_write : Bool) (v : ServerValu
   pub outcome : course ≡ course_of wrote (is_over_in (outlook_of after id))
   pub all : events ≡ takes ++ wrote_events id wrote
 
--- The steps that follow a read. If the read failed, there is none, and the outcome is `Over`.
+-- The steps that follow a read. If the read failed, there is none, and the connection has failed.
 abbrev pub IsCarriedOn : Taking → (failed may_write : Bool) → ServerValue → ℕ → List ℕ → WireTrace → ServerValue → List ℕ → WireTrace → PeerOutcome → List AcceptedCall → List Exchange → Type 0
-IsCarriedOn Takes true may_write v id bytes wire after left received course events exchanges = (after ≡ v) × (received ≡ wire) × (course ≡ Over) × (events ≡ []) × (exchanges ≡ [])
+IsCarriedOn Takes true may_write v id bytes wire after left received course events exchanges = (after ≡ v) × (received ≡ wire) × (course ≡ Over drop.Failed) × (events ≡ []) × (exchanges ≡ [])
 IsCarriedOn Takes false may_write v id bytes wire after left received course events exchanges = IsTakenAndWritten Takes may_write v id bytes wire after left received course events exchanges
 
 -- One connection was served: a read if one is due, then processing, then a write if bytes are queued. `may_read` and
@@ -169,15 +212,6 @@ pub record IsNoOp (may_read may_write : Bool) (v : ServerValue) (id : ℕ) (rest
   pub unwritten : waiting_once may_write id v ≡ []
   pub there_is_one : (wire : WireTrace) → IsServedOnce may_read may_write v id rest wire v rest wire Open (refused_events id rest)
   pub always : (wire : WireTrace) (after : ServerValue) (left : List ℕ) (wire_after : WireTrace) (course : PeerOutcome) (events : List AcceptedCall) → IsServedOnce may_read may_write v id rest wire after left wire_after course events → (after ≡ v) × (left ≡ rest) × (wire_after ≡ wire) × (course ≡ Open) × (events ≡ refused_events id rest)
-
--- The connection was served once, with the results of `may_read` and `may_write` of its wire. If the wire records them,
--- they are `readable` and `writable`.
-pub record IsServed (Takes : Taking) (readable writable : Option Bool) (v : ServerValue) (id : ℕ) (rest : List ℕ) (wire : WireTrace) (after : ServerValue) (left : List ℕ) (wire_after : WireTrace) (course : PeerOutcome) (events : List AcceptedCall) (exchanges : List Exchange) : Type 0 where
-  pub may_read : Bool
-  pub may_write : Bool
-  pub read : MatchesTrace readable may_read
-  pub write : MatchesTrace writable may_write
-  pub part : IsServedOnceBy Takes may_read may_write v id rest wire after left wire_after course events exchanges
 
 -- ---- remaining work
 

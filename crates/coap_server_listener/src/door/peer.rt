@@ -1,11 +1,11 @@
 //! The transport side of a connection, and how a turn serves it.
 
-ghost use Rattle.std.specs.Prelude.{◌≡◌, ◌≢◌, false, [], length, is_some, OnOk, OnErr, IfOk, IfErr};
+ghost use Rattle.std.specs.Prelude.{◌≡◌, ◌≢◌, ◌||◌, nat_lt, false, [], length, is_some, OnOk, OnErr, IfOk, IfErr};
 ghost use Rattle.coap_server_listener.specs.Prelude.{AddsBytes, AnswersMore, AreCallsBetween, AreTakenWith, But};
 ghost use Rattle.coap_server_listener.specs.Prelude.{FollowsMore, GoesOnSparing, HasAccepted, HasServedBy};
-ghost use Rattle.coap_server_listener.specs.Prelude.{IsTakenInPart, IsTakenWith, TellsMore};
+ghost use Rattle.coap_server_listener.specs.Prelude.{IsServedAt, IsTakenInPartOf, IsTakenWith, TellsMore};
 ghost use Rattle.coap_server_listener.specs.Prelude.{heard_events, wrote_events};
-ghost use Rattle.coap_server_listener.specs.Prelude.{IsServedOnceBy, trace_by, IsLaidOut, is_heard, server_heard};
+ghost use Rattle.coap_server_listener.specs.Prelude.{has_written, trace_by, IsLaidOut, is_heard, server_heard};
 ghost use Rattle.coap_server_listener.specs.Prelude.{server_wrote, waiting_once, is_over_in, has_failed};
 ghost use Rattle.coap_server_listener.specs.Prelude.{course_of, wants_of, IsWithin, IsMemory, IsOneWrite, bytes_passed};
 ghost use Rattle.coap_server_listener.specs.Prelude.{stop_on, session_of, IsAsked, CanGoOn, IsRestAnswer, end_of};
@@ -13,11 +13,12 @@ ghost use Rattle.coap_server_listener.specs.declared.door.peer.PeerOutcome.TheVa
 ghost use Rattle.coap_io.specs.declared.wire.Got.TheVariants.{Later, End};
 
 use super::peer_interest::{PeerInterest, wants_by};
+use super::silence::Activity;
 use coap_conn::first_part;
 use coap_io::{Got, ReadBuffer, Ready, Wire};
 use coap_model::ConnId;
 use coap_server_engine::{
-    Application, Call, ChangeStamp, ConnectionWork, IoFault, Monitor, Server,
+    Application, Call, ChangeStamp, ConnectionWork, DropReason, IoFault, Monitor, Server,
 };
 use indexmap::IndexMap;
 
@@ -30,6 +31,8 @@ pub(super) struct Peer<W> {
     pub(super) rest: ReadBuffer,
     /// I/O interest, recorded when the connection was last served.
     pub(super) wants: PeerInterest,
+    /// Times of the connection.
+    pub(super) activity: Activity,
 }
 
 impl<W: Ready> Peer<W> {
@@ -72,15 +75,15 @@ pub(super) type Peers<W> = IndexMap<u64, Peer<W>>;
 pub(super) enum PeerOutcome {
     /// Connection that stays open.
     Open,
-    /// Connection to be dropped: its wire has failed, or nothing more will be written on it.
-    Over,
+    /// Connection to be dropped for this reason.
+    Over(DropReason),
 }
 
 /// Serves a connection once: reads, processes and writes. Then it records the connection's I/O interest.
 ///
 /// The wire is read once if `may_read` is `true`, all bytes of earlier reads were accepted, and the connection accepts
 /// bytes. The connection then processes the received bytes. If `may_write` is `true`, queued bytes are written once. If
-/// the read fails, the other steps are skipped, and nothing is recorded.
+/// the read fails, the other steps are skipped, and nothing is recorded. `second` is the time of these steps.
 ///
 /// # Errors
 ///
@@ -91,15 +94,15 @@ pub(super) fn serve_peer<W: Wire, A: Application, M: Monitor<W>>(
     peer: &mut Peer<W>,
     may_read: bool,
     may_write: bool,
+    second: u64,
     application: &mut A,
     response: &mut Vec<u8>,
     monitor: &mut M,
 ) -> Result<PeerOutcome, IoFault>
     // The wire is read once if a read is due, and written once if bytes are queued and `may_write` is `true`. Otherwise
     // it is not touched. The monitor receives the calls of these steps, and no others.
-    ensures part { IfOk result (λ course. HasAccepted (IsServedOnceBy (IsTakenWith A.follows) may_read may_write server.old id
-        peer.old.rest (trace_by W.given W.written W.answers W.rooms peer.old.wire) server.new peer.new.rest
-        (trace_by W.given W.written W.answers W.rooms peer.new.wire) course)
+    ensures part { IfOk result (λ course. HasAccepted (IsServedAt (IsTakenWith A.follows) second may_read may_write
+        (trace_by W.given W.written W.answers W.rooms) server.old id peer.old server.new peer.new course)
         (FollowsMore (M.follows monitor.old) (M.follows monitor.new))
         (AnswersMore (A.follows application.old) (A.follows application.new)) server.old server.new) }
     ensures shows { HasServedBy AreTakenWith (FollowsMore (M.follows monitor.old) (M.follows monitor.new))
@@ -111,10 +114,20 @@ pub(super) fn serve_peer<W: Wire, A: Application, M: Monitor<W>>(
 {
     let heard = read_wire(server, id, peer, may_read, monitor);
     if failed(heard) {
-        return Ok(PeerOutcome::Over);
+        return Ok(PeerOutcome::Over(DropReason::Failed));
     }
-    take_buffered::<W, A, M>(server, id, &mut peer.rest, application, response, monitor)?;
+    let taken = take_buffered::<W, A, M>(
+        server,
+        id,
+        &mut peer.rest,
+        application,
+        response,
+        monitor,
+    )?;
     let wrote = write_once(server, id, &mut peer.wire, may_write, monitor);
+    let moved = has_moved(taken, wrote);
+    let activity = peer.activity.after(second, moved);
+    peer.activity = activity;
     let outlook = server.outlook(id);
     peer.wants = wants_by(outlook, peer.rest.is_empty(), server.stamp());
     Ok(outcome(wrote, is_over(outlook)))
@@ -132,13 +145,35 @@ fn failed(got: Got) -> bool
     }
 }
 
+/// Returns `true` if a write with this result accepted bytes.
+fn has_accepted_bytes(wrote: Got) -> bool
+    ensures { result ≡ has_written wrote }
+{
+    match wrote {
+        Got::Bytes(count) => count > 0,
+        Got::Later => false,
+        Got::End => false,
+        Got::Failed => false,
+    }
+}
+
+/// Returns `true` if this number of bytes was accepted from the peer, or a write with this result accepted bytes.
+fn has_moved(taken: usize, wrote: Got) -> bool
+    ensures { result ≡ (nat_lt 0 taken || has_written wrote) }
+{
+    taken > 0 || has_accepted_bytes(wrote)
+}
+
 /// Returns the outcome from the result of the write. `is_over` is `true` if nothing more will be written on the
 /// connection.
 fn outcome(wrote: Got, is_over: bool) -> PeerOutcome
     ensures { result ≡ course_of wrote is_over }
 {
-    if is_over || failed(wrote) {
-        return PeerOutcome::Over;
+    if failed(wrote) {
+        return PeerOutcome::Over(DropReason::Failed);
+    }
+    if is_over {
+        return PeerOutcome::Over(DropReason::Finished);
     }
     PeerOutcome::Open
 }
@@ -160,6 +195,7 @@ fn read_wire<W: Wire, M: Monitor<W>>(
     ensures laid { IsLaidOut (is_heard may_read server.old id peer.old.rest) peer.old.rest
         (trace_by W.given W.written W.answers W.rooms peer.old.wire) result peer.new.rest
         (trace_by W.given W.written W.answers W.rooms peer.new.wire) }
+    ensures activity { peer.new.activity ≡ peer.old.activity }
     // If no read is due, nothing changes.
     ensures passed { is_heard may_read server.old id peer.old.rest ≡ false → peer.new ≡ peer.old }
 {
@@ -177,7 +213,7 @@ fn read_wire<W: Wire, M: Monitor<W>>(
 }
 
 /// Passes the bytes that were read to a connection, message by message, until all are accepted or none is. If the
-/// connection then processes no further message, the other bytes are discarded.
+/// connection then processes no further message, the other bytes are discarded. Returns the number of bytes accepted.
 ///
 /// # Errors
 ///
@@ -190,8 +226,9 @@ fn take_buffered<W, A: Application, M: Monitor<W>>(
     application: &mut A,
     response: &mut Vec<u8>,
     monitor: &mut M,
-) -> Result<(), IoFault>
-    ensures taken { OnOk result (HasAccepted (IsTakenInPart (IsTakenWith A.follows) server.old id rest.old server.new rest.new)
+) -> Result<usize, IoFault>
+    ensures taken { IfOk result (λ n. HasAccepted
+        (IsTakenInPartOf (IsTakenWith A.follows) server.old id rest.old server.new rest.new n)
         (FollowsMore (M.follows monitor.old) (M.follows monitor.new))
         (AnswersMore (A.follows application.old) (A.follows application.new)) server.old server.new) }
     ensures spared { OnOk result (GoesOnSparing (But id) server.old server.new) }
@@ -207,7 +244,7 @@ fn take_buffered<W, A: Application, M: Monitor<W>>(
     if has_stopped(server, id) {
         rest.clear();
     }
-    Ok(())
+    Ok(count)
 }
 
 /// Writes queued bytes of a connection once, from the first, if some are queued and `may_write` is `true`. Returns the

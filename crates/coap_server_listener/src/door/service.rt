@@ -1,19 +1,55 @@
 //! A server over the connections of a listener, for a program that embeds it and runs the event loop.
 
-ghost use Rattle.std.specs.Prelude.{◌≡◌, false, All};
+ghost use Rattle.std.specs.Prelude.{◌≡◌, false, All, option_map};
 ghost use Rattle.coap_server_listener.specs.streams.RecordedInterests.{IsNoted};
 ghost use Rattle.coap_server_listener.specs.streams.Sleepers.{AreAsleep};
 
 use super::awake::Awake;
 use super::peer::Peers;
-use super::removal::record_on;
-use super::silence::SilenceWatch;
+use super::removal::release_on;
+use super::sweep::sweep;
+use super::turn::take_turn;
+use super::wait::{limit_for, wait_within};
+use coap_application::Applications;
 use coap_io::{Door, Ready, Wait, Wire};
-use coap_model::{Backwards, Config, ConnId, NoSuch, ReleaseFault, Status};
-use coap_server_engine::{Call, IoFault, Monitor, NoApplication, NoMonitor, Server};
+use coap_model::{Config, ConnId, NoSuch, ReleaseFault, Status};
+use coap_server_engine::{Application, Call, DropReason, IoFault, Monitor, Server};
 use coap_store::{PathKey, StoreFault};
 use indexmap::IndexMap;
 use std::alloc::{AllocError, Global};
+
+/// Configuration of a service.
+#[derive(Drop)]
+pub struct ServiceConfig {
+    /// Configuration of the server.
+    pub config: Config,
+    /// Entries of the requests that the application answers, if there is one.
+    pub applications: Option<Applications>,
+    /// Seconds after which a silent connection is released, or `None` if none is.
+    pub idle: Option<u32>,
+}
+
+impl ServiceConfig {
+    /// Returns the configuration of a service without an application, which releases no silent connection.
+    pub fn new(config: Config) -> ServiceConfig
+        ensures { (result.config ≡ config) × (result.applications ≡ None) × (result.idle ≡ None) }
+    {
+        ServiceConfig {
+            config,
+            applications: None,
+            idle: None,
+        }
+    }
+}
+
+/// Times of a turn.
+#[derive(Clone, Copy)]
+pub struct Times {
+    /// Time of the server, in seconds.
+    pub now: u64,
+    /// Seconds of a clock that never goes back.
+    pub second: u64,
+}
 
 /// Server together with the transport connections that it serves. A program embeds it and calls `turn` for each
 /// iteration of its event loop. The recorded I/O interest of each connection is correct, unless an allocation failed in
@@ -26,6 +62,10 @@ pub struct Service<W: Ready> {
     pub(super) awake: Awake,
     /// Buffer for the responses of an application.
     pub(super) response: Vec<u8>,
+    /// Seconds after which a silent connection is released.
+    pub(super) idle: Option<u32>,
+    /// `second` of the last turn.
+    pub(super) second: u64,
     pub(super) is_spent: bool,
     ghost noted: { is_spent ≡ false → All (IsNoted server) peers.entries },
     ghost asleep: { is_spent ≡ false → AreAsleep W.readable W.writable awake peers.entries },
@@ -33,16 +73,17 @@ pub struct Service<W: Ready> {
 
 impl<W: Wire + Ready + Drop> Service<W> {
     ghost use Rattle.std.specs.Prelude.{◌+◌, ◌++◌, ◌∷◌, true, List, [], is_none, is_ok, nat_le, IfErr, IfOk, OnErr};
-    ghost use Rattle.std.specs.Prelude.{OnOk, Err, nat_eq};
+    ghost use Rattle.std.specs.Prelude.{OnOk, Err, Option, nat_eq};
     ghost use Rattle.coap_server_listener.specs.Prelude.{RefusedBy, RefusedOrMemory, put_refusal, remove_refusal};
-    ghost use Rattle.coap_server_listener.specs.Prelude.{HasTurned, IsAskedOnce, IsTurnOf, moved_to, ticked_calls};
-    ghost use Rattle.coap_server_listener.specs.Prelude.{FollowsMore, TellsMore};
-    ghost use Rattle.coap_server_listener.specs.Prelude.{trace_by, IsMemory, open_refusal, new_server, server_put};
-    ghost use Rattle.coap_server_listener.specs.Prelude.{server_removed, server_ticked, AcceptedCall, Ticked, Stored};
-    ghost use Rattle.coap_server_listener.specs.Prelude.{Removed, Shows, Unrecorded, Released, Dropped};
-    ghost use Rattle.coap_server_listener.specs.Prelude.{released_refusal, server_released, server_dropped, HasSwept};
-    ghost use Rattle.coap_server_listener.specs.Prelude.{swept, short_wait, is_there, session_of, status_of};
-    ghost use Rattle.coap_server_listener.specs.Prelude.{recorded_on, shift_remove_entry};
+    ghost use Rattle.coap_server_listener.specs.Prelude.{AreAskedLater, AreRecorded, AreTakenWith, HasRun, HasTurnedBy};
+    ghost use Rattle.coap_server_listener.specs.Prelude.{IsCutTurn, IsTurnFor, config_of};
+    ghost use Rattle.coap_server_listener.specs.Prelude.{service_of, moved_to, ticked_calls, AnswersMore, Gone};
+    ghost use Rattle.coap_server_listener.specs.Prelude.{FollowsMore, TellsMore, trace_by, IsMemory, open_refusal};
+    ghost use Rattle.coap_server_listener.specs.Prelude.{ServerValue, new_server, server_put, server_removed, AcceptedCall, Stored};
+    ghost use Rattle.coap_server_listener.specs.Prelude.{Removed, Shows, Released, Dropped, released_refusal};
+    ghost use Rattle.coap_server_listener.specs.Prelude.{server_released, server_dropped, HasSwept, due_sweep};
+    ghost use Rattle.coap_server_listener.specs.Prelude.{short_wait, is_there, session_of, status_of, released_on};
+    ghost use Rattle.coap_server_listener.specs.Prelude.{shift_remove_entry, wait_within as within, limit_for as limit_in};
     ghost use Rattle.coap_server_engine.specs.declared.io_fault.IoFault.TheVariants as fault;
 
     /// Returns a server with no connection and an empty store. Its counters begin at the values that the configuration
@@ -51,20 +92,37 @@ impl<W: Wire + Ready + Drop> Service<W> {
     /// # Errors
     ///
     /// - `AllocError`: an allocation failed.
-    pub fn new(alloc: Global, config: Config) -> Result<Service<W>, AllocError>
-        ensures value { IfOk result (λ s. s.server ≡ new_server config) }
+    pub fn new(alloc: Global, config: ServiceConfig) -> Result<Service<W>, AllocError>
+        ensures value { IfOk result (λ s. s.server ≡ new_server (config_of config)) }
         ensures shows { IfOk result (λ s. Shows s.server []) }
         ensures none { IfOk result (λ s. s.peers.entries ≡ []) }
+        ensures idle { IfOk result (λ s. s.idle ≡ config.idle) }
+        ensures second { IfOk result (λ s. s.second ≡ 0) }
         ensures ready { IfOk result (λ s. s.is_spent ≡ false) }
     {
-        let server = Server::new(alloc, config)?;
+        let ServiceConfig {
+            config,
+            applications,
+            idle,
+        } = config;
+        let response = if applications.is_some() {
+            Vec::with_capacity(alloc, config.limits().max_sent())?
+        } else {
+            Vec::new(alloc)
+        };
+        let server = match applications {
+            Some(applications) => Server::with_applications(alloc, config, applications)?,
+            None => Server::new(alloc, config)?,
+        };
         let stamp = server.stamp();
         Ok(Service {
             alloc,
             server,
             peers: IndexMap::with_capacity(alloc, config.connections())?,
             awake: Awake::new(stamp),
-            response: Vec::new(alloc),
+            response,
+            idle,
+            second: 0,
             is_spent: false,
         })
     }
@@ -76,77 +134,13 @@ impl<W: Wire + Ready + Drop> Service<W> {
         self.server.can_open()
     }
 
-    /// Sets the time of the server, in seconds, as `Server::tick` does.
-    ///
-    /// # Errors
-    ///
-    /// - `Backwards`: the time is earlier than that of the server, which is unchanged.
-    pub fn tick(&mut self, now: u64) -> Result<(), Backwards>
-        ensures answer { is_ok result ≡ nat_le self.old.server.host.now now }
-        ensures ok { OnOk result (self.new.server ≡ server_ticked self.old.server now) }
-        ensures moved { self.new.server ≡ moved_to self.old.server now }
-        ensures shows { OnOk result ((events : List AcceptedCall) → Shows self.old.server events →
-            Shows self.new.server (events ++ Ticked now ∷ [])) }
-        ensures err { OnErr result (self.new.server ≡ self.old.server) }
-        ensures peers { self.new.peers ≡ self.old.peers }
-        ensures spent { self.new.is_spent ≡ self.old.is_spent }
-    {
-        self.server.tick(now)
-    }
-
-    /// Sets the time as `tick` does. If the time has changed, the monitor receives the call.
-    ///
-    /// # Errors
-    ///
-    /// - `Backwards`: the time is earlier than that of the server, which is unchanged.
-    pub fn tick_with<M: Monitor<W>>(&mut self, now: u64, monitor: &mut M) -> Result<(), Backwards>
-        ensures answer { is_ok result ≡ nat_le self.old.server.host.now now }
-        ensures moved { self.new.server ≡ moved_to self.old.server now }
-        ensures shows { OnOk result ((events : List AcceptedCall) → Shows self.old.server events →
-            Shows self.new.server (events ++ ticked_calls self.old.server now)) }
-        ensures told { OnOk result (FollowsMore (M.follows monitor.old) (M.follows monitor.new)
-            (ticked_calls self.old.server now)) }
-        ensures err { OnErr result ((self.new.server ≡ self.old.server) × (monitor.new ≡ monitor.old)) }
-        ensures peers { self.new.peers ≡ self.old.peers }
-        ensures spent { self.new.is_spent ≡ self.old.is_spent }
-    {
-        if now == self.server.stamp().moment {
-            return Ok(());
-        }
-        self.tick(now)?;
-        monitor.accepted(Call::Ticked(now), &self.server);
-        Ok(())
-    }
-
-    /// Stores a representation as `Server::put` does, and returns its version. Observers of the path are notified.
+    /// Stores a representation as `Server::put` does, and returns its version. Observers of the path are notified. If it
+    /// succeeds, the monitor receives the call.
     ///
     /// # Errors
     ///
     /// Those of `Server::put`. The server is unchanged.
-    pub fn put(
-        &mut self,
-        path: &PathKey,
-        format: Option<u16>,
-        bytes: &[u8],
-    ) -> Result<u64, StoreFault>
-        ensures answer { RefusedOrMemory result (put_refusal self.old.server.host.store path.now bytes.now) }
-        ensures version { IfOk result (λ version. version ≡ self.old.server.host.store.versions + 1) }
-        ensures ok { OnOk result (self.new.server ≡ server_put self.old.server path.now format bytes.now) }
-        ensures shows { OnOk result ((events : List AcceptedCall) → Shows self.old.server events →
-            Shows self.new.server (events ++ Stored path.now format bytes.now ∷ [])) }
-        ensures err { OnErr result (self.new.server ≡ self.old.server) }
-        ensures peers { self.new.peers ≡ self.old.peers }
-        ensures spent { self.new.is_spent ≡ self.old.is_spent }
-    {
-        self.server.put(path, format, bytes)
-    }
-
-    /// Stores a representation as `put` does. If it succeeds, the monitor receives the call.
-    ///
-    /// # Errors
-    ///
-    /// Those of `Server::put`. The server is unchanged.
-    pub fn put_with<M: Monitor<W>>(
+    pub fn put<M: Monitor<W>>(
         &mut self,
         path: &PathKey,
         format: Option<u16>,
@@ -162,36 +156,21 @@ impl<W: Wire + Ready + Drop> Service<W> {
             (Stored path.now format bytes.now ∷ [])) }
         ensures err { OnErr result ((self.new.server ≡ self.old.server) × (monitor.new ≡ monitor.old)) }
         ensures peers { self.new.peers ≡ self.old.peers }
+        ensures times { (self.new.second ≡ self.old.second) × (self.new.idle ≡ self.old.idle) }
         ensures spent { self.new.is_spent ≡ self.old.is_spent }
     {
-        let version = self.put(path, format, bytes)?;
+        let version = self.server.put(path, format, bytes)?;
         monitor.accepted(Call::Stored(path, format, bytes), &self.server);
         Ok(version)
     }
 
-    /// Removes the resource at a path as `Server::remove` does. Its observers are notified.
+    /// Removes the resource at a path as `Server::remove` does. Its observers are notified. If it succeeds, the monitor
+    /// receives the call.
     ///
     /// # Errors
     ///
     /// Those of `Server::remove`. The server is unchanged.
-    pub fn remove(&mut self, path: &PathKey) -> Result<(), StoreFault>
-        ensures answer { RefusedBy result (remove_refusal self.old.server.host.store path.now) }
-        ensures ok { OnOk result (self.new.server ≡ server_removed self.old.server path.now) }
-        ensures shows { OnOk result ((events : List AcceptedCall) → Shows self.old.server events →
-            Shows self.new.server (events ++ Removed path.now ∷ [])) }
-        ensures err { OnErr result (self.new.server ≡ self.old.server) }
-        ensures peers { self.new.peers ≡ self.old.peers }
-        ensures spent { self.new.is_spent ≡ self.old.is_spent }
-    {
-        self.server.remove(path)
-    }
-
-    /// Removes the resource at a path as `remove` does. If it succeeds, the monitor receives the call.
-    ///
-    /// # Errors
-    ///
-    /// Those of `Server::remove`. The server is unchanged.
-    pub fn remove_with<M: Monitor<W>>(
+    pub fn remove<M: Monitor<W>>(
         &mut self,
         path: &PathKey,
         monitor: &mut M,
@@ -204,9 +183,10 @@ impl<W: Wire + Ready + Drop> Service<W> {
             (Removed path.now ∷ [])) }
         ensures err { OnErr result ((self.new.server ≡ self.old.server) × (monitor.new ≡ monitor.old)) }
         ensures peers { self.new.peers ≡ self.old.peers }
+        ensures times { (self.new.second ≡ self.old.second) × (self.new.idle ≡ self.old.idle) }
         ensures spent { self.new.is_spent ≡ self.old.is_spent }
     {
-        self.remove(path)?;
+        self.server.remove(path)?;
         monitor.accepted(Call::Removed(path), &self.server);
         Ok(())
     }
@@ -218,32 +198,13 @@ impl<W: Wire + Ready + Drop> Service<W> {
         self.server.status(id)
     }
 
-    /// Queues a Release on a connection and stops it, as `Server::release` does (RFC 8323 section 5.5). Later turns write
-    /// its queue. The turn that writes the last byte drops the connection.
+    /// Queues a Release on a connection and stops it, as `Server::release` does (RFC 8323 section 5.5). If it succeeds, the
+    /// monitor receives the call. Later turns write its queue. The turn that writes the last byte drops the connection.
     ///
     /// # Errors
     ///
     /// Those of `Server::release`. The server is unchanged.
-    pub fn release(&mut self, id: ConnId) -> Result<(), ReleaseFault>
-        ensures answer { RefusedBy result (released_refusal self.old.server id) }
-        ensures ok { OnOk result (self.new.server ≡ server_released self.old.server id) }
-        ensures shows { OnOk result ((events : List AcceptedCall) → Shows self.old.server events →
-            Shows self.new.server (events ++ Released id ∷ [])) }
-        // The interest of the connection is recorded anew, and no wire is touched.
-        ensures peers { OnOk result (self.new.peers.entries
-            ≡ recorded_on self.new.server id self.old.peers.entries) }
-        ensures err { OnErr result ((self.new.server ≡ self.old.server) × (self.new.peers ≡ self.old.peers)) }
-        ensures spent { self.new.is_spent ≡ self.old.is_spent }
-    {
-        self.release_with(id, &mut NoMonitor)
-    }
-
-    /// Queues a Release as `release` does. If it succeeds, the monitor receives the call.
-    ///
-    /// # Errors
-    ///
-    /// Those of `Server::release`. The server is unchanged.
-    pub fn release_with<M: Monitor<W>>(
+    pub fn release<M: Monitor<W>>(
         &mut self,
         id: ConnId,
         monitor: &mut M,
@@ -253,160 +214,108 @@ impl<W: Wire + Ready + Drop> Service<W> {
         ensures shows { OnOk result ((events : List AcceptedCall) → Shows self.old.server events →
             Shows self.new.server (events ++ Released id ∷ [])) }
         ensures told { OnOk result (FollowsMore (M.follows monitor.old) (M.follows monitor.new) (Released id ∷ [])) }
-        // The interest of the connection is recorded anew, and no wire is touched.
+        // The release and the interest of the connection are recorded, and no wire is touched.
         ensures peers { OnOk result (self.new.peers.entries
-            ≡ recorded_on self.new.server id self.old.peers.entries) }
+            ≡ released_on self.old.second self.new.server id self.old.peers.entries) }
         ensures err { OnErr result ((self.new.server ≡ self.old.server) × (self.new.peers ≡ self.old.peers)
             × (monitor.new ≡ monitor.old)) }
+        ensures times { (self.new.second ≡ self.old.second) × (self.new.idle ≡ self.old.idle) }
         ensures spent { self.new.is_spent ≡ self.old.is_spent }
     {
         self.server.release(id)?;
         monitor.accepted(Call::Released(id), &self.server);
-        record_on(&self.server, &mut self.peers, id);
+        release_on(&self.server, &mut self.peers, id, self.second);
         self.awake.wake_all();
         Ok(())
     }
 
-    /// Removes a connection, with its queued bytes, and closes its transport connection.
+    /// Removes a connection, with its queued bytes, and closes its transport connection. If it succeeds, the monitor receives
+    /// the call, and the application the end of the connection.
     ///
     /// # Errors
     ///
     /// - `NoSuch`: no connection has this number. Nothing has changed.
-    pub fn drop_conn(&mut self, id: ConnId) -> Result<(), NoSuch>
-        ensures answer { is_ok result ≡ is_there (session_of id self.old.server.sessions) }
-        ensures ok { OnOk result (self.new.server ≡ server_dropped self.old.server id) }
-        ensures shows { OnOk result ((events : List AcceptedCall) → Shows self.old.server events →
-            Shows self.new.server (events ++ Dropped id ∷ [])) }
-        ensures peers { OnOk result (self.new.peers.entries
-            ≡ shift_remove_entry (nat_eq id) self.old.peers.entries) }
-        ensures err { OnErr result ((self.new.server ≡ self.old.server) × (self.new.peers ≡ self.old.peers)) }
-        ensures spent { self.new.is_spent ≡ self.old.is_spent }
-    {
-        self.drop_with(id, &mut NoMonitor)
-    }
-
-    /// Removes a connection as `drop_conn` does. If it succeeds, the monitor receives the call.
-    ///
-    /// # Errors
-    ///
-    /// - `NoSuch`: no connection has this number. Nothing has changed.
-    pub fn drop_with<M: Monitor<W>>(&mut self, id: ConnId, monitor: &mut M) -> Result<(), NoSuch>
+    pub fn drop_conn<A: Application, M: Monitor<W>>(
+        &mut self,
+        id: ConnId,
+        application: &mut A,
+        monitor: &mut M,
+    ) -> Result<(), NoSuch>
         ensures answer { is_ok result ≡ is_there (session_of id self.old.server.sessions) }
         ensures ok { OnOk result (self.new.server ≡ server_dropped self.old.server id) }
         ensures shows { OnOk result ((events : List AcceptedCall) → Shows self.old.server events →
             Shows self.new.server (events ++ Dropped id ∷ [])) }
         ensures told { OnOk result (FollowsMore (M.follows monitor.old) (M.follows monitor.new) (Dropped id ∷ [])) }
+        ensures gone { OnOk result (AnswersMore (A.follows application.old) (A.follows application.new) (Gone id ∷ [])) }
         ensures peers { OnOk result (self.new.peers.entries
             ≡ shift_remove_entry (nat_eq id) self.old.peers.entries) }
         ensures err { OnErr result ((self.new.server ≡ self.old.server) × (self.new.peers ≡ self.old.peers)
-            × (monitor.new ≡ monitor.old)) }
+            × (monitor.new ≡ monitor.old) × (application.new ≡ application.old)) }
+        ensures times { (self.new.second ≡ self.old.second) × (self.new.idle ≡ self.old.idle) }
         ensures spent { self.new.is_spent ≡ self.old.is_spent }
     {
         self.server.drop_conn(id)?;
-        monitor.accepted(Call::Dropped(id), &self.server);
+        monitor.accepted(Call::Dropped(id, DropReason::Requested), &self.server);
+        application.gone(id);
         let _ = self.peers.shift_remove(&id);
         self.awake.wake_all();
         Ok(())
     }
 
-    /// Releases or drops the connections that are silent at the time `now`, in order of their numbers, by the times that
-    /// `watch` recorded. `now` is in seconds of a clock that never goes back, and the calls that follow have that time.
+    /// Runs one turn of the event loop at these times. Returns how long the listener may wait before the next turn.
     ///
-    /// - A connection is released if no byte was transferred for more than `idle` seconds, it has no observer, and
-    ///   nothing is pending on it. If `Server::release` is refused, it is dropped.
-    /// - A connection is dropped if its peer has sent no CSM for more than 10 seconds after it was opened.
-    /// - A released connection is dropped if its queue is not written within 5 seconds.
+    /// A turn has these parts, in order:
     ///
-    /// After an allocation failed in a turn, nothing happens.
-    pub fn end_silent<M: Monitor<W>>(&mut self, idle: u32, now: u64, watch: &mut SilenceWatch<M>)
-        ensures has { self.old.is_spent ≡ false → HasSwept
-            (FollowsMore (M.follows watch.old.monitor) (M.follows watch.new.monitor))
-            (swept idle now self.old.server watch.old.activities.entries self.old.peers.entries) self.old.server
-            self.new.server watch.new.activities.entries }
-        ensures entries { self.old.is_spent ≡ false → self.new.peers.entries
-            ≡ (swept idle now self.old.server watch.old.activities.entries self.old.peers.entries).entries }
-        ensures now { self.old.is_spent ≡ false → watch.new.now ≡ now }
-        ensures over { self.old.is_spent ≡ true → (self.new ≡ self.old) × (watch.new ≡ watch.old) }
-        ensures spent { self.new.is_spent ≡ self.old.is_spent }
-    {
-        self.end_silent_for::<NoApplication, M>(idle, now, &mut NoApplication, watch);
-    }
-
-    /// Returns a wait that lasts at most until the next second of the server's time, if there is a connection.
-    pub(super) fn at_most_a_second(&self, wait: Wait) -> Wait
-        ensures { result ≡ short_wait self.now.server.host.now self.now.peers.entries wait }
-    {
-        if self.peers.is_empty() {
-            return wait;
-        }
-        wait.at_most(self.server.stamp().moment.saturating_add(1))
-    }
-
-    /// Runs one turn of the event loop: opens at most one connection, and serves each connection. Returns how long the
-    /// listener may wait before the next turn.
+    /// - If there is a limit of silence, and `second` differs from that of the last turn, silent connections are released or
+    ///   dropped (`silence_action`). The application receives the end of each one that is dropped.
+    /// - The time of the server becomes `now`. An earlier time changes nothing.
+    /// - The application gives later responses, at most 256.
+    /// - If another connection may be opened, the listener is asked for one. Then each connection is served. The application
+    ///   is shown each request that it answers directly after the call of `take` that accepted it, and may respond at once.
     ///
-    /// If another connection may be opened, the listener is asked for one. The result is `Wait::No` if and only if one
-    /// of these holds:
-    ///
-    /// - A connection was opened.
-    /// - A change affects a connection that was served earlier in the turn.
-    /// - Something can be done at once on a connection.
-    ///
-    /// Otherwise the wait ends at the earliest time at which time alone may queue something. Without such a time, the
-    /// result is `Wait::Forever`.
+    /// The wait is that of `serve_door`, at most as long as the application allows, and zero after 256 later responses. With a
+    /// limit of silence and a connection, it lasts at most until the next second.
     ///
     /// # Errors
     ///
     /// - `Memory`: an allocation failed, in this turn or in an earlier one. No later turn does anything.
-    pub fn turn<D: Door<Wire = W>>(&mut self, door: &mut D) -> Result<Wait, IoFault>
-        // The events of a turn are at most one opened connection, followed by events of served connections.
-        ensures shows { HasTurned Unrecorded self.old.server self.new.server }
-        // The listener is asked once if another connection may be opened, and not otherwise.
-        ensures asks { self.old.is_spent ≡ false
-            → IsAskedOnce (TellsMore (D.calls door.old) (D.calls door.new)) self.old.server }
-        // At most one connection is opened. Then each connection in order is served, except those that are idle. Its
-        // wire is read and written at no other time. The clause also determines the result.
-        ensures turn { IfOk result (λ wait. IsTurnOf W.readable W.writable
-            (trace_by W.given W.written W.answers W.rooms) (TellsMore (D.calls door.old) (D.calls door.new))
-            Unrecorded
-            self.old.server self.old.peers.entries self.new.server self.new.peers.entries wait) }
-        ensures fault { IfErr result IsMemory }
-        ensures ready { OnOk result (self.new.is_spent ≡ false) }
-        ensures spent { OnErr result (self.new.is_spent ≡ true) }
-        ensures over { self.old.is_spent ≡ true → (self.new ≡ self.old) × (result ≡ Err fault.Memory) }
-    {
-        self.turn_with(door, &mut NoMonitor)
-    }
-
-    /// Runs one turn of the event loop as `turn` does. The monitor receives each call that the server accepts in it.
-    ///
-    /// # Errors
-    ///
-    /// - `Memory`: an allocation failed, in this turn or in an earlier one. No later turn does anything.
-    pub fn turn_with<D: Door<Wire = W>, M: Monitor<W>>(
+    pub fn turn<D: Door<Wire = W>, A: Application, M: Monitor<W>>(
         &mut self,
         door: &mut D,
+        times: Times,
+        application: &mut A,
         monitor: &mut M,
     ) -> Result<Wait, IoFault>
-        // The events of a turn are at most one opened connection, followed by events of served connections.
-        ensures shows { HasTurned (FollowsMore (M.follows monitor.old) (M.follows monitor.new))
-            self.old.server self.new.server }
-        // The listener is asked once if another connection may be opened, and not otherwise.
-        ensures asks { self.old.is_spent ≡ false
-            → IsAskedOnce (TellsMore (D.calls door.old) (D.calls door.new)) self.old.server }
-        // At most one connection is opened. Then each connection in order is served, except those that are idle. Its
-        // wire is read and written at no other time. The monitor receives the calls of these steps, and no others. The
-        // clause also determines the result. The wire of a dropped connection is gone, so only the existence of a
-        // fitting one is stated.
-        ensures turn { IfOk result (λ wait. IsTurnOf W.readable W.writable
-            (trace_by W.given W.written W.answers W.rooms) (TellsMore (D.calls door.old) (D.calls door.new))
+        // The events of a turn, made in full or in part, and its exchanges with the application.
+        ensures ran { HasRun (FollowsMore (M.follows monitor.old) (M.follows monitor.new))
+            (AnswersMore (A.follows application.old) (A.follows application.new)) self.old.server self.new.server }
+        // The clause determines how each connection was served, and the result. The wire of a dropped connection is gone, so
+        // only the existence of a fitting one is stated.
+        ensures turn { IfOk result (λ wait. IsTurnFor A.follows A.idle W.readable W.writable
+            (trace_by W.given W.written W.answers W.rooms) times (TellsMore (D.calls door.old) (D.calls door.new))
             (FollowsMore (M.follows monitor.old) (M.follows monitor.new))
-            self.old.server self.old.peers.entries self.new.server self.new.peers.entries wait) }
+            (AnswersMore (A.follows application.old) (A.follows application.new))
+            (service_of self.old.server self.old.peers.entries self.old.second self.old.idle)
+            (service_of self.new.server self.new.peers.entries self.new.second self.new.idle) wait) }
+        // After a failed allocation, only the visits may lack parts.
+        ensures cut { OnErr result (self.old.is_spent ≡ false → IsCutTurn A.follows A.idle times
+            (TellsMore (D.calls door.old) (D.calls door.new)) (FollowsMore (M.follows monitor.old) (M.follows monitor.new))
+            (AnswersMore (A.follows application.old) (A.follows application.new))
+            (service_of self.old.server self.old.peers.entries self.old.second self.old.idle) self.new.server) }
         ensures fault { IfErr result IsMemory }
         ensures ready { OnOk result (self.new.is_spent ≡ false) }
         ensures spent { OnErr result (self.new.is_spent ≡ true) }
         ensures over { self.old.is_spent ≡ true → (self.new ≡ self.old) × (result ≡ Err fault.Memory) }
     {
-        self.turn_for::<D, NoApplication, M>(door, &mut NoApplication, monitor)
+        if self.is_spent {
+            return Err(IoFault::Memory);
+        }
+        self.end_silent(times.second, application, monitor);
+        let _ = self.tick(times.now, monitor);
+        let is_full = self.answer_later(application, monitor);
+        let next = self.visit(door, application, monitor)?;
+        monitor.turn_ended();
+        let limit = limit_for(is_full, application.wait(times.now));
+        Ok(self.at_most_a_second(wait_within(limit, next)))
     }
 }

@@ -6,7 +6,7 @@ ghost use Rattle.coap_server_listener.specs.Prelude.{keys_of, AreNoted, HasGoneO
 ghost use Rattle.coap_server_listener.specs.Prelude.{IsOpening, IsAskedOnce, asked_by, TellsMore};
 ghost use Rattle.coap_server_listener.specs.Prelude.{AreCallsBetween, FollowsMore, HasAccepted, dropped_events};
 ghost use Rattle.coap_server_listener.specs.Prelude.{gone_exchanges, opening, trace_by};
-ghost use Rattle.coap_server_listener.specs.Prelude.{IsServed, IsAgendaOf, concerns_earlier, end_of, wants_of};
+ghost use Rattle.coap_server_listener.specs.Prelude.{IsVisited, IsAgendaOf, concerns_earlier, end_of, wants_of};
 ghost use Rattle.coap_server_listener.specs.Prelude.{IsMemory, stamp_of, open_refusal, AreSettled, server_dropped};
 ghost use Rattle.coap_server_listener.specs.Prelude.{AnswersMore, AreAsleep, AreTakenWith, HasOpened, HasServedBy};
 ghost use Rattle.coap_server_listener.specs.Prelude.{HasTurnedBy, IsTakenWith, IsTurnBy};
@@ -16,8 +16,9 @@ use super::awake::Awake;
 use super::next_wakeup::{NextWakeup, TurnProgress, affects_served_peers, skip_idle};
 use super::peer::{Peer, PeerOutcome, Peers, serve_peer};
 use super::peer_interest::wants_on;
+use super::silence::Activity;
 use coap_io::{Door, ReadBuffer, Ready, Wait, Wire};
-use coap_server_engine::{Application, Call, IoFault, Monitor, Server};
+use coap_server_engine::{Application, Call, DropReason, IoFault, Monitor, Server};
 use std::alloc::Global;
 
 /// Runs one turn: opens at most one connection, if the listener returns one, and serves each connection. Returns how
@@ -31,6 +32,7 @@ pub(super) fn take_turn<D: Door, A: Application, M: Monitor<D::Wire>>(
     server: &mut Server,
     peers: &mut Peers<D::Wire>,
     awake: &mut Awake,
+    second: u64,
     door: &mut D,
     application: &mut A,
     response: &mut Vec<u8>,
@@ -44,7 +46,8 @@ pub(super) fn take_turn<D: Door, A: Application, M: Monitor<D::Wire>>(
     ensures asks { IsAskedOnce (TellsMore (D.calls door.old) (D.calls door.new)) server.old }
     // Each connection is served, and the result is the time that the listener may wait. The monitor receives the calls of
     // this turn, and no others.
-    ensures turn { IfOk result (λ wait. IsTurnBy (IsTakenWith A.follows) D.Wire.readable D.Wire.writable
+    ensures turn { IfOk result (λ wait. IsTurnBy (IsTakenWith A.follows) second D.Wire.readable
+        D.Wire.writable
         (trace_by D.Wire.given D.Wire.written D.Wire.answers D.Wire.rooms)
         (TellsMore (D.calls door.old) (D.calls door.new)) (FollowsMore (M.follows monitor.old) (M.follows monitor.new))
         (AnswersMore (A.follows application.old) (A.follows application.new)) server.old peers.old.entries server.new
@@ -55,8 +58,16 @@ pub(super) fn take_turn<D: Door, A: Application, M: Monitor<D::Wire>>(
     ensures fault { IfErr result IsMemory }
 {
     awake.wake_places(door.woken());
-    let opens = accept(alloc, server, peers, awake, door, monitor)?;
-    let agenda = serve_each::<D::Wire, A, M>(server, peers, awake, application, response, monitor)?;
+    let opens = accept(alloc, server, peers, awake, second, door, monitor)?;
+    let agenda = serve_each::<D::Wire, A, M>(
+        server,
+        peers,
+        awake,
+        second,
+        application,
+        response,
+        monitor,
+    )?;
     Ok(agenda.with(opens, None).wait())
 }
 
@@ -71,6 +82,7 @@ fn accept<D: Door, M: Monitor<D::Wire>>(
     server: &mut Server,
     peers: &mut Peers<D::Wire>,
     awake: &mut Awake,
+    second: u64,
     door: &mut D,
     monitor: &mut M,
 ) -> Result<bool, IoFault>
@@ -83,7 +95,7 @@ fn accept<D: Door, M: Monitor<D::Wire>>(
     ensures fault { IfErr result IsMemory }
     // The listener is asked once if another connection may be opened. Otherwise it is not asked, so it returns no wire
     // for which none could be opened.
-    ensures opened { IfOk result (λ opens. IsOpening (TellsMore (D.calls door.old) (D.calls door.new)) server.old
+    ensures opened { IfOk result (λ opens. IsOpening second (TellsMore (D.calls door.old) (D.calls door.new)) server.old
         peers.old.entries server.new peers.new.entries opens) }
     ensures passes { is_none (open_refusal server.old) ≡ false → (door.new ≡ door.old) × (result ≡ Ok false) }
     ensures accepted { IfOk result (λ opens. AreCallsBetween (FollowsMore (M.follows monitor.old) (M.follows monitor.new))
@@ -106,7 +118,14 @@ fn accept<D: Door, M: Monitor<D::Wire>>(
     };
     monitor.opened(id, &wire, server);
     let wants = wants_on(server, id, &rest);
-    let Ok(_) = peers.insert(id, Peer { wire, rest, wants }) else {
+    let activity = Activity::new(second);
+    let peer = Peer {
+        wire,
+        rest,
+        wants,
+        activity,
+    };
+    let Ok(_) = peers.insert(id, peer) else {
         return Err(IoFault::Memory);
     };
     awake.wake_all();
@@ -123,6 +142,7 @@ fn serve_each<W: Wire + Ready + Drop, A: Application, M: Monitor<W>>(
     server: &mut Server,
     peers: &mut Peers<W>,
     awake: &mut Awake,
+    second: u64,
     application: &mut A,
     response: &mut Vec<u8>,
     monitor: &mut M,
@@ -132,7 +152,7 @@ fn serve_each<W: Wire + Ready + Drop, A: Application, M: Monitor<W>>(
     ensures shows { HasServedBy AreTakenWith (FollowsMore (M.follows monitor.old) (M.follows monitor.new))
         (AnswersMore (A.follows application.old) (A.follows application.new)) server.old server.new }
     // Each connection in order is served, except those that are idle, and the result is the work that remains.
-    ensures round { IfOk result (λ agenda. HasAccepted (IsRound (IsTakenWith A.follows) W.readable W.writable
+    ensures round { IfOk result (λ agenda. HasAccepted (IsRound (IsTakenWith A.follows) second W.readable W.writable
         (trace_by W.given W.written W.answers W.rooms) server.old peers.old.entries agenda server.new
         peers.new.entries) (FollowsMore (M.follows monitor.old) (M.follows monitor.new))
         (AnswersMore (A.follows application.old) (A.follows application.new)) server.old server.new) }
@@ -148,6 +168,7 @@ fn serve_each<W: Wire + Ready + Drop, A: Application, M: Monitor<W>>(
             peers,
             awake,
             seen,
+            second,
             application,
             response,
             monitor,
@@ -167,6 +188,7 @@ fn serve_next<W: Wire + Ready + Drop, A: Application, M: Monitor<W>>(
     peers: &mut Peers<W>,
     awake: &mut Awake,
     seen: TurnProgress,
+    second: u64,
     application: &mut A,
     response: &mut Vec<u8>,
     monitor: &mut M,
@@ -178,7 +200,7 @@ fn serve_next<W: Wire + Ready + Drop, A: Application, M: Monitor<W>>(
     ensures shows { HasServedBy AreTakenWith (FollowsMore (M.follows monitor.old) (M.follows monitor.new))
         (AnswersMore (A.follows application.old) (A.follows application.new)) server.old server.new }
     // The connection was served, and the others are unchanged.
-    ensures part { IfOk result (λ later. HasAccepted (HasGoneOn (IsTakenWith A.follows) W.readable W.writable
+    ensures part { IfOk result (λ later. HasAccepted (HasGoneOn (IsTakenWith A.follows) second W.readable W.writable
         (trace_by W.given W.written W.answers W.rooms) server.old peers.old.entries seen.at server.new
         peers.new.entries later.at) (FollowsMore (M.follows monitor.old) (M.follows monitor.new))
         (AnswersMore (A.follows application.old) (A.follows application.new)) server.old server.new) }
@@ -198,12 +220,20 @@ fn serve_next<W: Wire + Ready + Drop, A: Application, M: Monitor<W>>(
     ensures fault { IfErr result IsMemory }
 {
     let before = server.stamp();
-    let course = serve_at::<W, A, M>(server, peers, seen.at, application, response, monitor)?;
+    let course = serve_at::<W, A, M>(
+        server,
+        peers,
+        seen.at,
+        second,
+        application,
+        response,
+        monitor,
+    )?;
     let concerned = affects_served_peers(seen.at, before, server.stamp());
     let agenda = seen.agenda.with(concerned, None);
     match course {
-        PeerOutcome::Over => {
-            drop_at::<W, A, M>(server, peers, seen.at, application, monitor);
+        PeerOutcome::Over(reason) => {
+            drop_at::<W, A, M>(server, peers, seen.at, reason, application, monitor);
             awake.wake_all();
             Ok(TurnProgress { agenda, ..seen })
         }
@@ -229,6 +259,7 @@ fn serve_at<W: Wire + Ready, A: Application, M: Monitor<W>>(
     server: &mut Server,
     peers: &mut Peers<W>,
     at: usize,
+    second: u64,
     application: &mut A,
     response: &mut Vec<u8>,
     monitor: &mut M,
@@ -240,9 +271,8 @@ fn serve_at<W: Wire + Ready, A: Application, M: Monitor<W>>(
         (AnswersMore (A.follows application.old) (A.follows application.new)) server.old server.new }
     ensures part { IfSome (slice_get peers.old.entries at)
         (λ was. IfSome (slice_get peers.new.entries at)
-        (λ is. IfOk result (λ course. HasAccepted (IsServed (IsTakenWith A.follows) (W.readable was.1.wire) (W.writable was.1.wire)
-        server.old was.0 was.1.rest (trace_by W.given W.written W.answers W.rooms was.1.wire) server.new is.1.rest
-        (trace_by W.given W.written W.answers W.rooms is.1.wire) course)
+        (λ is. IfOk result (λ course. HasAccepted (IsVisited (IsTakenWith A.follows) second (W.readable was.1.wire)
+        (W.writable was.1.wire) (trace_by W.given W.written W.answers W.rooms) server.old was server.new is.1 course)
         (FollowsMore (M.follows monitor.old) (M.follows monitor.new))
         (AnswersMore (A.follows application.old) (A.follows application.new)) server.old server.new))) }
     ensures wants { IfSome (slice_get peers.new.entries at)
@@ -266,18 +296,20 @@ fn serve_at<W: Wire + Ready, A: Application, M: Monitor<W>>(
         peer,
         may_read,
         may_write,
+        second,
         application,
         response,
         monitor,
     )
 }
 
-/// Drops the connection at an index.
+/// Drops the connection at an index, for this reason.
 #[tactic(auto, using(crate::proofs::streams::ServingLemmas::none_served, crate::proofs::streams::ServingLemmas::dropped_served))]
 fn drop_at<W: Wire + Drop, A: Application, M: Monitor<W>>(
     server: &mut Server,
     peers: &mut Peers<W>,
     at: usize,
+    reason: DropReason,
     application: &mut A,
     monitor: &mut M,
 )
@@ -300,7 +332,7 @@ fn drop_at<W: Wire + Drop, A: Application, M: Monitor<W>>(
     if let Some((id, _)) = peers.shift_remove_index(at) {
         match server.drop_conn(id) {
             Ok(()) => {
-                monitor.accepted(Call::Dropped(id), server);
+                monitor.accepted(Call::Dropped(id, reason), server);
                 application.gone(id);
             }
             Err(_) => {}

@@ -1,11 +1,14 @@
 use Rattle.std.proofs.lemmas.Map.{none_passes_from_lookup}
-use Rattle.coap_server_listener.proofs.streams.RemovalLemmas.{recorded_without, recorded_found, none_found}
+use Rattle.coap_server_listener.specs.Prelude.{recorded}
+use Rattle.coap_server_listener.proofs.streams.RemovalLemmas.{changed_without, changed_found, none_found}
 use Rattle.coap_server_listener.proofs.door.removal.record_on.Goals as goal
 
 pub returns-in_default : goal.returns-in_default
-returns-in_default g c = recorded_without c.args.server.now c.args.id c.args.peers.now.entries (none_passes_from_lookup _ _ (none_found c.get_index_of.result _ c.get_index_of.ensures.found c.in_default.is))
+returns-in_default g c =
+    changed_without (recorded c.args.server.now) c.args.id c.args.peers.now.entries
+    (none_passes_from_lookup _ _ (none_found c.get_index_of.result _ c.get_index_of.ensures.found c.in_default.is))
 
 pub returns : goal.returns
 returns g c =
-    recorded_found c.args.server.now c.args.id c.args.peers.now.entries c.record_at.new.peers.entries c.in-Some.at c.in-Some.ensures.unique c.in-Some.ensures.index c.in-Some.ensures.within
-    c.record_at.ensures.recorded
+    changed_found (recorded c.args.server.now) c.args.id c.args.peers.now.entries c.record_at.new.peers.entries c.in-Some.at
+    c.in-Some.ensures.unique c.in-Some.ensures.index c.in-Some.ensures.within c.record_at.ensures.recorded

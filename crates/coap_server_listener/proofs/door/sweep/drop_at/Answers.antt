@@ -1,20 +1,15 @@
 use Rattle.std.proofs.Common.{nat_eq}
 use Rattle.std.proofs.lemmas.Map.{none_passes_from_lookup}
-use Rattle.coap_server_listener.specs.Prelude.{FollowsMore}
+use Rattle.coap_server_listener.specs.Prelude.{AnswersMore, FollowsMore}
 use Rattle.coap_server_listener.proofs.streams.AgendaLemmas.{some_at_index}
-use Rattle.coap_server_listener.proofs.streams.SweepLemmas.{dropped_here, dropped_told, noted_where_removed, number_there}
+use Rattle.coap_server_listener.proofs.streams.SweepLemmas.{dropped_here, noted_where_removed, number_there}
 use Rattle.coap_server_listener.proofs.door.sweep.drop_at.Goals as goal
 
 pub returns-clause-part : goal.returns-clause-part
 returns-clause-part g c =
-    dropped_here (FollowsMore (g.M.Monitor.follows c.args.watch.now.monitor) (g.M.Monitor.follows c.accepted.new.self.monitor)) c.args.watch.now.now c.args.server.now c.drop_conn.new.self c.args.watch.now.activities.entries c.accepted.new.self.activities.entries
-    c.args.peers.now.entries c.shift_remove_index.new.self.entries c.args.at c.args.id c.requires.there c.requires.number c.in-Ok.ensures.ok c.accepted.ensures.activities c.shift_remove_index.ensures.entries
-    c.in-Ok.ensures.shows c.accepted.ensures.told
-
-pub returns-clause-gone : goal.returns-clause-gone
-returns-clause-gone g c =
-    dropped_told (g.A.Application.follows c.args.application.now) (g.A.Application.follows c.gone.new.self) c.args.watch.now.now c.args.id c.args.at c.args.server.now c.args.watch.now.activities.entries c.args.peers.now.entries
-    c.requires.there c.requires.number c.gone.ensures
+    dropped_here (FollowsMore (g.M.Monitor.follows c.args.monitor.now) (g.M.Monitor.follows c.accepted.new.self)) (AnswersMore (g.A.Application.follows c.args.application.now) (g.A.Application.follows c.gone.new.self))
+    0 c.args.server.now c.drop_conn.new.self c.args.peers.now.entries c.shift_remove_index.new.self.entries c.args.at c.args.id c.requires.there c.requires.number
+    c.in-Ok.ensures.ok c.shift_remove_index.ensures.entries c.in-Ok.ensures.shows c.accepted.ensures c.gone.ensures
 
 pub returns-clause-noted : goal.returns-clause-noted
 returns-clause-noted g c =

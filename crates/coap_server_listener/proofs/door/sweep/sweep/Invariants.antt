@@ -1,17 +1,15 @@
-use Rattle.std.proofs.Common.{◌≡◌, ◌-◌, ◌≤◌, length, take, drop}
-use Rattle.coap_server_listener.specs.Prelude.{AreNoted, FollowsMore, swept}
-use Rattle.coap_server_listener.proofs.streams.SweepLemmas.{IsSweptTo, IsToldTo}
+use Rattle.std.proofs.Common.{◌-◌, ◌≤◌, length, take, drop}
+use Rattle.coap_server_listener.specs.Prelude.{AnswersMore, AreNoted, FollowsMore, swept}
+use Rattle.coap_server_listener.proofs.streams.SweepLemmas.{IsSweptTo}
 use Rattle.coap_server_listener.proofs.door.sweep.sweep.Given as goal
 
 -- The connections before the next one were swept.
 abbrev pub invariant-loop-at : goal.invariant-loop-at
 invariant-loop-at g l =
     (l.at ≤ length l.peers.entries)
-    × IsSweptTo (FollowsMore (g.M.Monitor.follows l.fn.watch.monitor) (g.M.Monitor.follows l.watch.monitor)) (swept l.fn.idle l.fn.watch.now l.fn.server l.fn.watch.activities.entries l.fn.peers.entries) l.fn.idle l.fn.watch.now l.fn.server l.server
-    l.watch.activities.entries (take l.at l.peers.entries) (drop l.at l.peers.entries)
-    × AreNoted l.server l.peers.entries × (l.watch.now ≡ l.fn.watch.now)
-    × IsToldTo (g.A.Application.follows l.fn.application) (g.A.Application.follows l.application) (swept l.fn.idle l.fn.watch.now l.fn.server l.fn.watch.activities.entries l.fn.peers.entries).exchanges
-    (swept l.fn.idle l.fn.watch.now l.server l.watch.activities.entries (drop l.at l.peers.entries)).exchanges
+    × IsSweptTo (FollowsMore (g.M.Monitor.follows l.fn.monitor) (g.M.Monitor.follows l.monitor)) (AnswersMore (g.A.Application.follows l.fn.application) (g.A.Application.follows l.application))
+    (swept l.fn.idle l.fn.now l.fn.server l.fn.peers.entries) l.fn.idle l.fn.now l.fn.server l.server (take l.at l.peers.entries) (drop l.at l.peers.entries)
+    × AreNoted l.server l.peers.entries
 
 abbrev pub decreases-loop-at : goal.decreases-loop-at
 decreases-loop-at g l = length l.peers.entries - l.at

@@ -14,7 +14,7 @@ returns-clause-opened g c = record {
   handed = Some c.in-Some.wire;
   asked = search rules;
   opened =
-      one_more_opened c.args.server.now c.open.new.self c.in-Ok-open.id _ c.args.peers.now.entries c.insert.new.self.entries c.in-Ok-open.ensures.answer c.in-Ok-open.ensures.id c.in-Ok-open.ensures.ok c.in-Ok-insert.ensures.entries c.in-Ok.ensures;
+      one_more_opened c.args.server.now c.open.new.self c.in-Ok-open.id _ c.args.peers.now.entries c.insert.new.self.entries c.in-Ok-open.ensures.answer c.in-Ok-open.ensures.id c.in-Ok-open.ensures.ok c.in-Ok-insert.ensures.entries c.in-Ok.ensures c.args.second c.new-activity.ensures;
   is = refl;
 }
 

@@ -14,7 +14,7 @@ loop-seen-init g c =
         exchanges = [];
         made = record {
           changed = false;
-          served = passed_on (IsTakenWith g.A.Application.follows) g.W.Ready.readable g.W.Ready.writable trace c.none.result.at c.skip_idle-seen.result.at c.stamp.ensures.stamp c.skip_idle-seen.ensures.from
+          served = passed_on (IsTakenWith g.A.Application.follows) c.args.second g.W.Ready.readable g.W.Ready.writable trace c.none.result.at c.skip_idle-seen.result.at c.stamp.ensures.stamp c.skip_idle-seen.ensures.from
               c.skip_idle-seen.ensures.within c.skip_idle-seen.ensures.rest (rw c.none.ensures (record { done = []; all_of_them = refl; served = NoMore 0 c.args.server.now }));
           agenda = past_on (end_of g.W.Ready.readable g.W.Ready.writable) c.args.peers.now.entries c.none.result.at c.skip_idle-seen.result.at c.args.server.now.host
               c.stamp.ensures.stamp c.skip_idle-seen.ensures.from (rw c.none.ensures (record { due = refl; ready = false; can = refl; at_once = refl; fresh = λ none. tt }))
@@ -42,9 +42,9 @@ loop-seen-preserved g c =
         exchanges = so_far.exchanges ++ one.exchanges;
         made = record {
           changed = before.changed || concerns_earlier c.loop-seen.seen.at (stamp_of c.loop-seen.server.host) (stamp_of c.serve_next.new.server.host);
-          served = passed_on (IsTakenWith g.A.Application.follows) g.W.Ready.readable g.W.Ready.writable trace c.in_ok-served.served.at c.skip_idle-seen-in-loop-seen.result.at c.stamp-in-loop-seen.ensures.stamp
+          served = passed_on (IsTakenWith g.A.Application.follows) c.args.second g.W.Ready.readable g.W.Ready.writable trace c.in_ok-served.served.at c.skip_idle-seen-in-loop-seen.result.at c.stamp-in-loop-seen.ensures.stamp
               c.skip_idle-seen-in-loop-seen.ensures.from c.skip_idle-seen-in-loop-seen.ensures.within c.skip_idle-seen-in-loop-seen.ensures.rest
-              (one_further (IsTakenWith g.A.Application.follows) g.W.Ready.readable g.W.Ready.writable trace c.loop-seen.invariant.5 one.made before.served);
+              (one_further (IsTakenWith g.A.Application.follows) c.args.second g.W.Ready.readable g.W.Ready.writable trace c.loop-seen.invariant.5 one.made before.served);
           agenda = past_on (end_of g.W.Ready.readable g.W.Ready.writable) c.serve_next.new.peers.entries c.in_ok-served.served.at c.skip_idle-seen-in-loop-seen.result.at
               c.serve_next.new.server.host c.stamp-in-loop-seen.ensures.stamp c.skip_idle-seen-in-loop-seen.ensures.from (c.in_ok-served.ensures.agenda before.changed before.agenda)
               c.skip_idle-seen-in-loop-seen.ensures.rest c.skip_idle-seen-in-loop-seen.ensures.agenda;
@@ -73,7 +73,7 @@ returns-clause-round g c =
       exchanges = so_far.exchanges;
       made = record {
         changed = done.changed;
-        served = all_are_served (IsTakenWith g.A.Application.follows) g.W.Ready.readable g.W.Ready.writable (trace_by g.W.Wire.given g.W.Wire.written g.W.Wire.answers g.W.Wire.rooms) most done.served;
+        served = all_are_served (IsTakenWith g.A.Application.follows) c.args.second g.W.Ready.readable g.W.Ready.writable (trace_by g.W.Wire.given g.W.Wire.written g.W.Wire.answers g.W.Wire.rooms) most done.served;
         agenda = rw (take_all c.loop-seen.seen.at c.loop-seen.peers.entries most) at done.agenda;
       };
       accepted = so_far.accepted;

@@ -8,7 +8,7 @@ use Rattle.coap_server_listener.proofs.door.turn.serve_each.Given as goal
 abbrev pub invariant-loop-seen : goal.invariant-loop-seen
 invariant-loop-seen g l =
     (l.seen.at ≤ length l.peers.entries)
-    × HasAccepted (IsRoundTo (IsTakenWith g.A.Application.follows) g.W.Ready.readable g.W.Ready.writable (trace_by g.W.Wire.given g.W.Wire.written g.W.Wire.answers g.W.Wire.rooms) l.fn.server l.fn.peers.entries l.seen.agenda l.server l.peers.entries l.seen.at)
+    × HasAccepted (IsRoundTo (IsTakenWith g.A.Application.follows) l.fn.second g.W.Ready.readable g.W.Ready.writable (trace_by g.W.Wire.given g.W.Wire.written g.W.Wire.answers g.W.Wire.rooms) l.fn.server l.fn.peers.entries l.seen.agenda l.server l.peers.entries l.seen.at)
     (FollowsMore (g.M.Monitor.follows l.fn.monitor) (g.M.Monitor.follows l.monitor)) (AnswersMore (g.A.Application.follows l.fn.application) (g.A.Application.follows l.application)) l.fn.server l.server
     × AreNoted l.server l.peers.entries × AreSettled l.server.host l.server.sessions
     × HasServedBy AreTakenWith (FollowsMore (g.M.Monitor.follows l.fn.monitor) (g.M.Monitor.follows l.monitor)) (AnswersMore (g.A.Application.follows l.fn.application) (g.A.Application.follows l.application)) l.fn.server l.server

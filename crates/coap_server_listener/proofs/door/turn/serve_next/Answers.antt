@@ -39,7 +39,7 @@ returns-in-Open-clause-fewer g c =
 
 pub returns-in-Over-clause-part : goal.returns-in-Over-clause-part
 returns-in-Over-clause-part g c =
-    one_over (IsTakenWith g.A.Application.follows) g.W.Ready.readable g.W.Ready.writable (trace_by g.W.Wire.given g.W.Wire.written g.W.Wire.answers g.W.Wire.rooms)
+    one_over (IsTakenWith g.A.Application.follows) c.args.second g.W.Ready.readable g.W.Ready.writable (trace_by g.W.Wire.given g.W.Wire.written g.W.Wire.answers g.W.Wire.rooms)
     c.args.server.now c.serve_at.new.server c.args.peers.now.entries c.serve_at.new.peers.entries c.args.seen.at
     c.requires.there c.serve_at.ensures.same c.serve_at.ensures.before c.serve_at.ensures.beside
     (g.M.Monitor.follows c.args.monitor.now) (g.M.Monitor.follows c.serve_at.new.monitor) (g.A.Application.follows c.args.application.now) (g.A.Application.follows c.serve_at.new.application) c.in_ok-course.course c.in_ok-course.ensures.part
@@ -47,7 +47,7 @@ returns-in-Over-clause-part g c =
 
 pub returns-in-Open-clause-part : goal.returns-in-Open-clause-part
 returns-in-Open-clause-part g c =
-    one_open (IsTakenWith g.A.Application.follows) g.W.Ready.readable g.W.Ready.writable (trace_by g.W.Wire.given g.W.Wire.written g.W.Wire.answers g.W.Wire.rooms)
+    one_open (IsTakenWith g.A.Application.follows) c.args.second g.W.Ready.readable g.W.Ready.writable (trace_by g.W.Wire.given g.W.Wire.written g.W.Wire.answers g.W.Wire.rooms)
     c.args.server.now c.serve_at.new.server c.args.peers.now.entries c.serve_at.new.peers.entries c.args.seen.at
     c.requires.there c.serve_at.ensures.same c.serve_at.ensures.before c.serve_at.ensures.beside
     (g.M.Monitor.follows c.args.monitor.now) (g.M.Monitor.follows c.serve_at.new.monitor) (g.A.Application.follows c.args.application.now) (g.A.Application.follows c.serve_at.new.application) c.in_ok-course.course c.in_ok-course.ensures.part c.in-Open.is
