@@ -117,6 +117,7 @@ STEPS = [
     Step(["python3", "tests/system/record.py", SERVER, CLIENT], 18, 2),
     Step(["python3", "tests/system/explain.py", SERVER, EXPLAIN], 15, 5),
     Step(["python3", "tests/system/directory.py", DIRECTORY, CLIENT], 7, 3),
+    Step(["python3", "tests/system/directory_options.py", DIRECTORY, SERVER, EXPLAIN], 10, 1),
     Step(["python3", "tests/system/idle.py", SERVER], 17, 1),
     Step(["python3", "tests/system/clocks.py", SERVER, CLIENT], 14, 1),
     Step(["python3", "tests/system/interop.py", SERVER, CLIENT], 17, 1),

@@ -46,7 +46,8 @@ SOURCES = {
     "coap-client": ["coap_client_main/src/*.rt", "coap_client_engine/src/run.rt", "coap_client_engine/src/run/*.rt",
                     "coap_client_engine/src/error_lines.rt", "coap_client_engine/src/cause_line.rt"] + LIBRARIES,
     "coap-explain": ["coap_explain/src/*.rt"] + LIBRARIES,
-    "coap-directory": ["coap_directory/src/*.rt", "coap_server_common/src/listening.rt", "coap_server_listener/src/*.rt", "coap_server_engine/src/io_fault.rt"] + LIBRARIES,
+    "coap-directory": ["coap_directory/src/*.rt", "coap_server_monitors/src/*.rt", "coap_server_common/src/listening.rt",
+                       "coap_server_listener/src/*.rt", "coap_server_engine/src/io_fault.rt"] + LIBRARIES,
 }
 
 # Files with error texts that a program prints as lines, beside the texts in its calls of `print_fault`.
@@ -63,7 +64,7 @@ VALUES = {"fault", "hindrance", "line.as_str()", "reason.as_str()", "text"}
 
 # Error texts that a program does not print, and the text in place of that of clap.
 UNPRINTED = {"coap-server": {"bad target {}"}, "coap-client": set()}
-UNPRINTED.update({name: {"bad target {}", "options exclude each other", "cannot read"} for name in ("coap-explain", "coap-directory")})
+UNPRINTED.update({"coap-explain": {"bad target {}", "options exclude each other", "cannot read"}, "coap-directory": {"bad target {}", "cannot read"}})
 USAGE_TEXT = "{}"
 
 # Lines whose entries in a manual have a list of all second lines that `print_fault` prints after them.
@@ -108,6 +109,8 @@ def directory_faults(port):
     return [
         (["-p", "0"], b"", "bad value for option"),
         (["--registrations", "0"], b"", "bad value for option"),
+        (["--record", ""], b"", "bad value for option"),
+        (["--record-limit", "1"], b"", "options exclude each other"),
         ([b"\xff"], b"", "words that are not UTF-8"),
         (["-A", "127.0.0.1", "-p", str(port)], b"", "cannot listen"),
     ]
@@ -357,7 +360,7 @@ def check_statuses(checks, manual, source):
 
 def check_lines(checks, manual, source):
     """Checks that the source has each line of the manual, and the manual each line of the source."""
-    said = {front_of(text.removeprefix(manual.name + ": ")) for text in re.findall(r'b?"([^"\n]+?)(?:\\n)?"', source)}
+    said = {front_of(text.removeprefix(manual.name).removeprefix(": ")) for text in re.findall(r'b?"([^"\n]+?)(?:\\n)?"', source)}
     told = set(re.findall(r'"%s: ([^"{]+)' % manual.name, source))
     listed = {front_of(line) for line in manual.lines_told()}
     checks.same("%s: lines missing in the source" % manual.name, sorted(listed - said), [])
@@ -576,6 +579,7 @@ def check(server, client, explain, directory):
         check_hindrances(checks, Manual("coap-client"))
         check_clashes(checks, Manual("coap-client"), r"-\w|, only")
         check_clashes(checks, Manual("coap-server"), r"--")
+        check_clashes(checks, Manual("coap-directory"), r"--record-limit")
         check_targets(checks, Manual("coap-client"))
         check_signal(checks, server)
         check_causes(checks, Manual("coap-client"))

@@ -198,6 +198,11 @@ COMPLETED = [
     (["coap-explain", "--connection", "1"], "t", ["two"]),
     (["coap-directory"], "--reg", ["--registrations"]),
     (["coap-directory", "--registrations", "="], "", []),
+    (["coap-directory", "--log"], "", ["0", "1", "2", "3"]),
+    (["coap-directory", "--idle"], "", []),
+    (["coap-directory", "--record"], "on", ["one file", "one.txt"]),
+    (["coap-directory", "--record-limit"], "", []),
+    (["coap-directory"], "--rec", ["--record", "--record-limit"]),
 ]
 
 # Timeout of each command in seconds.

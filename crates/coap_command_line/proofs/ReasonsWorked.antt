@@ -7,6 +7,8 @@ use Rattle.coap_command_line.specs.Reasons.{server_value, client_value, server_c
 use Rattle.coap_command_line.specs.Reasons.{queue_text, method_text, target_reason, url_text, scheme_text, fragment_text}
 use Rattle.coap_command_line.specs.Reasons.{has_zone, script_clash, stdio_clash, listener_clash, alone_clash}
 use Rattle.coap_command_line.specs.CommandLines.{before, after}
+use Rattle.coap_command_line.specs.DirectoryWords.{directory_reason}
+use Rattle.coap_command_line.specs.declared.arguments.WordsFault.TheVariants as faults
 use Rattle.coap_request.specs.declared.target.TargetFault.TheVariants as target
 use Rattle.clap.proofs.OnLiterals.{clap_on_literals}
 
@@ -109,6 +111,10 @@ two_payloads = refl
 observed_with_put : client_clash (matches_of client_app (codes "-s" ∷ codes "1" ∷ codes "-m" ∷ codes "put" ∷ codes "coap+tcp://h/" ∷ [])) ≡ codes "-s cannot be used with -m put, only with -m get"
 unfolding clap_on_literals client_clash method_text
 observed_with_put = refl
+
+limit_of_a_directory_without_a_record : directory_reason (codes "--record-limit" ∷ codes "9" ∷ []) faults.Clash ≡ Some (codes "--record-limit can be used only with --record")
+unfolding clap_on_literals directory_reason
+limit_of_a_directory_without_a_record = refl
 
 -- ---- targets
 

@@ -12,6 +12,7 @@ use Rattle.coap_command_line.specs.Prelude.{from_zero, three_in, starts_in, star
 use Rattle.coap_command_line.specs.Prelude.{records_to_output, excludes_record, excludes_application, applications_said}
 use Rattle.coap_command_line.specs.Prelude.{code_in, codes_of, method_in, no_entries, with_text, with_texts}
 use Rattle.coap_command_line.specs.CommandLines.{after, before}
+use Rattle.coap_command_line.specs.DirectoryWords.{directory_plan_in, directory_plan_of, directory_said}
 use Rattle.coap_script.specs.Prelude.{path_value, segments_of, key_for, is_path}
 use Rattle.coap_application.specs.Prelude.{entry_refusal, are_methods, are_attributes, is_name_char, is_token_char}
 use Rattle.std.specs.declared.net.ip_addr.IpAddr.TheVariants as ip
@@ -241,6 +242,20 @@ a_space = refl
 a_sign : starts_in (codes "+1,2,3") ≡ None
 unfolding starts_in three_in number_within decimal_value
 a_sign = refl
+
+-- ---- coap-directory
+
+a_recorded_directory : directory_plan_of (codes "--record-limit" ∷ codes "4096" ∷ codes "--record" ∷ codes "-" ∷ codes "--idle=5" ∷ codes "--log" ∷ codes "3" ∷ codes "-p" ∷ codes "5700" ∷ []) ≡ Ok (record { address = every_address; port = 5700; connections = 16; registrations = 1000; log = Messages; idle = 5; «record» = Some (codes "-"); record_limit = 4096 })
+unfolding clap_on_literals directory_plan_of directory_plan_in directory_said level_in level_of file_name number_within decimal_value address_of
+a_recorded_directory = refl
+
+a_directory_without_a_record : directory_plan_of (codes "--record-limit" ∷ codes "4096" ∷ []) ≡ Err Clash
+unfolding clap_on_literals directory_plan_of directory_plan_in directory_said level_in level_of file_name number_within decimal_value address_of
+a_directory_without_a_record = refl
+
+a_bad_limit_without_a_record : directory_plan_of (codes "--record-limit" ∷ codes "0" ∷ []) ≡ Err (Value (codes "--record-limit"))
+unfolding clap_on_literals directory_plan_of directory_plan_in directory_said level_in level_of file_name number_within decimal_value address_of
+a_bad_limit_without_a_record = refl
 
 -- ---- entries of an application
 

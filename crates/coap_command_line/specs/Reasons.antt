@@ -1,6 +1,6 @@
 -- Defined by this project: the reason for a refused command line, a second line after the text of the error. The reason
 -- says what was given and what is allowed.
-use Rattle.std.specs.Prelude.{ℕ, ◌==◌, ◌&&◌, Bool, List, [], ◌∷◌, ◌++◌, drop, length, map, nat_eq, Option, Some, None, is_some, not, option_map, unwrap_or, Result, Ok, Err, codes, bytes_eq, decimal, if◌then◌else◌}
+use Rattle.std.specs.Prelude.{ℕ, ◌==◌, ◌&&◌, Bool, List, [], ◌∷◌, ◌++◌, drop, length, map, nat_eq, Option, Some, None, is_some, option_map, unwrap_or, Result, Ok, Err, codes, bytes_eq, decimal, if◌then◌else◌}
 use Rattle.std.specs.Borrow.{Bor}
 use Rattle.std.specs.List.{list_all, list_any, starts_with}
 use Rattle.clap.specs.Words.{Kinds, Row, Text, fault_of, first_of, matches_of}
@@ -12,7 +12,7 @@ use Rattle.coap_request.specs.declared.target.TargetFault.{TargetFault}
 use Rattle.coap_request.specs.declared.target.TargetFault.TheVariants as target
 use Rattle.coap_command_line.specs.CommandLines.{after, before, is_used, number_within, option_value}
 use Rattle.coap_command_line.specs.ApplicationWords.{applications_said, refused_value}
-use Rattle.coap_command_line.specs.ServerWords.{server_app, records_to_output}
+use Rattle.coap_command_line.specs.ServerWords.{server_app, lacks_record, records_to_output}
 use Rattle.coap_command_line.specs.ClientWords.{client_app, uri_said}
 use Rattle.coap_command_line.specs.declared.arguments.WordsFault.{WordsFault}
 use Rattle.coap_command_line.specs.declared.arguments.WordsFault.TheVariants as faults
@@ -109,9 +109,7 @@ application_alone = codes "--application can be used only with --script"
 
 -- The text for the limit of a record if it is given without a record, and otherwise for entries of an application.
 unfoldable pub alone_clash : List Row → Text
-alone_clash rows =
-    if is_some (first_of (codes "--record-limit") rows) && not (is_some (first_of (codes "--record") rows)) then limit_alone
-    else application_alone
+alone_clash rows = if lacks_record rows then limit_alone else application_alone
 
 -- The first option that a script excludes.
 unfoldable pub script_clash : List Row → Text

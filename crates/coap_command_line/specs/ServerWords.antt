@@ -168,13 +168,17 @@ excludes_application rows =
 unfoldable pub records_to_output : List Row → Bool
 records_to_output rows = option_map_or (λ name. bytes_eq name (codes "-")) (first_of (codes "--record") rows) false
 
+-- True if the limit of a record is given without a record.
+abbrev pub lacks_record : List Row → Bool
+lacks_record rows = is_some (first_of (codes "--record-limit") rows) && not (is_some (first_of (codes "--record") rows))
+
 -- True if a record is given with a mode that excludes it, or its limit without a record. A script excludes every record,
 -- and standard input and output exclude a record that is standard output.
 unfoldable pub excludes_record : List Row → Bool
 excludes_record rows =
     (is_some (first_of (codes "--script") rows) && is_some (first_of (codes "--record") rows))
     || (is_used (codes "--stdio") rows && records_to_output rows)
-    || (is_some (first_of (codes "--record-limit") rows) && not (is_some (first_of (codes "--record") rows)))
+    || lacks_record rows
 
 -- The mode: standard input and output, the script with a name, or otherwise the address and the port. The first two
 -- exclude each other.

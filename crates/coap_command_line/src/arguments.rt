@@ -5,7 +5,7 @@ ghost use Rattle.coap_command_line.specs.Prelude.{IsClientPlan, IsServerPlan, is
 ghost use Rattle.coap_command_line.specs.Reasons.{line_of};
 ghost use Rattle.coap_command_line.specs.Reasons as spec;
 
-mod applications;
+pub(crate) mod applications;
 mod client;
 mod commands;
 pub(crate) mod directory;

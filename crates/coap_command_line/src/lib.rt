@@ -16,6 +16,7 @@
 
 mod arguments;
 
+pub use arguments::applications::{EntryFault, entries_in};
 pub use arguments::directory::{DirectoryPlan, directory_reason, directory_words};
 pub use arguments::explain::{ExplainPlan, explain_reason, explain_words};
 pub use arguments::{

@@ -8,7 +8,9 @@ use Rattle.coap_model.specs.Configs.{ConfigValues, config_of, config_refusal}
 use Rattle.coap_command_line.specs.CommandLines.{WordsFaultValue}
 use Rattle.coap_command_line.specs.ServerWords.{ServerPlanValue, server_plan_of}
 use Rattle.coap_server_common.specs.Planned.{rep_max}
+use Rattle.coap_server_engine.specs.values.Servers.{config_with}
 use Rattle.coap_explain.specs.declared.header.OptionsFault.{OptionsFault}
+use Rattle.coap_explain.specs.declared.header.ReplayConfig.{ReplayConfig}
 use Rattle.coap_explain.specs.declared.header.OptionsFault.TheVariants.{Refused, Memory}
 
 -- The text with which the line of the options begins.
@@ -31,11 +33,15 @@ words_of options = script_words ++ parts 32 options
 abbrev pub AreUtf8 : List (List ℕ) → Type 0
 AreUtf8 words = AllByRecursion IsUtf8 words
 
--- The configuration of a server with this plan, if there is one.
+-- The values of a configuration.
+abbrev pub values_of : ReplayConfig → ConfigValues
+values_of c = config_with c.config c.applications
+
+-- The configuration of a server with this plan, if there is one, with the entries of the application.
 abbrev pub config_in_plan : Result ServerPlanValue WordsFaultValue → Option ConfigValues
 config_in_plan (Ok plan) =
-    Some (config_of plan.limits plan.connections plan.dynamic_max rep_max plan.turns
-    (record { moment = plan.starts.moment; versions = plan.starts.versions; ids = plan.starts.ids }))
+    Some (config_with (config_of plan.limits plan.connections plan.dynamic_max rep_max plan.turns
+    (record { moment = plan.starts.moment; versions = plan.starts.versions; ids = plan.starts.ids })) plan.applications)
 config_in_plan (Err fault) = None
 
 -- The configuration of `coap-server` with these words, if it has a plan for them.

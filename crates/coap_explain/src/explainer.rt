@@ -10,6 +10,7 @@ ghost use Rattle.coap_server_engine.specs.script.Replay.{event_ran};
 ghost use Rattle.coap_server_engine.specs.script.Replay as replay;
 ghost use Rattle.coap_server_engine.specs.values.Servers.{new_server};
 ghost use Rattle.coap_print.specs.Texts.{is_text};
+ghost use Rattle.coap_explain.specs.Header.{values_of};
 ghost use Rattle.coap_explain.specs.Shown.{IsShown, fails_write};
 ghost use Rattle.coap_explain.specs.Printed.{Prints, Text};
 ghost use Rattle.coap_explain.specs.Explanations.{Explains, ExplainsEvent, messages_of, with_messages};
@@ -20,12 +21,13 @@ ghost use Rattle.coap_explain.specs.declared.trouble.Trouble.TheVariants as trou
 mod application;
 mod bytes;
 
+use crate::header::{ReplayConfig, server_of};
 use crate::layout::{connection_line, dropped_line, output_line};
 use crate::messages::{Followed, is_within};
 use crate::printer::Printer;
 use crate::trouble::Trouble;
 use coap_io::{Outlet, WriteFailed};
-use coap_model::{Config, ConnId, OpenFault, ReleaseFault};
+use coap_model::{ConnId, OpenFault, ReleaseFault};
 use coap_print::Line;
 use coap_record::BufferedOutlet;
 use coap_script::{Event, fault_line, status_line};
@@ -55,17 +57,18 @@ impl<O: Outlet + Drop> Explainer<O> {
     pub(crate) fn new(
         alloc: Global,
         printer: Printer<O>,
-        config: Config,
+        config: ReplayConfig,
     ) -> Result<Explainer<O>, AllocError>
-        ensures server { IfOk result (λ e. e.server ≡ new_server config) }
+        ensures server { IfOk result (λ e. e.server ≡ new_server (values_of config)) }
         ensures printer { IfOk result (λ e. e.printer ≡ printer) }
         ensures messages { IfOk result (λ e. (id : ℕ) → messages_of e id ≡ None) }
     {
+        let connections = config.config.connections();
         Ok(Explainer {
             alloc,
             printer,
-            server: Server::new(alloc, config)?,
-            connections: IndexMap::with_capacity(alloc, config.connections())?,
+            server: server_of(alloc, config)?,
+            connections: IndexMap::with_capacity(alloc, connections)?,
         })
     }
 
@@ -74,12 +77,12 @@ impl<O: Outlet + Drop> Explainer<O> {
     /// # Errors
     ///
     /// Returns `AllocError` if allocation fails.
-    pub(crate) fn configure(&mut self, config: Config) -> Result<(), AllocError>
-        ensures server { OnOk result (self.new.server ≡ new_server config) }
+    pub(crate) fn configure(&mut self, config: ReplayConfig) -> Result<(), AllocError>
+        ensures server { OnOk result (self.new.server ≡ new_server (values_of config)) }
         ensures printer { self.new.printer ≡ self.old.printer }
         ensures messages { self.new.connections ≡ self.old.connections }
     {
-        self.server = Server::new(self.alloc, config)?;
+        self.server = server_of(self.alloc, config)?;
         Ok(())
     }
 

@@ -3,11 +3,14 @@
 ghost use Rattle.std.specs.Prelude.{◌≡◌, Some, map, option_map, IfOk, IfSome, IfNone};
 ghost use Rattle.coap_explain.specs.Header.{AreUtf8, IsConfigured};
 ghost use Rattle.coap_explain.specs.Header as spec;
+ghost use Rattle.coap_server_engine.specs.values.Servers.{new_server};
 
+use coap_application::Applications;
 use coap_command_line::{WordsFault, server_reason, server_words};
 use coap_model::Config;
 use coap_print::Line;
 use coap_server_common::config_in;
+use coap_server_engine::Server;
 use coap_text::split_once;
 use std::alloc::{AllocError, Global};
 use std::str;
@@ -25,6 +28,33 @@ pub(crate) enum OptionsFault {
     Refused,
     /// Allocation failed.
     Memory,
+}
+
+/// Configuration of a server that runs a record.
+#[derive(Drop)]
+pub(crate) struct ReplayConfig {
+    /// Configuration of the server.
+    pub(crate) config: Config,
+    /// Entries of the requests that the application answers, if there is one.
+    pub(crate) applications: Option<Applications>,
+}
+
+/// Returns a new server with a configuration.
+///
+/// # Errors
+///
+/// Returns `AllocError` if allocation fails.
+pub(crate) fn server_of(alloc: Global, config: ReplayConfig) -> Result<Server, AllocError>
+    ensures { IfOk result (λ server. server ≡ new_server (spec.values_of config)) }
+{
+    let ReplayConfig {
+        config,
+        applications,
+    } = config;
+    match applications {
+        Some(applications) => Server::with_applications(alloc, config, applications),
+        None => Server::new(alloc, config),
+    }
 }
 
 /// Returns the options in a line of the header, or `None` if the line has none.
@@ -69,8 +99,8 @@ fn words_of<'a>(alloc: Global, options: &'a [u8]) -> Result<Option<Vec<&'a str>>
 /// # Errors
 ///
 /// Returns `AllocError` if allocation fails.
-pub(crate) fn default_config(alloc: Global) -> Result<Config, AllocError>
-    ensures { IfOk result (λ config. spec.config_said spec.script_words ≡ Some config) }
+pub(crate) fn default_config(alloc: Global) -> Result<ReplayConfig, AllocError>
+    ensures { IfOk result (λ config. spec.config_said spec.script_words ≡ Some (spec.values_of config)) }
 {
     match config_of_words(alloc, &SCRIPT) {
         Ok(config) => Ok(config),
@@ -84,8 +114,8 @@ pub(crate) fn default_config(alloc: Global) -> Result<Config, AllocError>
 ///
 /// - `Memory`: allocation failed.
 /// - `Refused`: the server does not have these options.
-pub(crate) fn config_of_options(alloc: Global, options: &[u8]) -> Result<Config, OptionsFault>
-    ensures { IsConfigured (λ config. config) (spec.words_of options.now) result }
+pub(crate) fn config_of_options(alloc: Global, options: &[u8]) -> Result<ReplayConfig, OptionsFault>
+    ensures { IsConfigured spec.values_of (spec.words_of options.now) result }
 {
     let Ok(found) = words_of(alloc, options) else {
         return Err(OptionsFault::Memory);
@@ -98,12 +128,15 @@ pub(crate) fn config_of_options(alloc: Global, options: &[u8]) -> Result<Config,
 
 /// Returns the configuration of a server with these arguments.
 #[tactic(auto, unfolding(crate::specs::Header::config_said))]
-fn config_of_words(alloc: Global, words: &[&str]) -> Result<Config, OptionsFault>
-    ensures { IsConfigured (λ config. config) (map (λ word. word.now) words.now) result }
+fn config_of_words(alloc: Global, words: &[&str]) -> Result<ReplayConfig, OptionsFault>
+    ensures { IsConfigured spec.values_of (map (λ word. word.now) words.now) result }
 {
     match server_words(alloc, words) {
         Ok(plan) => match config_in(&plan) {
-            Some(config) => Ok(config),
+            Some(config) => Ok(ReplayConfig {
+                config,
+                applications: plan.applications,
+            }),
             None => Err(OptionsFault::Refused),
         },
         Err(WordsFault::Memory) => Err(OptionsFault::Memory),

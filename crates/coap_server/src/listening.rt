@@ -7,19 +7,16 @@ ghost use Rattle.std.specs.Prelude.{IsErr};
 ghost use Rattle.coap_server_common.specs.Planned.{planned, starts_of};
 
 use crate::PROGRAM;
-use coap_io::{Clock, Door, Outlet};
+use coap_io::{Clock, Outlet};
 use coap_model::{Config, Starts};
 use coap_print::LogLevel;
 use coap_program::{FAULT, USAGE};
-use coap_record::MonitorPair;
 use coap_request::ServerPlan;
 use coap_server_common::{config_of, print_listen_fault};
-use coap_server_engine::{IoFault, Monitor, NoMonitor};
-use coap_server_listener::{SilenceWatch, serve_door_timed, serve_door_with};
-use coap_server_monitors::{Lent, MarkedDoor, ServerLog, ServerRecord, open_record};
-use coap_sockets::{RunClock, SocketDoor, SystemClock};
-use std::alloc::AllocError;
-use std::cell::Cell;
+use coap_server_engine::{IoFault, Monitor, NoApplication, NoMonitor};
+use coap_server_listener::{Clocks, ServiceConfig, serve_door_with};
+use coap_server_monitors::{ServerRecord, finish, monitor_of, open_record};
+use coap_sockets::{RunClock, SocketDoor, SocketWire, SystemClock};
 use std::net::{Net, SocketAddr};
 use std::rt::Files;
 use std::time;
@@ -42,16 +39,16 @@ fn config_now<C: Clock>(clock: &mut C, plan: &ServerPlan) -> Option<Config>
 ///
 /// The errors are a limit out of its range, a record that cannot be created, and a system that cannot listen. A failed
 /// allocation and the limit of turns are errors too.
-pub(crate) fn run(
-    rt: &(impl Print + Eprint + Files + Net + time::Clock + AllocGlobal),
+pub(crate) fn run<'a>(
+    rt: &'a (impl Print + Eprint + Files + Net + time::Clock + AllocGlobal),
     address: SocketAddr,
-    plan: &ServerPlan,
+    plan: &'a ServerPlan,
 ) -> u8 {
     let mut clock = SystemClock::new(rt);
     let Some(config) = config_now(&mut clock, plan) else {
         return PROGRAM.print_fault(rt, "a limit is out of its range", USAGE);
     };
-    let record = match open_record(rt, &PROGRAM, plan) {
+    let record = match open_record(rt, &PROGRAM, plan.record.as_deref(), plan.record_limit) {
         Ok(record) => record,
         Err(status) => return status,
     };
@@ -63,118 +60,73 @@ pub(crate) fn run(
         "coap-server: listening on {}",
         door.address().unwrap_or(address)
     );
-    let served = match record {
-        Some(record) => serve_recorded(rt, &mut door, &mut clock, config, plan, record),
-        None => serve_unrecorded(rt, &mut door, &mut clock, config, plan),
-    };
-    match served {
+    match serve(rt, &mut door, clock, config, plan, record) {
         Ok(()) => unreachable!(),
         Err(fault) => PROGRAM.print_fault(rt, fault, FAULT),
     }
 }
 
-/// Serves the connections of a listener, with a log if the plan has one.
-fn serve_unrecorded<'a, R: Net + time::Clock + AllocGlobal>(
+/// Serves the connections of a listener, with the log and the record of the plan. With a log, the listener wakes up each
+/// second.
+fn serve<'a, R: Net + time::Clock + AllocGlobal, O: Outlet + Drop>(
     rt: &'a R,
     door: &mut SocketDoor<'a, R>,
-    clock: &mut SystemClock<'a, R>,
+    clock: SystemClock<'a, R>,
     config: Config,
     plan: &ServerPlan,
+    record: Option<ServerRecord<'_, O>>,
 ) -> Result<(), IoFault>
     ensures { IsErr result }
 {
-    if plan.log == LogLevel::Nothing {
-        return serve(rt, door, clock, config, plan.idle, NoMonitor);
+    if plan.log != LogLevel::Nothing {
+        door.wake_each_second();
     }
-    let has_failed = Cell::new(false);
-    let Ok(mut log) = log_of(rt, door, &config, plan, &has_failed) else {
-        return Err(IoFault::Memory);
-    };
-    let mut door = MarkedDoor::new(door, &has_failed);
-    let served = serve(rt, &mut door, clock, config, plan.idle, Lent(&mut log));
-    log.finish(None);
-    served
-}
-
-/// Serves the connections of a listener with a record, and with a log if the plan has one.
-fn serve_recorded<'a, R: Net + time::Clock + AllocGlobal, O: Outlet + Drop>(
-    rt: &'a R,
-    door: &mut SocketDoor<'a, R>,
-    clock: &mut SystemClock<'a, R>,
-    config: Config,
-    plan: &ServerPlan,
-    record: ServerRecord<'_, O>,
-) -> Result<(), IoFault>
-    ensures { IsErr result }
-{
-    let mut record = record;
-    let Ok(()) = record.begin(rt.alloc(), &config) else {
-        return Err(IoFault::Memory);
-    };
-    if plan.log == LogLevel::Nothing {
-        return serve(rt, door, clock, config, plan.idle, record);
-    }
-    let has_failed = Cell::new(false);
-    let Ok(mut log) = log_of(rt, door, &config, plan, &has_failed) else {
-        return Err(IoFault::Memory);
-    };
-    let mut door = MarkedDoor::new(door, &has_failed);
-    let pair = MonitorPair::new(Lent(&mut log), record);
-    let served = serve(rt, &mut door, clock, config, plan.idle, pair);
-    log.finish(None);
-    served
-}
-
-/// Returns the log of a listener, of the plan's level. Then the listener wakes up each second. Its wires set `has_failed` if
-/// they fail.
-///
-/// # Errors
-///
-/// Returns `AllocError` if allocation fails.
-fn log_of<'a, R: Net + time::Clock + AllocGlobal>(
-    rt: &'a R,
-    door: &mut SocketDoor<'_, R>,
-    config: &Config,
-    plan: &ServerPlan,
-    has_failed: &'a Cell<bool>,
-) -> Result<ServerLog<'a, R>, AllocError> {
-    door.wake_each_second();
     let troubles = door.troubles();
-    ServerLog::new(rt, rt.alloc(), plan.log, config, Some(has_failed), troubles)
+    let monitor = monitor_of(rt, &PROGRAM, plan.log, &config, &[], troubles, record);
+    let Ok(mut monitor) = monitor else {
+        return Err(IoFault::Memory);
+    };
+    let served = if Monitor::<SocketWire>::listens(&monitor) {
+        serve_with(rt, door, clock, config, plan.idle, &mut monitor)
+    } else {
+        // A request then costs a twentieth less.
+        serve_with(rt, door, clock, config, plan.idle, &mut NoMonitor)
+    };
+    finish(monitor, None);
+    served
 }
 
 /// Serves the connections of a listener. The monitor receives the calls that the server accepts. Connections are ended
-/// after `idle` seconds without a byte, or never if `idle` is zero.
-fn serve<R: Net + time::Clock + AllocGlobal, D: Door, M: Monitor<D::Wire> + Drop>(
-    rt: &R,
-    door: &mut D,
-    clock: &mut SystemClock<'_, R>,
+/// after `idle` seconds without a byte, or never if it is 0.
+fn serve_with<'a, R: Net + time::Clock + AllocGlobal, M: Monitor<SocketWire>>(
+    rt: &'a R,
+    door: &mut SocketDoor<'a, R>,
+    clock: SystemClock<'a, R>,
     config: Config,
     idle: u32,
-    monitor: M,
+    monitor: &mut M,
 ) -> Result<(), IoFault>
     ensures { IsErr result }
 {
-    if idle == 0 {
-        let mut monitor = monitor;
-        let served = serve_door_with(rt.alloc(), door, clock, config, &mut monitor);
-        // After a failed allocation, the lines of the last turn still wait.
-        monitor.turn_ended();
-        return served;
-    }
-    let Ok(mut watch) = SilenceWatch::new(rt.alloc(), config.connections(), monitor) else {
-        return Err(IoFault::Memory);
+    let idle = if idle == 0 { None } else { Some(idle) };
+    let mut clocks = Clocks {
+        time: clock,
+        uptime: idle.map(|_| RunClock::start(rt)),
     };
-    let mut uptime = RunClock::start(rt);
-    let served = serve_door_timed(
+    let config = ServiceConfig {
+        config,
+        applications: None,
+        idle,
+    };
+    let served = serve_door_with(
         rt.alloc(),
         door,
-        clock,
-        &mut uptime,
+        &mut clocks,
         config,
-        idle,
-        &mut watch,
+        &mut NoApplication,
+        monitor,
     );
-    Monitor::<D::Wire>::turn_ended(&mut watch);
+    // After a failed allocation, the lines of the last turn still wait.
+    monitor.turn_ended();
     served
 }

@@ -5,87 +5,58 @@ ghost use Rattle.std.specs.Prelude.{◌<◌, ◌+◌, ◌^◌};
 use crate::PROGRAM;
 use coap_io::{Outlet, ReadSource, WriteOutlet};
 use coap_model::Config;
-use coap_print::LogLevel;
 use coap_program::{ENDED, FAULT};
-use coap_record::MonitorPair;
 use coap_request::ServerPlan;
-use coap_server_engine::{IoFault, Monitor};
-use coap_server_monitors::{Lent, ServerLog, ServerRecord, open_record};
-use coap_server_streams::{Report, serve_one, serve_one_with};
+use coap_server_engine::{IoFault, Monitor, NoMonitor};
+use coap_server_monitors::{ServerRecord, finish, monitor_of, open_record};
+use coap_server_streams::{Report, serve_one_with};
 use std::rt::Files;
 use std::{io, time};
 
 /// Serves one connection over standard input and output, and returns the exit status. The file of a record is created
 /// before anything is read.
-pub(crate) fn run(
-    rt: &(impl Input + Print + Eprint + Files + time::Clock + AllocGlobal),
-    plan: &ServerPlan,
+pub(crate) fn run<'a>(
+    rt: &'a (impl Input + Print + Eprint + Files + time::Clock + AllocGlobal),
+    plan: &'a ServerPlan,
     config: &Config,
 ) -> u8
     requires { config.now.starts.ids + 1 < 2 ^ 64 }
 {
-    let served = match open_record(rt, &PROGRAM, plan) {
-        Ok(Some(record)) => serve_recorded(rt, config, plan.log, record),
-        Ok(None) => serve_unrecorded(rt, config, plan.log),
+    let record = match open_record(rt, &PROGRAM, plan.record.as_deref(), plan.record_limit) {
+        Ok(record) => record,
         Err(status) => return status,
     };
-    match served {
+    match serve(rt, plan, config, record) {
         Ok(_) => ENDED,
         Err(fault) => PROGRAM.print_fault(rt, fault, FAULT),
     }
 }
 
-/// Serves the connection, with a log of this level.
-fn serve_unrecorded(
+/// Serves the connection, with the log and the record of the plan.
+fn serve<O: Outlet + Drop>(
     rt: &(impl Input + Print + time::Clock + AllocGlobal),
+    plan: &ServerPlan,
     config: &Config,
-    level: LogLevel,
+    record: Option<ServerRecord<'_, O>>,
 ) -> Result<Report, IoFault>
     requires { config.now.starts.ids + 1 < 2 ^ 64 }
 {
-    if level == LogLevel::Nothing {
-        let mut input = ReadSource::new(rt.reader());
-        let mut output = WriteOutlet::new(io::writer(rt));
-        return serve_one(rt.alloc(), &mut input, &mut output, config);
-    }
-    let Ok(mut log) = ServerLog::new(rt, rt.alloc(), level, config, None, None) else {
+    let monitor = monitor_of(rt, &PROGRAM, plan.log, config, &[], None, record);
+    let Ok(mut monitor) = monitor else {
         return Err(IoFault::Memory);
     };
-    let served = serve(rt, config, &mut log);
-    log.finish(Some(config.starts().ids + 1));
-    served
-}
-
-/// Serves the connection with a record, and with a log of this level.
-fn serve_recorded<O: Outlet + Drop>(
-    rt: &(impl Input + Print + time::Clock + AllocGlobal),
-    config: &Config,
-    level: LogLevel,
-    record: ServerRecord<'_, O>,
-) -> Result<Report, IoFault>
-    requires { config.now.starts.ids + 1 < 2 ^ 64 }
-{
-    let mut record = record;
-    let Ok(()) = record.begin(rt.alloc(), config) else {
-        return Err(IoFault::Memory);
+    let served = if Monitor::<()>::listens(&monitor) {
+        serve_with(rt, config, &mut monitor)
+    } else {
+        // A request then costs an eighth less.
+        serve_with(rt, config, &mut NoMonitor)
     };
-    if level == LogLevel::Nothing {
-        return serve(rt, config, &mut record);
-    }
-    let Ok(mut log) = ServerLog::new(rt, rt.alloc(), level, config, None, None) else {
-        return Err(IoFault::Memory);
-    };
-    let served = serve(
-        rt,
-        config,
-        &mut MonitorPair::new(Lent(&mut log), Lent(&mut record)),
-    );
-    log.finish(Some(config.starts().ids + 1));
+    finish(monitor, Some(config.starts().ids + 1));
     served
 }
 
 /// Serves the connection. The monitor receives the calls that the server accepts, and at last the end of a turn.
-fn serve<M: Monitor<()>>(
+fn serve_with<M: Monitor<()>>(
     rt: &(impl Input + Print + AllocGlobal),
     config: &Config,
     monitor: &mut M,

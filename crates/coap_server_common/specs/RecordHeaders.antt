@@ -1,7 +1,7 @@
 -- Defined by this project: the header of a record. It has three lines: the version and the format, the options that were
 -- in force, and a command line that replays the record.
 use Rattle.std.specs.Prelude.{ℕ, Bool, false, List, [], ◌∷◌, ◌++◌, ◌==◌, ◌&&◌, ◌||◌, not, if◌then◌else◌, codes, decimal}
-use Rattle.std.specs.List.{list_all}
+use Rattle.std.specs.List.{flat_map, list_all}
 use Rattle.std.specs.Char.{is_ascii_alphanumeric}
 use Rattle.coap_model.specs.Configs.{ConfigValues, StartValues}
 
@@ -38,9 +38,19 @@ options_text c =
 abbrev pub options_line : ConfigValues → List ℕ
 options_line c = codes "# options: " ++ options_text c
 
--- The header of the record with this name, for a server of this version with this configuration.
-unfoldable pub header_text : (version name : List ℕ) → ConfigValues → List ℕ
-header_text version name c =
-    codes "# Record of coap-server " ++ version ++ codes ", format 1\n"
-    ++ options_line c ++ codes "\n"
-    ++ codes "# replay: coap-server --script " ++ shown_name name ++ codes " " ++ options_text c ++ codes "\n"
+-- The option for an entry that an application answers, as `--application` reads it, quoted by these bytes.
+abbrev pub entry_text : (quote entry : List ℕ) → List ℕ
+entry_text quote entry = codes " --application " ++ quote ++ entry ++ quote
+
+-- The options for all entries.
+abbrev pub entries_text : (quote : List ℕ) → List (List ℕ) → List ℕ
+entries_text quote entries = flat_map (entry_text quote) entries
+
+-- The header of the record with this name, of a program of this version, whose server has this configuration. Its
+-- application answers these entries.
+unfoldable pub header_text : (program version name : List ℕ) → ConfigValues → (entries : List (List ℕ)) → List ℕ
+header_text program version name c entries =
+    codes "# Record of " ++ program ++ codes " " ++ version ++ codes ", format 1\n"
+    ++ options_line c ++ entries_text [] entries ++ codes "\n"
+    ++ codes "# replay: coap-server --script " ++ shown_name name ++ codes " " ++ options_text c ++ entries_text (codes "'") entries
+    ++ codes "\n"

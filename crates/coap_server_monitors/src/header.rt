@@ -1,11 +1,11 @@
 //! The header of a record: the version, the options that are in force, and a command line that replays the record.
 
-ghost use Rattle.std.specs.Prelude.{◌≡◌, ◌++◌, true, IfOk, OnOk, codes, decimal};
+ghost use Rattle.std.specs.Prelude.{◌≡◌, ◌++◌, map, true, IfOk, OnOk, codes, decimal};
 ghost use Rattle.std.specs.List.{flat_map, list_all};
 ghost use Rattle.coap_command_line.specs.declared.arguments.help.TheConstants.{VERSION};
 ghost use Rattle.coap_print.specs.Texts.{is_text};
 ghost use Rattle.coap_record.specs.Prelude.{SaysNoEvent};
-ghost use Rattle.coap_server_common.specs.RecordHeaders.{header_text, options_text, starts_text};
+ghost use Rattle.coap_server_common.specs.RecordHeaders.{entry_text, header_text, options_text, starts_text};
 ghost use Rattle.coap_server_common.specs.RecordHeaders as spec;
 
 use coap_command_line::VERSION;
@@ -13,28 +13,49 @@ use coap_model::Config;
 use coap_text::decimal_digits;
 use std::alloc::{AllocError, Global};
 
-/// Returns the header of the record with this name, for a server with this configuration. Each of its lines is a comment.
+/// Returns the header of the record with this name, of a program whose server has this configuration, and whose application
+/// answers these entries. Each of its lines is a comment.
 ///
 /// # Errors
 ///
 /// Returns `AllocError` if allocation fails.
+///
+/// # Preconditions
+///
+/// The name of the program and the entries are printable ASCII.
 #[tactic(auto, unfolding(coap_server_common::specs::RecordHeaders::header_text))]
-pub fn header(alloc: Global, name: &str, config: &Config) -> Result<Vec<u8>, AllocError>
-    ensures text { IfOk result (λ text. text.items ≡ header_text VERSION.now name.now config.now) }
+pub fn header(
+    alloc: Global,
+    program: &str,
+    name: &str,
+    config: &Config,
+    entries: &[&str],
+) -> Result<Vec<u8>, AllocError>
+    requires program { is_text program.now ≡ true }
+    requires entries { is_text (flat_map (λ e. e.now) entries.now) ≡ true }
+    ensures text { IfOk result (λ text. text.items
+        ≡ header_text program.now VERSION.now name.now config.now (map (λ e. e.now) entries.now)) }
     ensures comments { IfOk result (λ text. SaysNoEvent text.items) }
 {
     let options = options(alloc, config)?;
+    let bare = entry_options(alloc, b"", entries)?;
+    let quoted = entry_options(alloc, b"'", entries)?;
     let name = shown_name(name.as_bytes());
     let mut text = Vec::new(alloc);
     append(
         &mut text,
         &[
-            b"# Record of coap-server ",
+            b"# Record of ",
+            program.as_bytes(),
+            b" ",
             VERSION.as_bytes(),
             b", format 1\n",
         ],
     )?;
-    append(&mut text, &[b"# options: ", options.as_slice(), b"\n"])?;
+    append(
+        &mut text,
+        &[b"# options: ", options.as_slice(), bare.as_slice(), b"\n"],
+    )?;
     append(
         &mut text,
         &[
@@ -42,10 +63,37 @@ pub fn header(alloc: Global, name: &str, config: &Config) -> Result<Vec<u8>, All
             name,
             b" ",
             options.as_slice(),
+            quoted.as_slice(),
             b"\n",
         ],
     )?;
     Ok(text)
+}
+
+/// Returns the options for the entries that an application answers, each entry between two copies of `quote`.
+///
+/// # Errors
+///
+/// Returns `AllocError` if allocation fails.
+fn entry_options(alloc: Global, quote: &[u8], entries: &[&str]) -> Result<Vec<u8>, AllocError>
+    ensures { IfOk result (λ text. text.items ≡ flat_map (λ entry. entry_text quote.now entry.now) entries.now) }
+{
+    let mut text = Vec::new(alloc);
+    for entry in entries {
+        append_entry(&mut text, quote, entry)?;
+    }
+    Ok(text)
+}
+
+/// Appends the option for an entry.
+///
+/// # Errors
+///
+/// Returns `AllocError` if allocation fails.
+fn append_entry(text: &mut Vec<u8>, quote: &[u8], entry: &str) -> Result<(), AllocError>
+    ensures { OnOk result (text.new.items ≡ text.old.items ++ entry_text quote.now entry.now) }
+{
+    append(text, &[b" --application ", quote, entry.as_bytes(), quote])
 }
 
 /// Returns the options on which a replay depends, in the order of the usage line.

@@ -1,20 +1,18 @@
-//! The log and the record of the program `coap-server`. Both are monitors: a run passes them each call that its server
-//! accepted.
+//! The log and the record of the programs `coap-server` and `coap-directory`. Both are monitors: a run passes them each
+//! call that its server accepted.
 //!
-//! - `ServerLog` writes the lines of `--log`. `MarkedDoor` is a listener whose wires tell it of failed connections.
+//! - `ServerLog` writes the lines of `--log`.
 //! - `ServerRecord` writes the lines of `--record`, after a header. `open_record` creates its file.
-//! - `Lent` passes all calls on to a monitor that its owner keeps.
+//! - `monitor_of` joins them, each if the plan has it.
 //!
 //! Continue with `log.rt`, then `record.rt`.
 #![tactic(auto)]
 
-mod failures;
 mod header;
-mod lent;
 mod log;
+mod monitor;
 mod record;
 
-pub use failures::{MarkedDoor, MarkedWire};
-pub use lent::Lent;
 pub use log::ServerLog;
+pub use monitor::{ServerMonitor, finish, monitor_of};
 pub use record::{RecordOutlet, RecordWriter, ServerRecord, open_record};

@@ -4,16 +4,16 @@ ghost use Rattle.std.specs.Prelude.{◌≡◌, ◌≤◌, length, take};
 ghost use Rattle.coap_server_monitors.specs.ConnectionEnds.{end_text};
 ghost use Rattle.coap_server_monitors.specs.Refusals.{is_refusal};
 
-use crate::failures::MarkedWire;
 use coap_conn::Reason;
 use coap_log::{
     COUNTED, DESCRIBED, LineWriter, Log, Stderr, Tap, append_counts, describe_head, head_code,
 };
 use coap_model::{Config, ConnId, Handled};
 use coap_print::{Line, LogLevel};
+use coap_program::Program;
 use coap_server_common::text_of;
-use coap_server_engine::{Call, Monitor, Server};
-use coap_sockets::DoorTroubles;
+use coap_server_engine::{Call, DropReason, Monitor, Server};
+use coap_sockets::{DoorTroubles, SocketWire};
 use coap_wire::Code;
 use indexmap::IndexMap;
 use std::alloc::{AllocError, Global};
@@ -49,8 +49,6 @@ pub struct ServerLog<'a, R> {
     connections: IndexMap<u64, Followed>,
     /// Maximum number of resources that clients may create.
     dynamic_max: usize,
-    /// `true` if the last wire that was used has failed. `None` if no wire says so.
-    has_failed: Option<&'a Cell<bool>>,
     troubles: Option<Rc<Cell<DoorTroubles>>>,
     reported: DoorTroubles,
 }
@@ -90,9 +88,7 @@ fn append_address(alloc: Global, line: &mut Line, address: SocketAddr) {
 }
 
 impl<'a, R: time::Clock> ServerLog<'a, R> {
-    /// Returns the log of a server with this configuration. The wires of its listener set `has_failed` if they fail, and
-    /// `troubles` counts the failed system calls of the listener. Without `has_failed`, each connection that ends without a
-    /// reason has failed.
+    /// Returns the log of a program whose server has this configuration. `troubles` counts the failed system calls of its listener.
     ///
     /// # Errors
     ///
@@ -100,20 +96,19 @@ impl<'a, R: time::Clock> ServerLog<'a, R> {
     pub fn new(
         rt: &'a R,
         alloc: Global,
+        program: &Program,
         level: LogLevel,
         config: &Config,
-        has_failed: Option<&'a Cell<bool>>,
         troubles: Option<Rc<Cell<DoorTroubles>>>,
     ) -> Result<ServerLog<'a, R>, AllocError> {
-        let mut program = Line::new();
-        program.text("coap-server");
+        let mut name = Line::new();
+        name.escaped(program.name.as_bytes());
         Ok(ServerLog {
             rt,
             alloc,
-            log: Log::new(level, program, LineWriter::new(Stderr::new())),
+            log: Log::new(level, name, LineWriter::new(Stderr::new())),
             connections: IndexMap::with_capacity(alloc, config.connections())?,
             dynamic_max: config.dynamic_max(),
-            has_failed,
             troubles,
             reported: DoorTroubles {
                 full: 0,
@@ -234,8 +229,8 @@ impl<'a, R: time::Clock> ServerLog<'a, R> {
             }
             Call::Ended(id) => self.note_stop(id, server),
             Call::Released(id) => self.note_stop(id, server),
-            Call::Dropped(id) => {
-                if let Some(line) = self.last_line(id) {
+            Call::Dropped(id, reason) => {
+                if let Some(line) = self.last_line(id, reason == DropReason::Failed) {
                     self.write(LogLevel::Connections, &line);
                 }
             }
@@ -243,10 +238,11 @@ impl<'a, R: time::Clock> ServerLog<'a, R> {
         }
     }
 
-    /// Ends the log, with the last line of this connection if it is still open. The lines left out are reported first.
+    /// Ends the log, with the last line of this connection if it is still open. If it has not stopped, it has failed. The
+    /// lines left out are reported first.
     pub fn finish(&mut self, id: Option<ConnId>) {
         let line = match id {
-            Some(id) => self.last_line(id),
+            Some(id) => self.last_line(id, true),
             None => None,
         };
         let now = self.now();
@@ -257,8 +253,7 @@ impl<'a, R: time::Clock> ServerLog<'a, R> {
     }
 
     /// Removes a connection from the log, and returns its last line. Writes a warning if the connection has failed.
-    fn last_line(&mut self, id: ConnId) -> Option<Line> {
-        let has_failed = self.take_failure();
+    fn last_line(&mut self, id: ConnId, has_failed: bool) -> Option<Line> {
         let followed = self.connections.shift_remove(&id)?;
         if followed.stop.is_none() && has_failed {
             self.warn(id, " failed");
@@ -269,16 +264,6 @@ impl<'a, R: time::Clock> ServerLog<'a, R> {
         line.text("; ");
         append_counts(&mut line, &followed.incoming, &followed.outgoing);
         Some(line)
-    }
-
-    /// Returns `true` if the wire of the connection that is removed has failed. The next connection begins with `false`.
-    fn take_failure(&self) -> bool {
-        let Some(cell) = self.has_failed else {
-            return true;
-        };
-        let has_failed = cell.get();
-        cell.set(false);
-        has_failed
     }
 
     /// Writes a warning if a number of failed system calls has grown.
@@ -387,8 +372,8 @@ fn described(head: &[u8]) -> &[u8]
 }
 
 #[tactic(auto, unfolding(coap_record::specs::Prelude::FollowsMore))]
-impl<'a, R: time::Clock> Monitor<MarkedWire<'a>> for ServerLog<'a, R> {
-    fn opened(&mut self, id: ConnId, wire: &MarkedWire<'a>, server: &Server) {
+impl<'a, R: time::Clock> Monitor<SocketWire> for ServerLog<'a, R> {
+    fn opened(&mut self, id: ConnId, wire: &SocketWire, server: &Server) {
         let mut peer = Line::new();
         append_address(self.alloc, &mut peer, wire.peer());
         self.open(id, &peer, server);

@@ -1,11 +1,13 @@
 //! The record of a server: its file, its header, and the report of its end.
 
-ghost use Rattle.std.specs.Prelude.{◌≡◌, [], Some, OnOk, IfOk, IfErr, IfSome};
+ghost use Rattle.std.specs.Prelude.{◌≡◌, [], map, true, Some, OnOk, IfOk, IfErr, IfSome};
+ghost use Rattle.std.specs.List.{flat_map};
 ghost use Rattle.coap_command_line.specs.declared.arguments.help.TheConstants.{VERSION};
 ghost use Rattle.coap_print.specs.Lines.{appended};
+ghost use Rattle.coap_print.specs.Texts.{is_text};
 ghost use Rattle.coap_print.specs.declared.line.TheConstants.{LINE_LENGTH};
 ghost use Rattle.coap_record.specs.Prelude.{FollowsMore};
-ghost use Rattle.coap_server_monitors.specs.RecordEnds.{end_text, title_text};
+ghost use Rattle.coap_server_monitors.specs.RecordEnds.{end_text, front_text, title_text};
 ghost use Rattle.coap_server_common.specs.RecordHeaders.{header_text};
 
 use crate::header::header;
@@ -15,7 +17,6 @@ use coap_model::{Config, ConnId};
 use coap_print::Line;
 use coap_program::{FAULT, FileError, Program};
 use coap_record::{BufferedOutlet, NotedOutlet, Recorder};
-use coap_request::ServerPlan;
 use coap_server_engine::{Call, Monitor, Server};
 use coap_text::is_hyphen;
 use std::alloc::{AllocError, Global};
@@ -70,6 +71,8 @@ pub type RecordOutlet<'a, R> = NotedOutlet<
 #[derive(Drop)]
 pub struct ServerRecord<'a, O> {
     recorder: Recorder<O>,
+    /// Name of the program.
+    program: &'a str,
     name: &'a str,
     limit: u64,
     /// `true` if the end of the record was reported.
@@ -77,30 +80,31 @@ pub struct ServerRecord<'a, O> {
     errors: LineWriter<Stderr>,
 }
 
-/// Creates the file of the record of a plan, or takes standard output. The result is `None` if the plan has no record.
+/// Creates the file of a record with this name, or takes standard output if the name is `-`. The record ends when it has
+/// `limit` bytes. The result is `None` without a name.
 ///
 /// # Errors
 ///
 /// The exit status of the program. The error was written to standard error. A file that exists is left as it is.
 pub fn open_record<'a, R: Files + Print + Eprint + AllocGlobal>(
     rt: &'a R,
-    program: &Program,
-    plan: &'a ServerPlan,
+    program: &Program<'a>,
+    name: Option<&'a str>,
+    limit: u64,
 ) -> Result<Option<ServerRecord<'a, RecordOutlet<'a, R>>>, u8>
     ensures err { IfErr result (λ status. status ≡ 3) }
     ensures empty { IfOk result (λ found. IfSome found (λ r.
         ⟦<Recorder<RecordOutlet<'a, R>> as Monitor<()>>⟧.follows r.recorder [] [])) }
 {
-    let Some(name) = &plan.record else {
+    let Some(name) = name else {
         return Ok(None);
     };
-    let name = name.as_str();
     let writer = match create(rt, name) {
         Ok(writer) => writer,
         Err(error) => return Err(print_open_fault(rt, program, name, &error)),
     };
     let outlet = NotedOutlet::new(WriteOutlet::new(writer));
-    match ServerRecord::new(rt.alloc(), outlet, name, plan.record_limit) {
+    match ServerRecord::new(rt.alloc(), outlet, program.name, name, limit) {
         Ok(record) => Ok(Some(record)),
         Err(_) => Err(program.print_fault(rt, "no memory", FAULT)),
     }
@@ -162,6 +166,7 @@ impl<'a, O: Outlet + Drop> ServerRecord<'a, O> {
     fn new(
         alloc: Global,
         outlet: O,
+        program: &'a str,
         name: &'a str,
         limit: u64,
     ) -> Result<ServerRecord<'a, O>, AllocError>
@@ -173,6 +178,7 @@ impl<'a, O: Outlet + Drop> ServerRecord<'a, O> {
         let outlet = BufferedOutlet::new(alloc, outlet, BUFFER)?;
         Ok(ServerRecord {
             recorder: Recorder::new(outlet, limit),
+            program,
             name,
             limit,
             is_reported: false,
@@ -180,18 +186,32 @@ impl<'a, O: Outlet + Drop> ServerRecord<'a, O> {
         })
     }
 
-    /// Writes the header for a server with this configuration. The lines of calls follow.
+    /// Writes the header for a server with this configuration, whose application answers these entries. The lines of calls
+    /// follow.
     ///
     /// # Errors
     ///
     /// Returns `AllocError` if allocation fails.
+    ///
+    /// # Preconditions
+    ///
+    /// The name of the program and the entries are printable ASCII.
     #[tactic(auto, unfolding(coap_record::specs::Prelude::FollowsMore))]
-    pub fn begin(&mut self, alloc: Global, config: &Config) -> Result<(), AllocError>
+    pub fn begin(
+        &mut self,
+        alloc: Global,
+        program: &Program,
+        config: &Config,
+        entries: &[&str],
+    ) -> Result<(), AllocError>
+        requires name { is_text program.now.name.now ≡ true }
+        requires entries { is_text (flat_map (λ e. e.now) entries.now) ≡ true }
         ensures header { OnOk result (⟦<Recorder<O> as Monitor<()>>⟧.follows self.old.recorder [] [] →
             ⟦<Recorder<O> as Monitor<()>>⟧.follows self.new.recorder
-            (header_text VERSION.now self.old.name.now config.now) []) }
+            (header_text program.now.name.now VERSION.now self.old.name.now config.now
+            (map (λ e. e.now) entries.now)) []) }
     {
-        let text = header(alloc, self.name, config)?;
+        let text = header(alloc, program.name, self.name, config, entries)?;
         self.recorder.write_header(text.as_slice());
         self.pass_on();
         Ok(())
@@ -216,18 +236,33 @@ impl<'a, O: Outlet + Drop> ServerRecord<'a, O> {
             self.errors.flush();
             return;
         }
-        let line = end_line(self.name, self.limit, self.recorder.has_failed());
+        let line = end_line(
+            self.program,
+            self.name,
+            self.limit,
+            self.recorder.has_failed(),
+        );
         self.is_reported = self.errors.write(&line);
     }
 }
 
-/// Returns the line that reports the end of a record: a write has failed, or the record has reached the limit.
-#[tactic(auto, using(coap_print::proofs::LineLaws::pieces), unfolding(crate::specs::RecordEnds::end_text))]
-fn end_line(name: &str, limit: u64, has_failed: bool) -> Line
-    ensures { result ≡ appended LINE_LENGTH [] (end_text name.now limit has_failed) }
+/// Returns the first words of the line that reports the end of a record.
+#[tactic(auto, using(coap_print::proofs::LineLaws::pieces))]
+fn front(program: &str) -> Line
+    ensures { result ≡ appended LINE_LENGTH [] (front_text program.now) }
 {
     let mut line = Line::new();
-    line.text("coap-server: record ended: ");
+    line.escaped(program.as_bytes());
+    line.text(": record ended: ");
+    line
+}
+
+/// Returns the line that reports the end of a record: a write has failed, or the record has reached the limit.
+#[tactic(auto, using(coap_print::proofs::LineLaws::pieces), unfolding(crate::specs::RecordEnds::end_text))]
+fn end_line(program: &str, name: &str, limit: u64, has_failed: bool) -> Line
+    ensures { result ≡ appended LINE_LENGTH [] (end_text program.now name.now limit has_failed) }
+{
+    let mut line = front(program);
     if has_failed {
         line.text("cannot write ");
         append_title(&mut line, name);

@@ -17,7 +17,7 @@ const DEADLINE: u32 = 60;
 
 /// Error of the values of `--application`.
 #[derive(Clone, Copy)]
-pub(super) enum EntryFault<'a> {
+pub enum EntryFault<'a> {
     /// First value that names no entry, or an entry that `Applications::add` rejects.
     Refused(&'a str),
     /// Failure of an allocation.
@@ -113,8 +113,14 @@ fn add_text(alloc: Global, entries: &mut Applications, text: &[u8]) -> Result<bo
     }
 }
 
-/// Returns the entries that texts name, in order.
-fn entries_in<'a>(alloc: Global, texts: &[&'a str]) -> Result<Applications, EntryFault<'a>>
+/// Returns the entries that texts in the form of `--application` name, in order. The application has 60 seconds for a
+/// response.
+///
+/// # Errors
+///
+/// - `Refused`: a text names no entry, or `Applications::add` rejects the entry.
+/// - `Memory`: allocation failed.
+pub fn entries_in<'a>(alloc: Global, texts: &[&'a str]) -> Result<Applications, EntryFault<'a>>
     ensures { TellsEntries (spec.with_texts spec.no_entries (map (λ t. t.now) texts.now)) result }
 {
     let Ok(mut entries) = Applications::new(alloc, DEADLINE) else {

@@ -70,6 +70,9 @@ pub(super) const DIRECTORY: &str = "A CoRE resource directory over TCP (RFC 9176
 pub(super) const REGISTRATIONS: &str =
     "Registrations at the same time, 1 to 100000 [default: 1000]";
 
+pub(super) const DIRECTORY_RECORD: &str =
+    "Write all events to the new file FILE (- for standard output), as a script for coap-server";
+
 // ---- coap-client
 
 pub(super) const CLIENT: &str = "A CoAP client over TCP (RFC 8323)";

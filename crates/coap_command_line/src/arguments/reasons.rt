@@ -14,7 +14,7 @@ mod targets;
 use crate::arguments::WordsFault;
 use crate::arguments::applications::{EntryFault, applications};
 use crate::arguments::option_values::{is_used, number, text_of};
-use crate::arguments::server::records_to_output;
+use crate::arguments::server::{lacks_record, records_to_output};
 use clap::ArgMatches;
 use coap_print::Line;
 use coap_wire::{BASE_MESSAGE_SIZE, LARGEST_SENT_MESSAGE};
@@ -71,6 +71,7 @@ pub(super) fn directory_line(matches: &ArgMatches<'_>, fault: &WordsFault) -> Op
 {
     match fault {
         WordsFault::Value(name) => row_line(DIRECTORY_VALUES, name, given_for(matches, name)),
+        WordsFault::Clash => Some(line_of(LIMIT_ALONE)),
         _ => None,
     }
 }
@@ -274,7 +275,7 @@ fn alone_clash(matches: &ArgMatches<'_>) -> &'static str
     ensures text { result.now ≡ spec.alone_clash (rows_of (found_of matches.now)) }
     ensures printable { is_text result.now ≡ true }
 {
-    if text_of(matches, "--record-limit").is_some() && text_of(matches, "--record").is_none() {
+    if lacks_record(matches) {
         LIMIT_ALONE
     } else {
         APPLICATION_ALONE

@@ -168,7 +168,7 @@ fn starts(matches: &ArgMatches<'_>) -> Result<StartCounts, &'static str>
 ///
 /// The error is the name of the option, if its text is empty.
 #[tactic(auto, unfolding(crate::specs::ServerWords::file_name))]
-fn check_record(matches: &ArgMatches<'_>) -> Result<(), &'static str>
+pub(super) fn check_record(matches: &ArgMatches<'_>) -> Result<(), &'static str>
     ensures { named result ≡ option_value (codes "--record") spec.file_name tt (rows_of (found_of matches.now)) }
 {
     match text_of(matches, "--record") {
@@ -249,19 +249,25 @@ pub(super) fn records_to_output(matches: &ArgMatches<'_>) -> bool
     }
 }
 
+/// Returns `true` if `--record-limit` is given without `--record`.
+pub(super) fn lacks_record(matches: &ArgMatches<'_>) -> bool
+    ensures { result ≡ spec.lacks_record (rows_of (found_of matches.now)) }
+{
+    text_of(matches, "--record-limit").is_some() && text_of(matches, "--record").is_none()
+}
+
 /// Returns `true` if `--record` is given with a mode that excludes it, or `--record-limit` without `--record`.
 #[tactic(auto, unfolding(crate::specs::ServerWords::excludes_record))]
 fn excludes_record(matches: &ArgMatches<'_>) -> bool
     ensures { result ≡ spec.excludes_record (rows_of (found_of matches.now)) }
 {
-    let is_given = text_of(matches, "--record").is_some();
-    if text_of(matches, "--script").is_some() && is_given {
+    if text_of(matches, "--script").is_some() && text_of(matches, "--record").is_some() {
         return true;
     }
     if is_used(matches, "--stdio") && records_to_output(matches) {
         return true;
     }
-    text_of(matches, "--record-limit").is_some() && !is_given
+    lacks_record(matches)
 }
 
 /// Returns `true` if `--application` is given to a server that runs no script.

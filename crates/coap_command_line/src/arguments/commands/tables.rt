@@ -101,4 +101,16 @@ pub const DIRECTORY: &[ArgumentRow] = &[
         Form::Word("registrations", "N"),
         help::REGISTRATIONS,
     ),
+    ("--log", Form::Word("log", "LEVEL"), help::LOG),
+    ("--idle", Form::Word("idle", "SECONDS"), help::IDLE),
+    (
+        "--record",
+        Form::Word("record", "FILE"),
+        help::DIRECTORY_RECORD,
+    ),
+    (
+        "--record-limit",
+        Form::Word("record-limit", "N"),
+        help::RECORD_LIMIT,
+    ),
 ];

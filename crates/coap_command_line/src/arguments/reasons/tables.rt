@@ -48,6 +48,10 @@ pub const DIRECTORY_VALUES: &[ValueRow] = &[
     ("-p", "a port from 1 to 65535"),
     ("--connections", "1 to 256 connections"),
     ("--registrations", "1 to 100000 registrations"),
+    ("--log", LEVEL),
+    ("--idle", "0 to 4294967295 seconds"),
+    ("--record", "the name of a file"),
+    ("--record-limit", "1 to 18446744073709551615 bytes"),
 ];
 
 /// Options of `coap-client`.
