@@ -1,7 +1,8 @@
 //! Runs a server over the connections that a listener (`Door`) accepts.
 
 ghost use Rattle.coap_server_listener.specs.Prelude.{AnswersMore, FollowsMore, IsMemoryOrTurns, IsRun, Resting, Silent};
-ghost use Rattle.coap_server_listener.specs.Prelude.{TellsMore, clock_and_door, plain_config, run_tells, trace_by, waited_behind};
+ghost use Rattle.coap_server_listener.specs.Prelude.{TellsMore, clock_and_door, plain_config, run_tells, trace_by};
+ghost use Rattle.coap_server_listener.specs.Prelude.{waited_behind};
 ghost use Rattle.std.specs.Prelude.{◌≡◌, false};
 
 mod awake;

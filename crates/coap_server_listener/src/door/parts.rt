@@ -19,9 +19,10 @@ const MOST_RESPONSES: usize = 256;
 
 impl<W: Wire + Ready + Drop> Service<W> {
     ghost use Rattle.std.specs.Prelude.{true, [], ◌++◌, List, is_ok, nat_le, IfErr, IfOk, OnErr, OnOk};
-    ghost use Rattle.coap_server_listener.specs.Prelude.{AcceptedCall, AreTakenWith, HasSwept, HasTurnedBy, IsAskedOnce};
-    ghost use Rattle.coap_server_listener.specs.Prelude.{IsMemory, IsTakenWith, IsTurnBy, Shows, TellsMore, due_sweep};
-    ghost use Rattle.coap_server_listener.specs.Prelude.{moved_to, short_wait, ticked_calls, trace_by};
+    ghost use Rattle.coap_server_listener.specs.Prelude.{AcceptedCall, AreTakenWith, HasSwept, HasTurnedBy};
+    ghost use Rattle.coap_server_listener.specs.Prelude.{IsAskedOnce, IsMemory, IsTakenWith, IsTurnBy, Shows};
+    ghost use Rattle.coap_server_listener.specs.Prelude.{TellsMore, due_sweep, moved_to, short_wait, ticked_calls};
+    ghost use Rattle.coap_server_listener.specs.Prelude.{trace_by};
 
     /// Releases or drops the silent connections, if there is a limit and `second` differs from that of the last turn.
     pub(super) fn end_silent<A: Application, M: Monitor<W>>(

@@ -1,14 +1,12 @@
 //! A server over the connections of a listener, for a program that embeds it and runs the event loop.
 
-ghost use Rattle.std.specs.Prelude.{◌≡◌, false, All, option_map};
+ghost use Rattle.std.specs.Prelude.{◌≡◌, false, All};
 ghost use Rattle.coap_server_listener.specs.streams.RecordedInterests.{IsNoted};
 ghost use Rattle.coap_server_listener.specs.streams.Sleepers.{AreAsleep};
 
 use super::awake::Awake;
 use super::peer::Peers;
 use super::removal::release_on;
-use super::sweep::sweep;
-use super::turn::take_turn;
 use super::wait::{limit_for, wait_within};
 use coap_application::Applications;
 use coap_io::{Door, Ready, Wait, Wire};
@@ -72,18 +70,17 @@ pub struct Service<W: Ready> {
 }
 
 impl<W: Wire + Ready + Drop> Service<W> {
-    ghost use Rattle.std.specs.Prelude.{◌+◌, ◌++◌, ◌∷◌, true, List, [], is_none, is_ok, nat_le, IfErr, IfOk, OnErr};
+    ghost use Rattle.std.specs.Prelude.{◌+◌, ◌++◌, ◌∷◌, true, List, [], is_none, is_ok, IfErr, IfOk, OnErr};
     ghost use Rattle.std.specs.Prelude.{OnOk, Err, Option, nat_eq};
     ghost use Rattle.coap_server_listener.specs.Prelude.{RefusedBy, RefusedOrMemory, put_refusal, remove_refusal};
-    ghost use Rattle.coap_server_listener.specs.Prelude.{AreAskedLater, AreRecorded, AreTakenWith, HasRun, HasTurnedBy};
-    ghost use Rattle.coap_server_listener.specs.Prelude.{IsCutTurn, IsTurnFor, config_of};
-    ghost use Rattle.coap_server_listener.specs.Prelude.{service_of, moved_to, ticked_calls, AnswersMore, Gone};
-    ghost use Rattle.coap_server_listener.specs.Prelude.{FollowsMore, TellsMore, trace_by, IsMemory, open_refusal};
-    ghost use Rattle.coap_server_listener.specs.Prelude.{ServerValue, new_server, server_put, server_removed, AcceptedCall, Stored};
-    ghost use Rattle.coap_server_listener.specs.Prelude.{Removed, Shows, Released, Dropped, released_refusal};
-    ghost use Rattle.coap_server_listener.specs.Prelude.{server_released, server_dropped, HasSwept, due_sweep};
-    ghost use Rattle.coap_server_listener.specs.Prelude.{short_wait, is_there, session_of, status_of, released_on};
-    ghost use Rattle.coap_server_listener.specs.Prelude.{shift_remove_entry, wait_within as within, limit_for as limit_in};
+    ghost use Rattle.coap_server_listener.specs.Prelude.{HasRun};
+    ghost use Rattle.coap_server_listener.specs.Prelude.{IsCutTurn, IsTurnFor, config_of, service_of};
+    ghost use Rattle.coap_server_listener.specs.Prelude.{AnswersMore, Gone, FollowsMore, TellsMore};
+    ghost use Rattle.coap_server_listener.specs.Prelude.{trace_by, IsMemory, open_refusal, new_server};
+    ghost use Rattle.coap_server_listener.specs.Prelude.{server_put, server_removed, AcceptedCall, Stored, Removed};
+    ghost use Rattle.coap_server_listener.specs.Prelude.{Shows, Released, Dropped, released_refusal, server_released};
+    ghost use Rattle.coap_server_listener.specs.Prelude.{server_dropped, is_there};
+    ghost use Rattle.coap_server_listener.specs.Prelude.{session_of, status_of, released_on, shift_remove_entry};
     ghost use Rattle.coap_server_engine.specs.declared.io_fault.IoFault.TheVariants as fault;
 
     /// Returns a server with no connection and an empty store. Its counters begin at the values that the configuration

@@ -1,7 +1,7 @@
 //! The sweep, which releases or drops silent connections.
 
 ghost use Rattle.std.specs.Prelude.{◌≡◌, ◌<◌, ◌≤◌, ◌+◌, ◌-◌, ◌^◌, Some, length, true, slice_get, IfSome};
-ghost use Rattle.coap_server_listener.specs.Prelude.{AnswersMore, AreNoted, AreSettled, FollowsMore, HasSwept};
+ghost use Rattle.coap_server_listener.specs.Prelude.{AnswersMore, AreNoted, FollowsMore, HasSwept};
 ghost use Rattle.coap_server_listener.specs.Prelude.{HasSweptAt, acted};
 ghost use Rattle.coap_server_listener.specs.Prelude.{drop_one, is_there, keys_of, released_refusal, session_of, swept};
 ghost use Rattle.coap_server_listener.specs.Prelude.{swept_one};
