@@ -8,7 +8,6 @@ failed', and the status is 0 if M is 0.
 """
 
 import os
-import re
 import socket
 import subprocess
 import sys
@@ -64,27 +63,32 @@ def check_record(checks, program, server, explain):
         codes = [messages.parse(it)[0] for it in messages.split(got[1])[0]]
         checks.same("the responses", [it for it in codes if it < 0xE0], [0x41, 0x45, 0x45, 0x80, 0x84, 0x45, 0x84])
         words = record.options()
-        checks.same("the entries in the header", [it for before, it in zip(words, words[1:]) if before == "--application"], ENTRIES)
+        entries = [it for before, it in zip(words, words[1:]) if before == "--application"]
+        checks.same("the entries in the header", entries, ENTRIES)
         checks.same("the command in the header", record.command(), ["--script", name, *words])
         checks.same("the replay", replay(server, record.command()), (0, got, b""))
         done = subprocess.run([explain, name], stdin=subprocess.DEVNULL, capture_output=True, timeout=LIMIT)
         checks.same("the explanation ends well", (done.returncode, done.stderr), (0, b""))
-        checks.same("the explanation has the response", re.search(rb"->  2\.01 Created token 01", done.stdout) is not None, True)
-        checks.same("no response of the server in its place", re.search(rb"->  5\.04 ", done.stdout), None)
+        checks.same("the explanation has the response", b"->  2.01 Created token 01" in done.stdout, True)
+        checks.same("no response of the server in its place", b"->  5.04 " in done.stdout, False)
 
 
 def check_output(checks, program, server, explain):
     """Checks a record that is standard output."""
     port = free_port()
-    with started([program, "-A", LOCAL, "-p", str(port), "--record", "-"], stdin=subprocess.DEVNULL, stdout=subprocess.PIPE, stderr=subprocess.PIPE) as process:
-        checks.same("the directory listens", line_of(process.stderr), b"coap-directory: listening on %s:%d\n" % (LOCAL.encode(), port))
+    words = [program, "-A", LOCAL, "-p", str(port), "--record", "-"]
+    streams = {"stdin": subprocess.DEVNULL, "stdout": subprocess.PIPE, "stderr": subprocess.PIPE}
+    with started(words, **streams) as process:
+        line = b"coap-directory: listening on %s:%d\n" % (LOCAL.encode(), port)
+        checks.same("the directory listens", line_of(process.stderr), line)
         got = talked(lambda: socket.create_connection((LOCAL, port), LIMIT), *REQUESTS)
         time.sleep(0.3)
         process.terminate()
         text, said = process.communicate(timeout=LIMIT)
     record = Record(text)
     checks.same("nothing else is written", (said, record.torn), (b"", b""))
-    checks.same("the replay of standard output", replay(server, ["--script", "-", *record.options()], text), (0, {1: got}, b""))
+    replayed = replay(server, ["--script", "-", *record.options()], text)
+    checks.same("the replay of standard output", replayed, (0, {1: got}, b""))
 
 
 def check_limit(checks, program, server, explain):
@@ -94,9 +98,11 @@ def check_limit(checks, program, server, explain):
         with Server(program, ["--record", name, "--record-limit", str(MOST)]) as directory:
             got = [talked(directory.connect, *REQUESTS[:count]) for count in (1, 7, 7)]
             checks.same("each peer has all responses", [len(messages.split(it)[0]) for it in got], [2, 8, 8])
-            checks.same("the line", said_by(directory), f"coap-directory: record ended: {name} has reached {MOST} bytes\n")
+            line = f"coap-directory: record ended: {name} has reached {MOST} bytes\n"
+            checks.same("the line", said_by(directory), line)
         record = record_in(name)
-        checks.same("whole lines up to the limit", (len(record.text) >= MOST, record.lines[0], record.torn), (True, b"open", b""))
+        found = len(record.text) >= MOST, b"open" in record.lines, record.torn
+        checks.same("whole lines up to the limit", found, (True, True, b""))
         status, sent, said = replay(server, record.command())
         checks.same("the replay of the first lines", (status, sent[1] == got[0], said), (0, True, b""))
 
@@ -109,9 +115,10 @@ def check_log(checks, program, server, explain):
         ends = time.monotonic() + LIMIT
         while "connection 1 ended" not in said and time.monotonic() < ends:
             said += said_by(directory)
-    checks.same("each line has the name of the program", [it for it in said.splitlines() if "coap-directory: " not in it], [])
-    for part in [r"connection 1 opened by 127\.0\.0\.1", r"connection 1 in: 0\.02 POST", r"connection 1 out: 2\.01", "connection 1 ended: "]:
-        checks.same(f"a line with {part}", re.search(part, said) is not None, True)
+    unnamed = [it for it in said.splitlines() if "coap-directory: " not in it]
+    checks.same("each line has the name of the program", unnamed, [])
+    for part in ["opened by 127.0.0.1", "in: 0.02 POST", "out: 2.01", "ended: "]:
+        checks.same(f"a line with {part}", f"connection 1 {part}" in said, True)
 
 
 def check_idle(checks, program, server, explain):
@@ -120,14 +127,15 @@ def check_idle(checks, program, server, explain):
         busy.sendall(request(CSM, b"", []))
         with directory.connect() as silent:
             silent.sendall(request(CSM, b"", []))
-            for token in range(5):
+            for token in range(9):
                 busy.sendall(request(GET, bytes([token]), ["rd-lookup", "ep"]))
-                time.sleep(0.9)
+                time.sleep(0.5)
             got, end = read_to_end(silent)
-        checks.same("a Release on the silent connection", (messages.parse(messages.split(got)[0][-1])[0], end), (RELEASE, "the end"))
+        last = messages.parse(messages.split(got)[0][-1])[0]
+        checks.same("a Release on the silent connection", (last, end), (RELEASE, "the end"))
         busy.shutdown(socket.SHUT_WR)
         codes = [messages.parse(it)[0] for it in messages.split(read_to_end(busy)[0])[0]]
-        checks.same("the busy connection stays", (codes.count(0x45), RELEASE in codes), (5, False))
+        checks.same("the busy connection stays", (codes.count(0x45), RELEASE in codes), (9, False))
 
 
 def check_clash(checks, program, server, explain):

@@ -1,4 +1,5 @@
-//! Theorems on an event loop that skips idle connections, and on the calls of a run. Each is the contract of a function with an empty body.
+//! Theorems on an event loop that skips idle connections, and on the calls of a run. Each is the contract of a function
+//! with an empty body.
 
 ghost use Rattle.std.specs.Prelude.{◌≡◌, ℕ, Bool, ◌+◌, ◌≤◌, List, All, false};
 ghost use Rattle.coap_server_listener.specs.Prelude.{AcceptedCall, ConfigValues, ServerValue, AreSettled, LiesAt};

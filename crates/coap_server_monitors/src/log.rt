@@ -88,7 +88,8 @@ fn append_address(alloc: Global, line: &mut Line, address: SocketAddr) {
 }
 
 impl<'a, R: time::Clock> ServerLog<'a, R> {
-    /// Returns the log of a program whose server has this configuration. `troubles` counts the failed system calls of its listener.
+    /// Returns the log of a program whose server has this configuration. `troubles` counts the failed system calls of
+    /// its listener.
     ///
     /// # Errors
     ///
