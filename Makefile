@@ -66,13 +66,12 @@ run:
 check:
 	tests/check
 
-# Runs the gate: all proofs and programs from scratch, all rows and tests, and the mutants of crates that differ from the
-# last whole run.
+# Runs the gate: all proofs and programs from scratch, all rows and tests, and mutants of crates that differ from their last
+# run.
 test:
 	tests/gate
 
-# Tries all mutants: a whole run, which writes tests/mutants/whole_run. Or tries those of some crates:
-# make mutants CRATES="coap_conn coap_wire".
+# Tries all mutants, or those of some crates: make mutants CRATES="coap_conn coap_wire". Writes tests/mutants/last_runs.
 mutants:
 	tests/mutants/mutants.py --all $(CRATES)
 

@@ -1,17 +1,18 @@
-"""Finds the crates that differ from the last commit for which `make mutants` tried all edits.
+"""Finds the crates that differ from the last commit for which `make mutants` tried all their edits.
 
-The file tests/mutants/whole_run names that commit. `make mutants` writes it after a run over all crates in which no
-edit failed. It writes nothing if a file of crates or tests differed from the commit during the run. The file is
-committed with the next change. If all edits that failed were replaced and tried again, somebody may write the file too.
-It then has the result of the run, and a line `note: ..`.
+The file tests/mutants/last_runs has a line for each crate: `CRATE: COMMIT, DATE, RESULT`. `make mutants` writes the lines
+of all crates that it tried and of which no edit failed. It writes nothing if a file of crates or tests differed from the
+commit during the run. The file is committed with the next change. So all edits can be tried in one run, or in several.
 
-A crate differs in either of these cases. Comments do not count.
+A crate differs from its run in each of these cases. Comments do not count.
 
+- It has no line.
 - A file of its src, specs or proofs differs, or one of its edits.
 - A crate below it has other specs, or a function that other crates can call has another signature or other clauses
   there.
 """
 
+import contextlib
 import datetime
 import os
 import re
@@ -23,9 +24,10 @@ sys.path[:0] = [f"{TESTS}/harness", f"{TESTS}/tools"]
 import contract_diff  # noqa: E402
 from workspace import ROOT, crates  # noqa: E402
 
-WHOLE_RUN = "tests/mutants/whole_run"
+LAST_RUNS = "tests/mutants/last_runs"
+LINE = re.compile(r"(\w+): (\w+), \d{4}-\d\d-\d\d, .+")
 
-# Maximum number of commits after the last whole run.
+# Maximum number of commits after a run.
 MOST_COMMITS = 200
 
 # The files of crates and edits, and a line of a comment in them.
@@ -33,8 +35,8 @@ FILES = ["crates/*/src/*", "crates/*/specs/*", "crates/*/proofs/*", "tests/mutan
 COMMENT = "^ *(//|--)"
 
 
-class NoWholeRun(Exception):
-    """The last whole run is unknown or too old; the text has the reason."""
+class BadRun(Exception):
+    """A run is too old or unknown; the text has the reason."""
 
 
 def git(*words):
@@ -44,35 +46,41 @@ def git(*words):
     return None if ran.returncode else ran.stdout.splitlines()
 
 
-def last_commit():
-    """Returns the commit of the last whole run, or None if there was none yet. It must be one of the last MOST_COMMITS
-    of this history. A tree without its history, such as a shallow clone, also has None."""
-    try:
-        with open(f"{ROOT}/{WHOLE_RUN}", encoding="utf-8") as it:
-            found = re.search(r"^commit: (\w+)$", it.read(), re.M)
-    except FileNotFoundError:
-        return None
-    if not found:
-        raise NoWholeRun("names no commit")
-    commit = found[1]
+def lines_by_crate():
+    """Returns the lines of LAST_RUNS by their crates."""
+    with contextlib.suppress(FileNotFoundError), open(f"{ROOT}/{LAST_RUNS}", encoding="utf-8") as file:
+        lines = file.read().splitlines()
+        if wrong := [it for it in lines if not LINE.fullmatch(it)]:
+            raise BadRun(f"has the line {wrong[0]}")
+        return {it.partition(":")[0]: it for it in lines}
+    return {}
+
+
+def last_runs():
+    """Returns the commit of the last run of each crate that had one. Each must be one of the last MOST_COMMITS of this
+    history. A tree without its history, such as a shallow clone, has none."""
+    runs = {crate: LINE.fullmatch(line)[2] for crate, line in lines_by_crate().items()}
     if git("rev-parse", "--is-shallow-repository") != ["false"]:
-        print(f"{WHOLE_RUN}: the history is not here, so all crates count as different")
-        return None
-    if git("merge-base", "--is-ancestor", commit, "HEAD") is None:
-        raise NoWholeRun(f"names the commit {commit}, which is not in this history (a rebase?)")
-    count = int(git("rev-list", "--count", f"{commit}..HEAD")[0])
-    if count > MOST_COMMITS:
-        raise NoWholeRun(f"names the commit {commit}, after which there are {count} commits, more than {MOST_COMMITS}")
-    return commit
+        print(f"{LAST_RUNS}: the history is not here, so all crates count as different")
+        return {}
+    for commit in sorted(set(runs.values())):
+        if git("merge-base", "--is-ancestor", commit, "HEAD") is None:
+            raise BadRun(f"names the commit {commit}, which is not in this history (a rebase?)")
+        count = int(git("rev-list", "--count", f"{commit}..HEAD")[0])
+        if count > MOST_COMMITS:
+            raise BadRun(f"names the commit {commit}, after which there are {count} commits, more than {MOST_COMMITS}")
+    return runs
 
 
-def changed_files(commit):
-    """Returns the files of crates and edits that differ from a commit, also those that git does not know yet. Without a
-    commit there are none."""
-    if not commit:
-        return set()
+def files_since(commit):
+    """Returns the files of crates and edits that differ from a commit, also those that git does not know yet."""
     lines = git("diff", "--numstat", "--no-renames", "-I", COMMENT, commit, "--", *FILES)
     return {it.split("\t")[2] for it in lines} | set(git("ls-files", "--others", "--exclude-standard", "--", *FILES))
+
+
+def changed_files(runs):
+    """Returns the files of crates and edits that differ from the last run of their crate."""
+    return {it for commit in set(runs.values()) for it in files_since(commit) if runs.get(crate_of(it)) == commit}
 
 
 def crate_of(file):
@@ -81,34 +89,52 @@ def crate_of(file):
     return names[1] if names[0] == "crates" else names[-2]
 
 
-def differing(commit):
-    """Returns the crates that differ from a commit, lowest first: all crates if there is no commit."""
-    if not commit:
-        return list(crates())
-    files, below = changed_files(commit), crates()
+def changes_since(commit, below):
+    """Returns the crates that differ from a commit themselves, and those that differ in what they state to others."""
+    files = files_since(commit)
     own = {crate_of(it) for it in files}
     stated = {crate_of(it) for it in files if "/specs/" in it}
     coded = {crate_of(it) for it in files if "/src/" in it and crate_of(it) in below} - stated
     stated |= {it for it in coded if contract_diff.contracts(commit, it) != contract_diff.contracts(None, it)}
-    return [it for it in below if it in own or stated & set(below[it])]
+    return own, stated
+
+
+def differing(runs):
+    """Returns the crates that differ from their last runs, those that a commit changed last first."""
+    below = crates()
+    since = {commit: changes_since(commit, below) for commit in set(runs.values())}
+
+    def differs(crate):
+        own, stated = since[runs[crate]]
+        return crate in own or not stated.isdisjoint(below[crate])
+
+    def changed_at(crate):
+        files = f"crates/{crate}", f"tests/mutants/edits/{crate}"
+        is_changed = git("status", "--porcelain", "--", *files) != []
+        return is_changed, git("log", "-1", "--format=%ct", "--", *files) or [""]
+
+    found = [it for it in below if it not in runs or differs(it)]
+    return sorted(found, key=changed_at, reverse=True)
 
 
 def unchanged_head():
     """Returns the commit of HEAD, or an empty text if files of crates or tests differ from it."""
     head = git("rev-parse", "HEAD")
-    differ = git("status", "--porcelain", "--", "crates", "crates.txt", "tests", f":!{WHOLE_RUN}")
+    differ = git("status", "--porcelain", "--", "crates", "crates.txt", "tests", f":!{LAST_RUNS}")
     return head[0] if head and differ == [] else ""
 
 
-def record(commit, failed, result, cost):
-    """Writes the file that names the commit of a whole run, if no edit failed and no file has changed since it
-    began."""
-    why = "an edit failed" if failed else "" if commit else "files differed from HEAD when it began"
+def record(commit, results):
+    """Writes the lines of a run that began at a commit. `results` has the number of its edits that passed, for each crate
+    of which none failed. Writes nothing if a file has changed since the run began."""
+    why = "files differed from HEAD when the run began" if not commit else ""
     if not why and commit != unchanged_head():
-        why = "files have changed since it began"
+        why = "files have changed since the run began"
     if why:
-        print(f"{WHOLE_RUN} stays as it is: {why}")
+        print(f"{LAST_RUNS} stays as it is: {why}")
         return
-    with open(f"{ROOT}/{WHOLE_RUN}", "w", encoding="utf-8") as it:
-        it.write(f"commit: {commit}\ndate: {datetime.date.today()}\nresult: {result}\ncost: {cost}\n")
-    print(f"{WHOLE_RUN} names the commit {commit}: commit that file")
+    lines = lines_by_crate()
+    lines |= {it: f"{it}: {commit}, {datetime.date.today()}, {count} passed" for it, count in results.items()}
+    with open(f"{ROOT}/{LAST_RUNS}", "w", encoding="utf-8") as file:
+        file.write("".join(f"{lines[it]}\n" for it in crates() if it in lines))
+    print(f"{LAST_RUNS} names the commit {commit} for {len(results)} crates: commit that file")

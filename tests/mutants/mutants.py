@@ -23,10 +23,10 @@ An edit is a file tests/mutants/edits/CRATE/NAME.edit. Its first line has what d
     old: self.queue              a text that is exactly once in the function's body, or in the constant
     new: self.max_sent           the text in its place
 
-The gate tries the control, and the edits of crates that differ from the last whole run, `make mutants` without an error
-(changes.py). If these are more than MOST_IN_GATE, it tries that number, one of each crate in turn: first those of files
-that differ. So a whole run is due after a change of many crates, or of definitions far below. The gate fails if the last
-one is more than 200 commits back. Before the first one, all crates count as different.
+The gate tries the control, and edits of crates that differ from their last run, `make mutants` without an error
+(changes.py). It takes the MOST_CRATES of these that a commit changed last, and MOST_IN_GATE of their edits, one of each
+crate in turn: first those of files that differ. So a run of the other crates is due, each in its own time. The gate fails
+if a last run is more than 200 commits back. A crate without one counts as different.
 
 In every mode, checks are made of all edits. First, the first line must quote a clause of the function that it names
 (tests/mutants/quotes.py has the forms). That function must be one that the edit changes, or one that names a constant
@@ -66,7 +66,7 @@ time: a round takes about 15 s before its first edit. Each edit adds 3 to 4 s, a
 takes 140 s. The check of all quotes takes 2 s, and that of the types 4 to 8 s for each of 40 copies of crates. A build for an edit of another layer
 takes about two minutes. In a clone without incremental data, the first round of a crate also proves the functions that it changes, and those that they
 call. There 343 edits of 17 crates took 2,500 to 2,950 s, with the control and the types: 7 s an edit. By that figure, MOST_IN_GATE edits of a few crates
-take 350 s. One or two edits of each crate take about 900 s, because each crate needs a round. The proof of coap_wire takes 160 s on that machine.
+take 350 s. One or two edits of each crate would take about 900 s, because each crate needs a round. The proof of coap_wire takes 160 s on that machine.
 
 A test that measures processor time may fail with an unproved program without any edit, and then says nothing about the edit.
 """
@@ -102,8 +102,9 @@ BLOCK = re.compile(r"(?:pub(?:\([a-z]+\))? )?(?:impl\b *(.*?)|trait (\w+).*?) ?\
 # The layers of the edits that tests of a program detect.
 PROGRAMS = tuple(CRATES)
 MODES = {"--all", "--control", "--list", "--quotes", "--rows", "--tests", "--types"}
-# Maximum number of edits that the gate tries beside the control.
+# Maximum number of edits that the gate tries beside the control, and of the crates that have them.
 MOST_IN_GATE = 50
+MOST_CRATES = 8
 FIRST_LINE = re.compile(
     rf"(?:clause|open|control): \S.*|rows: tests/vectors/rows/\S+\.rows|(?:{'|'.join(PROGRAMS)}): tests/system/\w+\.py(?: \w+)+"
 )
@@ -707,16 +708,20 @@ def in_turn_from_each(edits, files):
 
 
 def gate_edits(edits):
-    """Returns the edits that the gate tries: those of crates that differ from the last whole run, up to MOST_IN_GATE."""
+    """Returns the edits that the gate tries: of the MOST_CRATES crates that differ from their last runs and were changed
+    last, up to MOST_IN_GATE edits."""
     try:
-        commit = changes.last_commit()
-    except changes.NoWholeRun as why:
-        raise SystemExit(f"{changes.WHOLE_RUN} {why}: run `make mutants`, and commit that file\n0 passed, 1 failed") from None
-    names = changes.differing(commit)
-    differing = [it for it in edits if it.crate in names]
-    chosen = in_turn_from_each(differing, changes.changed_files(commit))[:MOST_IN_GATE]
-    since = f"crates that differ from {commit:.10}" if commit else "all crates, since there was no whole run yet,"
-    print(f"{len(chosen)} of the {len(differing)} edits of {since} are tried; `make mutants` tries all", flush=True)
+        runs = changes.last_runs()
+    except changes.BadRun as why:
+        raise SystemExit(f"{changes.LAST_RUNS} {why}: run `make mutants`, and commit that file\n0 passed, 1 failed") from None
+    every = {it.crate for it in edits}
+    names = [it for it in changes.differing(runs) if it in every]
+    tried = names[:MOST_CRATES]
+    order = [edit for name in tried for edit in edits if edit.crate == name]
+    chosen = in_turn_from_each(order, changes.changed_files(runs))[:MOST_IN_GATE]
+    print(f"{len(chosen)} edits are tried, of {', '.join(tried) or 'no crate'}", flush=True)
+    if rest := names[MOST_CRATES:]:
+        print(f"Not tried, but different from their last runs: {', '.join(rest)}; `make mutants` tries these", flush=True)
     return chosen
 
 
@@ -760,6 +765,16 @@ def conclude(plan, verdicts, wrong):
     return errors, f"{max(passed - errors, 0)} passed, {errors} failed"
 
 
+def passed_crates(verdicts):
+    """Returns the number of edits of each crate of which no edit has a wrong verdict. If the control has one, there is no
+    such crate."""
+    wrong = {it for it, refused in verdicts.items() if is_wrong(it, refused)}
+    if any(it.layer == "control" for it in wrong):
+        return {}
+    counts = collections.Counter(it.crate for it in verdicts if it.layer != "control")
+    return {crate: count for crate, count in counts.items() if crate not in {it.crate for it in wrong}}
+
+
 def main(words):
     below = crates()
     modes, names = {it for it in words if it.startswith("--")}, [it for it in words if not it.startswith("--")]
@@ -778,8 +793,8 @@ def main(words):
     if "--quotes" in modes:
         print(f"{len(every) - unquoted} passed, {unquoted + miscounted} failed")
         return 1 if unquoted + miscounted else 0
-    is_whole = modes == {"--all"} and not names
-    commit = changes.unchanged_head() if is_whole else ""
+    is_recorded = modes == {"--all"}
+    commit = changes.unchanged_head() if is_recorded else ""
     plan = planned(modes, names, every)
     make_libraries(dict.fromkeys(it.crate for it in plan.control + plan.by_clauses + plan.typed), below)
     untyped = tell_wrong_types(plan.typed)
@@ -790,9 +805,8 @@ def main(words):
         print("The edits named harmless_ are a control, and must be reported as NOT REFUSED.", flush=True)
     verdicts = plan.run(is_proved_first="--all" in modes)
     failed, result = conclude(plan, verdicts, unquoted + untyped + miscounted)
-    if is_whole:
-        opened = sum(it.layer == "open" for it in verdicts)
-        changes.record(commit, failed, f"{result}, {opened} open", cost())
+    if is_recorded and not unquoted + untyped + miscounted:
+        changes.record(commit, passed_crates(verdicts))
     print(result)
     return 1 if failed else 0
 
