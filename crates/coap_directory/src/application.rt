@@ -7,7 +7,7 @@ ghost use Rattle.coap_directory.specs.Answers.{Answers, IsAnswered, response_of}
 
 use coap_conn::Reply as Queued;
 use coap_directory_core::{Directory, Reply, write_response};
-use coap_io::Clock;
+use coap_io::{Clock, Wait};
 use coap_model::{ConnId, ResponseFault};
 use coap_server_engine::Application;
 use coap_wire::{MessageRef, Token, TokenRef};
@@ -87,6 +87,10 @@ impl<C: Clock + Drop> Application for DirectoryApplication<C> {
     }
 
     fn responded(&mut self, _to: ConnId, _outcome: Result<Queued, ResponseFault>) {}
+
+    fn wait(&self, _now: u64) -> Wait {
+        Wait::Forever
+    }
 
     fn gone(&mut self, _from: ConnId) {}
 }

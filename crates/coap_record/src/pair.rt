@@ -33,6 +33,8 @@ impl<A, B> MonitorPair<A, B> {
 impl<W, A: Monitor<W>, B: Monitor<W>> Monitor<W> for MonitorPair<A, B> {
     ghost follows = { λ p start calls. A.follows p.first start calls × B.follows p.second start calls };
 
+    ghost has_passed = { λ p. A.has_passed p.first × B.has_passed p.second };
+
     #[tactic(auto, unfolding(crate::specs::Prelude::FollowsMore))]
     fn opened(&mut self, id: ConnId, wire: &W, server: &Server) {
         self.first.opened(id, wire, server);

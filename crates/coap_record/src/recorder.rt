@@ -151,6 +151,10 @@ impl<W, O: Outlet + Drop> Monitor<W> for Recorder<O> {
     ghost follows = { λ r header calls. IsRecordOf header (⟦<BufferedOutlet<O> as Outlet>⟧.is_failed r.outlet)
         (nat_le r.limit r.outlet.count) (⟦<BufferedOutlet<O> as Outlet>⟧.written r.outlet) calls };
 
+    // No line waits in the queue of the outlet, unless a write has failed.
+    ghost has_passed = { λ r. ⟦<BufferedOutlet<O> as Outlet>⟧.is_failed r.outlet ≡ false →
+        r.outlet.queue.waiting ≡ [] };
+
     #[tactic(auto, unfolding(crate::specs::Prelude::FollowsMore))]
     fn opened(&mut self, id: ConnId, _wire: &W, _server: &Server) {
         self.record_opened(id);

@@ -110,7 +110,8 @@ pub use Rattle.coap_server_engine.specs.script.RequestLines.{request_text, reque
 pub use Rattle.coap_server_engine.specs.script.RequestLines.{IsUnlisted, IsUnfinishedIn, IsUnlistedAfter, IsUnfinishedAfter}
 unfoldable pub use Rattle.coap_server_engine.specs.script.RequestLines.{request_turns}
 -- ---- this crate: values
-pub use Rattle.coap_server_engine.specs.values.Calls.{call_value, follows_if, Following}
+pub use Rattle.coap_server_engine.specs.values.Calls.{call_value, follows_if, has_passed_if, Following}
+pub use Rattle.coap_server_engine.specs.values.CallDetails.{IsTakeResult, WasTaken, WasRefused, IsReasonFor, IsTrueCall}
 unfoldable pub use Rattle.coap_server_engine.specs.values.Calls.{FollowsMore}
 pub use Rattle.coap_server_session.specs.values.Causes.{change_hash, path_hash}
 pub use Rattle.coap_server_session.specs.values.Causes.{IsUnaffected}

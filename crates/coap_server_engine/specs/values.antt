@@ -7,6 +7,7 @@ pub mod InResults
 pub mod ServerDeadlines
 pub mod ServerCauses
 pub mod Calls
+pub mod CallDetails
 pub mod Faults
 pub mod HandedRequests
 pub mod ChangedRequests

@@ -3,6 +3,8 @@
 ghost use Rattle.std.specs.Prelude.{◌≡◌, ℕ, List, [], ◌∷◌, false, Option, Some, None, IfNone};
 ghost use Rattle.coap_server_engine.specs.Prelude.{Exchange, Asked, Offered, Given, Gone, AnswersMore, offers};
 ghost use Rattle.coap_server_engine.specs.Prelude.{AreUnanswered};
+ghost use Rattle.coap_io.specs.declared.wire.Wait.{Wait};
+ghost use Rattle.coap_io.specs.declared.wire.Wait.TheVariants.{Forever};
 
 use coap_conn::Reply;
 use coap_io::Wait;
@@ -19,6 +21,9 @@ pub trait Application {
 
     /// States that the application has no later response now. By default nothing is stated.
     ghost idle: { Self → Type 0 } = { λ _. Unit {0} };
+
+    /// States that this is the longest wait that delays no response, at a time, in seconds. By default nothing is stated.
+    ghost waits: { Self → ℕ → Wait → Type 0 } = { λ _ _ _. Unit {0} };
 
     /// Receives a request of a connection. It may write a response at once, as one encoded message with the token of the
     /// request, to `response`, which is empty. If it writes nothing, it responds later, through `next_response`. A
@@ -61,10 +66,9 @@ pub trait Application {
     fn responded(&mut self, to: ConnId, outcome: Result<Reply, ResponseFault>)
         ensures { AnswersMore (follows self.old) (follows self.new) (Given to outcome ∷ []) };
 
-    /// Returns the longest wait that delays no response, at the time `now`, in seconds. By default there is no limit.
-    fn wait(&self, _now: u64) -> Wait {
-        Wait::Forever
-    }
+    /// Returns the longest wait that delays no response, at the time `now`, in seconds. `Wait::Forever` sets no limit.
+    fn wait(&self, now: u64) -> Wait
+        ensures { waits self.now now result };
 
     /// Returns `false` if the application writes no response, whatever it is asked. A caller may then do without asking
     /// it.
@@ -89,6 +93,8 @@ impl Application for NoApplication {
     // It has written no byte.
     ghost follows = { λ _ exchanges. AreUnanswered exchanges };
 
+    ghost waits = { λ _ _ wait. wait ≡ Forever };
+
     #[tactic(auto, using(crate::proofs::values::ResponseLemmas::unanswered_then))]
     fn request(
         &mut self,
@@ -105,6 +111,10 @@ impl Application for NoApplication {
 
     #[tactic(auto, using(crate::proofs::values::ResponseLemmas::unanswered_then))]
     fn responded(&mut self, _to: ConnId, _outcome: Result<Reply, ResponseFault>) {}
+
+    fn wait(&self, _now: u64) -> Wait {
+        Wait::Forever
+    }
 
     #[tactic(auto, using(crate::proofs::values::ResponseLemmas::unanswered_then))]
     fn answers(&self) -> bool {

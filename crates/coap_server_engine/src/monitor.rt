@@ -1,7 +1,8 @@
 //! The interface through which a program follows the calls that a server accepts, for a log or a record.
 
 ghost use Rattle.std.specs.Prelude.{◌≡◌, false, ℕ, List, [], ◌∷◌};
-ghost use Rattle.coap_server_engine.specs.Prelude.{AcceptedCall, Opened, FollowsMore, call_value, follows_if};
+ghost use Rattle.coap_server_engine.specs.Prelude.{AcceptedCall, Opened, FollowsMore, IsTrueCall, call_value};
+ghost use Rattle.coap_server_engine.specs.Prelude.{follows_if, has_passed_if};
 
 use crate::server::Server;
 use coap_model::{ConnId, Handled};
@@ -59,14 +60,23 @@ pub trait Monitor<W> {
     /// `calls` since its text was `start`. A monitor without a text leaves `start` out. By default nothing is stated.
     ghost follows: { Self → List ℕ → List AcceptedCall → Type 0 } = { λ _ _ _. Unit {0} };
 
+    /// States that the monitor has passed on what it received, as a recorder does at the end of a turn. By default nothing is
+    /// stated.
+    ghost has_passed: { Self → Type 0 } = { λ _. Unit {0} };
+
     /// Receives a call of `open`: the number of the new connection, and its transport connection. `server` is the server
     /// after the call.
     fn opened(&mut self, id: ConnId, wire: &W, server: &Server)
         ensures { FollowsMore (follows self.old) (follows self.new) (Opened id ∷ []) };
 
-    /// Receives any other call that the server accepted. `server` is the server after the call. Only for `Call::Wrote` is it
-    /// the server before the call, whose queue still has the bytes.
+    /// Receives any other call that the server accepted. `server` is the server after the call. Only for `Call::Wrote` and
+    /// `Call::Dropped` is it the server before the call, which still has the bytes and the connection.
+    ///
+    /// # Preconditions
+    ///
+    /// The details of the call are true for this server.
     fn accepted(&mut self, call: Call<'_>, server: &Server)
+        requires { IsTrueCall call server.now }
         ensures { FollowsMore (follows self.old) (follows self.new) (call_value call.entry ∷ []) };
 
     /// Returns `false` if the monitor ignores all calls. A caller may then do without reporting them.
@@ -79,13 +89,16 @@ pub trait Monitor<W> {
 
     /// Receives the end of a turn of the event loop: the caller waits or reads next.
     fn turn_ended(&mut self)
-        ensures { FollowsMore (follows self.old) (follows self.new) [] };
+        ensures follows { FollowsMore (follows self.old) (follows self.new) [] }
+        ensures passed { has_passed self.new };
 }
 
 /// Monitor that may be absent. An absent one ignores all calls.
 #[tactic(auto, unfolding(crate::specs::values::Calls::FollowsMore))]
 impl<W, M: Monitor<W>> Monitor<W> for Option<M> {
     ghost follows = { follows_if M.follows };
+
+    ghost has_passed = { has_passed_if M.has_passed };
 
     fn opened(&mut self, id: ConnId, wire: &W, server: &Server) {
         if let Some(monitor) = self {

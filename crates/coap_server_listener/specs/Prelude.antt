@@ -71,7 +71,7 @@ pub use Rattle.coap_server_listener.specs.declared.door.service.Times.{Times}
 pub use Rattle.coap_server_listener.specs.streams.Run.{moved_to, ticked_calls, moved_calls, AreRunSteps, IsRunCall, HasRun, wait_within, limit_for, short_wait}
 pub use Rattle.coap_server_listener.specs.streams.Run.{ServiceValue, service_of, IsBegun, IsTurnFor, IsCutTurn, waited_behind, waited_before, config_of, new_service}
 pub use Rattle.coap_server_listener.specs.streams.Run.{RunTrace, no_trace, trace_then, AreTurns, RunTells, run_tells, clock_and_door, Matches}
-pub use Rattle.coap_server_listener.specs.streams.Run.{IsWholeRun, IsCutRun, EndsRun, EndsRunWith, IsRun, Resting, Silent, plain_config}
+pub use Rattle.coap_server_listener.specs.streams.Run.{IsWholeRun, IsCutRun, EndsRun, EndsRunWith, IsRun, Resting, Silent, Unlimited, allowed_by, plain_config}
 pub use Rattle.coap_server_listener.specs.streams.Silence.{silence_action, quiet_action, action_for, Sweep, unswept, swept_one, swept_both, acted}
 pub use Rattle.coap_server_listener.specs.streams.Silence.{HasSwept, HasSweptAt, drop_one, release_one, due_sweep}
 unfoldable pub use Rattle.coap_server_listener.specs.streams.Silence.{swept}
@@ -85,7 +85,7 @@ pub use Rattle.coap_server_listener.specs.streams.Serving.{AreCallsBetween, HasA
 pub use Rattle.coap_server_listener.specs.streams.Sleepers.{AreAsleep, IsOutside, MaySleep, bit_of, is_known_ready, known}
 pub use Rattle.coap_server_listener.specs.streams.Turns.{end_of, agenda_past, IsIdle, IsInTurn, agenda_with, wait_of}
 pub use Rattle.coap_server_listener.specs.streams.Turns.{Taking, IsTakenAlone, IsTakenWith, IsTakenInPart, rest_behind, IsServedOnce, IsServedOnceBy, IsLaidOut, is_heard, heard_events, refused_events, server_heard, server_wrote, wrote_events}
-pub use Rattle.coap_server_listener.specs.streams.Turns.{waiting_once, rest_left, is_over_in, has_failed, course_of, wants_of}
+pub use Rattle.coap_server_listener.specs.streams.Turns.{waiting_once, rest_left, is_over_in, has_failed, course_of, IsCourseFor, wants_of}
 pub use Rattle.coap_server_listener.specs.streams.Turns.{IsAsked, CanGoOn, IsRestAnswer, IsAgendaOf, IsWaitAfter}
 pub use Rattle.coap_server_listener.specs.streams.Turns.{wants_in, IsNoOp, can_go_on, PeerStatus, IsCarriedOn}
 pub use Rattle.coap_server_listener.specs.streams.Turns.{IsTakenAndWritten, least_with, left_behind, IsOffered, CanAnyGoOn}
@@ -97,6 +97,7 @@ pub use Rattle.coap_server_engine.specs.values.Exchanges.{Answering, Exchange, G
 unfoldable pub use Rattle.coap_server_engine.specs.values.Exchanges.{AnswersMore}
 pub use Rattle.coap_server_engine.specs.values.ApplicationCalls.{AreAskedLater, IsAskedLater}
 pub use Rattle.coap_server_engine.specs.values.Calls.{call_value, Following}
+pub use Rattle.coap_server_engine.specs.values.CallDetails.{IsReasonFor}
 unfoldable pub use Rattle.coap_server_engine.specs.values.Calls.{FollowsMore}
 pub use Rattle.coap_server_engine.specs.values.InResults.{took, where_there}
 unfoldable pub use Rattle.coap_server_engine.specs.values.InResults.{fed_turns, took_turns}

@@ -1,6 +1,7 @@
 //! Runs a server over the connections that a listener (`Door`) accepts.
 
 ghost use Rattle.coap_server_listener.specs.Prelude.{AnswersMore, FollowsMore, IsMemoryOrTurns, IsRun, Resting, Silent};
+ghost use Rattle.coap_server_listener.specs.Prelude.{Unlimited};
 ghost use Rattle.coap_server_listener.specs.Prelude.{TellsMore, clock_and_door, plain_config, run_tells, trace_by};
 ghost use Rattle.coap_server_listener.specs.Prelude.{waited_behind};
 ghost use Rattle.std.specs.Prelude.{◌≡◌, false};
@@ -88,7 +89,7 @@ pub fn serve_door<D: Door, C: Clock>(
     ensures fault { IsMemoryOrTurns result }
     // The run consists of whole turns, as the traces of the clock and of the listener record them. They are all allowed
     // turns, or those before an allocation failed. No application responds.
-    ensures run { IsRun Silent Resting D.Wire.readable D.Wire.writable
+    ensures run { IsRun Silent Resting Unlimited D.Wire.readable D.Wire.writable
         (trace_by D.Wire.given D.Wire.written D.Wire.answers D.Wire.rooms) (plain_config config)
         (clock_and_door (TellsMore (C.moments clock.old) (C.moments clock.new))
         (TellsMore (D.calls door.old) (D.calls door.new))) result }
@@ -123,7 +124,7 @@ pub fn serve_door_with<D: Door, C: Clock, U: Clock, A: Application, M: Monitor<D
     ensures fault { IsMemoryOrTurns result }
     // The monitor received exactly the events of the run. The application had exactly its exchanges: the requests that
     // the server handed over, in order, and the responses that it gave.
-    ensures run { IsRun A.follows A.idle D.Wire.readable D.Wire.writable
+    ensures run { IsRun A.follows A.idle A.waits D.Wire.readable D.Wire.writable
         (trace_by D.Wire.given D.Wire.written D.Wire.answers D.Wire.rooms) config
         (run_tells (TellsMore (C.moments clocks.old.time) (C.moments clocks.new.time))
         (TellsMore (U.moments clocks.old.uptime) (U.moments clocks.new.uptime))
@@ -152,7 +153,7 @@ fn run<D: Door, C: Clock, U: Clock, A: Application, M: Monitor<D::Wire>>(
     monitor: &mut M,
 ) -> Result<(), IoFault>
     ensures fault { IsMemoryOrTurns result }
-    ensures run { IsRun A.follows A.idle D.Wire.readable D.Wire.writable
+    ensures run { IsRun A.follows A.idle A.waits D.Wire.readable D.Wire.writable
         (trace_by D.Wire.given D.Wire.written D.Wire.answers D.Wire.rooms) config
         (run_tells (TellsMore (C.moments clock.old) (C.moments clock.new))
         (TellsMore (U.moments uptime.old) (U.moments uptime.new)) (TellsMore (D.calls door.old) (D.calls door.new))

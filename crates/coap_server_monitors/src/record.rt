@@ -221,6 +221,7 @@ impl<'a, O: Outlet + Drop> ServerRecord<'a, O> {
     fn pass_on(&mut self)
         ensures follows { FollowsMore (⟦<Recorder<O> as Monitor<()>>⟧.follows self.old.recorder)
             (⟦<Recorder<O> as Monitor<()>>⟧.follows self.new.recorder) [] }
+        ensures passed { ⟦<Recorder<O> as Monitor<()>>⟧.has_passed self.new.recorder }
     {
         Monitor::<()>::turn_ended(&mut self.recorder);
         if self.recorder.has_ended() {
@@ -290,6 +291,8 @@ fn append_title(line: &mut Line, name: &str)
 #[tactic(auto, unfolding(coap_record::specs::Prelude::FollowsMore))]
 impl<W, O: Outlet + Drop> Monitor<W> for ServerRecord<'_, O> {
     ghost follows = { λ r start calls. ⟦<Recorder<O> as Monitor<W>>⟧.follows r.recorder start calls };
+
+    ghost has_passed = { λ r. ⟦<Recorder<O> as Monitor<W>>⟧.has_passed r.recorder };
 
     fn opened(&mut self, id: ConnId, wire: &W, server: &Server) {
         self.recorder.opened(id, wire, server);

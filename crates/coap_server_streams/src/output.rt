@@ -33,6 +33,7 @@ pub(crate) fn greet<W: Outlet, M: Monitor<()>>(
     ensures part { OnErr result (IsCutFlush id server.old
         (AddsBytes (W.written writer.old) (W.written writer.new))
         (FollowsMore (M.follows monitor.old) (M.follows monitor.new))) }
+    ensures passed { OnOk result (M.has_passed monitor.new) }
     ensures failure { W.is_failed writer.new ≡ is_err result }
 {
     let Ok(_) = flush(writer, server, id, monitor) else {

@@ -7,6 +7,7 @@ ghost use Rattle.coap_server_streams.specs.Prelude.{stdio_output, IsRunningAt, I
 ghost use Rattle.coap_server_streams.specs.Prelude.{is_write_fault, AcceptedCall, FollowsMore, IsReportedRun};
 ghost use Rattle.coap_server_streams.specs.Prelude.{HasReportedEnd};
 ghost use Rattle.coap_server_streams.specs.streams.StdioProgress.{IsServed};
+ghost use Rattle.std.specs.Prelude.{OnOk};
 
 use crate::output::{flush_at, greet, stop_in};
 use coap_conn::Reason;
@@ -140,6 +141,8 @@ pub fn serve_one_with<R: Source, W: Outlet, M: Monitor<()>>(
         × AddsBytes (W.written writer.old) (W.written writer.new) output
         × IsStdioRun config.now pieces output result
         × IsReportedRun config.now pieces output (FollowsMore (M.follows monitor.old) (M.follows monitor.new)) result }
+    // After a whole run, the monitor has passed on what it received.
+    ensures passed { OnOk result (M.has_passed monitor.new) }
     // The result is `Read` if and only if the reader has failed, and `Write` if and only if the writer has failed.
     ensures read { R.is_failed reader.new ≡ is_read_fault result }
     ensures write { W.is_failed writer.new ≡ is_write_fault result }
@@ -179,6 +182,7 @@ fn run<R: Source, W: Outlet, M: Monitor<()>>(
         × IsStdioRun config.now pieces (stdio_output config.now [] ++ output) result
         × IsReportedRun config.now pieces (stdio_output config.now [] ++ output)
         (FollowsMore (M.follows first) (M.follows monitor.new)) result }
+    ensures passed { OnOk result (M.has_passed monitor.new) }
     ensures read { R.is_failed reader.new ≡ is_read_fault result }
     ensures write { W.is_failed writer.new ≡ is_write_fault result }
 {

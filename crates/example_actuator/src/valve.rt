@@ -7,7 +7,7 @@ ghost use Rattle.example_actuator.specs.Position.{IsPosition};
 use coap_serve::option_numbers::{ACCEPT, CONTENT_FORMAT, IF_MATCH, IF_NONE_MATCH, URI_QUERY};
 use coap_serve::{
     Application, BuildFault, Builder, Code, ConnId, MessageRef, PathKey, Reply, ResponseFault,
-    TokenRef, request_path, uint_value,
+    TokenRef, Wait, request_path, uint_value,
 };
 
 /// Byte of the code 4.15 (Unsupported Content-Format).
@@ -132,6 +132,10 @@ impl Application for Valve {
     }
 
     fn responded(&mut self, _id: ConnId, _outcome: Result<Reply, ResponseFault>) {}
+
+    fn wait(&self, _now: u64) -> Wait {
+        Wait::Forever
+    }
 
     fn gone(&mut self, _id: ConnId) {}
 }

@@ -35,6 +35,11 @@ abbrev pub follows_if : {M : Type 0} → (M → Following) → Option M → Foll
 follows_if follows None start calls = Unit {0}
 follows_if follows (Some m) start calls = follows m start calls
 
+-- The same for a statement on the end of a turn.
+abbrev pub has_passed_if : {M : Type 0} → (M → Type 0) → Option M → Type 0
+has_passed_if passed None = Unit {0}
+has_passed_if passed (Some m) = passed m
+
 -- After the calls that it had received before, a monitor has received these.
 unfoldable pub FollowsMore : Following → Following → List AcceptedCall → Type 0
 FollowsMore before after more = (start : List ℕ) (calls : List AcceptedCall) → before start calls → after start (calls ++ more)

@@ -191,6 +191,7 @@ impl Server {
         requires empty { response.old.items ≡ [] }
         ensures within { IfOk result (λ t. t.0.bytes ≤ length rest.now) }
         ensures count { IfOk result (λ t. t.0.bytes ≡ count_taken self.old id rest.now) }
+        ensures handled { IfOk result (λ t. t.0.handled ≡ handled_by self.old id rest.now) }
         ensures there { OnOk result (is_there (session_of id self.old.sessions) ≡ true) }
         ensures ok { OnOk result (self.new ≡ server_taken self.old id rest.now) }
         ensures shows { IfOk result (λ t. (events : List AcceptedCall) → Shows self.old events →

@@ -10,7 +10,7 @@ use Rattle.coap_server_engine.proofs.scripting.ShownLemmas.{shows_same, shows_th
 use Rattle.coap_server_engine.proofs.scripting.FollowLemmas.{followed_none, followed_then}
 use Rattle.coap_server_listener.specs.Prelude.{AcceptedCall, Released, Dropped, Gone, Exchange, Answering, AnswersMore, AreAskedLater, AreTakenWith, Following, FollowsMore, HasTurnedBy}
 use Rattle.coap_server_listener.specs.Prelude.{AreSettled, DoorCall, IoFault, IsMemory, IsMemoryOrTurns, Memory, Peer, ServerValue, SessionValue, ShowsMore, TellsMore, Wait, WireTrace, opening, asked_by, server_ticked}
-use Rattle.coap_server_listener.specs.Prelude.{AreRunSteps, EndsRun, HasRun, HasSwept, IsBegun, IsCutRun, IsCutTurn, IsTurnFor, IsRun, Matches, RunTells, RunTrace, ServiceConfig, ServiceValue, Sweep, Times, acted, due_sweep, moved_calls, moved_to, no_trace, released_refusal, run_tells, silence_action, status_of, swept, swept_one, ticked_calls, trace_then}
+use Rattle.coap_server_listener.specs.Prelude.{AreRunSteps, EndsRun, HasRun, HasSwept, IsBegun, IsCutRun, IsCutTurn, IsTurnFor, IsRun, Matches, RunTells, RunTrace, ServiceConfig, ServiceValue, Sweep, Times, acted, allowed_by, due_sweep, moved_calls, moved_to, no_trace, released_refusal, run_tells, silence_action, status_of, swept, swept_one, ticked_calls, trace_then}
 use Rattle.coap_server_listener.specs.streams.Run.{NoneRun, SilentReleased, SilentDropped, TimeSet, LaterGiven, TurnMade}
 use Rattle.coap_model.specs.declared.config.Config.{Config}
 use Rattle.coap_server_engine.specs.declared.io_fault.IoFault.TheVariants.{Read, Write, Turns}
@@ -216,13 +216,13 @@ parts_begin follows rests times s m0 m1 m2 m3 x one other v1 v2 v3 is_full swept
 
 -- ---- whole turns
 
-module _ {A W : Type 0} (follows : A → Answering) (rests : A → Type 0) (readable writable : W → Option Bool) (trace : W → WireTrace) where
+module _ {A W : Type 0} (follows : A → Answering) (rests : A → Type 0) (waits : A → ℕ → Wait → Type 0) (readable writable : W → Option Bool) (trace : W → WireTrace) where
   -- A turn whose calls, events and exchanges are named.
-  pub turn_named : (times : Times) (door : List (DoorCall W) → Type 0) (monitor : List AcceptedCall → Type 0) (asks : List Exchange → Type 0) (s after : ServiceValue W) (wait : Wait)
-      → (turn : IsTurnFor follows rests readable writable trace times door monitor asks s after wait)
+  pub turn_named : (one : A) (times : Times) (door : List (DoorCall W) → Type 0) (monitor : List AcceptedCall → Type 0) (asks : List Exchange → Type 0) (s after : ServiceValue W) (wait : Wait)
+      → (turn : IsTurnFor follows rests (waits one times.now) readable writable trace times door monitor asks s after wait)
       → (asked : List (DoorCall W)) × (more : List AcceptedCall) × (others : List Exchange) × door asked × monitor more × asks others
-      × IsTurnFor follows rests readable writable trace times (λ all. asked ≡ all) (λ all. more ≡ all) (λ all. others ≡ all) s after wait
-  turn_named times door monitor asks s after wait turn =
+      × IsTurnFor follows rests (allowed_by waits times) readable writable trace times (λ all. asked ≡ all) (λ all. more ≡ all) (λ all. others ≡ all) s after wait
+  turn_named one times door monitor asks s after wait turn =
       let t = turn.turn in (
         asked_by turn.answered t.opened.handed,
         turn.events ++ (opening turn.answered t.opens ++ t.events),
@@ -239,6 +239,7 @@ module _ {A W : Type 0} (follows : A → Answering) (rests : A → Type 0) (read
           kept = turn.kept;
           recorded = turn.recorded;
           limit = turn.limit;
+          allowed = (one, turn.allowed);
           next = turn.next;
           turn = record {
             opens = t.opens;
@@ -285,10 +286,10 @@ cut_named follows rests times door monitor asks s last turn =
 
 -- ---- the error of a run
 
-pub cut_ends : {A W : Type 0} (follows : A → Answering) (rests : A → Type 0) (readable writable : W → Option Bool) (trace : W → WireTrace) (c : ServiceConfig) (tells : RunTells W) (last : ServerValue) (fault : IoFault) → IsMemory fault
-    → IsCutRun follows rests readable writable trace c tells last → EndsRun follows rests readable writable trace c tells last fault
-cut_ends follows rests readable writable trace c tells last Memory is cut = inr cut
-cut_ends follows rests readable writable trace c tells last fault is cut = absurd is
+pub cut_ends : {A W : Type 0} (follows : A → Answering) (rests : A → Type 0) (waits : A → ℕ → Wait → Type 0) (readable writable : W → Option Bool) (trace : W → WireTrace) (c : ServiceConfig) (tells : RunTells W) (last : ServerValue) (fault : IoFault) → IsMemory fault
+    → IsCutRun follows rests waits readable writable trace c tells last → EndsRun follows rests waits readable writable trace c tells last fault
+cut_ends follows rests waits readable writable trace c tells last Memory is cut = inr cut
+cut_ends follows rests waits readable writable trace c tells last fault is cut = absurd is
 
 -- A failed allocation is one of the two errors that end a run over a listener.
 pub memory_ends : (T : Type 0) (fault : IoFault) → IsMemory fault → IsMemoryOrTurns {T = T} (Err fault)
@@ -303,14 +304,14 @@ is_plain c config is =
     ap (λ x. record { config = x; applications = c.applications; idle = c.idle }) is.0 ∙ ap (λ x. record { config = config; applications = x; idle = c.idle }) is.1
     ∙ ap (λ x. record { config = config; applications = None; idle = x }) is.2
 
-module _ {A W : Type 0} (follows : A → Answering) (rests : A → Type 0) (readable writable : W → Option Bool) (trace : W → WireTrace) (c : ServiceConfig) (s t : RunTells W)
+module _ {A W : Type 0} (follows : A → Answering) (rests : A → Type 0) (waits : A → ℕ → Wait → Type 0) (readable writable : W → Option Bool) (trace : W → WireTrace) (c : ServiceConfig) (s t : RunTells W)
     (clock : (l : List ℕ) → s.clock l → t.clock l) (uptime : (l : List ℕ) → s.uptime l → t.uptime l) (door : (l : List (DoorCall W)) → s.door l → t.door l)
     (monitor : (l : List AcceptedCall) → s.monitor l → t.monitor l) (asks : (l : List Exchange) → s.asks l → t.asks l)
   where
     matches_too : (x : RunTrace W) → Matches s x → Matches t x
     matches_too x m = (clock _ m.0, uptime _ m.1, door _ m.2, monitor _ m.3, asks _ m.4)
 
-    ends_too : (last : ServerValue) (fault : IoFault) → EndsRun follows rests readable writable trace c s last fault → EndsRun follows rests readable writable trace c t last fault
+    ends_too : (last : ServerValue) (fault : IoFault) → EndsRun follows rests waits readable writable trace c s last fault → EndsRun follows rests waits readable writable trace c t last fault
     ends_too last Read never = never
     ends_too last Write never = never
     ends_too last Memory (inl none) = inl (matches_too no_trace none.0, none.1)
@@ -337,7 +338,7 @@ module _ {A W : Type 0} (follows : A → Answering) (rests : A → Type 0) (read
       ended = whole.ended;
     }
 
-    pub run_too : {T : Type 0} (r : Result T IoFault) → IsRun follows rests readable writable trace c s r → IsRun follows rests readable writable trace c t r
+    pub run_too : {T : Type 0} (r : Result T IoFault) → IsRun follows rests waits readable writable trace c s r → IsRun follows rests waits readable writable trace c t r
     run_too (Ok x) never = never
     run_too (Err fault) run = record {
       last = run.last;

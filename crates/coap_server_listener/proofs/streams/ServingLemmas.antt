@@ -1,16 +1,17 @@
 -- The events of the parts of a turn.
-use Rattle.std.proofs.Common.{◌≡◌, ◌≢◌, ℕ, ◌+◌, ◌<◌, ◌||◌, not, nat_lt, true, false, List, [], ◌∷◌, ◌++◌, length, take, drop, Option, Some, None, Result, append_assoc, arith, refl, sym, ap, ◌∙◌, inl, inr}
+use Rattle.std.proofs.Common.{◌≡◌, ◌≢◌, ℕ, ◌+◌, ◌<◌, ◌||◌, not, nat_lt, true, false, List, [], ◌∷◌, ◌++◌, length, take, drop, Option, Some, None, IfSome, Result, append_assoc, arith, option_map, refl, sym, ap, ◌∙◌, inl, inr}
 use Rattle.std.proofs.lemmas.Bool.{and_parts, ltb-true}
 use Rattle.std.proofs.lemmas.Bool.Decides.{nat_tests}
 use Rattle.std.proofs.lemmas.List.{append-nil, length-drop, length-take}
 use Rattle.std.proofs.Math.Bool.{or_assoc}
 use Rattle.coap_server_listener.specs.Prelude.{where_there, ShowsMore, FollowsMore, Following, opening, ServerValue, session_of, count_taken, server_taken}
-use Rattle.coap_server_listener.specs.Prelude.{SessionValue, AcceptedCall, Opened, Took, Ended, Wrote, Dropped, server_dropped, server_opened}
+use Rattle.coap_server_listener.specs.Prelude.{ConnectionWork, IsReasonFor, SessionValue, session_outlook, AcceptedCall, Opened, Took, Ended, Wrote, Dropped, server_dropped, server_opened}
 use Rattle.coap_server_listener.specs.Prelude.{Answering, AnswersMore, Exchange, Gone, HasServedBy, HasTurnedBy, HasOpened, TakingSteps, AreTakenWith, NoneTaken, AreStepsBy, IsTakenWith}
 use Rattle.coap_server_listener.specs.Prelude.{AreCallsBetween, HasAccepted, Got, Bytes, End, Failed, Later, dropped_events, gone_exchanges, gone_on, heard_events, is_ok, is_there, server_heard, server_wrote, wrote_events}
 use Rattle.coap_server_listener.specs.streams.Turns.{IsTakenInPartOf, have_moved, moves, rest_behind}
 use Rattle.coap_server_listener.specs.streams.Serving.{NoStep, OneTaken, OneEnded, OneWrote, OneDropped}
 use Rattle.coap_server_engine.specs.Prelude.{Message}
+use Rattle.coap_server_engine.specs.declared.monitor.DropReason.{DropReason}
 use Rattle.coap_server_engine.specs.values.HandedRequests.{handed_by}
 use Rattle.coap_server_engine.specs.values.ApplicationCalls.{AreMade, asked_by, asking, message_limit, offered_events, response_for, served, IsPartlyServed, IsServed as IsServedWith}
 use Rattle.coap_server_engine.proofs.scripting.ShownLemmas.{shows_same, shows_then}
@@ -121,8 +122,27 @@ not_there_called call None there = refl
 not_there_called call (Some s) there = absurd cc
 
 -- The connection existed, or it did not.
-pub drop_accepted : {T E : Type 0} (a b : Following) (v after : ServerValue) (id : ℕ) (r : Result T E) → is_ok r ≡ is_there (session_of id v.sessions) → is_ok r ≡ true → ShowsMore v after (Dropped id ∷ []) → FollowsMore a b (Dropped id ∷ []) → AreCallsBetween (FollowsMore a b) v after (dropped_events v id)
-drop_accepted a b v after id r answer ok shows received = rw (there_called (Dropped id) (session_of id v.sessions) (sym answer ∙ ok)) (shows, received)
+pub drop_accepted : {T E : Type 0} (a b : Following) (v after : ServerValue) (id : ℕ) (r : Result T E) → is_ok r ≡ is_there (session_of id v.sessions) → is_ok r ≡ true → ShowsMore v after (Dropped id ∷ []) → FollowsMore a b (dropped_events v id) → AreCallsBetween (FollowsMore a b) v after (dropped_events v id)
+drop_accepted a b v after id r answer ok shows received = (rw (there_called (Dropped id) (session_of id v.sessions) (sym answer ∙ ok)) shows, received)
+
+pub drop_received : {T E : Type 0} (a b : Following) (v : ServerValue) (id : ℕ) (r : Result T E) → is_ok r ≡ is_there (session_of id v.sessions) → is_ok r ≡ true → FollowsMore a b (dropped_events v id) → FollowsMore a b (Dropped id ∷ [])
+drop_received a b v id r answer ok received = rw (there_called (Dropped id) (session_of id v.sessions) (sym answer ∙ ok)) at received
+
+-- The drop is reported if the connection exists.
+pub drop_reported : (a b : Following) (v : ServerValue) (id : ℕ) → is_there (session_of id v.sessions) ≡ true → FollowsMore a b (Dropped id ∷ []) → FollowsMore a b (dropped_events v id)
+drop_reported a b v id there received = rw (there_called (Dropped id) (session_of id v.sessions) there) received
+
+pub no_drop_reported : (a : Following) (v : ServerValue) (id : ℕ) → is_there (session_of id v.sessions) ≡ false → FollowsMore a a (dropped_events v id)
+no_drop_reported a v id none = rw (not_there_called (Dropped id) (session_of id v.sessions) none) (followed_none a)
+
+pub reason_left : (now : ℕ) (o : Option SessionValue) (why : DropReason) → is_there o ≡ true → IfSome (option_map (session_outlook now) o) (IsReasonFor why) → (work : ConnectionWork) × (option_map (session_outlook now) o ≡ Some work) × IsReasonFor why work
+reason_left now None why there is = absurd cc
+reason_left now (Some s) why there is = (session_outlook now s, refl, is)
+
+-- A connection that exists has some work left.
+pub work_left : (now : ℕ) (o : Option SessionValue) → is_there o ≡ true → (work : ConnectionWork) × (option_map (session_outlook now) o ≡ Some work) × Unit {0}
+work_left now None there = absurd cc
+work_left now (Some s) there = (session_outlook now s, refl, tt)
 
 there_gone : (id : ℕ) (o : Option SessionValue) → is_there o ≡ true → gone_on o id ≡ Gone id ∷ []
 there_gone id None there = absurd cc
@@ -138,8 +158,12 @@ gone_answered p q v id r answer ok gone = rw (there_gone id (session_of id v.ses
 pub none_gone_answered : {T E : Type 0} (p : Answering) (v : ServerValue) (id : ℕ) (r : Result T E) → is_ok r ≡ is_there (session_of id v.sessions) → is_ok r ≡ false → AnswersMore p p (gone_exchanges v id)
 none_gone_answered p v id r answer err = rw (not_there_gone id (session_of id v.sessions) (sym answer ∙ err)) (answered_none p)
 
-pub no_drop_accepted : {T E : Type 0} (a : Following) (v after : ServerValue) (id : ℕ) (r : Result T E) → is_ok r ≡ is_there (session_of id v.sessions) → is_ok r ≡ false → after ≡ v → AreCallsBetween (FollowsMore a a) v after (dropped_events v id)
-no_drop_accepted a v after id r answer err is = rw (not_there_called (Dropped id) (session_of id v.sessions) (sym answer ∙ err)) (none_accepted a v after is)
+pub no_drop_accepted : {T E : Type 0} (a b : Following) (v after : ServerValue) (id : ℕ) (r : Result T E) → is_ok r ≡ is_there (session_of id v.sessions) → is_ok r ≡ false → after ≡ v → FollowsMore a b (dropped_events v id) → AreCallsBetween (FollowsMore a b) v after (dropped_events v id)
+no_drop_accepted a b v after id r answer err is received = (rw (not_there_called (Dropped id) (session_of id v.sessions) (sym answer ∙ err)) (shows_same v after is), received)
+
+pub no_drop_served : {T E : Type 0} (S : TakingSteps) (a b : Following) (p : Answering) (v after : ServerValue) (id : ℕ) (r : Result T E) → is_ok r ≡ is_there (session_of id v.sessions) → is_ok r ≡ false → after ≡ v → FollowsMore a b (dropped_events v id) → HasServedBy S (FollowsMore a b) (AnswersMore p p) v after
+no_drop_served S a b p v after id r answer err is received =
+    record { events = []; exchanges = []; steps = rw is NoStep; shows = shows_same v after is; tells = rw (not_there_called (Dropped id) (session_of id v.sessions) (sym answer ∙ err)) at received; exchanged = answered_none p }
 
 -- ---- calls of take
 

@@ -119,9 +119,10 @@ pub record IsBegun {A W : Type 0} (follows : A → Answering) (rests : A → Typ
   pub all : events ≡ sweep.events ++ (moved_calls sweep.server times.now ++ later)
   pub exchanged : exchanges ≡ sweep.exchanges ++ others
 
--- One turn at these times. After the parts before its visits, a connection may be opened, and each one is served. `door`
--- states which calls the listener had. `monitor` holds of the events of all parts in order, and `asks` of the exchanges.
-pub record IsTurnFor {A W : Type 0} (follows : A → Answering) (rests : A → Type 0) (readable writable : W → Option Bool) (trace : W → WireTrace) (times : Times) (door : List (DoorCall W) → Type 0) (monitor : List AcceptedCall → Type 0) (asks : List Exchange → Type 0) (s after : ServiceValue W) (wait : Wait) : Type 0 where
+-- One turn at these times. After the parts before its visits, a connection may be opened, and each one is served. `allows`
+-- states how long the application lets the listener wait. `door` states which calls the listener had. `monitor` holds of
+-- the events of all parts in order, and `asks` of the exchanges.
+pub record IsTurnFor {A W : Type 0} (follows : A → Answering) (rests : A → Type 0) (allows : Wait → Type 0) (readable writable : W → Option Bool) (trace : W → WireTrace) (times : Times) (door : List (DoorCall W) → Type 0) (monitor : List AcceptedCall → Type 0) (asks : List Exchange → Type 0) (s after : ServiceValue W) (wait : Wait) : Type 0 where
   pub answered : ServerValue
   pub is_full : Bool
   pub events : List AcceptedCall
@@ -130,6 +131,7 @@ pub record IsTurnFor {A W : Type 0} (follows : A → Answering) (rests : A → T
   pub kept : List (ℕ × Peer W)
   pub recorded : AreRecorded begun.sweep.entries kept
   pub limit : Wait
+  pub allowed : allows limit
   pub next : Wait
   pub turn : IsTurnBy (IsTakenWith follows) times.second readable writable trace door (λ all. monitor (events ++ all)) (λ all. asks (exchanges ++ all)) answered kept after.server after.entries next
   pub waits : wait ≡ short_wait s.idle after.server.host.now after.entries (wait_within (limit_for is_full limit) next)
@@ -183,14 +185,18 @@ no_trace = record { times = []; calls = []; events = []; exchanges = [] }
 abbrev pub trace_then : {W : Type 0} → RunTrace W → RunTrace W → RunTrace W
 trace_then t u = record { times = t.times ++ u.times; calls = t.calls ++ u.calls; events = t.events ++ u.events; exchanges = t.exchanges ++ u.exchanges }
 
+-- An application lets the listener wait this long, at these times.
+abbrev pub allowed_by : {A : Type 0} (waits : A → ℕ → Wait → Type 0) → Times → Wait → Type 0
+allowed_by {A} waits times limit = (one : A) × waits one times.now limit
+
 -- Whole turns on a new service, one after the other. Before each turn but the first, the listener waits as long as the
 -- last turn returned.
-pub data AreTurns {A W : Type 0} (follows : A → Answering) (rests : A → Type 0) (readable writable : W → Option Bool) (trace : W → WireTrace) (c : ServiceConfig) : RunTrace W → ServiceValue W → Wait → Type 0 where
-  NoneMade : AreTurns follows rests readable writable trace c no_trace (new_service c) No
+pub data AreTurns {A W : Type 0} (follows : A → Answering) (rests : A → Type 0) (waits : A → ℕ → Wait → Type 0) (readable writable : W → Option Bool) (trace : W → WireTrace) (c : ServiceConfig) : RunTrace W → ServiceValue W → Wait → Type 0 where
+  NoneMade : AreTurns follows rests waits readable writable trace c no_trace (new_service c) No
   OneMade : (t : RunTrace W) (s : ServiceValue W) (wait : Wait) (times : Times) (asked : List (DoorCall W)) (more : List AcceptedCall) (others : List Exchange) (after : ServiceValue W) (next : Wait)
-      → AreTurns follows rests readable writable trace c t s wait
-      → IsTurnFor follows rests readable writable trace times (λ all. asked ≡ all) (λ all. more ≡ all) (λ all. others ≡ all) s after next
-      → AreTurns follows rests readable writable trace c (trace_then t (record { times = times ∷ []; calls = waited_before (length t.times) wait s.server ++ asked; events = more; exchanges = others })) after next
+      → AreTurns follows rests waits readable writable trace c t s wait
+      → IsTurnFor follows rests (allowed_by waits times) readable writable trace times (λ all. asked ≡ all) (λ all. more ≡ all) (λ all. others ≡ all) s after next
+      → AreTurns follows rests waits readable writable trace c (trace_then t (record { times = times ∷ []; calls = waited_before (length t.times) wait s.server ++ asked; events = more; exchanges = others })) after next
 
 -- ---- a run
 
@@ -214,21 +220,21 @@ abbrev pub Matches : {W : Type 0} → RunTells W → RunTrace W → Type 0
 Matches tells t = tells.clock (map (λ x. x.now) t.times) × tells.uptime (map (λ x. x.second) t.times) × tells.door t.calls × tells.monitor t.events × tells.asks t.exchanges
 
 -- A run that made every turn.
-pub record IsWholeRun {A W : Type 0} (follows : A → Answering) (rests : A → Type 0) (readable writable : W → Option Bool) (trace : W → WireTrace) (c : ServiceConfig) (tells : RunTells W) (last : ServerValue) : Type 0 where
+pub record IsWholeRun {A W : Type 0} (follows : A → Answering) (rests : A → Type 0) (waits : A → ℕ → Wait → Type 0) (readable writable : W → Option Bool) (trace : W → WireTrace) (c : ServiceConfig) (tells : RunTells W) (last : ServerValue) : Type 0 where
   pub whole : RunTrace W
   pub service : ServiceValue W
   pub wait : Wait
-  pub made : AreTurns follows rests readable writable trace c whole service wait
+  pub made : AreTurns follows rests waits readable writable trace c whole service wait
   pub counted : length whole.times ≡ c.config.turns
   pub matches : Matches tells whole
   pub ended : last ≡ service.server
 
 -- A run in which an allocation failed in a turn, after some whole turns.
-pub record IsCutRun {A W : Type 0} (follows : A → Answering) (rests : A → Type 0) (readable writable : W → Option Bool) (trace : W → WireTrace) (c : ServiceConfig) (tells : RunTells W) (last : ServerValue) : Type 0 where
+pub record IsCutRun {A W : Type 0} (follows : A → Answering) (rests : A → Type 0) (waits : A → ℕ → Wait → Type 0) (readable writable : W → Option Bool) (trace : W → WireTrace) (c : ServiceConfig) (tells : RunTells W) (last : ServerValue) : Type 0 where
   pub front : RunTrace W
   pub service : ServiceValue W
   pub wait : Wait
-  pub made : AreTurns follows rests readable writable trace c front service wait
+  pub made : AreTurns follows rests waits readable writable trace c front service wait
   pub few : length front.times + 1 ≤ c.config.turns
   pub times : Times
   pub asked : List (DoorCall W)
@@ -239,27 +245,30 @@ pub record IsCutRun {A W : Type 0} (follows : A → Answering) (rests : A → Ty
 
 -- The end of a run that returned this error, with this last server. It is `Turns` if every turn was made. It is `Memory`
 -- if an allocation failed, before the first turn or in one of them.
-abbrev pub EndsRun : {A W : Type 0} (follows : A → Answering) (rests : A → Type 0) (readable writable : W → Option Bool) (trace : W → WireTrace) → ServiceConfig → RunTells W → ServerValue → IoFault → Type 0
-EndsRun follows rests readable writable trace c tells last Read = ⊥
-EndsRun follows rests readable writable trace c tells last Write = ⊥
-EndsRun follows rests readable writable trace c tells last Memory = (Matches tells no_trace × (last ≡ new_server (config_of c))) ⊎ IsCutRun follows rests readable writable trace c tells last
-EndsRun follows rests readable writable trace c tells last Turns = IsWholeRun follows rests readable writable trace c tells last
+abbrev pub EndsRun : {A W : Type 0} (follows : A → Answering) (rests : A → Type 0) (waits : A → ℕ → Wait → Type 0) (readable writable : W → Option Bool) (trace : W → WireTrace) → ServiceConfig → RunTells W → ServerValue → IoFault → Type 0
+EndsRun follows rests waits readable writable trace c tells last Read = ⊥
+EndsRun follows rests waits readable writable trace c tells last Write = ⊥
+EndsRun follows rests waits readable writable trace c tells last Memory = (Matches tells no_trace × (last ≡ new_server (config_of c))) ⊎ IsCutRun follows rests waits readable writable trace c tells last
+EndsRun follows rests waits readable writable trace c tells last Turns = IsWholeRun follows rests waits readable writable trace c tells last
 
--- The application of a run without one: it writes no byte, and has no later response.
+-- The application of a run without one: it writes no byte, has no later response, and lets the listener wait forever.
 abbrev pub Silent : NoApplication → Answering
 Silent a exchanges = AreUnanswered exchanges
 
 abbrev pub Resting : NoApplication → Type 0
 Resting a = Unit {0}
 
+abbrev pub Unlimited : NoApplication → ℕ → Wait → Type 0
+Unlimited a now wait = wait ≡ Forever
+
 -- A run over the connections of a listener, which always ends with an error. Its events and exchanges follow from the
 -- same steps: each request that was handed over was shown, and the responses are those of the application. They also
 -- follow from the traces of the clocks, the listener and the wires.
-pub record EndsRunWith {A W : Type 0} (follows : A → Answering) (rests : A → Type 0) (readable writable : W → Option Bool) (trace : W → WireTrace) (c : ServiceConfig) (tells : RunTells W) (fault : IoFault) : Type 0 where
+pub record EndsRunWith {A W : Type 0} (follows : A → Answering) (rests : A → Type 0) (waits : A → ℕ → Wait → Type 0) (readable writable : W → Option Bool) (trace : W → WireTrace) (c : ServiceConfig) (tells : RunTells W) (fault : IoFault) : Type 0 where
   pub last : ServerValue
   pub ran : HasRun tells.monitor tells.asks (new_server (config_of c)) last
-  pub ends : EndsRun follows rests readable writable trace c tells last fault
+  pub ends : EndsRun follows rests waits readable writable trace c tells last fault
 
-abbrev pub IsRun : {A T W : Type 0} (follows : A → Answering) (rests : A → Type 0) (readable writable : W → Option Bool) (trace : W → WireTrace) → ServiceConfig → RunTells W → Result T IoFault → Type 0
-IsRun follows rests readable writable trace c tells (Ok x) = ⊥
-IsRun follows rests readable writable trace c tells (Err fault) = EndsRunWith follows rests readable writable trace c tells fault
+abbrev pub IsRun : {A T W : Type 0} (follows : A → Answering) (rests : A → Type 0) (waits : A → ℕ → Wait → Type 0) (readable writable : W → Option Bool) (trace : W → WireTrace) → ServiceConfig → RunTells W → Result T IoFault → Type 0
+IsRun follows rests waits readable writable trace c tells (Ok x) = ⊥
+IsRun follows rests waits readable writable trace c tells (Err fault) = EndsRunWith follows rests waits readable writable trace c tells fault

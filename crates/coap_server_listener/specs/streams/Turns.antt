@@ -1,5 +1,5 @@
 -- Defined by this project: how a turn of the event loop serves one connection, and the work that remains afterwards.
-use Rattle.std.specs.Prelude.{◌≡◌, ◌≢◌, fold, ℕ, Bool, true, false, not, List, [], ◌∷◌, ◌++◌, length, drop, Option, Some, None, nat_lt, ◌==◌, ◌&&◌, ◌||◌, if◌then◌else◌}
+use Rattle.std.specs.Prelude.{◌≡◌, ◌≢◌, fold, ℕ, Bool, true, false, not, List, [], ◌∷◌, ◌++◌, length, drop, Option, Some, None, IfSome, nat_lt, ◌==◌, ◌&&◌, ◌||◌, if◌then◌else◌}
 use Rattle.std.specs.List.{AllByRecursion}
 use Rattle.coap_conn.specs.declared.reason.Reason.{Reason}
 use Rattle.coap_server_engine.specs.values.Servers.{ServerValue, session_of, server_ended, server_written}
@@ -10,6 +10,7 @@ use Rattle.coap_server_engine.specs.values.InResults.{in_result, took}
 use Rattle.coap_server_engine.specs.values.Exchanges.{Answering, AnswersMore, Exchange}
 use Rattle.coap_server_engine.specs.values.ApplicationCalls.{IsServed as IsServedWith}
 use Rattle.coap_server_engine.specs.values.ServerDeadlines.{outlook_of, stamp_of, same_stamp}
+use Rattle.coap_server_engine.specs.values.CallDetails.{IsReasonFor}
 use Rattle.coap_server_engine.specs.values.Flushes.{waiting_at}
 use Rattle.coap_io.specs.streams.Wires.{MatchesTrace, WireTrace, IsReadOnce, IsWrittenOnce}
 use Rattle.coap_server_engine.specs.declared.monitor.DropReason.TheVariants as drop
@@ -148,6 +149,11 @@ has_failed Failed = true
 -- The outcome for a connection, by the result of its write and by whether nothing more will be written.
 abbrev pub course_of : (wrote : Got) (is_over : Bool) → PeerOutcome
 course_of wrote is_over = if has_failed wrote then Over drop.Failed else (if is_over then Over drop.Finished else Open)
+
+-- The outcome is right for a connection with this work left. If the connection is dropped, it may be for this reason.
+abbrev pub IsCourseFor : PeerOutcome → Option ConnectionWork → Type 0
+IsCourseFor Open work = Unit {0}
+IsCourseFor (Over why) work = IfSome work (IsReasonFor why)
 
 -- The bytes to be processed, and the trace of the wire. If a read is due, the wire was read once and gave these bytes.
 -- Otherwise they are left from earlier reads, and the wire was not touched.

@@ -9,6 +9,7 @@ ghost use Rattle.coap_server_listener.specs.Prelude.{has_written, trace_by, IsLa
 ghost use Rattle.coap_server_listener.specs.Prelude.{server_wrote, waiting_once, is_over_in, has_failed};
 ghost use Rattle.coap_server_listener.specs.Prelude.{course_of, wants_of, IsWithin, IsMemory, IsOneWrite, bytes_passed};
 ghost use Rattle.coap_server_listener.specs.Prelude.{stop_on, session_of, IsAsked, CanGoOn, IsRestAnswer, end_of};
+ghost use Rattle.coap_server_listener.specs.Prelude.{IsCourseFor, outlook_of};
 ghost use Rattle.coap_server_listener.specs.declared.door.peer.PeerOutcome.TheVariants.{Open};
 ghost use Rattle.coap_io.specs.declared.wire.Got.TheVariants.{Later, End};
 
@@ -110,6 +111,7 @@ pub(super) fn serve_peer<W: Wire, A: Application, M: Monitor<W>>(
     // The other connections are spared.
     ensures spared { OnOk result (GoesOnSparing (But id) server.old server.new) }
     ensures wants { IfOk result (λ course. course ≡ Open → peer.new.wants ≡ wants_of server.new id peer.new.rest) }
+    ensures reason { IfOk result (λ course. IsCourseFor course (outlook_of server.new id)) }
     ensures fault { IfErr result IsMemory }
 {
     let heard = read_wire(server, id, peer, may_read, monitor);

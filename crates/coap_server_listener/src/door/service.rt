@@ -251,8 +251,13 @@ impl<W: Wire + Ready + Drop> Service<W> {
         ensures times { (self.new.second ≡ self.old.second) × (self.new.idle ≡ self.old.idle) }
         ensures spent { self.new.is_spent ≡ self.old.is_spent }
     {
-        self.server.drop_conn(id)?;
+        if self.server.index_of(id).is_none() {
+            return Err(NoSuch);
+        }
         monitor.accepted(Call::Dropped(id, DropReason::Requested), &self.server);
+        let Ok(()) = self.server.drop_conn(id) else {
+            unreachable!()
+        };
         application.gone(id);
         let _ = self.peers.shift_remove(&id);
         self.awake.wake_all();
@@ -288,12 +293,15 @@ impl<W: Wire + Ready + Drop> Service<W> {
             (AnswersMore (A.follows application.old) (A.follows application.new)) self.old.server self.new.server }
         // The clause determines how each connection was served, and the result. The wire of a dropped connection is gone, so
         // only the existence of a fitting one is stated.
-        ensures turn { IfOk result (λ wait. IsTurnFor A.follows A.idle W.readable W.writable
+        ensures turn { IfOk result (λ wait. IsTurnFor A.follows A.idle
+            (A.waits application.new times.now) W.readable W.writable
             (trace_by W.given W.written W.answers W.rooms) times (TellsMore (D.calls door.old) (D.calls door.new))
             (FollowsMore (M.follows monitor.old) (M.follows monitor.new))
             (AnswersMore (A.follows application.old) (A.follows application.new))
             (service_of self.old.server self.old.peers.entries self.old.second self.old.idle)
             (service_of self.new.server self.new.peers.entries self.new.second self.new.idle) wait) }
+        // The monitor has passed on what it received.
+        ensures passed { OnOk result (M.has_passed monitor.new) }
         // After a failed allocation, only the visits may lack parts.
         ensures cut { OnErr result (self.old.is_spent ≡ false → IsCutTurn A.follows A.idle times
             (TellsMore (D.calls door.old) (D.calls door.new)) (FollowsMore (M.follows monitor.old) (M.follows monitor.new))

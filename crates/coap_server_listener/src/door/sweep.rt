@@ -127,10 +127,10 @@ fn drop_at<W: Drop, A: Application, M: Monitor<W>>(
     ensures within { result ≤ length peers.new.entries }
     ensures fewer { length peers.new.entries - result + 1 ≡ length peers.old.entries - at }
 {
+    monitor.accepted(Call::Dropped(id, DropReason::Silent), server);
     let Ok(()) = server.drop_conn(id) else {
         unreachable!()
     };
-    monitor.accepted(Call::Dropped(id, DropReason::Silent), server);
     application.gone(id);
     let _ = peers.shift_remove_index(at);
     at

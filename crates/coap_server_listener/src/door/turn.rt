@@ -9,7 +9,8 @@ ghost use Rattle.coap_server_listener.specs.Prelude.{gone_exchanges, opening, tr
 ghost use Rattle.coap_server_listener.specs.Prelude.{IsVisited, IsAgendaOf, concerns_earlier, end_of, wants_of};
 ghost use Rattle.coap_server_listener.specs.Prelude.{IsMemory, stamp_of, open_refusal, AreSettled, server_dropped};
 ghost use Rattle.coap_server_listener.specs.Prelude.{AnswersMore, AreAsleep, AreTakenWith, HasOpened, HasServedBy};
-ghost use Rattle.coap_server_listener.specs.Prelude.{HasTurnedBy, IsTakenWith, IsTurnBy};
+ghost use Rattle.coap_server_listener.specs.Prelude.{HasTurnedBy, IsCourseFor, IsReasonFor, IsTakenWith, IsTurnBy};
+ghost use Rattle.coap_server_listener.specs.Prelude.{outlook_of};
 ghost use Rattle.coap_server_listener.specs.declared.door.peer.PeerOutcome.TheVariants.{Open};
 
 use super::awake::Awake;
@@ -18,6 +19,7 @@ use super::peer::{Peer, PeerOutcome, Peers, serve_peer};
 use super::peer_interest::wants_on;
 use super::silence::Activity;
 use coap_io::{Door, ReadBuffer, Ready, Wait, Wire};
+use coap_model::ConnId;
 use coap_server_engine::{Application, Call, DropReason, IoFault, Monitor, Server};
 use std::alloc::Global;
 
@@ -277,6 +279,8 @@ fn serve_at<W: Wire + Ready, A: Application, M: Monitor<W>>(
         (AnswersMore (A.follows application.old) (A.follows application.new)) server.old server.new))) }
     ensures wants { IfSome (slice_get peers.new.entries at)
         (λ is. IfOk result (λ course. course ≡ Open → is.1.wants ≡ wants_of server.new is.0 is.1.rest)) }
+    ensures reason { IfSome (slice_get peers.new.entries at)
+        (λ is. IfOk result (λ course. IsCourseFor course (outlook_of server.new is.0))) }
     // The recorded interests of the others are still correct, and so is that of this connection if it stays open.
     ensures others { OnOk result (AreNoted server.new (remove peers.new.entries at)) }
     ensures noted { IfOk result (λ course. course ≡ Open → AreNoted server.new peers.new.entries) }
@@ -303,6 +307,16 @@ fn serve_at<W: Wire + Ready, A: Application, M: Monitor<W>>(
     )
 }
 
+/// Reports to the monitor that a connection is to be dropped for this reason, if the connection exists.
+fn report_drop<W, M: Monitor<W>>(server: &Server, id: ConnId, reason: DropReason, monitor: &mut M)
+    requires { IfSome (outlook_of server.now id) (IsReasonFor reason) }
+    ensures { FollowsMore (M.follows monitor.old) (M.follows monitor.new) (dropped_events server.now id) }
+{
+    if server.index_of(id).is_some() {
+        monitor.accepted(Call::Dropped(id, reason), server);
+    }
+}
+
 /// Drops the connection at an index, for this reason.
 #[tactic(auto, using(crate::proofs::streams::ServingLemmas::none_served, crate::proofs::streams::ServingLemmas::dropped_served))]
 fn drop_at<W: Wire + Drop, A: Application, M: Monitor<W>>(
@@ -316,6 +330,8 @@ fn drop_at<W: Wire + Drop, A: Application, M: Monitor<W>>(
     requires there { at < length peers.old.entries }
     requires settled { AreSettled server.old.host server.old.sessions }
     requires noted { AreNoted server.old (remove peers.old.entries at) }
+    requires reason { IfSome (slice_get peers.old.entries at)
+        (λ e. IfSome (outlook_of server.old e.0) (IsReasonFor reason)) }
     ensures shows { HasServedBy AreTakenWith (FollowsMore (M.follows monitor.old) (M.follows monitor.new))
         (AnswersMore (A.follows application.old) (A.follows application.new)) server.old server.new }
     ensures noted { AreNoted server.new peers.new.entries }
@@ -330,11 +346,9 @@ fn drop_at<W: Wire + Drop, A: Application, M: Monitor<W>>(
         (λ id. AnswersMore (A.follows application.old) (A.follows application.new) (gone_exchanges server.old id)) }
 {
     if let Some((id, _)) = peers.shift_remove_index(at) {
+        report_drop::<W, M>(server, id, reason, monitor);
         match server.drop_conn(id) {
-            Ok(()) => {
-                monitor.accepted(Call::Dropped(id, reason), server);
-                application.gone(id);
-            }
+            Ok(()) => application.gone(id),
             Err(_) => {}
         }
     }

@@ -1,12 +1,16 @@
 -- A flush, one iteration after the other, as the code makes it and reports it to a monitor.
-use Rattle.std.proofs.Common.{◌≡◌, ℕ, suc, ◌≤◌, List, [], ◌∷◌, length, Option, Some, None, Bool, true, false, refl, sym, ap, ◌∙◌, arith, inl, inr, not}
-use Rattle.std.proofs.lemmas.List.{append-nil}
+use Rattle.std.proofs.Common.{◌≡◌, ℕ, suc, ◌≤◌, List, [], ◌∷◌, length, take, Option, Some, None, Bool, true, false, refl, sym, ap, ◌∙◌, arith, inl, inr, not}
+use Rattle.std.proofs.lemmas.List.{append-nil, take_all}
 use Rattle.coap_server_streams.specs.Prelude.{Wrote, AddsBytes, WritesPart, FollowsMore, Following, ServerValue, waiting_at, more_at}
 use Rattle.coap_server_streams.specs.Prelude.{flush_turns, flush_calls, calls_of_flush, IsFlushedOnce, IsReportedFlush, IsCutFlush}
 use Rattle.coap_server_streams.specs.Prelude.{Reason, SessionValue, LiesAt, is_there, session_of, session_written, stop_on, waiting_in}
 use Rattle.coap_server_engine.proofs.values.ServerLemmas.{lies_where_taken}
 use Rattle.coap_io.proofs.streams.DeviceLemmas.{bytes_none, bytes_then}
 use Rattle.coap_server_engine.proofs.scripting.FollowLemmas.{followed_none, followed_then}
+
+-- All queued bytes are a prefix of the queued bytes.
+pub whole_part : (queued part : List ℕ) → part ≡ queued → part ≡ take (length part) queued
+whole_part queued part is = rw is (sym (take_all (length queued) queued (omega arith)))
 
 -- After these iterations the server is `now`. The outlet recorded `x` before the flush, and records `y`. `a` and `m` are
 -- the records of the monitor.

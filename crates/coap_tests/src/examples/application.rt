@@ -2,8 +2,8 @@
 
 use coap_serve::option_numbers::{ACCEPT, IF_MATCH, IF_NONE_MATCH, URI_QUERY};
 use coap_serve::{
-    Application, Builder, Code, ConnId, MessageRef, PathKey, Reply, ResponseFault, Token, parse,
-    request_path,
+    Application, Builder, Code, ConnId, MessageRef, PathKey, Reply, ResponseFault, Token, Wait,
+    parse, request_path,
 };
 use std::test::Fail;
 
@@ -59,6 +59,10 @@ impl Application for Oven {
     }
 
     fn responded(&mut self, _id: ConnId, _outcome: Result<Reply, ResponseFault>) {}
+
+    fn wait(&self, _now: u64) -> Wait {
+        Wait::Forever
+    }
 
     fn gone(&mut self, id: ConnId) {
         if self.waiting.as_ref().is_some_and(|(from, _)| *from == id) {

@@ -23,7 +23,7 @@ loop-turn-preserved g c =
     let times : Times = record { now = c.now-now.result; second = c.now-second.result } in
     let before = service_of c.loop-turn.service.server c.loop-turn.service.peers.entries c.loop-turn.service.second c.loop-turn.service.idle in
     let after = service_of c.turn.new.self.server c.turn.new.self.peers.entries c.turn.new.self.second c.turn.new.self.idle in
-    let named = turn_named g.A.Application.follows g.A.Application.idle g.D.Wire.Ready.readable g.D.Wire.Ready.writable (trace_by g.D.Wire.Wire.given g.D.Wire.Wire.written g.D.Wire.Wire.answers g.D.Wire.Wire.rooms) times _ _ _ before after c.in_ok-wait.wait c.in_ok-wait.ensures.turn in
+    let named = turn_named g.A.Application.follows g.A.Application.idle g.A.Application.waits g.D.Wire.Ready.readable g.D.Wire.Ready.writable (trace_by g.D.Wire.Wire.given g.D.Wire.Wire.written g.D.Wire.Wire.answers g.D.Wire.Wire.rooms) c.turn.new.application times _ _ _ before after c.in_ok-wait.wait c.in_ok-wait.ensures.turn in
     let more : RunTrace _ = record { times = times ∷ []; calls = waited_before c.loop-turn.turn c.loop-turn.wait c.loop-turn.service.server ++ named.0; events = named.1; exchanges = named.2 } in
     record {
       ran = ran_then (g.M.Monitor.follows c.args.monitor.now) (g.M.Monitor.follows c.loop-turn.monitor) (g.M.Monitor.follows c.turn.new.monitor) (g.A.Application.follows c.args.application.now) (g.A.Application.follows c.loop-turn.application) (g.A.Application.follows c.turn.new.application) so_far.ran c.turn.ensures.ran;
@@ -55,7 +55,7 @@ returns-in_err-wait-clause-run g c =
     rw (p.1, p.2) (record {
       last = c.turn.new.self.server;
       ran = ran_then (g.M.Monitor.follows c.args.monitor.now) (g.M.Monitor.follows c.loop-turn.monitor) (g.M.Monitor.follows c.turn.new.monitor) (g.A.Application.follows c.args.application.now) (g.A.Application.follows c.loop-turn.application) (g.A.Application.follows c.turn.new.application) so_far.ran ran;
-      ends = cut_ends g.A.Application.follows g.A.Application.idle g.D.Wire.Ready.readable g.D.Wire.Ready.writable
+      ends = cut_ends g.A.Application.follows g.A.Application.idle g.A.Application.waits g.D.Wire.Ready.readable g.D.Wire.Ready.writable
           (trace_by g.D.Wire.Wire.given g.D.Wire.Wire.written g.D.Wire.Wire.answers g.D.Wire.Wire.rooms) c.args.config tells c.turn.new.self.server c.in_err-wait.field-0.0 c.in_err-wait.ensures.fault (record {
             front = so_far.front;
             service = before;

@@ -1,5 +1,11 @@
 use Rattle.coap_server_engine.proofs.scripting.FollowLemmas.{followed_none}
+use Rattle.coap_server_streams.specs.Prelude.{waiting_at}
+use Rattle.coap_server_streams.proofs.streams.FlushLemmas.{whole_part}
 use Rattle.coap_server_streams.proofs.output.write_queued.Goals as goal
+
+-- All queued bytes were written.
+pub accepted-requires : goal.accepted-requires
+accepted-requires g c = whole_part (waiting_at c.args.id c.args.server.now) _ c.in-Some.ensures.parts
 
 -- The connection does not exist.
 pub returns-in_default-clause-told : goal.returns-in_default-clause-told

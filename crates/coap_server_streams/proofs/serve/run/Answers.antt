@@ -27,13 +27,13 @@ returns-in_err-turn-clause-run g c = λ first goes.
 pub returns-in-Some-clause-run : goal.returns-in-Some-clause-run
 returns-in-Some-clause-run g c = λ first goes.
     let so_far = c.loop.invariant.runs first goes in
-    run_ends_at_turn c.args.config.now c.args.id c.loop.counter c.loop.read c.loop.messages c.loop.server c.take_turn.new.server _ _ _ _ _ _ _ _ so_far c.in_ok-turn.turn _ (omega (arith, c.loop-test.true, c.turns-end.ensures.value)) (turn_passed c.args.config.now _ c.take_turn.new.server _ _ _ _ _ c.in_ok-turn.turn (c.in_ok-turn.ensures.turn first c.args.config.now _ so_far.goes) c.turn_ended.ensures) c.in-Some.is
+    run_ends_at_turn c.args.config.now c.args.id c.loop.counter c.loop.read c.loop.messages c.loop.server c.take_turn.new.server _ _ _ _ _ _ _ _ so_far c.in_ok-turn.turn _ (omega (arith, c.loop-test.true, c.turns-end.ensures.value)) (turn_passed c.args.config.now _ c.take_turn.new.server _ _ _ _ _ c.in_ok-turn.turn (c.in_ok-turn.ensures.turn first c.args.config.now _ so_far.goes) c.turn_ended.ensures.follows) c.in-Some.is
 
 pub loop-preserved : goal.loop-preserved
 loop-preserved g c = record {
   runs = λ first goes.
       let so_far = c.loop.invariant.runs first goes in
-      next_turn c.args.config.now c.args.id c.loop.counter c.loop.read c.loop.messages c.loop.server c.take_turn.new.server _ _ _ _ _ _ _ _ so_far c.in_ok-turn.turn (turn_passed c.args.config.now _ c.take_turn.new.server _ _ _ _ _ c.in_ok-turn.turn (c.in_ok-turn.ensures.turn first c.args.config.now _ so_far.goes) c.turn_ended.ensures) c.in_default.is;
+      next_turn c.args.config.now c.args.id c.loop.counter c.loop.read c.loop.messages c.loop.server c.take_turn.new.server _ _ _ _ _ _ _ _ so_far c.in_ok-turn.turn (turn_passed c.args.config.now _ c.take_turn.new.server _ _ _ _ _ c.in_ok-turn.turn (c.in_ok-turn.ensures.turn first c.args.config.now _ so_far.goes) c.turn_ended.ensures.follows) c.in_default.is;
   reader_works = c.in_ok-turn.ensures.read;
   writer_works = c.in_ok-turn.ensures.write;
   read = omega (arith, c.in_ok-turn.ensures.few, c.loop.invariant.read);

@@ -1,4 +1,5 @@
-use Rattle.std.proofs.Common.{◌≤◌, sym, ◌∙◌, arith}
+use Rattle.std.proofs.Common.{◌≤◌, ℕ, take, ap, refl, sym, ◌∙◌, arith}
+use Rattle.coap_server_engine.specs.Prelude.{WasRefused, WasTaken}
 use Rattle.std.proofs.lemmas.List.{length-drop}
 use Rattle.coap_io.proofs.streams.WriteLemmas.{rest_of}
 use Rattle.coap_server_engine.proofs.scripting.ReplayLemmas.{not_taken_within}
@@ -29,6 +30,13 @@ slice_bounds-took-end g c =
     let e = rw c.in-Err-Memory.field-0-is at c.in-Err-Memory.ensures in
     let within = not_taken_within _ _ _ _ _ e.refused in
     omega (arith, within.0, within.1)
+
+-- The monitor receives what the take returned.
+pub accepted-requires : goal.accepted-requires
+accepted-requires g c = let e = rw (c.in-Err-Memory.field-0-is) at c.in-Err-Memory.ensures in WasRefused c.loop-rest.server c.loop-rest.rest.now _ e.refused refl refl
+
+pub accepted-requires-in-loop-rest : goal.accepted-requires-in-loop-rest
+accepted-requires-in-loop-rest g c = let t = c.in-Ok.ensures in WasTaken c.loop-rest.server c.loop-rest.rest.now t.ok (ap (λ (n : ℕ). take n c.loop-rest.rest.now) t.count) t.handled
 
 pub returns-in-Err-Memory-clause-served : goal.returns-in-Err-Memory-clause-served
 returns-in-Err-Memory-clause-served g c = λ first k bytes goes.

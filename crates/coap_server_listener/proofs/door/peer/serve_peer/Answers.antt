@@ -1,6 +1,6 @@
 use Rattle.std.proofs.Common.{sym, ap, ◌∙◌}
 use Rattle.coap_server_listener.specs.Prelude.{AreTakenWith, IsTakenWith, activity_after, have_moved, trace_by, course_of, is_over_in}
-use Rattle.coap_server_listener.proofs.streams.PeerLemmas.{failed_read_is_a_part, steps_are_a_part}
+use Rattle.coap_server_listener.proofs.streams.PeerLemmas.{failed_read_is_a_part, read_failed, steps_are_a_part, write_reason}
 use Rattle.coap_server_listener.proofs.streams.NoteLemmas.{part_spares, heard_spares}
 use Rattle.coap_server_listener.proofs.streams.ServingLemmas.{heard_served, served_aside, served_further, wrote_served}
 use Rattle.coap_server_listener.proofs.door.peer.serve_peer.Goals as goal
@@ -74,3 +74,17 @@ returns-then-failed-clause-part g c =
       accepted = done.accepted;
       exchanged = done.exchanged;
     }
+
+-- The reason of a drop is right: a failed read was due, and a failed write leaves bytes queued.
+pub returns-then-failed-clause-reason : goal.returns-then-failed-clause-reason
+returns-then-failed-clause-reason g c =
+    let trace = trace_by g.W.Wire.given g.W.Wire.written g.W.Wire.answers g.W.Wire.rooms in
+    read_failed c.args.may_read c.args.server.now c.read_wire-heard.new.server c.args.id c.args.peer.now.rest c.read_wire-heard.new.peer.rest
+    (trace c.args.peer.now.wire) (trace c.read_wire-heard.new.peer.wire) c.read_wire-heard.result
+    c.read_wire-heard.ensures.server c.read_wire-heard.ensures.laid (sym c.failed.ensures ∙ c.if-failed.true)
+
+pub returns-clause-reason : goal.returns-clause-reason
+returns-clause-reason g c =
+    let wrote = c.write_once-wrote.ensures in
+    rw (c.outcome.ensures, c.is_over.ensures, c.outlook-outlook.ensures)
+    (write_reason c.args.may_write c.take_buffered.new.server c.write_once-wrote.new.server c.args.id c.write_once-wrote.result wrote.server (λ none. (wrote.idle none).1))

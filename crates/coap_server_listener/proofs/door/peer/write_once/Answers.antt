@@ -1,10 +1,14 @@
 use Rattle.std.proofs.Common.{refl, sym, add-zero}
 use Rattle.std.proofs.lemmas.List.{length-take-le}
 use Rattle.coap_server_listener.specs.Prelude.{Answered, waiting_at, Bytes, Later, End, Failed}
-use Rattle.coap_server_listener.proofs.streams.NextPartLemmas.{none_refused}
+use Rattle.coap_server_listener.proofs.streams.NextPartLemmas.{first_written, none_refused}
 use Rattle.coap_io.proofs.streams.DeviceLemmas.{part_written}
 use Rattle.coap_server_listener.proofs.streams.ServingLemmas.{none_accepted}
 use Rattle.coap_server_listener.proofs.door.peer.write_once.Goals as goal
+
+-- The monitor receives the bytes that were written.
+pub accepted-requires : goal.accepted-requires
+accepted-requires g c = first_written (waiting_at c.args.id c.args.server.now) c.first_part-part.result.now c.in-Bytes.count (rw c.in-Some.ensures.parts at c.first_part-part.ensures) c.in-Bytes.ensures.within.1
 
 pub unreachable-requires : goal.unreachable-requires
 unreachable-requires g c =

@@ -1,9 +1,13 @@
 use Rattle.std.proofs.Common.{nat_eq}
 use Rattle.std.proofs.lemmas.Map.{none_passes_from_lookup}
-use Rattle.coap_server_listener.specs.Prelude.{AnswersMore, FollowsMore}
+use Rattle.coap_server_listener.specs.Prelude.{AnswersMore, FollowsMore, session_of}
+use Rattle.coap_server_listener.proofs.streams.ServingLemmas.{work_left}
 use Rattle.coap_server_listener.proofs.streams.AgendaLemmas.{some_at_index}
 use Rattle.coap_server_listener.proofs.streams.SweepLemmas.{dropped_here, noted_where_removed, number_there}
 use Rattle.coap_server_listener.proofs.door.sweep.drop_at.Goals as goal
+
+pub accepted-requires : goal.accepted-requires
+accepted-requires g c = work_left c.args.server.now.host.now (session_of c.args.id c.args.server.now.sessions) c.requires.exists
 
 pub returns-clause-part : goal.returns-clause-part
 returns-clause-part g c =

@@ -23,6 +23,7 @@ returns g c =
           })
           c.serve_peer.ensures.part);
       wants = rw written c.serve_peer.ensures.wants;
+      reason = rw written c.serve_peer.ensures.reason;
       others =
           rw (beside_written c.args.peers.now.entries c.args.at c.serve_peer.new.peer)
           (on_ok_weaker c.serve_peer.result (beside_served c.args.server.now _ c.serve_peer.new.server c.args.peers.now.entries c.args.at _ c.serve_peer.new.peer

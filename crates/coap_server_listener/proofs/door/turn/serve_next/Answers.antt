@@ -9,6 +9,9 @@ use Rattle.coap_server_listener.proofs.door.turn.serve_next.Goals as goal
 pub overflow_add-result : goal.overflow_add-result
 overflow_add-result g c = omega (arith, c.requires.there, c.requires.fits)
 
+pub drop_at-requires-clause-reason : goal.drop_at-requires-clause-reason
+drop_at-requires-clause-reason g c = rw c.in-Over.is at c.in_ok-course.ensures.reason
+
 pub returns-in-Over-clause-agenda : goal.returns-in-Over-clause-agenda
 returns-in-Over-clause-agenda g c changed seen =
     let as_many = same_length c.serve_at.new.peers.entries c.args.peers.now.entries c.serve_at.ensures.same in

@@ -1,11 +1,18 @@
+use Rattle.std.proofs.Common.{rules}
+use Rattle.coap_server_listener.specs.Prelude.{session_of}
 use Rattle.std.proofs.lemmas.Map.{none_passes_from_lookup}
 use Rattle.coap_server_listener.proofs.streams.RemovalLemmas.{noted_where_left}
+use Rattle.coap_server_listener.proofs.streams.ServingLemmas.{work_left}
 use Rattle.coap_server_listener.proofs.streams.SleepLemmas.{none_asleep}
 use Rattle.coap_server_listener.proofs.door.service.Service.drop_conn.Goals as goal
 
-pub invariant_of-self-2 : goal.invariant_of-self-2
-invariant_of-self-2 g c = record {
-  noted = λ ready. noted_where_left c.args.self.now.server c.drop_conn.new.self c.args.id c.args.self.now.peers.entries c.shift_remove.new.self.entries c.drop_conn.ensures.settled c.in_ok-drop_conn.ensures.ok
+pub accepted-requires : goal.accepted-requires
+accepted-requires g c =
+    work_left c.args.self.now.server.host.now (session_of c.args.id c.args.self.now.server.sessions) (search (rules, c.index_of.ensures.there, c.if-is_none.ensures, c.if-is_none.false))
+
+pub invariant_of-self : goal.invariant_of-self
+invariant_of-self g c = record {
+  noted = λ ready. noted_where_left c.args.self.now.server c.drop_conn.new.self c.args.id c.args.self.now.peers.entries c.shift_remove.new.self.entries c.drop_conn.ensures.settled c.in-Ok.ensures.ok
       c.shift_remove.ensures.entries (none_passes_from_lookup _ _ c.shift_remove.ensures.updates.1) (c.args.self.now.noted ready);
   asleep = λ ready. none_asleep g.W.Ready.readable g.W.Ready.writable c.wake_all.new.self c.shift_remove.new.self.entries c.wake_all.ensures.all;
 }

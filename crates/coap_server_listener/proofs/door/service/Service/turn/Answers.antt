@@ -45,7 +45,7 @@ returns-clause-ran g c =
     (ran_then (m c.tick.new.monitor) (m c.answer_later-is_full.new.monitor) (m c.visit.new.monitor) swept later (f c.visit.new.application)
     (later_ran (m c.tick.new.monitor) (m c.answer_later-is_full.new.monitor) swept later c.tick.new.self.server c.answer_later-is_full.new.self.server c.answer_later-is_full.result c.answer_later-is_full.ensures.shows)
     (turn_ran (m c.answer_later-is_full.new.monitor) (m c.visit.new.monitor) later (f c.visit.new.application) c.answer_later-is_full.new.self.server c.visit.new.self.server c.visit.ensures.shows))))
-    c.turn_ended.ensures
+    c.turn_ended.ensures.follows
 
 -- The parts of a whole turn, in order.
 pub returns-clause-turn : goal.returns-clause-turn
@@ -73,6 +73,7 @@ returns-clause-turn g c =
       kept = later.new.self.peers.entries;
       recorded = rw (begun.begun.is_swept, ← c.end_silent.ensures.entries, ← ap (λ peers. peers.entries) c.tick.ensures.peers) later.ensures.peers;
       limit = c.wait.result;
+      allowed = c.wait.ensures;
       next = c.in_ok-next.next;
       turn = record {
         opens = turn.opens;
@@ -87,7 +88,7 @@ returns-clause-turn g c =
         accepted = (
           turn.accepted.0,
           followed_then (m c.args.monitor.now) (m later.new.monitor) (m c.turn_ended.new.self) begun.events more begun.tells
-              (rw append-nil at (followed_then (m later.new.monitor) (m c.visit.new.monitor) (m c.turn_ended.new.self) more [] turn.accepted.1 c.turn_ended.ensures)),
+              (rw append-nil at (followed_then (m later.new.monitor) (m c.visit.new.monitor) (m c.turn_ended.new.self) more [] turn.accepted.1 c.turn_ended.ensures.follows)),
         );
         exchanged = answered_then (f c.args.application.now) (f later.new.application) (f c.visit.new.application) begun.exchanges turn.exchanges begun.asked turn.exchanged;
       };
