@@ -2,6 +2,7 @@
 use Rattle.std.specs.Prelude.{ℕ, Bool, true, false, ◌&&◌, List, [], length, Option, Some, None, Result, Ok, Err, nat_le, nat_lt, if◌then◌else◌}
 use Rattle.coap_wire.specs.Message.{Message}
 use Rattle.coap_wire.specs.Reading.{message_of}
+use Rattle.coap_wire.specs.Spelling.{spelling}
 use Rattle.coap_wire.specs.Recognition.{first_critical}
 use Rattle.coap_wire.specs.Stream.{OfFrame}
 use Rattle.coap_wire.specs.declared.fault.FormatFault.{FormatFault}
@@ -143,3 +144,22 @@ cancelling_refusal l token target extras =
 -- The error of a refused Ping.
 abbrev pub ping_refusal : LinkValue → Bool → Option RequestFault
 ping_refusal l custody = asking_refusal (asking_in l) (ping_with custody (next_token l.tokens))
+
+-- ---- sizes of messages
+
+-- The token of the request of a run: the first one of its client, which encodes the number 1.
+abbrev pub first_token : List ℕ
+first_token = next_token 0
+
+-- The length of the encoded message, unless a part of it is too long.
+abbrev pub size_unless : Bool → Message → Option ℕ
+size_unless too_long m = if too_long then None else Some (length (spelling m))
+
+-- The length of the encoded request with that token. None if its extra option or its payload is too long.
+abbrev pub request_size : Method → TargetValue → ExtrasValue → Option ℕ
+request_size method target extras =
+    size_unless (is_too_long extras) (with_token (request_of method target extras) first_token)
+
+-- The length of the encoded message that cancels the observation with a token. None if its extra option is too long.
+abbrev pub cancellation_size : List ℕ → TargetValue → ExtrasValue → Option ℕ
+cancellation_size token target extras = size_unless (has_long_extra extras) (with_token (cancel_of target extras) token)

@@ -86,6 +86,7 @@ pub use Rattle.coap_client_engine.specs.ClientRun.{IsAtTrace, most_turns, token_
 pub use Rattle.coap_client_engine.specs.ClientValues.{answer_told, event_told, ClientValue, client_takes, new_client}
 pub use Rattle.coap_client_engine.specs.ClientValues.{client_written, client_ended, client_sent, client_cancelled}
 pub use Rattle.coap_client_engine.specs.ClientValues.{client_pinged, send_refusal, cancelling_refusal, ping_refusal}
+pub use Rattle.coap_client_engine.specs.ClientValues.{request_size, cancellation_size}
 pub use Rattle.coap_client_engine.specs.ClientValues.{ClientEventValue, ClientTakeOutcome, is_cut, taking_found, taking_read}
 pub use Rattle.coap_client_engine.specs.ClientValues.{taking_rejected}
 unfoldable pub use Rattle.coap_client_engine.specs.ClientValues.{taking}

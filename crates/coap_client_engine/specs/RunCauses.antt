@@ -1,16 +1,13 @@
 -- Defined by this project: the cause for which a run of a client ends without a response that the client accepts.
-use Rattle.std.specs.Prelude.{ℕ, Bool, List, Option, Some, None, length, if◌then◌else◌}
-use Rattle.coap_wire.specs.Message.{Message}
-use Rattle.coap_wire.specs.Spelling.{spelling}
-use Rattle.coap_conn.specs.RequestState.{next_token, with_token}
+use Rattle.std.specs.Prelude.{ℕ, List, Option, Some, None, if◌then◌else◌}
 use Rattle.coap_conn.specs.declared.phase.Phase.{Phase}
 use Rattle.coap_conn.specs.declared.phase.Phase.TheVariants.{Waiting, Open, Releasing}
 use Rattle.coap_conn.specs.declared.phase.Phase.TheVariants as phase
 use Rattle.coap_conn.specs.declared.phase.RequestFault.{RequestFault}
 use Rattle.coap_conn.specs.declared.phase.RequestFault.TheVariants.{NotOpen, TooMany, TooBig, NoRoom, TokensSpent, NoSuchToken}
 use Rattle.coap_conn.specs.declared.reason.Reason.{Reason}
-use Rattle.coap_request.specs.Requests.{request_of, cancel_of, is_too_long, has_long_extra}
 use Rattle.coap_request.specs.declared.plan.ClientPlan.{ClientPlan}
+use Rattle.coap_client_engine.specs.ClientValues.{request_size, cancellation_size}
 use Rattle.coap_client_engine.specs.ClientValues.{ClientEventValue, Ready, Response, Notification, Rejected, Pong, Stranger, Stopped}
 use Rattle.coap_client_engine.specs.RunSteps.{planned_extras, has_passed, is_to_cancel, stop_written}
 use Rattle.coap_client_engine.specs.RunTrace.{RunTrace, Begins, Turns, Reads, Calls, Refuses, GivesUp, Rests, Writes, client_in, phase_in, event_in, token_in, cancelled_in, stop_read, status_in}
@@ -48,27 +45,21 @@ cause_told (Some event) = cause_of event
 
 -- ---- messages that are not sent
 
--- The token of the request of a run: the first one of its client, which encodes the number 1.
-abbrev pub first_token : List ℕ
-first_token = next_token 0
-
--- The length of the encoded message, unless a part of it is too long.
-abbrev pub size_unless : Bool → Message → Option ℕ
-size_unless too_long m = if too_long then None else Some (length (spelling m))
-
--- The length of the encoded request of a plan. None if its extra option or its payload is too long.
-abbrev pub request_size : ClientPlan → Option ℕ
-request_size plan = size_unless (is_too_long (planned_extras plan)) (with_token (request_of plan.method plan.target (planned_extras plan)) first_token)
-
--- The length of the encoded message that cancels the observation with a token. None if its extra option is too long.
-abbrev pub cancellation_size : List ℕ → ClientPlan → Option ℕ
-cancellation_size token plan = size_unless (has_long_extra (planned_extras plan)) (with_token (cancel_of plan.target (planned_extras plan)) token)
-
 -- The cause, if the request fails with an error, or its cancellation after the request was sent under a token.
 -- `peer_max` is the Max-Message-Size of the peer at that time.
 abbrev pub cause_refused_as : Option (List ℕ) → ℕ → ClientPlan → RequestFault → Cause
-cause_refused_as None peer_max plan fault = cause.Request (record { fault = fault; size = request_size plan; peer_max = peer_max })
-cause_refused_as (Some token) peer_max plan fault = cause.Cancellation (record { fault = fault; size = cancellation_size token plan; peer_max = peer_max })
+cause_refused_as None peer_max plan fault =
+    cause.Request (record {
+      fault = fault;
+      size = request_size plan.method plan.target (planned_extras plan);
+      peer_max = peer_max;
+    })
+cause_refused_as (Some token) peer_max plan fault =
+    cause.Cancellation (record {
+      fault = fault;
+      size = cancellation_size token plan.target (planned_extras plan);
+      peer_max = peer_max;
+    })
 
 -- The cause, if there is an error that ends the run. If the queue has no room, the run tries again.
 abbrev pub cause_refused : Option (List ℕ) → ℕ → ClientPlan → Option RequestFault → Option Cause

@@ -1,28 +1,25 @@
 //! Engine of one client connection: `Client`, the result `Taken` of its `take`, and the `Event` in that result.
 
-ghost use Rattle.std.specs.Prelude.{◌≡◌, ◌≤◌, Ok, length, take, option_map, ◌++◌, ◌∷◌, ⊤, ℕ, List, [], IfOk, OnOk};
-ghost use Rattle.std.specs.Prelude.{OnErr};
+ghost use Rattle.std.specs.Prelude.{◌≡◌, ◌≤◌, Ok, length, take, option_map, ◌++◌, ◌∷◌, ⊤, ℕ, List, [], IfOk};
 ghost use Rattle.coap_client_engine.specs.Prelude.{message_of, first_critical, IsFramer, framing_of, framer_after};
 ghost use Rattle.coap_client_engine.specs.Prelude.{frame_back, IsLive, react, reject_reason, standing_in, link_after};
 ghost use Rattle.coap_client_engine.specs.Prelude.{answer_told, event_told, event_value, answer_read, pong_read};
 ghost use Rattle.coap_client_engine.specs.Prelude.{taken_frame};
 ghost use Rattle.coap_client_engine.specs.Prelude.{heard_value, taken_event, taking_framed, sem, follows_so, none};
-ghost use Rattle.coap_client_engine.specs.Prelude.{RefusedBy, next_token, extras_value, ClientValue, taking};
-ghost use Rattle.coap_client_engine.specs.Prelude.{client_takes, new_client, client_written, client_ended, client_sent};
-ghost use Rattle.coap_client_engine.specs.Prelude.{client_cancelled, client_pinged, send_refusal, cancelling_refusal};
-ghost use Rattle.coap_client_engine.specs.Prelude.{ping_refusal, ClientCall, ClientShows, Took, Sent, Cancelled};
-ghost use Rattle.coap_client_engine.specs.Prelude.{Pinged, Wrote, Ended, takes, event_of};
+ghost use Rattle.coap_client_engine.specs.Prelude.{ClientValue, taking, client_takes, new_client, client_written};
+ghost use Rattle.coap_client_engine.specs.Prelude.{client_ended, ClientCall, ClientShows, Took, Wrote, Ended, takes};
+ghost use Rattle.coap_client_engine.specs.Prelude.{event_of};
 ghost use Rattle.coap_conn.specs.LinkValue.{IsReady};
 ghost use Rattle.coap_conn.specs.Calls as call;
 ghost use Rattle.coap_client_engine.specs.declared.client.Received.TheVariants as heard;
 ghost use Rattle.coap_client_engine.specs.contracts.client.Client.{the_row};
 
+mod requests;
 mod state;
 
-use coap_conn::{Limits, Link, Reason, Reject, RequestFault, Role, Verdict};
+use coap_conn::{Limits, Link, Reason, Reject, Role, Verdict};
 use coap_frame::Framer;
-use coap_request::{Extras, Method, Target, cancellation_message, formats_of, request_message};
-use coap_wire::{MessageRef, Token, TokenRef, parse};
+use coap_wire::{MessageRef, TokenRef, parse};
 use std::alloc::{AllocError, Global};
 use std::marker::Model;
 
@@ -139,108 +136,6 @@ impl Client {
             framer: Framer::new(alloc, limits.max_message())?,
             link: Link::open(alloc, Role::Client, limits, tokens_from)?,
         })
-    }
-
-    /// Queues a request to a target under a new token, and returns the token.
-    ///
-    /// The request is outstanding until its last response (RFC 7252 section 5.3.1). If `extras.observe` is set, the
-    /// request is an observation (RFC 7641 section 3.1). If the call fails, nothing changes.
-    ///
-    /// # Errors
-    ///
-    /// The first that applies:
-    ///
-    /// - `NotOpen`: the connection is not open.
-    /// - `TooMany`: the limit of outstanding requests, observations and Pings is reached.
-    /// - `TokensSpent`: all tokens have been used.
-    /// - `TooBig`: the message exceeds the limit of the peer or the local limit, the extra option 1,034 bytes, or the
-    ///   payload 1,048,576 bytes.
-    /// - `NoRoom`: the queue has too few free bytes.
-    pub fn send<'x>(
-        &mut self,
-        method: Method,
-        target: &'x Target,
-        extras: &Extras<'x>,
-    ) -> Result<Token, RequestFault>
-        ensures answer { RefusedBy result (send_refusal self.old.link method target.now (extras_value extras.now)) }
-        ensures token { IfOk result (λ t. t.items ≡ next_token self.old.link.tokens) }
-        ensures after { OnOk result (self.new ≡ client_sent self.old method target.now (extras_value extras.now)) }
-        ensures shows { OnOk result ((tokens : ℕ) (calls : List ClientCall) → ClientShows self.old tokens calls →
-            ClientShows self.new tokens (calls ++ Sent method target.now (extras_value extras.now) ∷ [])) }
-        ensures err { OnErr result (self.new ≡ self.old) }
-    {
-        let formats = formats_of(extras);
-        let given = *extras;
-        match request_message(method, target, &given, &formats) {
-            Some(message) => self.link.request(&message, extras.observe),
-            None => {
-                self.link.may_ask()?;
-                Err(RequestFault::TooBig)
-            }
-        }
-    }
-
-    /// Cancels an observation: queues a GET with its token and Observe 1 (RFC 7641 section 3.6).
-    ///
-    /// The caller passes the target and the extras of the observation. The observation stays outstanding until its last
-    /// response. If the call fails, nothing changes.
-    ///
-    /// # Errors
-    ///
-    /// The first that applies:
-    ///
-    /// - `NotOpen`: the connection is not open.
-    /// - `NoSuchToken`: no observation with this token is outstanding, or it was cancelled before.
-    /// - `TooBig`: the message exceeds the limit of the peer or the local limit, or the extra option 1,034 bytes.
-    /// - `NoRoom`: the queue has too few free bytes.
-    pub fn cancel<'x>(
-        &mut self,
-        token: &Token,
-        target: &'x Target,
-        extras: &Extras<'x>,
-    ) -> Result<(), RequestFault>
-        ensures answer { RefusedBy result (cancelling_refusal self.old.link token.now.items target.now
-            (extras_value extras.now)) }
-        ensures after { OnOk result (self.new ≡ client_cancelled self.old token.now.items target.now
-            (extras_value extras.now)) }
-        ensures shows { OnOk result ((tokens : ℕ) (calls : List ClientCall) → ClientShows self.old tokens calls →
-            ClientShows self.new tokens (calls ++ Cancelled token.now.items target.now (extras_value extras.now) ∷
-            [])) }
-        ensures err { OnErr result (self.new ≡ self.old) }
-    {
-        let formats = formats_of(extras);
-        let given = *extras;
-        match cancellation_message(target, &given, &formats) {
-            Some(message) => self.link.cancel(token, &message),
-            None => {
-                self.link.may_cancel(token)?;
-                Err(RequestFault::TooBig)
-            }
-        }
-    }
-
-    /// Queues a Ping under a new token, and returns the token (RFC 8323 section 5.4).
-    ///
-    /// If `custody` is set, the Ping has the Custody option. If the call fails, nothing changes.
-    ///
-    /// # Errors
-    ///
-    /// The first that applies:
-    ///
-    /// - `NotOpen`: the connection is not open.
-    /// - `TooMany`: the limit of outstanding requests, observations and Pings is reached.
-    /// - `TokensSpent`: all tokens have been used.
-    /// - `TooBig`: the Ping exceeds the limit of the peer or the local limit.
-    /// - `NoRoom`: the queue has too few free bytes.
-    pub fn ping(&mut self, custody: bool) -> Result<Token, RequestFault>
-        ensures answer { RefusedBy result (ping_refusal self.old.link custody) }
-        ensures token { IfOk result (λ t. t.items ≡ next_token self.old.link.tokens) }
-        ensures after { OnOk result (self.new ≡ client_pinged self.old custody) }
-        ensures shows { OnOk result ((tokens : ℕ) (calls : List ClientCall) → ClientShows self.old tokens calls →
-            ClientShows self.new tokens (calls ++ Pinged custody ∷ [])) }
-        ensures err { OnErr result (self.new ≡ self.old) }
-    {
-        self.link.ping(custody)
     }
 
     /// Accepts received bytes: up to the end of the first message, up to the byte that reveals an error, or all of

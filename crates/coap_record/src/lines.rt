@@ -1,6 +1,6 @@
 //! Writes the line of a call to an outlet.
 
-ghost use Rattle.std.specs.Prelude.{◌≡◌, ◌<◌, ◌^◌, ◌+◌, ◌≤◌, length, false, is_err};
+ghost use Rattle.std.specs.Prelude.{◌≡◌, ◌<◌, ◌^◌, ◌+◌, ◌≤◌, ℕ, length, false, is_err};
 ghost use Rattle.coap_model.specs.world.Events.{Opened};
 ghost use Rattle.coap_record.specs.Prelude.{line_of, took_line, drain_line, stored_line, removed_line, announced_line};
 ghost use Rattle.coap_record.specs.Prelude.{tick_line, word_line, format_word, call_value, WritesText, respond_line};
@@ -169,9 +169,9 @@ fn write_announced<O: Outlet>(outlet: &mut O, id: ConnId, size: u32) -> Result<(
 ///
 /// No write to the outlet has failed before.
 #[tactic(auto, unfolding(crate::specs::RecordLines::line_of))]
-pub fn write_opened<O: Outlet>(outlet: &mut O, _id: ConnId) -> Result<(), WriteFailed>
+pub fn write_opened<O: Outlet>(outlet: &mut O) -> Result<(), WriteFailed>
     requires { O.is_failed outlet.old ≡ false }
-    ensures text { WritesText (O.written outlet.old) (O.written outlet.new) (line_of (Opened _id)) result }
+    ensures text { (id : ℕ) → WritesText (O.written outlet.old) (O.written outlet.new) (line_of (Opened id)) result }
     ensures failure { O.is_failed outlet.new ≡ is_err result }
 {
     write_all(outlet, b"open\n")

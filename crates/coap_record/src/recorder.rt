@@ -101,7 +101,7 @@ impl<O: Outlet + Drop> Recorder<O> {
             return;
         }
         read_opened(id);
-        let _ = write_opened(&mut self.outlet, id);
+        let _ = write_opened(&mut self.outlet);
     }
 
     /// Writes the line of any other call, unless the record has ended.

@@ -30,5 +30,5 @@ pub use application::{Application, NoApplication};
 pub use io_fault::IoFault;
 pub use monitor::{Call, DropReason, Monitor, NoMonitor};
 pub use replay::ReplayFault;
-pub use server::{ChangeStamp, ConnectionWork, FlushStep, MOST_LATER_RESPONSES, Server};
+pub use server::{ChangeStamp, ConnIndex, ConnectionWork, FlushStep, Server};
 pub use taken_request::TakenRequest;

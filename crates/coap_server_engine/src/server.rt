@@ -19,10 +19,9 @@ mod states;
 
 use coap_application::Applications;
 use coap_conn::Reason;
-use coap_model::Config;
+use coap_model::{Config, ConnId};
 use coap_server_session::{ServerState, Session};
 use indexmap::IndexMap;
-pub use requests::MOST_LATER_RESPONSES;
 use std::alloc::{AllocError, Global};
 use std::marker::Model;
 
@@ -61,6 +60,15 @@ pub struct FlushStep {
     pub more: usize,
     /// Reason for which the connection no longer accepts messages.
     pub stop: Option<Reason>,
+}
+
+/// A connection by its id, and its index as `Server::index_of` returns it.
+#[derive(Clone, Copy, PartialEq, Eq)]
+pub struct ConnIndex {
+    /// Id of the connection.
+    pub id: ConnId,
+    /// Index of the connection.
+    pub at: usize,
 }
 
 /// Connections by their ids, in ascending order.

@@ -8,7 +8,7 @@ ghost use Rattle.coap_server_streams.specs.Prelude.{waiting_at};
 use coap_conn::Reason;
 use coap_io::{Outlet, WriteFailed, write_parts};
 use coap_model::ConnId;
-use coap_server_engine::{Call, FlushStep, Monitor, Server};
+use coap_server_engine::{Call, ConnIndex, FlushStep, Monitor, Server};
 
 /// Writes the bytes that are queued on a new connection. The monitor also receives the end of a turn, because the caller
 /// reads next, and a read may wait for the peer.
@@ -152,7 +152,7 @@ fn flush_once<W: Outlet, M: Monitor<()>>(
     ensures lies { OnOk result (LiesAt id at server.new.sessions) }
 {
     if !monitor.listens() {
-        return server.flush_once_at(at, id, writer);
+        return server.flush_once_at(ConnIndex { id, at }, writer);
     }
     let more = server.settle_bound(id);
     let waited = write_queued(writer, server, id, monitor)?;

@@ -13,7 +13,7 @@ use crate::output::{flush_at, greet, stop_in};
 use coap_conn::Reason;
 use coap_io::{Outlet, Source};
 use coap_model::{Config, ConnId, Handled, TakeFault};
-use coap_server_engine::{Call, IoFault, Monitor, NoMonitor, Server};
+use coap_server_engine::{Call, ConnIndex, IoFault, Monitor, NoMonitor, Server};
 use std::alloc::Global;
 
 /// Result of a run over one input and one output.
@@ -276,7 +276,7 @@ fn serve_piece<W: Outlet, M: Monitor<()>>(
     let mut messages = 0;
     let mut rest = piece;
     while !rest.is_empty() {
-        let taken = match server.take_at(at, id, rest) {
+        let taken = match server.take_at(ConnIndex { id, at }, rest) {
             Ok(taken) => taken,
             Err(TakeFault::NoSuch) => unreachable!(),
             Err(TakeFault::Memory { bytes }) => {

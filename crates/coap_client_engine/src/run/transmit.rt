@@ -9,11 +9,10 @@ ghost use Rattle.coap_client_engine.specs.RunSteps as spec;
 
 use crate::run::report::{refused, stopped};
 use crate::run::state::{Run, StepResult};
-use crate::run_end::{Cause, Refusal};
+use crate::run_end::Cause;
 use coap_conn::{Phase, Reason, RequestFault, first_part};
 use coap_io::{Got, Outlet, Wire};
-use coap_request::{ClientPlan, Extras, cancellation_message, formats_of, request_message};
-use coap_wire::{Token, uint_bytes};
+use coap_request::{ClientPlan, Extras};
 
 impl Run {
     /// Returns `true` if the request must be sent: the connection is open, and the request was not sent before.
@@ -50,17 +49,19 @@ impl Run {
         }
         match self
             .client
-            .send(plan.method, &plan.target, &extras_of(plan))
+            .send_or_refuse(plan.method, &plan.target, &extras_of(plan))
         {
             Ok(token) => {
                 self.token = Some(token);
                 Ok(None)
             }
-            Err(RequestFault::NoRoom) => Ok(None),
-            Err(fault) => {
-                self.cause = Some(Cause::Request(self.refusal(fault, request_size(plan))));
-                refused(err, fault)
-            }
+            Err(refusal) => match refusal.fault {
+                RequestFault::NoRoom => Ok(None),
+                fault => {
+                    self.cause = Some(Cause::Request(refusal));
+                    refused(err, fault)
+                }
+            },
         }
     }
 
@@ -89,28 +90,21 @@ impl Run {
         let Some(token) = &self.token else {
             return Ok(None);
         };
-        match self.client.cancel(token, &plan.target, &extras_of(plan)) {
+        match self
+            .client
+            .cancel_or_refuse(token, &plan.target, &extras_of(plan))
+        {
             Ok(()) => {
                 self.cancelled = Some(self.moment);
                 Ok(None)
             }
-            Err(RequestFault::NoRoom) => Ok(None),
-            Err(fault) => {
-                let size = cancellation_size(token, plan);
-                self.cause = Some(Cause::Cancellation(self.refusal(fault, size)));
-                refused(err, fault)
-            }
-        }
-    }
-
-    /// Returns the error of a message of this size, with the Max-Message-Size of the peer.
-    fn refusal(&self, fault: RequestFault, size: Option<u64>) -> Refusal
-        ensures { result ≡ record { fault = fault; size = size; peer_max = self.now.client.link.peer_max } }
-    {
-        Refusal {
-            fault,
-            size,
-            peer_max: self.client.peer_max(),
+            Err(refusal) => match refusal.fault {
+                RequestFault::NoRoom => Ok(None),
+                fault => {
+                    self.cause = Some(Cause::Cancellation(refusal));
+                    refused(err, fault)
+                }
+            },
         }
     }
 
@@ -167,39 +161,6 @@ impl Run {
             Got::Failed => Got::Failed,
         }
     }
-}
-
-/// Returns the length of the encoded request of a plan. Returns `None` if its extra option or its payload is too long.
-fn request_size(plan: &ClientPlan) -> Option<u64>
-    ensures { result ≡ causes.request_size plan.now }
-{
-    let extras = extras_of(plan);
-    let formats = formats_of(&extras);
-    let token = first_token();
-    let message = request_message(plan.method, &plan.target, &extras, &formats)?;
-    Some(message.with_token(&token).size())
-}
-
-/// Returns the token of the request of a run, which is the first one of its client.
-fn first_token() -> Token
-    ensures { result.items ≡ causes.first_token }
-{
-    let bytes = uint_bytes(1);
-    let Ok(token) = Token::try_from(bytes.as_slice()) else {
-        unreachable!()
-    };
-    token
-}
-
-/// Returns the length of the encoded message that cancels the observation with this token. Returns `None` if its extra
-/// option is too long.
-fn cancellation_size(token: &Token, plan: &ClientPlan) -> Option<u64>
-    ensures { result ≡ causes.cancellation_size token.now.items plan.now }
-{
-    let extras = extras_of(plan);
-    let formats = formats_of(&extras);
-    let message = cancellation_message(&plan.target, &extras, &formats)?;
-    Some(message.with_token(token).size())
 }
 
 /// Returns the reason if a write ends the run: the wire failed, and the run had not ended before.

@@ -1,5 +1,5 @@
 -- A response of the application: the server after it, its event, and the exchanges.
-use Rattle.std.proofs.Common.{◌≡◌, ◌≤◌, ◌-◌, ℕ, Bool, true, false, arith, lt-ltb, nat_lt, length, is_ok, List, [], ◌∷◌, ◌++◌, Option, Some, None, Result, Ok, Err, refl, sym, ap, ◌∙◌, append_assoc, is_none, IfNone, is_some, not, ◌==◌, option_map, OnErr, if◌then◌else◌}
+use Rattle.std.proofs.Common.{◌≡◌, ◌≤◌, ◌-◌, ℕ, Bool, true, false, arith, lt-ltb, nat_lt, length, is_ok, List, [], ◌∷◌, ◌++◌, Option, Some, None, Result, Ok, Err, refl, sym, ap, ◌∙◌, append_assoc, is_none, ◌==◌, option_map, OnErr, if◌then◌else◌}
 use Rattle.std.proofs.lemmas.List.{append-nil, length-append}
 use Rattle.coap_wire.specs.Forms.{token_form}
 use Rattle.coap_wire.specs.Reading as reading
@@ -47,16 +47,6 @@ pub token_made : (o : Option Message) (token : List ℕ) → Some token ≡ opti
 token_made None token is = absurd cc
 token_made (Some m) token is = (m, refl, cc)
 
-pub none_flag : (o : Option ℕ) (b : Bool) → is_some o ≡ not b → is_none o ≡ b
-none_flag None true is = refl
-none_flag None false is = absurd cc
-none_flag (Some id) true is = absurd cc
-none_flag (Some id) false is = refl
-
-pub if_none : (o : Option ℕ) (P : Type 0) → is_none o ≡ true → IfNone o P → P
-if_none None P none holds = holds
-if_none (Some id) P none holds = absurd cc
-
 pub empty_of : (bytes : List ℕ) (b : Bool) → b ≡ (length bytes == 0) → b ≡ true → bytes ≡ []
 empty_of [] b is empty = refl
 empty_of (x ∷ bytes) b is empty = absurd (let none : length (x ∷ bytes) ≡ 0 = eqb-true (length (x ∷ bytes)) 0 (sym is ∙ empty) in omega (arith, none))
@@ -86,6 +76,13 @@ module _ (v : ServerValue) (id : ℕ) (bytes : List ℕ) where
 
     pub refused_events : offered_events v id bytes ≡ []
     refused_events = ap (λ o. if is_none o then response_event id (message_of bytes) else []) some
+
+  module _ (none : responded_refusal v id bytes ≡ None) where
+    pub server_if_accepted : server_offered v id bytes ≡ server_given v id bytes
+    server_if_accepted = ap (λ o. if is_none o then server_given v id bytes else v) none
+
+    pub accepted_events : offered_events v id bytes ≡ response_event id (message_of bytes)
+    accepted_events = ap (λ o. if is_none o then response_event id (message_of bytes) else []) none
 
   pub offered_lies : (i : ℕ) → LiesAt id i v.sessions → LiesAt id i (server_offered v id bytes).sessions
   offered_lies i lies =

@@ -1,13 +1,12 @@
 -- The takes that accept the bytes of a connection, with the responses of the application.
-use Rattle.std.proofs.Common.{◌≡◌, ◌≢◌, ℕ, ◌+◌, ◌<◌, ◌≤◌, true, false, ◌&&◌, ◌==◌, List, [], ◌∷◌, ◌++◌, length, take, drop, Option, Some, None, refl, sym, ap, ◌∙◌, arith, nat_lt, lt-ltb, suc, is_none}
-use Rattle.std.proofs.lemmas.Bool.{ne_eqb, eq-eqb, le-ltb}
-use Rattle.std.proofs.lemmas.List.{append-nil, length-drop}
+use Rattle.std.proofs.Common.{◌≡◌, ◌≢◌, ℕ, ◌+◌, ◌<◌, ◌≤◌, true, false, ◌&&◌, ◌==◌, List, [], ◌∷◌, ◌++◌, length, take, drop, Option, Some, None, refl, sym, ap, ◌∙◌, arith, nat_lt, lt-ltb}
+use Rattle.std.proofs.lemmas.Bool.{ne_eqb, le-ltb}
+use Rattle.std.proofs.lemmas.List.{length-drop}
 use Rattle.std.proofs.Math.Bool.{and-false}
 use Rattle.coap_server_engine.specs.Prelude.{ServerValue, session_of, is_there, count_taken, AcceptedCall, Took, ShowsMore, Following, FollowsMore}
 use Rattle.coap_server_engine.specs.Prelude.{InResult, Exchange, Answering, AnswersMore, AreUnanswered, AskResult, asked_by, served, AreMade}
 use Rattle.coap_server_engine.specs.Prelude.{IsServed, IsPartlyServed, IsTakenFor, IsNotTakenFor, asking, asks_for, handed_by, message_limit, server_offered, offered_events, response_for}
-use Rattle.coap_server_engine.specs.Prelude.{Message, LiesAt, server_taken, server_taken_on, taking, host_changed, Offered, Given}
-use Rattle.coap_server_engine.specs.Prelude.{AreGivenLater, NothingGiven, OneMoreGiven, IsAskedLater, AreAskedLater}
+use Rattle.coap_server_engine.specs.Prelude.{Message, LiesAt, server_taken, server_taken_on, taking, host_changed}
 use Rattle.coap_server_engine.proofs.values.ServerLemmas.{lies_where_taken}
 use Rattle.coap_server_engine.specs.values.InResults.{goes_on}
 use Rattle.coap_server_engine.proofs.scripting.ShownLemmas.{shows_same, shows_then}
@@ -182,58 +181,3 @@ pub taken_unasked : (v u : ServerValue) (id : ℕ) (left : List ℕ) (k : ℕ) (
 taken_unasked v u id left k a b took shows told =
     let none = unasked (server_taken v id left) id (message_limit v id) (handed_by v id left) in
     record { server = took ∙ sym none.0; shows = rw none.1 shows; tells = rw none.1 told; exchanged = none.2 }
-
--- ---- later responses
-
--- The application gave this number of responses, and the server is `now`.
-pub record GivesLater (v : ServerValue) (n : ℕ) (now : ServerValue) (told : List AcceptedCall → Type 0) (asks : List Exchange → Type 0) : Type 0 where
-  pub events : List AcceptedCall
-  pub exchanges : List Exchange
-  pub given : AreGivenLater v n now events exchanges
-  pub shows : ShowsMore v now events
-  pub tells : told events
-  pub exchanged : asks exchanges
-
-pub gives_none : (v : ServerValue) (a : Following) (x : Answering) → GivesLater v 0 v (FollowsMore a a) (AnswersMore x x)
-gives_none v a x = record { events = []; exchanges = []; given = NothingGiven; shows = shows_same v v refl; tells = followed_none a; exchanged = answers_none x }
-
-module _ (v : ServerValue) (n : ℕ) (now after : ServerValue) (a b c : Following) (x y z : Answering) (so : GivesLater v n now (FollowsMore a b) (AnswersMore x y)) where
-  pub gives_more : (o : Option ℕ) → is_none o ≡ false → IsAskedLater now o after (FollowsMore b c) (AnswersMore y z) → GivesLater v (n + 1) after (FollowsMore a c) (AnswersMore x z)
-  gives_more None some one = absurd cc
-  gives_more (Some id) some one =
-      let next : suc n ≡ n + 1 = omega arith in
-      record {
-        events = so.events ++ offered_events now id one.bytes;
-        exchanges = so.exchanges ++ Offered id one.bytes ∷ Given id one.outcome ∷ [];
-        given = rw (← next, one.server) (OneMoreGiven n now so.events so.exchanges id one.bytes one.outcome so.given one.refused one.reply);
-        shows = shows_then v now after so.events _ so.shows one.shows;
-        tells = followed_then a b c so.events _ so.tells one.tells;
-        exchanged = answers_then x y z so.exchanges _ so.exchanged one.exchanged;
-      }
-
-  pub gives_no_more : (most : ℕ) (o : Option ℕ) → n < most → is_none o ≡ true → IsAskedLater now o after (FollowsMore b c) (AnswersMore y z) → AreAskedLater v most false after (FollowsMore a c) (AnswersMore x z)
-  gives_no_more most (Some id) few ends one = absurd cc
-  gives_no_more most None few ends one = record {
-    number = n;
-    events = so.events;
-    exchanges = so.exchanges;
-    given = rw one.0 so.given;
-    within = omega (arith, few);
-    over = sym (ne_eqb n most (λ is. omega (arith, few, is)));
-    shows = rw one.0 so.shows;
-    tells = rw append-nil at (followed_then a b c so.events [] so.tells one.1.0);
-    exchanged = rw append-nil at (answers_then x y z so.exchanges [] so.exchanged one.1.1);
-  }
-
-  pub gives_all : (most : ℕ) → n ≡ most → AreAskedLater v most true now (FollowsMore a b) (AnswersMore x y)
-  gives_all most all = record {
-    number = n;
-    events = so.events;
-    exchanges = so.exchanges;
-    given = so.given;
-    within = omega (arith, all);
-    over = sym (eq-eqb n most all);
-    shows = so.shows;
-    tells = so.tells;
-    exchanged = so.exchanged;
-  }

@@ -1,7 +1,7 @@
 //! The input and the output of a server's connections.
 
 use super::sessions::{find, flush_at, settle_after, what_was_handled, written_at};
-use super::{FlushStep, Server};
+use super::{ConnIndex, FlushStep, Server};
 use crate::monitor::{Call, Monitor};
 use coap_io::{Outlet, WriteFailed};
 use coap_model::{ConnId, Handled, TakeFault, Taken, WrittenFault};
@@ -17,7 +17,7 @@ impl Server {
     ghost use Rattle.coap_server_engine.specs.Prelude.{IsNotTaken, written_refusal, front_of, stop_on, LiesAt};
     ghost use Rattle.coap_server_engine.specs.Prelude.{AcceptedCall, Took, Wrote, takes, handled_in, Shows};
     ghost use Rattle.coap_server_engine.specs.Prelude.{ShowsRefused, IsRefusedFor, FollowsMore, IsTakenFor};
-    ghost use Rattle.coap_server_engine.specs.Prelude.{IsNotTakenFor, AreUnanswered};
+    ghost use Rattle.coap_server_engine.specs.Prelude.{IsNotTakenFor, AreUnanswered, AreSettled};
     ghost use Rattle.coap_server_engine.specs.contracts.server.Server.{the_row};
 
     /// Returns `true` if a connection accepts bytes.
@@ -66,7 +66,7 @@ impl Server {
         let Some(at) = find(&self.sessions, id) else {
             return Err(TakeFault::NoSuch);
         };
-        self.take_at(at, id, piece)
+        self.take_at(ConnIndex { id, at }, piece)
     }
 
     /// Returns the index of a connection, or `None` if no connection has this id.
@@ -76,11 +76,12 @@ impl Server {
     pub fn index_of(&self, id: ConnId) -> Option<usize>
         ensures there { is_some result ≡ is_there (session_of id self.now.sessions) }
         ensures at { IfSome result (λ at. LiesAt id at self.now.sessions) }
+        ensures settled { AreSettled self.now.host self.now.sessions }
     {
         find(&self.sessions, id)
     }
 
-    /// Accepts bytes as `take` does, on the connection at an index. `_id` is its id.
+    /// Accepts bytes as `take` does, on the connection at an index.
     ///
     /// # Errors
     ///
@@ -88,34 +89,35 @@ impl Server {
     ///
     /// # Preconditions
     ///
-    /// The connection with the id is at the index, as `index_of` returned it.
+    /// The connection is at the index, as `index_of` returned it.
     #[inline(always)]
-    pub fn take_at(&mut self, at: usize, _id: ConnId, piece: &[u8]) -> Result<Taken, TakeFault>
-        requires { LiesAt _id at self.old.sessions }
+    pub fn take_at(&mut self, index: ConnIndex, piece: &[u8]) -> Result<Taken, TakeFault>
+        requires { LiesAt index.id index.at self.old.sessions }
         ensures within { IfOk result (λ t. t.bytes ≤ length piece.now) }
-        ensures count { IfOk result (λ t. t.bytes ≡ count_taken self.old _id piece.now) }
+        ensures count { IfOk result (λ t. t.bytes ≡ count_taken self.old index.id piece.now) }
         ensures takes { IfOk result (λ t. (events : List AcceptedCall) → Shows self.old events →
-            t.bytes ≡ takes self.old.config events _id piece.now) }
-        ensures handled { IfOk result (λ t. t.handled ≡ handled_by self.old _id piece.now) }
+            t.bytes ≡ takes self.old.config events index.id piece.now) }
+        ensures handled { IfOk result (λ t. t.handled ≡ handled_by self.old index.id piece.now) }
         ensures says { IfOk result (λ t. (events : List AcceptedCall) → Shows self.old events →
-            t.handled ≡ handled_in self.old.config events (Took _id (take t.bytes piece.now)) _id) }
-        ensures there { OnOk result (is_there (session_of _id self.old.sessions) ≡ true) }
-        ensures ok { OnOk result (self.new ≡ server_taken self.old _id piece.now) }
+            t.handled ≡ handled_in self.old.config events (Took index.id (take t.bytes piece.now)) index.id) }
+        ensures there { OnOk result (is_there (session_of index.id self.old.sessions) ≡ true) }
+        ensures ok { OnOk result (self.new ≡ server_taken self.old index.id piece.now) }
         ensures shows { IfOk result (λ t. (events : List AcceptedCall) → Shows self.old events →
-            Shows self.new (events ++ Took _id (take t.bytes piece.now) ∷ [])) }
-        ensures refused { IfErr result (λ fault. IsNotTaken self.old _id piece.now fault self.new) }
+            Shows self.new (events ++ Took index.id (take t.bytes piece.now) ∷ [])) }
+        ensures refused { IfErr result (λ fault. IsNotTaken self.old index.id piece.now fault self.new) }
         ensures shows_refused { IfErr result (λ fault. (events : List AcceptedCall) → Shows self.old events →
-            ShowsRefused events _id piece.now fault self.new) }
+            ShowsRefused events index.id piece.now fault self.new) }
         ensures refused_for { IfErr result (λ fault.
-            (events : List AcceptedCall) → Shows self.old events → IsRefusedFor self.old.config events _id piece.now fault) }
-        ensures lies { OnOk result (LiesAt _id at self.new.sessions) }
+            (events : List AcceptedCall) → Shows self.old events →
+            IsRefusedFor self.old.config events index.id piece.now fault) }
+        ensures lies { OnOk result (LiesAt index.id index.at self.new.sessions) }
     {
-        let takes = self.sessions[at].takes();
-        match self.sessions[at].take(&mut self.host, piece) {
+        let takes = self.sessions[index.at].takes();
+        match self.sessions[index.at].take(&mut self.host, piece) {
             Err(bytes) => Err(TakeFault::Memory { bytes }),
             Ok(taking) => {
-                settle_after(taking.changed, &mut self.sessions, at, &self.host);
-                let stop = self.sessions[at].phase().stop();
+                settle_after(taking.changed, &mut self.sessions, index.at, &self.host);
+                let stop = self.sessions[index.at].phase().stop();
                 Ok(Taken {
                     bytes: taking.count,
                     handled: what_was_handled(takes, taking.handled, stop),
@@ -147,7 +149,7 @@ impl Server {
         ensures err { OnErr result (IsNotTakenFor self.old id rest.now self.new
             (FollowsMore (M.follows monitor.old) (M.follows monitor.new))) }
     {
-        match self.take_at(at, id, rest) {
+        match self.take_at(ConnIndex { id, at }, rest) {
             Ok(taken) => {
                 let took = Call::Took {
                     id,
@@ -190,7 +192,7 @@ impl Server {
         };
         let mut taken = 0;
         while taken < bytes.len() {
-            match self.take_at(at, id, &bytes[taken..]) {
+            match self.take_at(ConnIndex { id, at }, &bytes[taken..]) {
                 Ok(piece) => {
                     if piece.bytes == 0 {
                         return Ok(taken);
@@ -300,10 +302,10 @@ impl Server {
                 stop: None,
             });
         };
-        self.flush_once_at(at, id, writer)
+        self.flush_once_at(ConnIndex { id, at }, writer)
     }
 
-    /// Writes all queued bytes as `flush_once` does, on the connection at an index. `_id` is its id.
+    /// Writes all queued bytes as `flush_once` does, on the connection at an index.
     ///
     /// # Errors
     ///
@@ -311,29 +313,28 @@ impl Server {
     ///
     /// # Preconditions
     ///
-    /// The outlet has not failed before. The connection with the id is at the index, as `index_of` returned it.
+    /// The outlet has not failed before. The connection is at the index, as `index_of` returned it.
     #[inline(always)]
     pub fn flush_once_at<W: Outlet>(
         &mut self,
-        at: usize,
-        _id: ConnId,
+        index: ConnIndex,
         writer: &mut W,
     ) -> Result<FlushStep, WriteFailed>
         requires works { W.is_failed writer.old ≡ false }
-        requires at { LiesAt _id at self.old.sessions }
-        ensures ok { IfOk result (λ f. IsFlushedOnce _id self.old self.new
+        requires at { LiesAt index.id index.at self.old.sessions }
+        ensures ok { IfOk result (λ f. IsFlushedOnce index.id self.old self.new
             (AddsBytes (W.written writer.old) (W.written writer.new)) f.waited) }
-        ensures more { IfOk result (λ f. f.more ≡ more_at _id self.old) }
-        ensures stop { IfOk result (λ f. f.stop ≡ stop_on (session_of _id self.new.sessions)) }
+        ensures more { IfOk result (λ f. f.more ≡ more_at index.id self.old) }
+        ensures stop { IfOk result (λ f. f.stop ≡ stop_on (session_of index.id self.new.sessions)) }
         ensures part { OnErr result (WritesPart (W.written writer.old) (W.written writer.new)
-            (waiting_at _id self.old)) }
+            (waiting_at index.id self.old)) }
         ensures err { OnErr result (self.new ≡ self.old) }
         ensures failure { W.is_failed writer.new ≡ is_err result }
-        ensures lies { OnOk result (LiesAt _id at self.new.sessions) }
+        ensures lies { OnOk result (LiesAt index.id index.at self.new.sessions) }
     {
-        let more = self.sessions[at].settle_bound();
-        let waited = flush_at(&mut self.sessions, at, &self.host, writer)?;
-        let stop = self.sessions[at].phase().stop();
+        let more = self.sessions[index.at].settle_bound();
+        let waited = flush_at(&mut self.sessions, index.at, &self.host, writer)?;
+        let stop = self.sessions[index.at].phase().stop();
         Ok(FlushStep { waited, more, stop })
     }
 }

@@ -1,22 +1,17 @@
 //! The requests that a server hands to its application, and the responses of the application.
 
-ghost use Rattle.std.specs.Prelude.{◌≡◌, [], option_map, option_and_then, option_copied};
-ghost use Rattle.coap_server_engine.specs.Prelude.{frame_message, AnswersMore, asks_for, failure_with};
-ghost use Rattle.coap_server_engine.specs.Prelude.{spelling};
+ghost use Rattle.std.specs.Prelude.{◌≡◌};
+ghost use Rattle.coap_server_engine.specs.Prelude.{failure_with, spelling};
 
-use super::Server;
 use super::sessions::{find, settle_after, what_was_handled};
+use super::{ConnIndex, Server};
 use crate::application::Application;
 use crate::monitor::{Call, Monitor};
 use crate::taken_request::{TakenRequest, frame_of, lent_if, lent_unless_stopped};
 use arrayvec::ArrayVec;
-use coap_conn::Reply;
-use coap_model::{ConnId, Handled, ResponseFault, TakeFault, Taken};
+use coap_model::{ConnId, Handled, TakeFault, Taken};
 use coap_wire::{Code, MessageBuilder, Token};
 use std::alloc::AllocError;
-
-/// Number of later responses for which `answer_later` asks the application at most.
-pub const MOST_LATER_RESPONSES: usize = 256;
 
 /// Number of bytes of the longest token.
 const LONGEST_TOKEN: usize = 64;
@@ -27,16 +22,15 @@ const LONGEST_FAILURE: usize = 67;
 impl Server {
     ghost use Rattle.std.specs.Prelude.{◌≡◌, ◌+◌, ◌≤◌, ◌++◌, ◌∷◌, ⊤, List, [], Result, Option, Some, None};
     ghost use Rattle.std.specs.Prelude.{length, take, true, false, IfOk, IfErr, IfNone, OnOk, OnErr};
-    ghost use Rattle.std.specs.Prelude.{option_copied, option_and_then, option_map, ℕ};
+    ghost use Rattle.std.specs.Prelude.{option_copied, option_and_then, option_map};
     ghost use Rattle.coap_server_engine.specs.Prelude.{sem, follows_so, none, ShowsMore, session_of, is_there};
     ghost use Rattle.coap_server_engine.specs.Prelude.{count_taken, server_taken, handled_by, IsNotTaken};
     ghost use Rattle.coap_server_engine.specs.Prelude.{LiesAt, frame_message, AcceptedCall, Took, takes};
     ghost use Rattle.coap_server_engine.specs.Prelude.{handled_in, Shows, request_in, ShowsRefused};
     ghost use Rattle.coap_server_engine.specs.Prelude.{IsRefusedFor, FollowsMore, handed_frame, handed_by};
     ghost use Rattle.coap_server_engine.specs.Prelude.{AnswersMore, IsServed, IsPartlyServed, IsAskedLater};
-    ghost use Rattle.coap_server_engine.specs.Prelude.{AreAskedLater, IsTakenRequest, server_offered};
-    ghost use Rattle.coap_server_engine.specs.Prelude.{offered_events, response_for, RefusedBy};
-    ghost use Rattle.coap_server_engine.specs.Prelude.{responded_refusal, IsReplyOn, IsTakenFor, IsNotTakenFor};
+    ghost use Rattle.coap_server_engine.specs.Prelude.{IsTakenRequest, server_offered};
+    ghost use Rattle.coap_server_engine.specs.Prelude.{offered_events, response_for, IsTakenFor, IsNotTakenFor};
     ghost use Rattle.coap_server_engine.specs.Prelude.{asks_for, message_limit, changing_frame, frame_key, ChangesBy};
     ghost use Rattle.coap_server_engine.specs.contracts.server.Server.{the_row};
 
@@ -103,10 +97,10 @@ impl Server {
         let Some(at) = find(&self.sessions, id) else {
             return Err(TakeFault::NoSuch);
         };
-        self.take_request_at(at, id, piece)
+        self.take_request_at(ConnIndex { id, at }, piece)
     }
 
-    /// Accepts bytes as `take_request` does, on the connection at an index. `_id` is its id.
+    /// Accepts bytes as `take_request` does, on the connection at an index.
     ///
     /// # Errors
     ///
@@ -114,41 +108,42 @@ impl Server {
     ///
     /// # Preconditions
     ///
-    /// The connection with the id is at the index, as `index_of` returned it.
-    pub fn take_request_at<'a>(
+    /// The connection is at the index, as `index_of` returned it.
+    pub(crate) fn take_request_at<'a>(
         &'a mut self,
-        at: usize,
-        _id: ConnId,
+        index: ConnIndex,
         piece: &'a [u8],
     ) -> Result<TakenRequest<'a>, TakeFault>
-        requires { LiesAt _id at self.old.sessions }
+        requires { LiesAt index.id index.at self.old.sessions }
         ensures* after { sem 𝓛 (follows_so the_row the_row self.entry.ghost_name none (λ _ _. ⊤)
-            (IsTakenRequest self.old _id piece.now result)) }
+            (IsTakenRequest self.old index.id piece.now result)) }
         ensures within { IfOk result (λ t. t.taken.bytes ≤ length piece.now) }
-        ensures count { IfOk result (λ t. t.taken.bytes ≡ count_taken self.old _id piece.now) }
+        ensures count { IfOk result (λ t. t.taken.bytes ≡ count_taken self.old index.id piece.now) }
         ensures takes { IfOk result (λ t. (events : List AcceptedCall) → Shows self.old events →
-            t.taken.bytes ≡ takes self.old.config events _id piece.now) }
-        ensures handled { IfOk result (λ t. t.taken.handled ≡ handled_by self.old _id piece.now) }
+            t.taken.bytes ≡ takes self.old.config events index.id piece.now) }
+        ensures handled { IfOk result (λ t. t.taken.handled ≡ handled_by self.old index.id piece.now) }
         ensures says { IfOk result (λ t. (events : List AcceptedCall) → Shows self.old events →
-            t.taken.handled ≡ handled_in self.old.config events (Took _id (take t.taken.bytes piece.now)) _id) }
-        ensures there { OnOk result (is_there (session_of _id self.old.sessions) ≡ true) }
-        ensures frame { IfOk result (λ t. option_copied t.frame ≡ handed_frame self.old _id piece.now) }
+            t.taken.handled
+            ≡ handled_in self.old.config events (Took index.id (take t.taken.bytes piece.now)) index.id) }
+        ensures there { OnOk result (is_there (session_of index.id self.old.sessions) ≡ true) }
+        ensures frame { IfOk result (λ t. option_copied t.frame ≡ handed_frame self.old index.id piece.now) }
         ensures request { IfOk result (λ t. (events : List AcceptedCall) → Shows self.old events →
             option_and_then frame_message (option_copied t.frame)
-            ≡ request_in self.old.config events (Took _id (take t.taken.bytes piece.now)) _id) }
-        ensures changed { IfOk result (λ t. option_copied t.changed ≡ changing_frame self.old _id piece.now) }
+            ≡ request_in self.old.config events (Took index.id (take t.taken.bytes piece.now)) index.id) }
+        ensures changed { IfOk result (λ t. option_copied t.changed ≡ changing_frame self.old index.id piece.now) }
         ensures alters { IfOk result (λ t. (events : List AcceptedCall) → Shows self.old events →
-            ChangesBy self.old.config events (Took _id (take t.taken.bytes piece.now))
+            ChangesBy self.old.config events (Took index.id (take t.taken.bytes piece.now))
             (option_and_then frame_key (option_copied t.changed))) }
         ensures refused_for { IfErr result (λ fault.
-            (events : List AcceptedCall) → Shows self.old events → IsRefusedFor self.old.config events _id piece.now fault) }
+            (events : List AcceptedCall) → Shows self.old events →
+            IsRefusedFor self.old.config events index.id piece.now fault) }
     {
-        let takes = self.sessions[at].takes();
-        match self.sessions[at].take(&mut self.host, piece) {
+        let takes = self.sessions[index.at].takes();
+        match self.sessions[index.at].take(&mut self.host, piece) {
             Err(bytes) => Err(TakeFault::Memory { bytes }),
             Ok(taking) => {
-                settle_after(taking.changed, &mut self.sessions, at, &self.host);
-                let session = &self.sessions[at];
+                settle_after(taking.changed, &mut self.sessions, index.at, &self.host);
+                let session = &self.sessions[index.at];
                 let stop = session.phase().stop();
                 let taken = Taken {
                     bytes: taking.count,
@@ -166,18 +161,21 @@ impl Server {
         }
     }
 
-    /// Returns the size in bytes of the largest message that may be sent on the connection at an index. `_id` is its id.
+    /// Returns the size in bytes of the largest message that may be sent on the connection at an index.
     #[tactic(auto, using(crate::proofs::values::ServerLemmas::unmarked_at, crate::proofs::values::ServerLemmas::within_unmarked), unfolding(crate::specs::values::ApplicationCalls::message_limit))]
-    fn message_limit(&self, at: usize, _id: ConnId) -> usize
-        requires { LiesAt _id at self.now.sessions }
-        ensures { result ≡ message_limit self.now _id }
+    fn message_limit(&self, index: ConnIndex) -> usize
+        requires { LiesAt index.id index.at self.now.sessions }
+        ensures { result ≡ message_limit self.now index.id }
     {
         let most = self.config.limits().max_sent();
-        most.min(self.sessions[at].peer_max() as usize)
+        most.min(self.sessions[index.at].peer_max() as usize)
     }
 
     /// Accepts bytes as `take_request_at` does, and shows the request that is handed over to the application. Returns the
     /// token of that request. `response` is empty before, and has the response of the application afterwards.
+    ///
+    /// The request is parsed again, from its frame. The message that the connection parsed borrows from its framer, and the
+    /// connection settles before the application is asked.
     fn take_and_ask<A: Application>(
         &mut self,
         at: usize,
@@ -205,59 +203,44 @@ impl Server {
             ShowsRefused events id rest.now fault self.new) }
         ensures silent { OnErr result (application.new ≡ application.old) }
     {
-        let taken = self.take_request_at(at, id, rest)?;
-        let token = ask(&taken, id, application, limit, response);
-        Ok((taken.taken, token))
-    }
-
-    /// Gives a response as `respond` does. If the server accepts it, the monitor receives `Call::Responded`.
-    ///
-    /// # Errors
-    ///
-    /// Those of `respond`. Nothing has changed then.
-    fn offer<W, M: Monitor<W>>(
-        &mut self,
-        id: ConnId,
-        response: &[u8],
-        monitor: &mut M,
-    ) -> Result<Reply, ResponseFault>
-        ensures answer { RefusedBy result (responded_refusal self.old id response.now) }
-        ensures reply { IfOk result (λ r. IsReplyOn response.now r (session_of id self.old.sessions)) }
-        ensures after { self.new ≡ server_offered self.old id response.now }
-        ensures shows { ShowsMore self.old self.new (offered_events self.old id response.now) }
-        ensures told { FollowsMore (M.follows monitor.old) (M.follows monitor.new)
-            (offered_events self.old id response.now) }
-    {
-        let reply = self.respond(id, response)?;
-        monitor.accepted(Call::Responded(id, response), self);
-        Ok(reply)
+        let taken = self.take_request_at(ConnIndex { id, at }, rest)?;
+        let Some(request) = taken.request() else {
+            return Ok((taken.taken, None));
+        };
+        application.request(id, &request, limit, response);
+        Ok((taken.taken, Some(request.token().to_token())))
     }
 
     /// Gives the response that the application wrote at once, or 5.00 if the server does not accept it. If the application
     /// wrote no byte, nothing is given.
+    ///
+    /// The 5.00 is encoded, and parsed as every response, since the monitor receives responses as bytes.
     fn give_at_once<W, M: Monitor<W>>(
         &mut self,
+        at: usize,
         id: ConnId,
         token: &Token,
         response: &[u8],
         monitor: &mut M,
     )
+        requires { LiesAt id at self.old.sessions }
         ensures after { self.new
             ≡ server_offered self.old id (response_for self.old id token.now.items response.now) }
         ensures shows { ShowsMore self.old self.new
             (offered_events self.old id (response_for self.old id token.now.items response.now)) }
         ensures told { FollowsMore (M.follows monitor.old) (M.follows monitor.new)
             (offered_events self.old id (response_for self.old id token.now.items response.now)) }
-        ensures lies { (at : ℕ) → LiesAt id at self.old.sessions → LiesAt id at self.new.sessions }
+        ensures lies { LiesAt id at self.new.sessions }
     {
         if response.is_empty() {
             return;
         }
-        if self.offer::<W, M>(id, response, monitor).is_ok() {
+        let given = self.offer::<W, M>(Some(at), id, response, monitor);
+        if given.is_ok() {
             return;
         }
         let failure = failure_frame(token);
-        let _ = self.offer::<W, M>(id, failure.as_slice(), monitor);
+        let _ = self.offer::<W, M>(Some(at), id, failure.as_slice(), monitor);
     }
 
     /// Accepts bytes once, of the remaining bytes `rest`, and shows the request that is handed over to the application.
@@ -291,7 +274,7 @@ impl Server {
         if !application.answers() {
             return self.take_unasked::<W, M>(at, id, rest, monitor);
         }
-        let limit = self.message_limit(at, id);
+        let limit = self.message_limit(ConnIndex { id, at });
         match self.take_and_ask(at, id, rest, application, limit, response) {
             Ok((taken, token)) => {
                 let took = Call::Took {
@@ -301,7 +284,7 @@ impl Server {
                 };
                 monitor.accepted(took, self);
                 if let Some(token) = token {
-                    self.give_at_once::<W, M>(id, &token, response, monitor);
+                    self.give_at_once::<W, M>(at, id, &token, response, monitor);
                 }
                 Ok(taken.bytes)
             }
@@ -378,53 +361,11 @@ impl Server {
     {
         response.clear();
         let id = application.next_response(response)?;
-        let outcome = self.offer::<W, M>(id, response, monitor);
+        let at = self.index_of(id);
+        let outcome = self.offer::<W, M>(at, id, response, monitor);
         application.responded(id, outcome);
         Some(id)
     }
-
-    /// Asks the application for later responses as `answer_next` does, until it has none or has given 256 of them. Returns
-    /// `true` in the second case: the application may have more.
-    pub fn answer_later<W, M: Monitor<W>, A: Application>(
-        &mut self,
-        application: &mut A,
-        response: &mut Vec<u8>,
-        monitor: &mut M,
-    ) -> bool
-        ensures asked { AreAskedLater self.old 256 result self.new
-            (FollowsMore (M.follows monitor.old) (M.follows monitor.new))
-            (AnswersMore (A.follows application.old) (A.follows application.new)) }
-        ensures none { result ≡ false → A.idle application.new }
-    {
-        for _ in 0..MOST_LATER_RESPONSES {
-            if self
-                .answer_next::<W, M, A>(application, response, monitor)
-                .is_none()
-            {
-                return false;
-            }
-        }
-        true
-    }
-}
-
-/// Shows the request that a take handed over to the application, if there is one, and returns its token.
-fn ask<A: Application>(
-    taken: &TakenRequest<'_>,
-    from: ConnId,
-    application: &mut A,
-    limit: usize,
-    response: &mut Vec<u8>,
-) -> Option<Token>
-    requires { response.old.items ≡ [] }
-    ensures token { option_map (λ token. token.items) result
-        ≡ option_map (λ m. m.token) (option_and_then frame_message (option_copied taken.now.frame)) }
-    ensures asked { AnswersMore (A.follows application.old) (A.follows application.new)
-        (asks_for from limit response.new.items (option_and_then frame_message (option_copied taken.now.frame))) }
-{
-    let request = taken.request()?;
-    application.request(from, &request, limit, response);
-    Some(request.token().to_token())
 }
 
 /// Returns the encoded message 5.00 (Internal Server Error) with this token.

@@ -1,14 +1,17 @@
 //! The responses of the application to requests that it answers.
 
 use super::Server;
-use super::sessions::{find, respond_at};
+use super::sessions::respond_at;
+use crate::monitor::{Call, Monitor, NoMonitor};
 use coap_conn::Reply;
 use coap_model::{ConnId, ResponseFault};
 
 impl Server {
-    ghost use Rattle.std.specs.Prelude.{◌≡◌, ◌++◌, List, IfOk, OnOk, OnErr};
+    ghost use Rattle.std.specs.Prelude.{◌≡◌, ◌++◌, List, IfOk, IfSome, OnOk, OnErr, is_some};
     ghost use Rattle.coap_server_engine.specs.Prelude.{RefusedBy, AreSettled, session_of, server_given, response_event};
     ghost use Rattle.coap_server_engine.specs.Prelude.{responded_refusal, IsReplyOn, message_of, AcceptedCall, Shows};
+    ghost use Rattle.coap_server_engine.specs.Prelude.{is_there, LiesAt, server_offered, offered_events, ShowsMore};
+    ghost use Rattle.coap_server_engine.specs.Prelude.{FollowsMore};
 
     /// Queues a response of the application, and removes the first pending request with its token. `response` is one
     /// encoded message.
@@ -46,7 +49,6 @@ impl Server {
     /// let output = server.front(id).unwrap_or(&[]);
     /// assert!(&rt; output.ends_with(b"\x01\x41\x2a"));
     /// ```
-    #[tactic(auto, using(crate::proofs::values::ServerLemmas::unmarked_at, crate::proofs::values::ServerLemmas::within_unmarked))]
     pub fn respond(&mut self, id: ConnId, response: &[u8]) -> Result<Reply, ResponseFault>
         ensures settled { AreSettled self.old.host self.old.sessions }
         ensures answer { RefusedBy result (responded_refusal self.old id response.now) }
@@ -56,9 +58,44 @@ impl Server {
             Shows self.new (events ++ response_event id (message_of response.now))) }
         ensures err { OnErr result (self.new ≡ self.old) }
     {
-        let Some(at) = find(&self.sessions, id) else {
+        let at = self.index_of(id);
+        self.offer::<(), NoMonitor>(at, id, response, &mut NoMonitor)
+    }
+
+    /// Gives a response as `respond` does, on the connection at an index. If the server accepts it, the monitor
+    /// receives `Call::Responded`.
+    ///
+    /// # Errors
+    ///
+    /// Those of `respond`. Nothing has changed then.
+    ///
+    /// # Preconditions
+    ///
+    /// The connection with the id is at the index. There is no index if no connection has this id.
+    #[tactic(auto, using(crate::proofs::values::ServerLemmas::within_unmarked))]
+    pub(super) fn offer<W, M: Monitor<W>>(
+        &mut self,
+        at: Option<usize>,
+        id: ConnId,
+        response: &[u8],
+        monitor: &mut M,
+    ) -> Result<Reply, ResponseFault>
+        requires there { is_some at ≡ is_there (session_of id self.old.sessions) }
+        requires lies { IfSome at (λ at. LiesAt id at self.old.sessions) }
+        ensures answer { RefusedBy result (responded_refusal self.old id response.now) }
+        ensures reply { IfOk result (λ r. IsReplyOn response.now r (session_of id self.old.sessions)) }
+        ensures ok { OnOk result (self.new ≡ server_given self.old id response.now) }
+        ensures err { OnErr result (self.new ≡ self.old) }
+        ensures after { self.new ≡ server_offered self.old id response.now }
+        ensures shows { ShowsMore self.old self.new (offered_events self.old id response.now) }
+        ensures told { FollowsMore (M.follows monitor.old) (M.follows monitor.new)
+            (offered_events self.old id response.now) }
+    {
+        let Some(at) = at else {
             return Err(ResponseFault::NoSuch);
         };
-        respond_at(&mut self.sessions, at, &self.host, response)
+        let reply = respond_at(&mut self.sessions, at, &self.host, response)?;
+        monitor.accepted(Call::Responded(id, response), self);
+        Ok(reply)
     }
 }

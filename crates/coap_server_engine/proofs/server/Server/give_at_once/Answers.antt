@@ -1,5 +1,6 @@
 use Rattle.std.proofs.Common.{◌≡◌, [], refl, sym, ◌∙◌, arith}
 use Rattle.coap_server_engine.proofs.values.ResponseLemmas.{empty_of, ok_none, err_some, empty_response, nothing_offered, nothing_told, response_if_accepted, refused_response, server_if_refused, refused_events, offered_lies}
+use Rattle.coap_server_engine.proofs.values.ServerLemmas.{is_there_at}
 use Rattle.coap_server_engine.proofs.scripting.ShownLemmas.{shows_same}
 use Rattle.coap_server_engine.proofs.scripting.FollowLemmas.{followed_none, followed_then}
 use Rattle.coap_server_engine.proofs.server.Server.give_at_once.Goals as goal
@@ -20,42 +21,65 @@ returns-then-is_empty-clause-told g c =
     let none : c.args.response.now ≡ [] = empty_of c.args.response.now c.is_empty.result c.is_empty.ensures c.if-is_empty.true in
     rw (empty_response c.args.self.now c.args.id c.args.token.now.items c.args.response.now none, nothing_told c.args.self.now c.args.id) (followed_none (g.M.Monitor.follows c.args.monitor.now))
 
+pub offer-given-requires : goal.offer-given-requires
+offer-given-requires g c = record {
+  there = is_there_at c.args.id c.args.at c.args.self.now.sessions c.requires;
+  lies = c.requires;
+}
+
 -- The server accepts the response.
 pub returns-then-is_ok-clause-shows : goal.returns-then-is_ok-clause-shows
 returns-then-is_ok-clause-shows g c =
-    let none = ok_none c.offer.result _ c.offer.ensures.answer (sym c.is_ok.ensures.value ∙ c.if-is_ok.true) in
-    rw (response_if_accepted c.args.self.now c.args.id c.args.token.now.items c.args.response.now none) c.offer.ensures.shows
+    let e = c.offer-given.ensures in
+    let none = ok_none c.offer-given.result _ e.answer (sym c.is_ok.ensures.value ∙ c.if-is_ok.true) in
+    rw (response_if_accepted c.args.self.now c.args.id c.args.token.now.items c.args.response.now none) e.shows
 
 pub returns-then-is_ok-clause-lies : goal.returns-then-is_ok-clause-lies
-returns-then-is_ok-clause-lies g c = λ at lies. rw c.offer.ensures.after (offered_lies c.args.self.now c.args.id c.args.response.now at lies)
+returns-then-is_ok-clause-lies g c =
+    rw c.offer-given.ensures.after
+    (offered_lies c.args.self.now c.args.id c.args.response.now c.args.at c.requires)
 
 -- The server sends 5.00.
+pub offer-requires : goal.offer-requires
+offer-requires g c =
+    let v = c.args.self.now in
+    let e = c.offer-given.ensures in
+    let some = err_some c.offer-given.result _ e.answer (sym c.is_ok.ensures.value ∙ c.if-is_ok.false) in
+    let same = e.after ∙ server_if_refused v c.args.id c.args.response.now some.0 some.1 in
+    rw same (record { there = is_there_at c.args.id c.args.at v.sessions c.requires; lies = c.requires })
+
 pub returns-clause-shows : goal.returns-clause-shows
 returns-clause-shows g c =
     let v = c.args.self.now in
     let bytes = c.args.response.now in
-    let some = err_some c.offer.result _ c.offer.ensures.answer (sym c.is_ok.ensures.value ∙ c.if-is_ok.false) in
-    let same = c.offer.ensures.after ∙ server_if_refused v c.args.id bytes some.0 some.1 in
+    let e = c.offer-given.ensures in
+    let some = err_some c.offer-given.result _ e.answer (sym c.is_ok.ensures.value ∙ c.if-is_ok.false) in
+    let same = e.after ∙ server_if_refused v c.args.id bytes some.0 some.1 in
     let written : bytes ≡ [] → ⊥ = grind (arith, c.is_empty.ensures, c.if-is_empty.false) in
     let failure = c.as_slice.ensures.value ∙ c.failure_frame-failure.ensures in
-    rw (refused_response v c.args.id c.args.token.now.items bytes some.0 some.1 written) (rw (same, failure) at c.offer-2.ensures.shows)
+    rw (refused_response v c.args.id c.args.token.now.items bytes some.0 some.1 written)
+    (rw (same, failure) at c.offer.ensures.shows)
 
 pub returns-clause-told : goal.returns-clause-told
 returns-clause-told g c =
     let v = c.args.self.now in
     let bytes = c.args.response.now in
-    let some = err_some c.offer.result _ c.offer.ensures.answer (sym c.is_ok.ensures.value ∙ c.if-is_ok.false) in
-    let same = c.offer.ensures.after ∙ server_if_refused v c.args.id bytes some.0 some.1 in
+    let e = c.offer-given.ensures in
+    let some = err_some c.offer-given.result _ e.answer (sym c.is_ok.ensures.value ∙ c.if-is_ok.false) in
+    let same = e.after ∙ server_if_refused v c.args.id bytes some.0 some.1 in
     let written : bytes ≡ [] → ⊥ = grind (arith, c.is_empty.ensures, c.if-is_empty.false) in
     let failure = c.as_slice.ensures.value ∙ c.failure_frame-failure.ensures in
-    let first = rw (refused_events v c.args.id bytes some.0 some.1) at c.offer.ensures.told in
+    let first = rw (refused_events v c.args.id bytes some.0 some.1) at e.told in
     rw (refused_response v c.args.id c.args.token.now.items bytes some.0 some.1 written)
-    (followed_then (g.M.Monitor.follows c.args.monitor.now) (g.M.Monitor.follows c.offer.new.monitor) (g.M.Monitor.follows c.offer-2.new.monitor) [] _ first (rw (same, failure) at c.offer-2.ensures.told))
+    (followed_then (g.M.Monitor.follows c.args.monitor.now) (g.M.Monitor.follows c.offer-given.new.monitor)
+    (g.M.Monitor.follows c.offer.new.monitor) [] _ first (rw (same, failure) at c.offer.ensures.told))
 
 pub returns-clause-lies : goal.returns-clause-lies
-returns-clause-lies g c = λ at lies.
+returns-clause-lies g c =
     let v = c.args.self.now in
     let bytes = c.args.response.now in
-    let some = err_some c.offer.result _ c.offer.ensures.answer (sym c.is_ok.ensures.value ∙ c.if-is_ok.false) in
-    let same = c.offer.ensures.after ∙ server_if_refused v c.args.id bytes some.0 some.1 in
-    rw c.offer-2.ensures.after (offered_lies c.offer.new.self c.args.id c.as_slice.result.now at (rw same lies))
+    let e = c.offer-given.ensures in
+    let some = err_some c.offer-given.result _ e.answer (sym c.is_ok.ensures.value ∙ c.if-is_ok.false) in
+    let same = e.after ∙ server_if_refused v c.args.id bytes some.0 some.1 in
+    rw c.offer.ensures.after
+    (offered_lies c.offer-given.new.self c.args.id c.as_slice.result.now c.args.at (rw same c.requires))

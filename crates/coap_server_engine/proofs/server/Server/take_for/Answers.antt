@@ -31,8 +31,9 @@ returns-in-Some-clause-ok g c =
     (g.A.Application.follows c.args.application.now) (g.A.Application.follows c.take_and_ask.new.application)
     e.ok e.shows c.accepted.ensures asked made.0 c.in-Some.token.items made.1 made.2 given.after given.shows given.told
 
-pub returns-in-Some-clause-lies : goal.returns-in-Some-clause-lies
-returns-in-Some-clause-lies g c = c.give_at_once.ensures.lies c.args.at (rw c.in-Ok.ensures.ok (taken_stays c.args.self.now c.args.id c.args.at c.args.rest.now c.requires))
+pub give_at_once-requires : goal.give_at_once-requires
+give_at_once-requires g c =
+    rw c.in-Ok.ensures.ok (taken_stays c.args.self.now c.args.id c.args.at c.args.rest.now c.requires)
 
 pub returns-in_default-clause-lies : goal.returns-in_default-clause-lies
 returns-in_default-clause-lies g c = rw c.in-Ok.ensures.ok (taken_stays c.args.self.now c.args.id c.args.at c.args.rest.now c.requires)

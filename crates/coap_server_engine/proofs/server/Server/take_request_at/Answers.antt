@@ -21,14 +21,14 @@ use Rattle.coap_server_engine.proofs.world.RequestLaws.{take_hands_over}
 use Rattle.coap_server_engine.proofs.server.Server.take_request_at.Goals as goal
 
 pub take-requires : goal.take-requires
-take-requires c = one_of_all (IsMarked c.self.inside.host) c.args.at _ _ c.self.invariant.marked c.index_mut.ensures.value
+take-requires c = one_of_all (IsMarked c.self.inside.host) c.args.index.at _ _ c.self.invariant.marked c.index_mut.ensures.value
 
 pub invariant_of-self : goal.invariant_of-self
 invariant_of-self c =
-    let lies = subst (λ v. LiesAt c.args._id c.args.at v.sessions) (sym c.self.view_is) c.requires in
+    let lies = subst (λ v. LiesAt c.args.index.id c.args.index.at v.sessions) (sym c.self.view_is) c.requires in
     let e = c.in-Err.ensures in
     let es = c.self.inside.sessions.entries in
-    let at = c.args.at in
+    let at = c.args.index.at in
     let new = c.take.new.self in
     let v = server_value c.self.inside in
     let server = refused_server v _ _ _ c.args.piece.now _ c.self.invariant.server lies (unmarked_at es at _ c.index_mut.ensures.value) e.refused c.take.new.host new.session e.kept e.unchanged in
@@ -40,10 +40,10 @@ invariant_of-self c =
 
 pub settle_after-requires : goal.settle_after-requires
 settle_after-requires c =
-    let lies = subst (λ v. LiesAt c.args._id c.args.at v.sessions) (sym c.self.view_is) c.requires in
+    let lies = subst (λ v. LiesAt c.args.index.id c.args.index.at v.sessions) (sym c.self.view_is) c.requires in
     let e = c.in-Ok.ensures in
     let es = c.self.inside.sessions.entries in
-    let at = c.args.at in
+    let at = c.args.index.at in
     let new = c.take.new.self in
     let host = c.self.inside.host in
     let others = others_settled host _ at _ new.session c.in-Ok.taking.changed e.changed c.self.invariant.server.settled in
@@ -56,27 +56,27 @@ settle_after-requires c =
 
 pub index-session-requires : goal.index-session-requires
 index-session-requires c =
-    let lies = subst (λ v. LiesAt c.args._id c.args.at v.sessions) (sym c.self.view_is) c.requires in
+    let lies = subst (λ v. LiesAt c.args.index.id c.args.index.at v.sessions) (sym c.self.view_is) c.requires in
     let e = c.in-Ok.ensures in
     let es = c.self.inside.sessions.entries in
-    let at = c.args.at in
+    let at = c.args.index.at in
     let new = c.take.new.self in
     let settles : Entries → Entries = λ fs. if is_some c.in-Ok.taking.changed then map (settled_entry c.take.new.host) fs else changed_at at (settled_held c.take.new.host) fs in
     let entries = c.settle_after.ensures.after ∙ ap settles (set_unmarked es at new new.session refl) in
     let here = unmarked_at es at _ c.index_mut.ensures.value in
-    within_unmarked _ _ _ (taken_lies _ c.args._id _ _ c.args.piece.now c.self.invariant.server lies here _ _ _ _ e.after e.host (ap is_some e.changed ∙ hash_where_changed _) entries)
+    within_unmarked _ _ _ (taken_lies _ c.args.index.id _ _ c.args.piece.now c.self.invariant.server lies here _ _ _ _ e.after e.host (ap is_some e.changed ∙ hash_where_changed _) entries)
 
 pub invariant_of-self-in-Ok : goal.invariant_of-self-in-Ok
 invariant_of-self-in-Ok c =
-    let lies = subst (λ v. LiesAt c.args._id c.args.at v.sessions) (sym c.self.view_is) c.requires in
+    let lies = subst (λ v. LiesAt c.args.index.id c.args.index.at v.sessions) (sym c.self.view_is) c.requires in
     let e = c.in-Ok.ensures in
     let es = c.self.inside.sessions.entries in
-    let at = c.args.at in
+    let at = c.args.index.at in
     let new = c.take.new.self in
     let settles : Entries → Entries = λ fs. if is_some c.in-Ok.taking.changed then map (settled_entry c.take.new.host) fs else changed_at at (settled_held c.take.new.host) fs in
     let entries = c.settle_after.ensures.after ∙ ap settles (set_unmarked es at new new.session refl) in
     let here = unmarked_at es at _ c.index_mut.ensures.value in
-    let taken = taken_server _ c.args._id _ _ c.args.piece.now c.self.invariant.server lies here _ _ _ _ e.after e.host (ap is_some e.changed ∙ hash_where_changed _) entries in
+    let taken = taken_server _ c.args.index.id _ _ c.args.piece.now c.self.invariant.server lies here _ _ _ _ e.after e.host (ap is_some e.changed ∙ hash_where_changed _) entries in
     record {
       server = record { settled = taken.settled; numbered = taken.numbered; few = taken.few };
       marked = c.settle_after.ensures.marked;
@@ -84,12 +84,12 @@ invariant_of-self-in-Ok c =
 
 pub returns-in-Err : goal.returns-in-Err
 returns-in-Err c =
-    let lies = subst (λ v. LiesAt c.args._id c.args.at v.sessions) (sym c.self.view_is) c.requires in
+    let lies = subst (λ v. LiesAt c.args.index.id c.args.index.at v.sessions) (sym c.self.view_is) c.requires in
     let e = c.in-Err.ensures in
-    let id = c.args._id in
+    let id = c.args.index.id in
     let piece = c.args.piece.now in
     let es = c.self.inside.sessions.entries in
-    let at = c.args.at in
+    let at = c.args.index.at in
     let new = c.take.new.self in
     let here = unmarked_at es at _ c.index_mut.ensures.value in
     let memory : Result Taken TakeFault = Err (taking.Memory c.in-Err.bytes) in
@@ -120,11 +120,11 @@ returns-in-Err c =
 pub returns-in-Ok : goal.returns-in-Ok
 returns-in-Ok c =
     let e = c.in-Ok.ensures in
-    let id = c.args._id in
+    let id = c.args.index.id in
     let piece = c.args.piece.now in
-    let lies = subst (λ v. LiesAt c.args._id c.args.at v.sessions) (sym c.self.view_is) c.requires in
+    let lies = subst (λ v. LiesAt c.args.index.id c.args.index.at v.sessions) (sym c.self.view_is) c.requires in
     let es = c.self.inside.sessions.entries in
-    let at = c.args.at in
+    let at = c.args.index.at in
     let new = c.take.new.self in
     let settles : Entries → Entries = λ fs. if is_some c.in-Ok.taking.changed then map (settled_entry c.take.new.host) fs else changed_at at (settled_held c.take.new.host) fs in
     let entries = c.settle_after.ensures.after ∙ ap settles (set_unmarked es at new new.session refl) in

@@ -1,0 +1,11 @@
+use Rattle.std.proofs.Common.{◌≡◌, None, option_and_then, sym, ap, ◌∙◌}
+use Rattle.coap_server_engine.specs.Prelude.{frame_message, handed_by}
+use Rattle.coap_server_engine.proofs.values.ResponseLemmas.{answers_none}
+use Rattle.coap_server_engine.proofs.server.Server.take_and_ask.Goals as goal
+
+-- There is no request.
+pub returns-in_default-clause-asked : goal.returns-in_default-clause-asked
+returns-in_default-clause-asked g c =
+    let none : handed_by c.args.self.now c.args.id c.args.rest.now ≡ None =
+    ap (option_and_then frame_message) (sym c.in_ok-taken.ensures.frame) ∙ sym c.in_default.ensures in
+    rw none (answers_none (g.A.Application.follows c.args.application.now))
