@@ -24,9 +24,9 @@ An edit is a file tests/mutants/edits/CRATE/NAME.edit. Its first line has what d
     new: self.max_sent           the text in its place
 
 The gate tries the control, and edits of crates that differ from their last run, `make mutants` without an error
-(changes.py). It takes the MOST_CRATES of these that a commit changed last, and MOST_IN_GATE of their edits, one of each
-crate in turn: first those of files that differ. So a run of the other crates is due, each in its own time. The gate fails
-if a last run is more than 200 commits back. A crate without one counts as different.
+(changes.py). It takes the MOST_CRATES of these that were changed last, and MOST_IN_GATE edits, one of each crate in turn.
+Edits of files that differ come first. The other crates are printed: a run of these is due. The gate fails if a last run
+is more than 200 commits back. A crate without one counts as different.
 
 In every mode, checks are made of all edits. First, the first line must quote a clause of the function that it names
 (tests/mutants/quotes.py has the forms). That function must be one that the edit changes, or one that names a constant

@@ -10,3 +10,5 @@ pub mod ServingLemmas
 pub mod UnansweredLemmas
 pub mod AtOnceLemmas
 pub mod DueAtOnceLemmas
+pub mod IndexSetLemmas
+pub mod ConcernedLemmas

@@ -6,6 +6,8 @@ pub mod Flushes
 pub mod InResults
 pub mod ServerDeadlines
 pub mod ServerCauses
+pub mod IndexSets
+pub mod ConcernSets
 pub mod Calls
 pub mod CallDetails
 pub mod Faults

@@ -8,6 +8,7 @@
 //!   lends such a request.
 //! - `Server::replay` runs the events of a script (`coap_script`) and writes a line for each.
 //! - `ConnectionWork` is the work left on a connection. `ChangeStamp` changes with everything that may affect all connections.
+//! - `IndexSet` is a set of the indices of connections.
 //! - `IoFault` is the error that ends a run of a server.
 //! - `laws` has the theorems on servers and on scripts.
 //!
@@ -19,6 +20,7 @@
 #![tactic(auto)]
 
 mod application;
+mod index_set;
 mod io_fault;
 pub mod laws;
 mod monitor;
@@ -27,6 +29,7 @@ mod server;
 mod taken_request;
 
 pub use application::{Application, NoApplication};
+pub use index_set::IndexSet;
 pub use io_fault::IoFault;
 pub use monitor::{Call, DropReason, Monitor, NoMonitor};
 pub use replay::ReplayFault;

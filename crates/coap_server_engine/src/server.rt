@@ -11,6 +11,7 @@ ghost use Rattle.coap_server_engine.specs.Prelude.{config_with, new_server, Show
 
 mod bytes;
 mod changes;
+mod concerned;
 mod connections;
 mod requests;
 mod responses;
@@ -21,6 +22,7 @@ use coap_application::Applications;
 use coap_conn::Reason;
 use coap_model::{Config, ConnId};
 use coap_server_session::{ServerState, Session};
+use concerned::Concerned;
 use indexmap::IndexMap;
 use std::alloc::{AllocError, Global};
 use std::marker::Model;
@@ -100,6 +102,7 @@ pub struct Server {
     host: ServerState,
     ids: u64,
     sessions: Sessions,
+    sets: Concerned,
 }
 
 impl Model for Server {
@@ -138,6 +141,7 @@ impl Server {
             host,
             ids: starts.ids,
             sessions: IndexMap::with_capacity(alloc, config.connections())?,
+            sets: Concerned::new(alloc)?,
         })
     }
 
@@ -163,6 +167,7 @@ impl Server {
             host,
             ids,
             sessions,
+            sets,
         } = Server::new(alloc, config)?;
         let ServerState { store, now } = host;
         prove!(1 <= applications.deadline());
@@ -176,6 +181,7 @@ impl Server {
             host,
             ids,
             sessions,
+            sets,
         })
     }
 

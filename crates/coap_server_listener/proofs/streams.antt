@@ -8,7 +8,6 @@ pub mod RemovalLemmas
 pub mod SweepLemmas
 pub mod NextPartLemmas
 pub mod ServiceLemmas
-pub mod IndexSetLemmas
 pub mod SleepLemmas
 pub mod LaterLemmas
 pub mod RunLemmas

@@ -82,7 +82,7 @@ pub use Rattle.coap_server_listener.specs.streams.RecordedInterests.{IsNoted, Se
 pub use Rattle.coap_server_listener.specs.streams.Serving.{IsAskedOnce, IsTurnBy, HasGoneOn, AreServed}
 pub use Rattle.coap_server_listener.specs.streams.Serving.{asked_by, HadItsPart, HasOneMore, IsOpening, IsRound, IsServedAt, IsVisited}
 pub use Rattle.coap_server_listener.specs.streams.Serving.{AreCallsBetween, HasAccepted, HasServedBy, HasTurnedBy, HasOpened, dropped_events, events_left, exchanges_left, gone_exchanges, gone_on, TakingSteps, AreTakenWith, NoneTaken, AreStepsBy, opened_if, NoMore, PassedOver, opening}
-pub use Rattle.coap_server_listener.specs.streams.Sleepers.{AreAsleep, IsOutside, MaySleep, bit_of, is_known_ready, known}
+pub use Rattle.coap_server_listener.specs.streams.Sleepers.{AreAsleep, MaySleep, is_known_ready, known}
 pub use Rattle.coap_server_listener.specs.streams.Turns.{end_of, agenda_past, IsIdle, IsInTurn, agenda_with, wait_of}
 pub use Rattle.coap_server_listener.specs.streams.Turns.{Taking, IsTakenAlone, IsTakenWith, IsTakenInPart, rest_behind, IsServedOnce, IsServedOnceBy, IsLaidOut, is_heard, heard_events, refused_events, server_heard, server_wrote, wrote_events}
 pub use Rattle.coap_server_listener.specs.streams.Turns.{waiting_once, rest_left, is_over_in, has_failed, course_of, IsCourseFor, wants_of}
@@ -107,6 +107,7 @@ unfoldable pub use Rattle.coap_server_engine.specs.values.Flushes.{flush_turns}
 pub use Rattle.coap_server_engine.specs.values.ServerAnswers.{stop_on, open_refusal, IsNotTaken}
 pub use Rattle.coap_server_engine.specs.values.ServerAnswers.{written_refusal, released_refusal, status_of}
 pub use Rattle.coap_server_engine.specs.values.ServerAnswers.{RefusesPieceOn}
+pub use Rattle.coap_server_engine.specs.values.IndexSets.{IsOutside, bit_of}
 pub use Rattle.coap_server_engine.specs.values.ServerDeadlines.{same_stamp, stamp_of, outlook_of}
 pub use Rattle.coap_server_engine.specs.values.ServerDeadlines.{session_outlook}
 pub use Rattle.coap_server_engine.specs.values.Servers.{new_server, server_put, server_removed, server_ticked, AreSettled}

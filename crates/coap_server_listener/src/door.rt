@@ -7,7 +7,6 @@ ghost use Rattle.coap_server_listener.specs.Prelude.{waited_behind};
 ghost use Rattle.std.specs.Prelude.{◌≡◌, false};
 
 mod awake;
-mod index_set;
 mod next_wakeup;
 mod parts;
 mod peer;

@@ -12,3 +12,4 @@ pub mod DueLemmas
 pub mod CauseLemmas
 pub mod FlagLemmas
 pub mod ChainLemmas
+pub mod ConcernLemmas

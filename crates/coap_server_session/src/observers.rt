@@ -5,7 +5,7 @@ ghost use Rattle.std.specs.Prelude.{vec_capacity, ◌++◌, ◌∷◌, [], not, 
 ghost use Rattle.coap_server_session.specs.Prelude.{list_any, is_time_observer as observes_time, IsFirstMarked};
 ghost use Rattle.coap_server_session.specs.Prelude.{AllByRecursion, AreChainedTo, AreFlagged, linked, IsTagged};
 ghost use Rattle.coap_server_session.specs.Prelude.{mark_in, marks_anew, first_index, without_entry, observer_value};
-ghost use Rattle.coap_server_session.specs.Prelude.{observes_hash, ObserverValue};
+ghost use Rattle.coap_server_session.specs.Prelude.{observes_hash, last_hash, ObserverValue};
 
 use crate::cause::Cause;
 use crate::chains::{Chains, chains_of};
@@ -93,6 +93,17 @@ impl Observers {
         ensures { result ≡ list_any (observes_hash hash) self.now.entries }
     {
         self.chains.last(Cause::Path(hash)).is_some()
+    }
+
+    /// Returns the hash of the path of the last observer, or `None` if there is no observer.
+    pub(crate) fn last_hash(&self) -> Option<u8>
+        ensures { result ≡ last_hash self.now.entries }
+    {
+        let count = self.entries.len();
+        if count == 0 {
+            return None;
+        }
+        Some(self.entries[count - 1].hash)
     }
 
     /// Recomputes the changed marks of the observers that a change affects.

@@ -116,7 +116,13 @@ impl Server {
         match self.sessions[index.at].take(&mut self.host, piece) {
             Err(bytes) => Err(TakeFault::Memory { bytes }),
             Ok(taking) => {
-                settle_after(taking.changed, &mut self.sessions, index.at, &self.host);
+                settle_after(
+                    taking.changed,
+                    &mut self.sets,
+                    &mut self.sessions,
+                    index.at,
+                    &self.host,
+                );
                 let stop = self.sessions[index.at].phase().stop();
                 Ok(Taken {
                     bytes: taking.count,

@@ -1,6 +1,6 @@
 //! The changes that may affect every connection of a server: of the time, and of the store.
 
-use super::sessions::{next_touched, settle_touched};
+use super::sessions::{next_touched, settle_observers, settle_touched};
 use super::{ChangeStamp, Server};
 use coap_model::Backwards;
 use coap_server_session::{Cause, hash_of};
@@ -37,9 +37,9 @@ impl Server {
         }
         let cause = Cause::Moment(before.moment);
         self.host.move_to(now);
-        if next_touched(&self.sessions, 0, cause, now).is_some() {
+        if next_touched(&mut self.sets.time, &self.sessions, 0, cause, now).is_some() {
             self.host.keep_moment();
-            settle_touched(&mut self.sessions, &self.host, cause);
+            settle_touched(&mut self.sets.time, &mut self.sessions, &self.host, cause);
         }
         Ok(())
     }
@@ -73,7 +73,8 @@ impl Server {
         ensures err { OnErr result (self.new ≡ self.old) }
     {
         let version = self.host.store.put(path, format, bytes)?;
-        settle_touched(&mut self.sessions, &self.host, Cause::Path(hash_of(path)));
+        let hash = hash_of(path);
+        settle_observers(&mut self.sets, &mut self.sessions, &self.host, hash);
         Ok(version)
     }
 
@@ -91,7 +92,8 @@ impl Server {
         ensures err { OnErr result (self.new ≡ self.old) }
     {
         self.host.store.remove(path)?;
-        settle_touched(&mut self.sessions, &self.host, Cause::Path(hash_of(path)));
+        let hash = hash_of(path);
+        settle_observers(&mut self.sets, &mut self.sessions, &self.host, hash);
         Ok(())
     }
 

@@ -153,6 +153,7 @@ impl Server {
             return Err(NoSuch);
         };
         self.sessions.shift_remove_index(at);
+        self.sets.fill();
         Ok(())
     }
 

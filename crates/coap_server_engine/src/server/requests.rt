@@ -142,7 +142,13 @@ impl Server {
         match self.sessions[index.at].take(&mut self.host, piece) {
             Err(bytes) => Err(TakeFault::Memory { bytes }),
             Ok(taking) => {
-                settle_after(taking.changed, &mut self.sessions, index.at, &self.host);
+                settle_after(
+                    taking.changed,
+                    &mut self.sets,
+                    &mut self.sessions,
+                    index.at,
+                    &self.host,
+                );
                 let session = &self.sessions[index.at];
                 let stop = session.phase().stop();
                 let taken = Taken {

@@ -9,9 +9,13 @@ ghost use Rattle.coap_server_engine.specs.Prelude.{session_announced, session_se
 ghost use Rattle.coap_server_engine.specs.Prelude.{settled_entry, AreSettled, UnaffectedAreSettled, AreUntouched};
 ghost use Rattle.coap_server_engine.specs.Prelude.{AreOthersSettled, settled_held, released_refusal_on, IsAnnounced};
 ghost use Rattle.coap_server_engine.specs.Prelude.{handled_so, responded_refusal_on, IsReplyOn, message_of};
-ghost use Rattle.coap_server_engine.specs.Prelude.{session_given_by, splits_of};
+ghost use Rattle.coap_server_engine.specs.Prelude.{session_given_by, splits_of, Covers, AreCovered};
+ghost use Rattle.coap_server_engine.specs.Prelude.{AreCoveredBut};
+ghost use Rattle.coap_server_session.specs.declared.cause.Cause.TheVariants as causes;
 
 use super::Sessions;
+use super::concerned::Concerned;
+use crate::index_set::IndexSet;
 use coap_conn::{Reason, Reply};
 use coap_io::{Outlet, WriteFailed, write_parts};
 use coap_model::{AnnounceFault, ConnId, Handled, ReleaseFault, ResponseFault};
@@ -25,68 +29,114 @@ pub(super) fn find(sessions: &Sessions, id: ConnId) -> Option<usize>
     sessions.get_index_of(&id)
 }
 
-/// Returns the index of the first connection, from an index on, that a change may affect. Skipping an unaffected
-/// connection reads one or two bytes of it.
+/// Returns the index of the first connection, from an index on, that a change may affect.
+///
+/// `set` has all connections that changes of this kind may concern. Connections that they do not concern are removed
+/// from it.
 pub(super) fn next_touched(
+    set: &mut IndexSet,
     sessions: &Sessions,
     from: usize,
     cause: Cause,
     now: u64,
 ) -> Option<usize>
+    requires from { from ≤ length sessions.now.entries }
+    requires covered { Covers cause set.old.words (unmarked sessions.now.entries) }
+    ensures covered { Covers cause set.new.words (unmarked sessions.now.entries) }
     ensures none { IfNone result (AreUntouched cause now from (length sessions.now.entries) sessions.now.entries) }
     ensures some { IfSome result (λ at. AreUntouched cause now from at sessions.now.entries) }
     ensures within { IfSome result (λ at. at < length sessions.now.entries) }
     ensures from { IfSome result (λ at. from ≤ at) }
     ensures next { IfSome result (λ at. at + 1 < 2 ^ 64) }
 {
-    for at in from..sessions.len() {
-        if sessions[at].is_touched(cause, now) {
+    let end = sessions.len();
+    let mut at = set.next(from, end);
+    while at < end {
+        let session = &sessions[at];
+        if session.is_touched(cause, now) {
             return Some(at);
         }
+        set.remove_unless(at, session.may_be_touched(cause));
+        at = set.next(at + 1, end);
     }
     None
 }
 
 /// Recomputes the marks on every connection that a change may affect, and settles these connections. The others are
-/// settled already.
-pub(super) fn settle_touched(sessions: &mut Sessions, host: &ServerState, cause: Cause)
+/// settled already. `set` is as for `next_touched`.
+pub(super) fn settle_touched(
+    set: &mut IndexSet,
+    sessions: &mut Sessions,
+    host: &ServerState,
+    cause: Cause,
+)
+    requires covered { Covers cause set.old.words (unmarked sessions.old.entries) }
     requires settled { UnaffectedAreSettled cause host.now (unmarked sessions.old.entries) }
     requires marked { AreMarkedBut cause host.now sessions.old.entries }
+    ensures covered { Covers cause set.new.words (unmarked sessions.new.entries) }
     ensures after { unmarked sessions.new.entries
         ≡ map (settled_entry host.entry.now) (unmarked sessions.old.entries) }
     ensures marked { AreAllMarked host.entry.now sessions.new.entries }
     ensures splits { splits_of sessions.new.entries ≡ splits_of sessions.old.entries }
 {
     let mut from = 0;
-    while let Some(at) = next_touched(sessions, from, cause, host.now) {
+    while let Some(at) = next_touched(set, sessions, from, cause, host.now) {
         sessions[at].mark_and_settle(host, cause);
         from = at + 1;
     }
 }
 
-/// Settles every connection if the one at an index changed the resource at a path with this hash. If nothing changed,
-/// settles only that connection, and only if an entry is pending.
+/// Settles every connection that a change of a path with this hash may affect, as `settle_touched` does.
+pub(super) fn settle_observers(
+    sets: &mut Concerned,
+    sessions: &mut Sessions,
+    host: &ServerState,
+    hash: u8,
+)
+    requires covered { AreCovered sets.old (unmarked sessions.old.entries) }
+    requires settled { UnaffectedAreSettled (causes.Path hash) host.now (unmarked sessions.old.entries) }
+    requires marked { AreMarkedBut (causes.Path hash) host.now sessions.old.entries }
+    ensures covered { AreCovered sets.new (unmarked sessions.new.entries) }
+    ensures after { unmarked sessions.new.entries
+        ≡ map (settled_entry host.entry.now) (unmarked sessions.old.entries) }
+    ensures marked { AreAllMarked host.entry.now sessions.new.entries }
+    ensures splits { splits_of sessions.new.entries ≡ splits_of sessions.old.entries }
+{
+    settle_touched(
+        &mut sets.paths[usize::from(hash)],
+        sessions,
+        host,
+        Cause::Path(hash),
+    );
+}
+
+/// Settles every connection if the one at an index, which received a message, changed the resource at a path with this
+/// hash. If nothing changed, settles only that connection, and only if an entry is pending.
 pub(super) fn settle_after(
     changed: Option<u8>,
+    sets: &mut Concerned,
     sessions: &mut Sessions,
     at: usize,
     host: &ServerState,
 )
     requires within { at < length sessions.old.entries }
+    requires covered { AreCoveredBut at sets.old (unmarked sessions.old.entries) }
     requires others { AreOthersSettled changed at host.now (unmarked sessions.old.entries) }
     requires marked { AreMarkedAfter changed host.now sessions.old.entries }
     requires own { IfSome (slice_get (values sessions.old) at) (IsMarked host.now) }
+    ensures covered { AreCovered sets.new (unmarked sessions.new.entries) }
     ensures after { unmarked sessions.new.entries ≡ (if is_some changed then map (settled_entry host.entry.now)
         (unmarked sessions.old.entries) else changed_at at (settled_held host.entry.now)
         (unmarked sessions.old.entries)) }
     ensures marked { AreAllMarked host.entry.now sessions.new.entries }
     ensures splits { splits_of sessions.new.entries ≡ splits_of sessions.old.entries }
 {
+    sets.note(&sessions[at], at);
     match changed {
         None => sessions[at].settle_if_pending(host),
         Some(hash) => {
             sessions[at].settle(host);
-            settle_touched(sessions, host, Cause::Path(hash));
+            settle_observers(sets, sessions, host, hash);
         }
     }
 }

@@ -1,19 +1,10 @@
 -- Defined by this project: the connections that a turn need not visit.
-use Rattle.std.specs.Prelude.{◌≡◌, ℕ, ◌/◌, ◌%◌, ◌<◌, List, get_or, slice_get, Option, Some, None, Bool, false, ◌&&◌, ◌||◌}
-use Rattle.std.specs.Int.{bit_at}
+use Rattle.std.specs.Prelude.{◌≡◌, ℕ, List, slice_get, Option, Some, None, Bool, false, ◌&&◌, ◌||◌}
 use Rattle.coap_server_listener.specs.streams.Turns.{PeerStatus, end_of}
 use Rattle.coap_server_listener.specs.declared.door.awake.Awake.{Awake}
 use Rattle.coap_server_listener.specs.declared.door.peer.Peer.{Peer}
 use Rattle.coap_server_engine.specs.declared.server.ChangeStamp.{ChangeStamp}
-
--- The bit of an index in words of 64 bits.
-abbrev pub bit_of : List ℕ → ℕ → ℕ
-bit_of words i = bit_at (get_or words (i / 64) 0) (i % 64)
-
--- The index does not belong to a set of indices with these words. Each index from 256 on belongs to every set.
-pub record IsOutside (words : List ℕ) (i : ℕ) : Type 0 where
-  pub within : i < 256
-  pub bit : bit_of words i ≡ 0
+use Rattle.coap_server_engine.specs.values.IndexSets.{IsOutside}
 
 -- The recorded readiness of a wire, or `false` if it records none.
 abbrev pub known : Option Bool → Bool

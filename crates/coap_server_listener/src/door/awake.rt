@@ -3,8 +3,7 @@
 ghost use Rattle.std.specs.Prelude.{◌≡◌, ◌≢◌, ℕ, ◌<◌, ◌≤◌, ◌||◌, true, is_some};
 ghost use Rattle.coap_server_listener.specs.Prelude.{ChangeStamp, IsOutside, bit_of};
 
-use super::index_set::IndexSet;
-use coap_server_engine::ChangeStamp;
+use coap_server_engine::{ChangeStamp, IndexSet};
 
 /// Number of connections that may sleep: those with a smaller index, whose wires have a smaller place.
 const SLEEPERS: usize = 256;

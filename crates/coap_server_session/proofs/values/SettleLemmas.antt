@@ -20,7 +20,7 @@ use Rattle.coap_model.proofs.world.EntryLemmas.{count_due, count_within, none_co
 
 -- ---- the number of pending entries
 
-reply_held : (l : LinkValue) (m : Message) → length (link_after l (call.Reply m)).held ≤ length l.held
+pub reply_held : (l : LinkValue) (m : Message) → length (link_after l (call.Reply m)).held ≤ length l.held
 reply_held l m =
     cond_both (answers l.phase) (link_with l (send (standing_in l) m (bare_response m))) l (λ k. length k.held ≤ length l.held)
     (λ _. send_held (standing_in l) m (bare_response m) (fit (limit_in l) m (bare_response m))) (λ _. omega arith)

@@ -142,6 +142,9 @@ module _ (host : ServerState) (v : SessionValue) (piece : List ℕ) (count : ℕ
   unfolding next_held_in next_stale
   refused_stays_settled settled = subst (λ (t : TakeOutcome). IsSettled host t.session) (sym front_taken) settled
 
+  pub refused_kept : (P : SessionValue → Type 0) → ((frame : List ℕ) → P (record v { frame = frame })) → P (taking host v (take count piece)).session
+  refused_kept P still = subst (λ (t : TakeOutcome). P t.session) (sym front_taken) (still _)
+
 -- ---- the server state
 
 pub host_stays : (host : ServerState) (c : Change) → changes c ≡ false → host_changed host c ≡ host

@@ -1,5 +1,5 @@
 -- Defined by this project: the connections and observers that a change may affect, and the changed marks after it.
-use Rattle.std.specs.Prelude.{◌≡◌, ◌≢◌, ℕ, ◌+◌, ◌*◌, ◌%◌, Bool, ◌||◌, false, List, [], ◌∷◌, map, nat_le, Option, Some, None, ◌==◌, if◌then◌else◌}
+use Rattle.std.specs.Prelude.{◌≡◌, ◌≢◌, ℕ, ◌+◌, ◌-◌, ◌*◌, ◌%◌, Bool, ◌||◌, false, List, [], ◌∷◌, length, map, nat_le, nat_lt, slice_get, Option, Some, None, option_map, ◌==◌, if◌then◌else◌}
 use Rattle.std.specs.List.{AllByRecursion, list_any}
 use Rattle.coap_path.specs.Paths.{Path}
 use Rattle.coap_store.specs.Answer.{Change, Nothing, Put, Delete}
@@ -51,6 +51,16 @@ has_come now (Some due) = nat_le due now
 abbrev pub may_touch : Cause → ℕ → SessionValue → Bool
 may_touch (cause.Path hash) now s = list_any (observes_hash hash) s.observers
 may_touch (cause.Moment before) now s = list_any is_time_observer s.observers || has_come now (due_on before s)
+
+-- `true` if a change may make something due on a connection at some time. A change of the time may do so if an entry is
+-- pending or an observer observes the time.
+abbrev pub may_concern : Cause → SessionValue → Bool
+may_concern (cause.Path hash) s = list_any (observes_hash hash) s.observers
+may_concern (cause.Moment before) s = nat_lt 0 (length s.link.held) || list_any is_time_observer s.observers
+
+-- The hash of the path of the last observer, if there is one.
+abbrev pub last_hash : List ObserverValue → Option ℕ
+last_hash observers = option_map (λ o. path_hash o.path) (slice_get observers (length observers - 1))
 
 -- Holds if a change cannot affect a connection. For a path, no observer's path has its hash. For the time, nothing
 -- became due after the previous time, up to `now`.

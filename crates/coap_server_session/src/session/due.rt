@@ -1,8 +1,9 @@
 //! The times and the changes that may make something due on a connection of a server.
 
-ghost use Rattle.std.specs.Prelude.{◌≡◌, ℕ, false, None, ◌+◌, ◌||◌, Some};
+ghost use Rattle.std.specs.Prelude.{◌≡◌, ℕ, false, None, ◌+◌, ◌||◌, Some, length, nat_lt};
 ghost use Rattle.coap_server_session.specs.Prelude.{sooner as lesser, IsUnaffected, ConcernsNone, due_on, IsBefore};
-ghost use Rattle.coap_server_session.specs.Prelude.{next_told as next_told_of, has_come, may_touch};
+ghost use Rattle.coap_server_session.specs.Prelude.{next_told as next_told_of, has_come, may_touch, may_concern};
+ghost use Rattle.coap_server_session.specs.Prelude.{last_hash, is_time_observer, list_any};
 
 use super::Session;
 use crate::cause::Cause;
@@ -27,9 +28,31 @@ impl Session {
         }
     }
 
+    /// Returns `true` if a change may make something due on this connection at some time.
+    ///
+    /// - `Cause::Path`: an observer observes a path with that hash.
+    /// - `Cause::Moment`: an entry is pending, or an observer observes the time.
+    pub fn may_be_touched(&self, cause: Cause) -> bool
+        ensures { result ≡ may_concern cause self.now.session }
+    {
+        match cause {
+            Cause::Path(hash) => self.observers.may_observe(hash),
+            Cause::Moment(_) => self.may_come_due(),
+        }
+    }
+
+    /// Returns the hash of the path of the last observer, or `None` if there is no observer.
+    pub fn last_observed(&self) -> Option<u8>
+        ensures { result ≡ last_hash self.now.session.observers }
+    {
+        self.observers.last_hash()
+    }
+
     /// Returns `true` if time alone may make something due: an entry is pending, or an observer observes the time.
     fn may_come_due(&self) -> bool
-        ensures { result ≡ false → (now : ℕ) → due_on now self.now.session ≡ None }
+        ensures exact { result
+            ≡ (nat_lt 0 (length self.now.session.link.held) || list_any is_time_observer self.now.session.observers) }
+        ensures never { result ≡ false → (now : ℕ) → due_on now self.now.session ≡ None }
     {
         self.link.pending() > 0 || self.observers.any_observes_time()
     }

@@ -1,6 +1,8 @@
 use Rattle.std.proofs.Common.{rules}
 use Rattle.coap_server_engine.proofs.values.ServerLemmas.{changed_server_or_not, changed_value_or_not, still_unmarked}
 use Rattle.coap_server_engine.proofs.world.CallLaws.{announce_shows}
+use Rattle.coap_server_session.proofs.values.ConcernLemmas.{announced_adds}
+use Rattle.coap_server_engine.proofs.values.ConcernedLemmas.{covered_changed_or_not}
 use Rattle.coap_server_engine.proofs.server.Server.announce.Goals as goal
 
 pub invariant_of-self : goal.invariant_of-self
@@ -9,6 +11,7 @@ invariant_of-self c =
     record {
       server = changed_server_or_not c.announce_at.result _ _ _ _ _ c.self.invariant.server c.in-Some.ensures.some e.ok (still_unmarked c.announce_at.result _ _ e.err);
       marked = e.marked;
+      covered = covered_changed_or_not c.announce_at.result _ _ _ _ _ _ (announced_adds c.args.new) e.ok (still_unmarked c.announce_at.result _ _ e.err) c.self.invariant.covered;
     }
 
 pub returns : goal.returns

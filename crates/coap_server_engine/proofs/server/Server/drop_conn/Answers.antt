@@ -6,12 +6,16 @@ use Rattle.coap_server_session.proofs.values.TagLemmas.{all_remove}
 use Rattle.coap_server_engine.proofs.world.CallLaws.{drop_shows}
 use Rattle.coap_server_engine.proofs.server.Server.drop_conn.Goals as goal
 
+pub fill-requires : goal.fill-requires
+fill-requires c = c.self.invariant.covered.many
+
 pub invariant_of-self : goal.invariant_of-self
 invariant_of-self c =
     let es = c.self.inside.sessions.entries in
     record {
       server = dropped_server _ _ _ _ c.self.invariant.server c.in-Some.ensures.some (ap unmarked c.shift_remove_index.ensures.entries ∙ map-remove unmarked_entry es c.in-Some.at);
       marked = rw c.shift_remove_index.ensures.entries (all_remove (λ e. IsMarked c.self.inside.host e.1) es c.in-Some.at c.self.invariant.marked);
+      covered = c.fill.ensures _;
     }
 
 pub returns : goal.returns

@@ -2,6 +2,8 @@ use Rattle.std.proofs.Common.{subst, sym}
 use Rattle.coap_server_engine.specs.Prelude.{AddsBytes, LiesAt}
 use Rattle.coap_server_engine.proofs.values.ServerLemmas.{unmarked_at, within_unmarked}
 use Rattle.coap_server_engine.proofs.values.TurnLemmas.{turned_server, turned_value, turned_lies}
+use Rattle.coap_server_session.proofs.values.ConcernLemmas.{written_adds}
+use Rattle.coap_server_engine.proofs.values.ConcernedLemmas.{covered_flushed}
 use Rattle.coap_server_engine.proofs.server.Server.flush_once_at.Goals as goal
 
 pub index-requires-2 : goal.index-requires-2
@@ -17,6 +19,7 @@ invariant_of-self-2 g c =
     record {
       server = turned_server _ _ _ _ c.self.invariant.server lies here _ (AddsBytes _ _) _ (c.in_ok-waited.ensures.ok _ here);
       marked = c.in_ok-waited.ensures.marked;
+      covered = covered_flushed _ _ _ c.index.result.now.session _ _ (AddsBytes _ _) _ written_adds (c.in_ok-waited.ensures.ok _ here) c.self.invariant.covered;
     }
 
 pub returns-clause-ok : goal.returns-clause-ok

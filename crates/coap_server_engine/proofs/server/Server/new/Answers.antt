@@ -1,6 +1,11 @@
-use Rattle.std.proofs.Common.{Ok, arith, rules}
+use Rattle.std.proofs.Common.{Ok, [], arith, rules}
 use Rattle.coap_server_engine.proofs.world.CallLaws.{new_shows}
 use Rattle.coap_server_engine.proofs.server.Server.new.Goals as goal
+
+pub invariant_of-result : goal.invariant_of-result
+invariant_of-result c =
+    rw c.in_ok-with_capacity.ensures.empty
+    (record { server = record { settled = tt; numbered = tt; few = omega arith }; marked = tt; covered = c.in_ok-new.ensures [] })
 
 pub returns-clause-shows : goal.returns-clause-shows
 returns-clause-shows c =

@@ -4,6 +4,7 @@ use Rattle.coap_server_engine.specs.Prelude.{LimitValues, MarkedSession, IsMarke
 use Rattle.coap_server_engine.specs.Prelude.{new_session, changed_mark, server_value}
 use Rattle.coap_server_engine.proofs.values.ServerLemmas.{opens, opened_server, opened_value, inserted_unmarked, all_inserted}
 use Rattle.coap_server_engine.proofs.world.CallLaws.{open_shows}
+use Rattle.coap_server_engine.proofs.values.ConcernedLemmas.{covered_opened}
 use Rattle.coap_server_engine.proofs.server.Server.open.Goals as goal
 
 pub invariant_of-self-2 : goal.invariant_of-self-2
@@ -19,6 +20,7 @@ invariant_of-self-2 c =
     record {
       server = opened_server _ _ c.self.invariant.server inserted (omega (arith, length-map es unmarked_entry));
       marked = rw c.in-Ok-insert.ensures.entries (all_inserted (IsMarked host) es id c.in-Ok.session c.self.invariant.marked none);
+      covered = covered_opened _ id _ _ _ inserted c.self.invariant.covered;
     }
 
 pub returns-clause-ok : goal.returns-clause-ok

@@ -12,6 +12,10 @@ use Rattle.coap_server_engine.proofs.world.HandledLaws.{take_says}
 use Rattle.coap_server_engine.proofs.world.RefusedLaws.{take_refused_for}
 use Rattle.coap_model.specs.declared.answers.TakeFault.TheVariants as taking
 use Rattle.coap_server_engine.proofs.values.TurnLemmas.{same_session}
+use Rattle.coap_server_engine.specs.Prelude.{AreCovered, AreCoveredBut}
+use Rattle.coap_server_session.proofs.values.ConcernLemmas.{AddsNone, AddsLast, same_adds, taking_adds_last}
+use Rattle.coap_server_session.proofs.values.TakenLemmas.{refused_kept}
+use Rattle.coap_server_engine.proofs.values.ConcernedLemmas.{covered_kept, covered_taken}
 use Rattle.coap_server_engine.proofs.server.Server.take_at.Goals as goal
 
 pub take-requires : goal.take-requires
@@ -25,11 +29,15 @@ invariant_of-self c =
     let at = c.args.index.at in
     let new = c.take.new.self in
     let v = server_value c.self.inside in
+    let here = unmarked_at es at _ c.index_mut.ensures.value in
+    let s = c.index_mut.result.now.session in
+    let adds : AddsNone s new.session = subst (AddsNone s) (sym e.kept) (refused_kept c.self.inside.host s c.args.piece.now _ e.refused (AddsNone s) (same_adds s)) in
     let server = refused_server v _ _ _ c.args.piece.now _ c.self.invariant.server lies (unmarked_at es at _ c.index_mut.ensures.value) e.refused c.take.new.host new.session e.kept e.unchanged in
     let written = subst (λ (fs : Entries). IsServer (record v { host = c.take.new.host; sessions = fs })) (sym (set_unmarked es at new new.session refl)) server in
     record {
       server = record { settled = written.settled; numbered = written.numbered; few = written.few };
       marked = rw e.unchanged (all_written (IsMarked c.self.inside.host) es at new c.self.invariant.marked (rw e.unchanged at c.take.ensures.marked));
+      covered = subst (AreCovered c.self.inside.sets) (sym (set_unmarked es at new new.session refl)) (covered_kept c.self.inside.sets at _ _ new.session here adds c.self.invariant.covered);
     }
 
 pub returns-in-Err : goal.returns-in-Err
@@ -58,8 +66,12 @@ settle_after-requires c =
     let new = c.take.new.self in
     let host = c.self.inside.host in
     let others = others_settled host _ at _ new.session c.in-Ok.taking.changed e.changed c.self.invariant.server.settled in
+    let here = unmarked_at es at _ c.index_mut.ensures.value in
+    let s = c.index_mut.result.now.session in
+    let adds : AddsLast s new.session = subst (AddsLast s) (sym e.after) (taking_adds_last host s c.args.piece.now) in
     record {
       within = omega (arith, length-written es at new, length-map es unmarked_entry, lies.within);
+      covered = subst (AreCoveredBut at c.self.inside.sets) (sym (set_unmarked es at new new.session refl)) (covered_taken c.self.inside.sets at _ s new.session here adds c.self.invariant.covered);
       others = subst (AreOthersSettled c.in-Ok.taking.changed at c.take.new.host) (sym (set_unmarked es at new new.session refl)) (rw e.host others);
       marked = rw e.host (marked_after_take host _ at es new c.in-Ok.taking.changed e.changed c.self.invariant.marked (rw e.host at c.take.ensures.marked));
       own = own_written (IsMarked c.take.new.host) es at new c.take.ensures.marked;
@@ -91,6 +103,7 @@ invariant_of-self-in-Ok c =
     record {
       server = record { settled = taken.settled; numbered = taken.numbered; few = taken.few };
       marked = c.settle_after.ensures.marked;
+      covered = c.settle_after.ensures.covered;
     }
 
 pub returns-in-Ok : goal.returns-in-Ok

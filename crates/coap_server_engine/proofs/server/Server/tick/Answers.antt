@@ -7,14 +7,19 @@ use Rattle.coap_server_session.proofs.values.DueLemmas.{at_moment}
 use Rattle.coap_server_engine.proofs.values.ServerLemmas.{Entries, settled_server, same_moment}
 use Rattle.coap_server_engine.proofs.values.ServerCauseLemmas.{untouched_by_moment, all_but_later, none_touched}
 use Rattle.coap_server_engine.proofs.world.CallLaws.{tick_shows}
+use Rattle.coap_server_engine.proofs.values.ConcernedLemmas.{covered_settled, covered_time}
 use Rattle.coap_server_engine.proofs.server.Server.tick.Goals.{Else-is_some}
 use Rattle.coap_server_engine.proofs.server.Server.tick.Goals as goal
+
+pub next_touched-requires : goal.next_touched-requires
+next_touched-requires c = record { from = omega arith; covered = c.self.invariant.covered.time c.stamp-before.result.moment }
 
 pub settle_touched-requires : goal.settle_touched-requires
 settle_touched-requires c =
     let store = rw (← c.self.view_is) at c.stamp-before.ensures.store in
     let before : c.stamp-before.result.moment ≡ c.self.inside.host.now = rw (c.stamp-before.ensures.stamp, ← c.self.view_is) in
     rw (c.keep_moment.ensures, c.move_to.ensures) (record {
+      covered = c.next_touched.ensures.covered;
       settled = rw before (untouched_by_moment c.self.inside.host c.args.now _ store (omega (arith, before)) c.ranges.now.fits c.self.invariant.server.settled);
       marked = all_but_later c.self.inside.host c.args.now _ _ store c.self.invariant.marked;
     })
@@ -22,7 +27,11 @@ settle_touched-requires c =
 pub invariant_of-self : goal.invariant_of-self
 invariant_of-self c =
     let was = c.self.invariant.server in
-    record { server = settled_server _ _ c.settle_touched.ensures.after was.numbered was.few; marked = c.settle_touched.ensures.marked }
+    record {
+      server = settled_server _ _ c.settle_touched.ensures.after was.numbered was.few;
+      marked = c.settle_touched.ensures.marked;
+      covered = covered_time c.self.inside.sets _ _ refl (λ _. c.settle_touched.ensures.covered) (covered_settled _ _ _ _ c.settle_touched.ensures.after c.self.invariant.covered);
+    }
 
 pub returns-then-is_some-clause-shows : goal.returns-then-is_some-clause-shows
 returns-then-is_some-clause-shows c = tick_shows {T = Unit {0}} {F = Unit {0}} (Ok tt) c.args.self.now _ c.args.now c.ranges.now.fits (search rules) (search rules)
@@ -44,7 +53,11 @@ pub invariant_of-self-else-is_some : goal.invariant_of-self-else-is_some
 invariant_of-self-else-is_some c =
     let was = c.self.invariant.server in
     let all = all_stay c in
-    record { server = settled_server _ _ all.0 was.numbered was.few; marked = all.1 }
+    record {
+      server = settled_server _ _ all.0 was.numbered was.few;
+      marked = all.1;
+      covered = covered_time c.self.inside.sets _ _ refl (λ _. c.next_touched.ensures.covered) c.self.invariant.covered;
+    }
 
 pub returns-else-is_some : goal.returns-else-is_some
 returns-else-is_some c =

@@ -1,10 +1,12 @@
 use Rattle.std.proofs.Common.{Ok, arith}
 use Rattle.coap_server_engine.proofs.values.ServerLemmas.{changed_server, changed_value, enough_waits, unmarked_at}
 use Rattle.coap_server_engine.proofs.world.CallLaws.{written_shows}
+use Rattle.coap_server_session.proofs.values.ConcernLemmas.{written_adds}
+use Rattle.coap_server_engine.proofs.values.ConcernedLemmas.{covered_changed}
 use Rattle.coap_server_engine.proofs.server.Server.written.Goals as goal
 
 pub invariant_of-self : goal.invariant_of-self
-invariant_of-self c = record { server = changed_server _ _ _ _ _ c.self.invariant.server c.in-Some.ensures.some c.written_at.ensures.after; marked = c.written_at.ensures.marked }
+invariant_of-self c = record { server = changed_server _ _ _ _ _ c.self.invariant.server c.in-Some.ensures.some c.written_at.ensures.after; marked = c.written_at.ensures.marked; covered = covered_changed _ _ _ _ _ _ (written_adds c.args.count) c.written_at.ensures.after c.self.invariant.covered }
 
 pub returns-clause-ok : goal.returns-clause-ok
 returns-clause-ok c = rw (← c.self.view_is) (changed_value _ _ _ _ _ c.self.invariant.server c.in-Some.ensures.some c.written_at.ensures.after)

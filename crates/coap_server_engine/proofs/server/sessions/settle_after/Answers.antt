@@ -5,7 +5,12 @@ use Rattle.coap_server_session.specs.declared.cause.Cause.TheVariants as cause
 use Rattle.coap_server_engine.proofs.values.ServerLemmas.{splits_written, written_unmarked, set_unmarked, unmarked_at, all_written}
 use Rattle.coap_server_session.proofs.values.CauseLemmas.{but_none}
 use Rattle.coap_server_engine.proofs.values.ServerCauseLemmas.{others_untouched, all_settle}
+use Rattle.coap_server_session.proofs.values.ConcernLemmas.{held_adds}
+use Rattle.coap_server_engine.proofs.values.ConcernedLemmas.{covered_changed_by, covered_one_marked}
 use Rattle.coap_server_engine.proofs.server.sessions.settle_after.Goals as goal
+
+pub note-requires : goal.note-requires
+note-requires c = c.requires.covered.many
 
 pub settle_if_pending-requires : goal.settle_if_pending-requires
 settle_if_pending-requires c = subst (λ (o : Option MarkedSession). IfSome o (IsMarked c.args.host.now)) c.index_mut.ensures.value c.requires.own
@@ -19,13 +24,14 @@ returns-in-None c =
       splits = splits_written es c.args.at c.index_mut.result.now _ c.index_mut.ensures.value e.split;
       after = written_unmarked (settled_held host) es c.args.at _ _ c.index_mut.ensures.value e.after;
       marked = all_written (IsMarked host) es c.args.at _ (rw c.in-None.is at c.requires.marked) e.marked;
+      covered = covered_changed_by _ c.args.at (settled_held host) _ _ (held_adds host) (written_unmarked (settled_held host) es c.args.at _ _ c.index_mut.ensures.value e.after) (c.note.ensures _ (unmarked_at es c.args.at _ c.index.ensures) c.requires.covered);
     })
 
 pub settle-requires : goal.settle-requires
 settle-requires c = subst (λ (o : Option MarkedSession). IfSome o (IsMarked c.args.host.now)) c.index_mut-in-Some.ensures.value c.requires.own
 
-pub settle_touched-requires : goal.settle_touched-requires
-settle_touched-requires c =
+pub settle_observers-requires : goal.settle_observers-requires
+settle_observers-requires c =
     let host = c.args.host.now in
     let es = c.args.sessions.now.entries in
     let why = cause.Path c.in-Some.hash in
@@ -33,6 +39,7 @@ settle_touched-requires c =
     let e = c.settle.ensures in
     let others = others_untouched host c.args.at c.in-Some.hash _ _ _ (unmarked_at es c.args.at _ c.index_mut-in-Some.ensures.value) e.after (rw c.in-Some.is at c.requires.others) in
     record {
+      covered = covered_one_marked _ host c.args.at es _ now c.index_mut-in-Some.ensures.value e.after (c.note.ensures _ (unmarked_at es c.args.at _ c.index.ensures) c.requires.covered);
       settled = subst (UnaffectedAreSettled why host) (sym (set_unmarked es c.args.at now now.session refl)) others;
       marked = all_written (IsMarkedBut why host) es c.args.at now (rw c.in-Some.is at c.requires.marked) (but_none why host now e.marked);
     }
@@ -42,6 +49,6 @@ returns-in-Some c =
     let host = c.args.host.now in
     let es = c.args.sessions.now.entries in
     let now = c.settle.new.self in
-    let e = c.settle_touched.ensures in
+    let e = c.settle_observers.ensures in
     let all = all_settle host c.args.at c.in-Some.hash _ _ _ (unmarked_at es c.args.at _ c.index_mut-in-Some.ensures.value) c.settle.ensures.after in
-    rw c.in-Some.is (record { splits = e.splits ∙ splits_written es c.args.at c.index_mut-in-Some.result.now now c.index_mut-in-Some.ensures.value c.settle.ensures.split; after = e.after ∙ ap (map (settled_entry host)) (set_unmarked es c.args.at now now.session refl) ∙ all; marked = e.marked })
+    rw c.in-Some.is (record { splits = e.splits ∙ splits_written es c.args.at c.index_mut-in-Some.result.now now c.index_mut-in-Some.ensures.value c.settle.ensures.split; after = e.after ∙ ap (map (settled_entry host)) (set_unmarked es c.args.at now now.session refl) ∙ all; marked = e.marked; covered = e.covered })

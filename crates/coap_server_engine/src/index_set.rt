@@ -1,7 +1,7 @@
 //! Sets of the indices of connections.
 
-ghost use Rattle.std.specs.Prelude.{◌≡◌, ◌≢◌, ℕ, ◌<◌, ◌≤◌};
-ghost use Rattle.coap_server_listener.specs.streams.Sleepers.{bit_of, IsOutside};
+ghost use Rattle.std.specs.Prelude.{◌≡◌, ◌≢◌, ℕ, ◌<◌, ◌≤◌, true, false};
+ghost use Rattle.coap_server_engine.specs.Prelude.{bit_of, IsOutside};
 
 /// Number of the indices that a set may lack. Every other index belongs to each set.
 const LIMIT: usize = 256;
@@ -12,16 +12,16 @@ const WORD: usize = 64;
 /// Number of words.
 const WORDS: usize = 4;
 
-/// Set of indices. Each index from 256 on belongs to it.
-#[derive(Drop)]
-pub(super) struct IndexSet {
+/// Set of indices of connections. Each index from 256 on belongs to it.
+#[derive(Clone, Copy)]
+pub struct IndexSet {
     /// Bit `i % 64` of word `i / 64` is set if index `i` belongs to the set.
-    words: [u64; WORDS],
+    pub words: [u64; WORDS],
 }
 
 impl IndexSet {
     /// Returns the set of all indices.
-    pub(super) fn full() -> IndexSet
+    pub fn full() -> IndexSet
         ensures { (i : ℕ) → i < 256 → bit_of result.words i ≡ 1 }
     {
         IndexSet {
@@ -30,7 +30,7 @@ impl IndexSet {
     }
 
     /// Adds an index.
-    pub(super) fn insert(&mut self, at: usize)
+    pub fn insert(&mut self, at: usize)
         ensures set { at < 256 → bit_of self.new.words at ≡ 1 }
         ensures others { (i : ℕ) → i ≢ at → bit_of self.new.words i ≡ bit_of self.old.words i }
     {
@@ -40,7 +40,7 @@ impl IndexSet {
     }
 
     /// Removes an index, if it is less than 256.
-    pub(super) fn remove(&mut self, at: usize)
+    pub fn remove(&mut self, at: usize)
         ensures clear { at < 256 → bit_of self.new.words at ≡ 0 }
         ensures others { (i : ℕ) → i ≢ at → bit_of self.new.words i ≡ bit_of self.old.words i }
     {
@@ -49,8 +49,19 @@ impl IndexSet {
         }
     }
 
+    /// Removes an index as `remove` does, unless `keeps` is `true`.
+    pub(crate) fn remove_unless(&mut self, at: usize, keeps: bool)
+        ensures kept { keeps ≡ true → self.new ≡ self.old }
+        ensures clear { keeps ≡ false → at < 256 → bit_of self.new.words at ≡ 0 }
+        ensures others { (i : ℕ) → i ≢ at → bit_of self.new.words i ≡ bit_of self.old.words i }
+    {
+        if !keeps {
+            self.remove(at);
+        }
+    }
+
     /// Returns the first index of the set from `from` on, or `end` if that is less.
-    pub(super) fn next(&self, from: usize, end: usize) -> usize
+    pub fn next(&self, from: usize, end: usize) -> usize
         requires { from ≤ end }
         ensures from { from ≤ result }
         ensures within { result ≤ end }

@@ -1,6 +1,6 @@
 use Rattle.std.proofs.Common.{◌<◌, ◌/◌, length, rules}
-use Rattle.coap_server_listener.proofs.streams.IndexSetLemmas.{removed_same, removed_other}
-use Rattle.coap_server_listener.proofs.door.index_set.IndexSet.remove.Goals as goal
+use Rattle.coap_server_engine.proofs.values.IndexSetLemmas.{removed_same, removed_other}
+use Rattle.coap_server_engine.proofs.index_set.IndexSet.remove.Goals as goal
 
 pub returns-then-at-lt-LIMIT-clause-clear : goal.returns-then-at-lt-LIMIT-clause-clear
 returns-then-at-lt-LIMIT-clause-clear c small =

@@ -1,8 +1,8 @@
 use Rattle.std.proofs.Common.{◌≡◌, ◌+◌, ◌*◌, ◌≤◌, ◌/◌, ◌%◌, ◌^◌, get_or, inl, inr, arith, rules, w64}
 use Rattle.std.proofs.lemmas.Bool.{cases_lt}
 use Rattle.std.specs.Int.{trailing_zeros}
-use Rattle.coap_server_listener.proofs.streams.IndexSetLemmas.{first_between, first_found, none_from, none_in_word, before_lowest, lowest_found}
-use Rattle.coap_server_listener.proofs.door.index_set.IndexSet.next.Goals as goal
+use Rattle.coap_server_engine.proofs.values.IndexSetLemmas.{first_between, first_found, none_from, none_in_word, before_lowest, lowest_found}
+use Rattle.coap_server_engine.proofs.index_set.IndexSet.next.Goals as goal
 
 pub returns-then-left-ne0-clause-between : goal.returns-then-left-ne0-clause-between
 returns-then-left-ne0-clause-between c i after before =

@@ -4,7 +4,7 @@ use Rattle.std.specs.Int.{bit_at, bit_not, trailing_zeros}
 use Rattle.std.proofs.lemmas.Bool.{cases_eq, cases_lt}
 use Rattle.std.proofs.lemmas.Nat.{shr-shr}
 use Rattle.std.proofs.lemmas.Nat.Bits.{bit_at-zero, bit_at-trailing_zeros, bit_at_set_same, bit_at_set_other, bit_at_clear_same, bit_at_clear_other, bit_at_ones, bit_at_above}
-use Rattle.coap_server_listener.specs.Prelude.{bit_of, IsOutside}
+use Rattle.coap_server_engine.specs.Prelude.{bit_of, IsOutside}
 
 module _ (words : List ℕ) (at word : ℕ) (within : at / 64 < length words) where
   set_same : bit_of (set words (at / 64) word) at ≡ bit_at word (at % 64)

@@ -1,6 +1,6 @@
 use Rattle.std.proofs.Common.{ℕ, ◌*◌, ◌<◌, ◌≤◌}
-use Rattle.coap_server_listener.specs.Prelude.{IsOutside}
-use Rattle.coap_server_listener.proofs.door.index_set.IndexSet.next.Given as goal
+use Rattle.coap_server_engine.specs.Prelude.{IsOutside}
+use Rattle.coap_server_engine.proofs.index_set.IndexSet.next.Given as goal
 
 -- No index of the words before this one belongs to the set.
 abbrev pub invariant-loop-word : goal.invariant-loop-word

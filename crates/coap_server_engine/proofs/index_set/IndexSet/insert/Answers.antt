@@ -1,6 +1,6 @@
 use Rattle.std.proofs.Common.{◌<◌, ◌/◌, length, rules}
-use Rattle.coap_server_listener.proofs.streams.IndexSetLemmas.{inserted_same, inserted_other}
-use Rattle.coap_server_listener.proofs.door.index_set.IndexSet.insert.Goals as goal
+use Rattle.coap_server_engine.proofs.values.IndexSetLemmas.{inserted_same, inserted_other}
+use Rattle.coap_server_engine.proofs.index_set.IndexSet.insert.Goals as goal
 
 pub returns-then-at-lt-LIMIT-clause-set : goal.returns-then-at-lt-LIMIT-clause-set
 returns-then-at-lt-LIMIT-clause-set c small =

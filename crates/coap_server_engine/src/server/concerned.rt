@@ -1,0 +1,77 @@
+//! The connections of a server that a change may concern.
+
+ghost use Rattle.std.specs.Prelude.{◌≡◌, Some, IfOk, List, ℕ, length, slice_get};
+ghost use Rattle.coap_server_engine.specs.Prelude.{AreCovered, AreCoveredBut, SessionValue, values_of};
+
+use crate::index_set::IndexSet;
+use coap_server_session::Session;
+use std::alloc::{AllocError, Global};
+
+/// Number of the hashes of paths.
+const HASHES: usize = 256;
+
+/// Sets of the indices of connections that a change may concern. A change looks at the connections of its set alone.
+///
+/// A set may have other connections too. A search removes those that it finds.
+#[derive(Drop)]
+pub(super) struct Concerned {
+    /// Connections with an observer of a path, by the hash of the path.
+    pub paths: Vec<IndexSet>,
+    /// Connections with a pending entry or an observer of the time.
+    pub time: IndexSet,
+}
+
+impl Concerned {
+    /// Returns sets that have all indices. All memory is allocated here.
+    ///
+    /// # Errors
+    ///
+    /// Returns `AllocError` if allocation fails.
+    pub(super) fn new(alloc: Global) -> Result<Concerned, AllocError>
+        ensures { IfOk result (λ c. (sessions : List (ℕ × SessionValue)) → AreCovered c sessions) }
+    {
+        Ok(Concerned {
+            paths: vec![in alloc; IndexSet::full(); HASHES]?,
+            time: IndexSet::full(),
+        })
+    }
+
+    /// Adds all indices to each set. Call this when connections change their indices.
+    pub(super) fn fill(&mut self)
+        requires { length self.old.paths.items ≡ 256 }
+        ensures { (sessions : List (ℕ × SessionValue)) → AreCovered self.new sessions }
+    {
+        self.paths.fill(IndexSet::full());
+        self.time = IndexSet::full();
+    }
+
+    /// Adds a connection, at this index, to the set of its last observer. If it has an observer or a pending entry, it is
+    /// added to the set of the time too.
+    ///
+    /// A message adds at most one observer to a connection, at the end of the list.
+    #[inline]
+    pub(super) fn note(&mut self, session: &Session, at: usize)
+        requires { length self.old.paths.items ≡ 256 }
+        ensures { (sessions : List (ℕ × SessionValue)) →
+            slice_get (values_of sessions) at ≡ Some session.now.session →
+            AreCoveredBut at self.old sessions → AreCovered self.new sessions }
+    {
+        if session.settle_bound() > 0 {
+            self.note_busy(session, at);
+        }
+    }
+
+    /// Does the same as `note` for a connection with an observer or a pending entry.
+    // A separate function, so that `note` costs one comparison on a connection with neither.
+    fn note_busy(&mut self, session: &Session, at: usize)
+        requires { length self.old.paths.items ≡ 256 }
+        ensures { (sessions : List (ℕ × SessionValue)) →
+            slice_get (values_of sessions) at ≡ Some session.now.session →
+            AreCoveredBut at self.old sessions → AreCovered self.new sessions }
+    {
+        self.time.insert(at);
+        if let Some(hash) = session.last_observed() {
+            self.paths[usize::from(hash)].insert(at);
+        }
+    }
+}
