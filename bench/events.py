@@ -29,9 +29,12 @@ ROWS = [
     ("resources", "resources", [Setting(0, 0, it) for it in (1, 10, 100, 300, 998)]),
 ]
 
+# Limits beside all other connections: the ratio of the cost of a PUT to that without them, and the instructions of a tick.
+IDLE_TIMES, IDLE_TICK = 1.3, 500
+
 # Limits beside connections that each observe another resource as often as possible. The first is the ratio of the cost of a PUT to that without
 # observers. The second is the number of instructions of a tick for each of these connections.
-PUT_TIMES, TICK_EACH = 1.5, 20
+PUT_TIMES, TICK_EACH = 1.1, 2
 
 # Maximum instructions of a notification with its drain, number of notified connections, and number of changes.
 NOTIFIED_EACH, TOLD, CHANGES = 880, 255, 20
@@ -88,16 +91,20 @@ def costs(setting):
         yield round((spent - nothing) / TIMES)
 
 
-def judged(rows):
-    """Prints whether observers of another resource meet the limits, from the first and the last row of settings with observers."""
+def judged(changed, rows):
+    """Prints whether the first and the last row of a table meet the limits beside other connections, or beside observers of another resource. The
+    table of resources has none."""
     (_, _, put_alone, _), (_, _, put_beside, tick) = rows[0], rows[-1]
     times, each = put_beside / put_alone, tick / ROWS[1][2][-1].connections
-    met = times <= PUT_TIMES, each <= TICK_EACH
-    words = [f"a PUT beside observers of another resource, {times:.2f} times, at most {PUT_TIMES}",
-             f"a tick for each connection that does not observe /time, {each:.0f}, at most {TICK_EACH}"]
-    for one, said in zip(met, words):
+    limits = {
+        "connections": ((times <= IDLE_TIMES, f"a PUT beside idle connections, {times:.2f} times, at most {IDLE_TIMES}"),
+                        (tick <= IDLE_TICK, f"a tick beside idle connections, {tick:,} instructions, at most {IDLE_TICK}")),
+        "observers": ((times <= PUT_TIMES, f"a PUT beside observers of another resource, {times:.2f} times, at most {PUT_TIMES}"),
+                      (each <= TICK_EACH, f"a tick for each connection that does not observe /time, {each:.1f}, at most {TICK_EACH}")),
+    }.get(changed, ())
+    for one, said in limits:
         print(f"{'met' if one else 'MISSED'}: {said}", flush=True)
-    return all(met)
+    return all(one for one, _ in limits)
 
 
 def notified():
@@ -191,7 +198,7 @@ def over_settings():
         for setting in settings:
             rows.append([getattr(setting, changed), *costs(setting)])
             print("| %s |" % " | ".join(f"{it:,}" for it in rows[-1]), flush=True)
-        met = judged(rows) and met if changed == "observers" else met
+        met = judged(changed, rows) and met
         tables.append(pictures.table(title, [changed, "GET", "PUT", "tick"], rows))
     met = notified() and met
     met = together() and met

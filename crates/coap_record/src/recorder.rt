@@ -84,7 +84,7 @@ impl<O: Outlet + Drop> Recorder<O> {
     }
 
     /// Writes the line of a call of `open`, unless the record has ended.
-    #[tactic(auto, using(crate::proofs::RecordLemmas::record_goes_on, crate::proofs::RecordLemmas::record_stays))]
+    #[tactic(auto, using(crate::proofs::RecordLemmas::record_stays))]
     pub fn record_opened(&mut self, id: ConnId)
         ensures follows { (header : List ℕ) (calls : List AcceptedCall) →
             IsRecordOf header (⟦<BufferedOutlet<O> as Outlet>⟧.is_failed self.old.outlet)

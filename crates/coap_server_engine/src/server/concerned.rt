@@ -49,7 +49,7 @@ impl Concerned {
     /// added to the set of the time too.
     ///
     /// A message adds at most one observer to a connection, at the end of the list.
-    #[inline]
+    #[inline(always)]
     pub(super) fn note(&mut self, session: &Session, at: usize)
         requires { length self.old.paths.items ≡ 256 }
         ensures { (sessions : List (ℕ × SessionValue)) →
@@ -62,7 +62,8 @@ impl Concerned {
     }
 
     /// Does the same as `note` for a connection with an observer or a pending entry.
-    // A separate function, so that `note` costs one comparison on a connection with neither.
+    // Never inlined, so that `note` costs one comparison on a connection with neither.
+    #[inline(never)]
     fn note_busy(&mut self, session: &Session, at: usize)
         requires { length self.old.paths.items ≡ 256 }
         ensures { (sessions : List (ℕ × SessionValue)) →

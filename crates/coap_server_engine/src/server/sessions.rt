@@ -87,6 +87,8 @@ pub(super) fn settle_touched(
 }
 
 /// Settles every connection that a change of a path with this hash may affect, as `settle_touched` does.
+// Never inlined, since most messages change nothing.
+#[inline(never)]
 pub(super) fn settle_observers(
     sets: &mut Concerned,
     sessions: &mut Sessions,
@@ -112,6 +114,8 @@ pub(super) fn settle_observers(
 
 /// Settles every connection if the one at an index, which received a message, changed the resource at a path with this
 /// hash. If nothing changed, settles only that connection, and only if an entry is pending.
+// Always inlined: a message that changes nothing then costs two comparisons, and no call.
+#[inline(always)]
 pub(super) fn settle_after(
     changed: Option<u8>,
     sets: &mut Concerned,
