@@ -37,8 +37,8 @@ BYTES = [
 FakeSetting = collections.namedtuple("FakeSetting", ["port", "folder"])
 
 
-def run(words, **how):
-    return subprocess.run(words, stdin=subprocess.DEVNULL, capture_output=True, text=True, timeout=LIMIT, **how)
+def run(words, limit=LIMIT, **how):
+    return subprocess.run(words, stdin=subprocess.DEVNULL, capture_output=True, text=True, timeout=limit, **how)
 
 
 def write_file(path, text, mode=0o644):

@@ -8,6 +8,9 @@ from gateway_checks import run
 from gateways import CREATED, PREFIX, PUT, Gateway, Setting
 from workspace import ROOT
 
+# Seconds that the compiler has for the gateway beside other steps.
+COMPILING = 600
+
 GOOD_NUMBERS = ["65536", "065536", "00000000000000065536"]
 
 BAD_NUMBERS = ["000000000000000065536", "+65536", " 65536", "65536 ", "0x10000", ""]
@@ -70,7 +73,7 @@ def check_flags(checks, program):
             os.mkdir(f"{folder}/{name}")
         os.symlink(f"{os.path.dirname(program)}/libcoap_proved.a", f"{folder}/bin/libcoap_proved.a")
         flags = ["CPPFLAGS=-Wdate-time -D_FORTIFY_SOURCE=3", "CFLAGS=-g -O2 -Werror=format-security"]
-        built = run(["make", "-C", folder, "--silent", "-o", "bin/libcoap_proved.a", "bin/coap-mqtt", *flags])
+        built = run(["make", "-C", folder, "--silent", "-o", "bin/libcoap_proved.a", "bin/coap-mqtt", *flags], COMPILING)
         checks.same("remarks of the compiler", (built.returncode, built.stderr), (0, ""))
         for of in (program, f"{folder}/bin/coap-mqtt"):
             parts, entries = (run(["readelf", it, "-W", of]).stdout for it in ("-l", "-d"))
