@@ -12,7 +12,7 @@ use denote.Struct.Owning.{shape}
 use denote.Struct.Struct.{within}
 use Rattle.std.specs.declared.option.Option.{Option}
 use Rattle.coap_handle.proofs.Slots.{handle_val}
-use Rattle.coap_application.specs.Applications.{ApplicationsValue}
+use Rattle.coap_path.specs.Applications.{ApplicationsValue}
 use Rattle.coap_c.specs.ApplicationsSlots.{applications_slot}
 use Rattle.coap_c.specs.contracts.applications_handle.ApplicationsHandle as handle
 

@@ -1,8 +1,8 @@
 -- Defined by this project: the results of the calls on the handle of entries, and of the call that makes a server of them.
 use Rattle.std.specs.Prelude.{◌≡◌, ℕ, Bool, true, false, ◌==◌, List, [], Option, Some, None, option_map, ◌⊎◌}
 use Rattle.coap_path.specs.Paths.{Path}
-use Rattle.coap_application.specs.Applications.{ApplicationsValue}
-use Rattle.coap_application.specs.Refusals.{entry_refusal, with_entry}
+use Rattle.coap_path.specs.Applications.{ApplicationsValue}
+use Rattle.coap_path.specs.Refusals.{entry_refusal, with_entry}
 use Rattle.coap_server_engine.specs.values.Servers.{ServerValue, config_with, new_server}
 use Rattle.coap_server_engine.specs.world.Shows.{Shows}
 use Rattle.coap_c.specs.Numbers.{entry_code}

@@ -3,8 +3,8 @@ use base.Fml.{Fml}
 use denote.RawPtr.{Ptr}
 use Rattle.std.specs.declared.option.Option.{Option}
 use Rattle.coap_handle.specs.Slots.{slot_owns}
-use Rattle.coap_application.specs.contracts.applications.Applications as applications
-use Rattle.coap_application.specs.Applications.{ApplicationsValue}
+use Rattle.coap_path.specs.contracts.applications.Applications as applications
+use Rattle.coap_path.specs.Applications.{ApplicationsValue}
 
 -- The handle of entries owns their box.
 abbrev pub applications_slot : Ptr → Option ApplicationsValue → Fml

@@ -2,7 +2,7 @@
 use Rattle.std.specs.Prelude.{◌≡◌, ℕ, ◌+◌, Bool, List, [], ◌∷◌, ◌++◌, length, take, Option, Some, None, option_map, Result, Ok, Err, nat_lt, if◌then◌else◌, ◌⊎◌}
 use Rattle.std.specs.Str.{IsUtf8}
 use Rattle.coap_wire.specs.Uint.{bytes_of_uint}
-use Rattle.coap_limits.specs.Limits.{LimitValues, limits_of, limit_refusal}
+use Rattle.coap_conn.specs.Limits.{LimitValues, limits_of, limit_refusal}
 use Rattle.coap_conn.specs.RequestState.{next_token}
 use Rattle.coap_request.specs.Requests.{ExtrasValue}
 use Rattle.coap_request.specs.Targets.{TargetValue, target_of}

@@ -8,8 +8,8 @@ use Rattle.std.specs.Prelude.{ℕ}
 use Rattle.coap_conn.specs.Reasons.{reason_number}
 use Rattle.coap_conn.specs.declared.phase.Phase.{Phase}
 use Rattle.coap_conn.specs.declared.phase.Phase.TheVariants as phase
-use Rattle.coap_limits.specs.declared.limits.LimitFault.{LimitFault}
-use Rattle.coap_limits.specs.declared.limits.LimitFault.TheVariants as limit
+use Rattle.coap_conn.specs.declared.limits.LimitFault.{LimitFault}
+use Rattle.coap_conn.specs.declared.limits.LimitFault.TheVariants as limit
 use Rattle.coap_model.specs.declared.answers.AnnounceFault.{AnnounceFault}
 use Rattle.coap_model.specs.declared.answers.AnnounceFault.TheVariants as announcing
 use Rattle.coap_model.specs.declared.answers.Handled.{Handled}
@@ -24,8 +24,8 @@ use Rattle.coap_model.specs.declared.config.ConfigFault.{ConfigFault}
 use Rattle.coap_model.specs.declared.config.ConfigFault.TheVariants as config
 use Rattle.coap_wire.specs.declared.fault.FormatFault.{FormatFault}
 use Rattle.coap_wire.specs.declared.fault.FormatFault.TheVariants as format
-use Rattle.coap_application.specs.declared.fault.ApplicationFault.{ApplicationFault}
-use Rattle.coap_application.specs.declared.fault.ApplicationFault.TheVariants as application
+use Rattle.coap_path.specs.declared.fault.ApplicationFault.{ApplicationFault}
+use Rattle.coap_path.specs.declared.fault.ApplicationFault.TheVariants as application
 use Rattle.coap_conn.specs.declared.phase.Reply.{Reply}
 use Rattle.coap_conn.specs.declared.phase.Reply.TheVariants as reply
 use Rattle.coap_model.specs.declared.answers.ResponseFault.{ResponseFault}

@@ -1,7 +1,7 @@
 -- Defined by this project: the configuration that a C program names, and the number of the first value out of range.
 use Rattle.std.specs.Prelude.{ℕ, Option, Some, None, option_map}
-use Rattle.coap_limits.specs.Limits.{LimitValues, limits_of, limit_refusal}
-use Rattle.coap_limits.specs.declared.limits.LimitFault.{LimitFault}
+use Rattle.coap_conn.specs.Limits.{LimitValues, limits_of, limit_refusal}
+use Rattle.coap_conn.specs.declared.limits.LimitFault.{LimitFault}
 use Rattle.coap_model.specs.Configs.{ConfigValues, config_of, config_refusal}
 use Rattle.coap_c.specs.Numbers.{limit_code, config_code}
 use Rattle.coap_c.specs.declared.settings.Settings.{Settings}

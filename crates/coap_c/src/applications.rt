@@ -8,7 +8,7 @@ use crate::numbers::{BAD_DEADLINE, EMPTY, MEMORY, NOT_A_PATH, OCCUPIED, SUCCESS,
 use crate::paths::{methods_in, path_in};
 use crate::server_handle::ServerHandle;
 use crate::settings::{Settings, configured};
-use coap_application::Applications;
+use coap_path::Applications;
 use coap_server_engine::Server;
 use std::alloc::Global;
 

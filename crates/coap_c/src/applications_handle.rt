@@ -4,12 +4,12 @@ ghost use Rattle.std.specs.Prelude.{◌≡◌, None, Some};
 ghost use Rattle.std.specs.Option.{MatchOption};
 ghost use Rattle.std.specs.Coded.{coded_option};
 ghost use Rattle.std.specs.declared.option.Option.{Option};
-ghost use Rattle.coap_application.specs.Applications.{ApplicationsValue};
-ghost use Rattle.coap_application.specs.contracts.applications.Applications.{the_row as applications_row};
+ghost use Rattle.coap_path.specs.Applications.{ApplicationsValue};
+ghost use Rattle.coap_path.specs.contracts.applications.Applications.{the_row as applications_row};
 ghost use Rattle.coap_c.specs.ApplicationsSlots.{applications_slot};
 
-use coap_application::Applications;
 use coap_handle::BoxParts;
+use coap_path::Applications;
 use std::alloc::Global;
 use std::marker::Model;
 use std::mem::replace;

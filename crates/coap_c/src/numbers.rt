@@ -3,11 +3,11 @@
 ghost use Rattle.std.specs.Prelude.{◌≡◌};
 ghost use Rattle.coap_c.specs.Numbers as spec;
 
-use coap_application::ApplicationFault;
 use coap_conn::{LimitFault, Phase, Reply, RequestFault};
 use coap_model::{
     AnnounceFault, ConfigFault, Handled, OpenFault, ReleaseFault, ResponseFault, WrittenFault,
 };
+use coap_path::ApplicationFault;
 use coap_request::TargetFault;
 use coap_store::StoreFault;
 use coap_wire::FormatFault;

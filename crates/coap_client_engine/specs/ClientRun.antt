@@ -12,7 +12,7 @@ use Rattle.coap_request.specs.declared.plan.ClientPlan.{ClientPlan}
 use Rattle.coap_client_engine.specs.RunCauses.{cause_in}
 use Rattle.coap_client_engine.specs.declared.run.state.Run.{Run}
 use Rattle.coap_client_engine.specs.declared.run_end.RunEnd.{RunEnd}
-use Rattle.coap_limits.specs.Limits.{default_limits}
+use Rattle.coap_conn.specs.Limits.{default_limits}
 
 -- ---- the records of the devices
 

@@ -5,7 +5,7 @@ use Rattle.coap_wire.specs.Message.{Message}
 use Rattle.coap_wire.specs.Stream.{StreamFault, Stream, split}
 use Rattle.coap_frame.specs.Framing.{framing}
 use Rattle.coap_conn.specs.declared.phase.Role.TheVariants.{Client}
-use Rattle.coap_limits.specs.Limits.{LimitValues}
+use Rattle.coap_conn.specs.Limits.{LimitValues}
 use Rattle.coap_conn.specs.Phases.{takes_messages}
 use Rattle.coap_conn.specs.Rejects.{reject_of, reject_reason}
 use Rattle.coap_conn.specs.Reaction.{react}

@@ -5,7 +5,7 @@ use Rattle.coap_wire.specs.Reading.{message_of}
 use Rattle.coap_wire.specs.Recognition.{first_critical}
 use Rattle.coap_wire.specs.declared.fault.FormatFault.{FormatFault}
 use Rattle.coap_frame.specs.Framing.{FramerValue, IsFramer, framing_of}
-use Rattle.coap_limits.specs.Limits.{AreInRange}
+use Rattle.coap_conn.specs.Limits.{AreInRange}
 use Rattle.coap_conn.specs.LinkValue.{LinkValue}
 use Rattle.coap_client_engine.specs.ClientValues.{ClientValue, ClientEventValue, ClientTakeOutcome, answer_told, taking_found}
 use Rattle.coap_client_engine.specs.ClientValues as value

@@ -33,7 +33,7 @@ pub use Rattle.coap_conn.specs.Fit.{AllFit, bare_response, fit, without_options}
 pub use Rattle.coap_conn.specs.PendingEntries.{PendingEntryValue, Pong}
 pub use Rattle.coap_conn.specs.History.{History, limit_now, waiting_of, IsHistory, after, after_asking, asking_now}
 pub use Rattle.coap_conn.specs.History.{link_of, new_history, standing_now, with_effect}
-pub use Rattle.coap_limits.specs.Limits.{LimitValues, AreInRange, default_limits}
+pub use Rattle.coap_conn.specs.Limits.{LimitValues, AreInRange, default_limits}
 pub use Rattle.coap_conn.specs.LinkValue.{standing_in, LinkValue, asking_in, bytes_of, free_in}
 pub use Rattle.coap_conn.specs.Outstanding.{Observation, OutstandingValue, Ping, Request, cancelled_by, matches_response}
 pub use Rattle.coap_conn.specs.Outstanding.{is_last, matches_pong, with_cancelled, without_asked, without_pinged}

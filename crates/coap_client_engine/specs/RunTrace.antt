@@ -4,7 +4,7 @@ use Rattle.std.specs.Prelude.{◌≡◌, ◌≢◌, ◌+◌, ℕ, max, nat_lt, B
 use Rattle.std.specs.List.{flat_map}
 use Rattle.coap_conn.specs.RequestState.{next_token}
 use Rattle.coap_conn.specs.History.{History}
-use Rattle.coap_limits.specs.Limits.{default_limits}
+use Rattle.coap_conn.specs.Limits.{default_limits}
 use Rattle.coap_conn.specs.declared.phase.Phase.{Phase}
 use Rattle.coap_conn.specs.declared.phase.RequestFault.{RequestFault}
 use Rattle.coap_conn.specs.declared.reason.Reason.{Reason}

@@ -1,7 +1,7 @@
 -- The entries that the values of `--application` name.
 use Rattle.std.proofs.Common.{◌≡◌, ◌∙◌, ◌<◌, ◌+◌, ◌++◌, ℕ, Bool, true, false, List, [], ◌∷◌, length, drop, get_or, map, Option, Some, None, option_map, Result, Err, refl, sym, ap, append_assoc, append-nil}
 use Rattle.std.proofs.lemmas.List.{at_drop_more}
-use Rattle.coap_application.specs.Applications.{ApplicationsValue}
+use Rattle.coap_path.specs.Applications.{ApplicationsValue}
 use Rattle.coap_command_line.specs.Prelude.{Bor, Text, TellsEntries, AddsText, codes_of, method_in, with_text, with_texts}
 use Rattle.coap_command_line.specs.ApplicationWords.{found_entries}
 use Rattle.coap_command_line.specs.declared.arguments.applications.EntryFault.{EntryFault}

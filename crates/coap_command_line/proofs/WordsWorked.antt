@@ -14,7 +14,7 @@ use Rattle.coap_command_line.specs.Prelude.{code_in, codes_of, method_in, no_ent
 use Rattle.coap_command_line.specs.CommandLines.{after, before}
 use Rattle.coap_command_line.specs.DirectoryWords.{directory_plan_in, directory_plan_of, directory_said}
 use Rattle.coap_script.specs.Prelude.{path_value, segments_of, key_for, is_path}
-use Rattle.coap_application.specs.Prelude.{entry_refusal, are_methods, are_attributes, is_name_char, is_token_char}
+use Rattle.coap_path.specs.Prelude.{entry_refusal, are_methods, are_attributes, is_name_char, is_token_char}
 use Rattle.std.specs.declared.net.ip_addr.IpAddr.TheVariants as ip
 use Rattle.clap.specs.declared.error.kind.ErrorKind.TheVariants as kind
 use Rattle.clap.proofs.OnLiterals.{clap_on_literals}

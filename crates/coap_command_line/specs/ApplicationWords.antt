@@ -2,8 +2,8 @@
 -- `PATH;METHODS;ATTRIBUTES`.
 use Rattle.std.specs.Prelude.{◌≡◌, ◌∷◌, [], ◌&&◌, ◌==◌, ℕ, Bool, true, false, List, Option, Some, None, option_and_then, option_map, is_none, Result, Ok, Err, codes, if◌then◌else◌}
 use Rattle.clap.specs.Words.{Row, Text, all_of}
-use Rattle.coap_application.specs.Applications.{ApplicationsValue}
-use Rattle.coap_application.specs.Refusals.{entry_refusal, with_entry}
+use Rattle.coap_path.specs.Applications.{ApplicationsValue}
+use Rattle.coap_path.specs.Refusals.{entry_refusal, with_entry}
 use Rattle.coap_path.specs.Paths.{Path, same_bytes}
 use Rattle.coap_script.specs.script.Words.{path_value}
 use Rattle.coap_text.specs.Words.{parts}

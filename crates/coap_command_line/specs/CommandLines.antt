@@ -6,7 +6,7 @@ use Rattle.std.specs.Option.{option_map_or}
 use Rattle.clap.specs.Simple.{new_shape}
 use Rattle.clap.specs.Words.{App, Kinds, Row, Rule, Text, first_of, new_rule}
 use Rattle.clap.specs.declared.builder.action.ArgAction.TheVariants.{Append, SetTrue}
-use Rattle.coap_limits.specs.Limits.{is_within}
+use Rattle.coap_conn.specs.Limits.{is_within}
 use Rattle.coap_text.specs.Words.{decimal_value, parts}
 use Rattle.coap_print.specs.Levels.{level_of}
 use Rattle.coap_print.specs.declared.level.LogLevel.{LogLevel}

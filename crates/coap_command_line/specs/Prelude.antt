@@ -17,7 +17,7 @@ pub use Rattle.std.specs.Prelude.{codes}
 pub use Rattle.std.specs.Result.{result_ok}
 pub use Rattle.std.specs.declared.net.ip_addr.IpAddr.{IpAddr}
 -- ---- coap_conn
-pub use Rattle.coap_limits.specs.Limits.{limits_of}
+pub use Rattle.coap_conn.specs.Limits.{limits_of}
 -- ---- coap_print
 pub use Rattle.coap_print.specs.Texts.{is_text, escaped_text}
 unfoldable pub use Rattle.coap_print.specs.Lines.{appended}

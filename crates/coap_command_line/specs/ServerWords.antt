@@ -6,8 +6,8 @@ use Rattle.std.specs.declared.net.ip_addr.IpAddr.{IpAddr}
 use Rattle.std.specs.declared.net.ip_addr.IpAddr.TheVariants as ip
 use Rattle.clap.specs.Simple.{new_shape}
 use Rattle.clap.specs.Words.{App, Row, Text, fault_of, first_of, matches_of}
-use Rattle.coap_application.specs.Applications.{ApplicationsValue}
-use Rattle.coap_limits.specs.Limits.{LimitValues, limits_of}
+use Rattle.coap_path.specs.Applications.{ApplicationsValue}
+use Rattle.coap_conn.specs.Limits.{LimitValues, limits_of}
 use Rattle.coap_text.specs.Words.{decimal_value, parts}
 use Rattle.coap_print.specs.declared.level.LogLevel.{LogLevel}
 use Rattle.coap_print.specs.declared.level.LogLevel.TheVariants.{Nothing}

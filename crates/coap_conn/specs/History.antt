@@ -5,7 +5,7 @@ use Rattle.coap_wire.specs.Message.{Message}
 use Rattle.coap_conn.specs.declared.phase.Phase.{Phase}
 use Rattle.coap_conn.specs.declared.phase.Phase.TheVariants.{Waiting}
 use Rattle.coap_conn.specs.declared.phase.Role.{Role}
-use Rattle.coap_limits.specs.Limits.{LimitValues}
+use Rattle.coap_conn.specs.Limits.{LimitValues}
 use Rattle.coap_conn.specs.Announced.{announced, announced_token}
 use Rattle.coap_conn.specs.PendingEntries.{PendingEntryValue}
 use Rattle.coap_conn.specs.Outstanding.{OutstandingValue}

@@ -21,4 +21,6 @@ pub mod QueueValue
 pub mod QueueViews
 pub mod RingLends
 pub mod Release
+pub mod Limits
+pub mod LimitViews
 pub mod Prelude

@@ -11,7 +11,7 @@ use Rattle.coap_conn.specs.declared.phase.Phase.{Phase}
 use Rattle.coap_conn.specs.declared.phase.Phase.TheVariants.{Waiting}
 use Rattle.coap_conn.specs.declared.phase.Role.{Role}
 use Rattle.coap_conn.specs.Phases.{is_over, answers}
-use Rattle.coap_limits.specs.Limits.{LimitValues}
+use Rattle.coap_conn.specs.Limits.{LimitValues}
 use Rattle.coap_conn.specs.Announced.{base_token, bad_csm_option, csm_size, csm_token, announcement, token_announcement, size_limit}
 use Rattle.coap_conn.specs.PendingEntries.{PendingEntryValue}
 use Rattle.coap_conn.specs.Outstanding.{OutstandingValue}

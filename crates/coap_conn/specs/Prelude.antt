@@ -51,7 +51,7 @@ pub use Rattle.coap_conn.specs.PendingEntryViews.{due_value, held_value}
 pub use Rattle.coap_conn.specs.History.{History, AnnouncedFirst, link_of, new_history, limit_now, standing_now, after}
 pub use Rattle.coap_conn.specs.History.{after_send, asking_now, after_asking, LinkShows, IsHistory, may_hold}
 pub use Rattle.coap_conn.specs.History.{with_deed, with_effect}
-pub use Rattle.coap_limits.specs.Limits.{LimitValues, AreInRange, limits_of, limit_refusal, default_limits}
+pub use Rattle.coap_conn.specs.Limits.{LimitValues, AreInRange, limits_of, limit_refusal, default_limits}
 pub use Rattle.coap_conn.specs.LinkValue.{own_csm, IsLink, IsReady, free_in, limit_in, is_finished, new_link}
 pub use Rattle.coap_conn.specs.LinkValue.{bytes_of, asking_in, standing_in, link_with, link_handled, link_after_csm}
 pub use Rattle.coap_conn.specs.LinkValue.{can_hold, csm_with, first_csm_with, first_csm, LinkValue, link_heard}

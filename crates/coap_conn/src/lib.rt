@@ -2,8 +2,8 @@
 //!
 //! - `Link` is that end. It processes each received message and returns its `Verdict`. It queues messages that fit the
 //!   peer's Max-Message-Size, and keeps delayed responses and outstanding requests.
-//! - `OutQueue` has the bytes that are to be written. `Limits` are the limits of a connection, re-exported from
-//!   `coap_limits`.
+//! - `OutQueue` has the bytes that are to be written. `Limits` are the limits of a connection, each within its
+//!   range, and `LimitsBuilder` sets each by its name.
 //! - `Phase`, `Reason` and the types of `phase.rt` are the states of a link and the results of its calls.
 //! - `laws` has the theorems on all histories of a link.
 //!
@@ -15,6 +15,7 @@
 
 mod csm;
 pub mod laws;
+mod limits;
 mod link;
 mod messages;
 mod outstanding;
@@ -24,7 +25,7 @@ mod queue;
 mod reason;
 mod ring;
 
-pub use coap_limits::{LimitFault, Limits, LimitsBuilder};
+pub use limits::{LimitFault, Limits, LimitsBuilder};
 pub use link::Link;
 pub use phase::{
     Due, Full, Phase, Reject, Reply, RequestFault, RespondFault, Role, SendFault, Verdict,

@@ -10,12 +10,12 @@ mod receive;
 mod transmit;
 
 use crate::csm::BASE_TOKEN;
+use crate::limits::Limits;
 use crate::messages::announce_first;
 use crate::outstanding::Outstanding;
 use crate::pending::{PendingEntry, next_of};
 use crate::phase::{Phase, Role};
 use crate::queue::OutQueue;
-use coap_limits::Limits;
 use coap_wire::BASE_MESSAGE_SIZE;
 use std::alloc::{AllocError, Global};
 use std::marker::Model;

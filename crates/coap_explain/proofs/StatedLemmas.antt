@@ -10,7 +10,7 @@ use Rattle.std.proofs.lemmas.List.Splits.{slice_split_none, slice_split_at}
 use Rattle.std.proofs.lemmas.Str.{IsUtf8-from_ascii}
 use Rattle.clap.specs.Words.{Text, matches_of}
 use Rattle.coap_conn.specs.Prelude.{BASE_MESSAGE_SIZE, LARGEST_MESSAGE, LARGEST_QUEUE, LARGEST_SENT_MESSAGE}
-use Rattle.coap_limits.specs.Limits.{limits_of}
+use Rattle.coap_conn.specs.Limits.{limits_of}
 use Rattle.coap_text.specs.Words.{parts}
 use Rattle.coap_print.specs.declared.level.LogLevel.TheVariants.{Nothing}
 use Rattle.coap_model.specs.Configs.{ConfigValues, StartValues, config_refusal}

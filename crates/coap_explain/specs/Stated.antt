@@ -1,6 +1,6 @@
 -- Defined by this project: the options in the header of a record, as the configuration of a replay.
 use Rattle.std.specs.Prelude.{◌≡◌, ◌+◌, ◌<◌, ◌^◌, Result, Ok, Err}
-use Rattle.coap_limits.specs.Limits.{AreInRange, limits_of}
+use Rattle.coap_conn.specs.Limits.{AreInRange, limits_of}
 use Rattle.coap_model.specs.Configs.{ConfigValues, IsConfigInRange, config_of}
 use Rattle.coap_server_common.specs.Planned.{rep_max}
 use Rattle.coap_server_engine.specs.values.Servers.{ServerValue, new_server}

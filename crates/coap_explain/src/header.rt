@@ -5,9 +5,9 @@ ghost use Rattle.coap_explain.specs.Header.{AreUtf8, IsConfigured};
 ghost use Rattle.coap_explain.specs.Header as spec;
 ghost use Rattle.coap_server_engine.specs.values.Servers.{new_server};
 
-use coap_application::Applications;
 use coap_command_line::{WordsFault, server_reason, server_words};
 use coap_model::Config;
+use coap_path::Applications;
 use coap_print::Line;
 use coap_server_common::config_in;
 use coap_server_engine::Server;

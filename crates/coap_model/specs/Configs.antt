@@ -1,7 +1,7 @@
 -- Defined by this project: configurations of a server, and the error for one that is out of range.
 use Rattle.std.specs.Prelude.{ℕ, ◌≤◌, Option, Some, None, nat_le, if◌then◌else◌}
-use Rattle.coap_limits.specs.Limits.{LimitValues, default_limits, is_within}
-use Rattle.coap_application.specs.Applications.{ApplicationsValue}
+use Rattle.coap_conn.specs.Limits.{LimitValues, default_limits, is_within}
+use Rattle.coap_path.specs.Applications.{ApplicationsValue}
 use Rattle.coap_model.specs.declared.config.ConfigFault.{ConfigFault}
 use Rattle.coap_model.specs.declared.config.ConfigFault.TheVariants as config
 use Rattle.coap_wire.specs.declared.sizes.TheConstants.{LARGEST_MESSAGE, LARGEST_SENT_MESSAGE}

@@ -37,7 +37,7 @@ pub use Rattle.coap_conn.specs.PendingEntries.{held_at, pong_index}
 unfoldable pub use Rattle.coap_conn.specs.PendingEntries.{first_due, without_due, due_index}
 pub use Rattle.coap_conn.specs.History.{limit_now, standing_now, after, History, IsHistory, link_of, may_hold}
 pub use Rattle.coap_conn.specs.History.{new_history, with_effect}
-pub use Rattle.coap_limits.specs.Limits.{LimitValues, AreInRange}
+pub use Rattle.coap_conn.specs.Limits.{LimitValues, AreInRange}
 pub use Rattle.coap_conn.specs.LinkValue.{limit_in, LinkValue, bytes_of, free_in, own_csm}
 pub use Rattle.coap_conn.specs.Phases.{is_open, answers, takes_messages, stop_of}
 pub use Rattle.coap_conn.specs.Reaction.{send, pong_with, is_custody_pong, ReactionResult, Reaction, ConnectionState}
@@ -70,9 +70,8 @@ unfoldable pub use Rattle.coap_path.specs.Paths.{is_path}
 pub use Rattle.coap_path.specs.ResourceKinds.{is_dynamic, is_observable}
 unfoldable pub use Rattle.coap_path.specs.ResourceKinds.{kind_of_path}
 pub use Rattle.coap_path.specs.declared.resource_kind.ResourceKind.TheVariants.{Dynamic, Time}
--- ---- coap_application
-pub use Rattle.coap_application.specs.Applications.{ApplicationsValue}
-unfoldable pub use Rattle.coap_application.specs.Applications.{is_answered}
+pub use Rattle.coap_path.specs.Applications.{ApplicationsValue}
+unfoldable pub use Rattle.coap_path.specs.Applications.{is_answered}
 -- ---- coap_store
 pub use Rattle.coap_store.specs.Answer.{changed, Change, Delete, Nothing, Put, Response, content, deletion, etag_at}
 pub use Rattle.coap_store.specs.Answer.{with_observe_rule, delayed_response, is_among, only, read_answer, removes_watch}

@@ -3,3 +3,8 @@ mod FillLemmas
 mod PlaceLemmas
 pub mod TrailLemmas
 mod UriPathLemmas
+mod Worked
+pub mod PathStartLemmas
+pub mod LongestLemmas
+mod LawLemmas
+mod AddLemmas

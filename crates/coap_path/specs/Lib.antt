@@ -3,4 +3,12 @@ pub mod PathViews
 pub mod ResourceKinds
 pub mod PathMatches
 pub mod UriPaths
+pub mod Applications
+pub mod Methods
+pub mod Attributes
+pub mod LongestPrefix
+pub mod Refusals
+pub mod Invariant
+pub mod EntryViews
+pub mod ApplicationViews
 pub mod Prelude

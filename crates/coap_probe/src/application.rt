@@ -5,8 +5,7 @@
 
 use crate::config::configured;
 use arrayvec::ArrayVec;
-use coap_application::{ApplicationFault, Applications};
-use coap_path::PathKey;
+use coap_path::{ApplicationFault, Applications, PathKey};
 use coap_server_engine::Server;
 use coap_wire::Code;
 use probe_support::{cut, next_number, read_hex};

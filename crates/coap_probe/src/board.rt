@@ -1,10 +1,10 @@
 //! An application in memory, which answers GET and PUT of `/rd`.
 
 use crate::application::applications;
-use coap_application::Applications;
 use coap_conn::Reply;
 use coap_io::Wait;
 use coap_model::{ConnId, ResponseFault};
+use coap_path::Applications;
 use coap_server_engine::Application;
 use coap_wire::{Code, MessageRef};
 use probe_support::RowLine;

@@ -4,8 +4,8 @@
 //! the result is the text of the error.
 
 use crate::target::tell_target;
-use coap_application::ApplicationEntry;
 use coap_command_line::{WordsFault, client_words, server_words};
+use coap_path::ApplicationEntry;
 use coap_request::{ClientPlan, Mode, ServerPlan};
 use probe_support::{RowLine, cut};
 use std::alloc::Global;

@@ -3,9 +3,9 @@
 //! The events are `config` with thirteen numbers, `starts`, `faults io`, and `faults application` for the errors of
 //! entries. All others are those of limits.
 
-use coap_application::ApplicationFault;
-use coap_limits::Limits;
+use coap_conn::Limits;
 use coap_model::{Config, ConfigFault, Starts};
+use coap_path::ApplicationFault;
 use coap_server_engine::IoFault;
 use probe_support::limits::{limits_of, tell_limits};
 use probe_support::{RowLine, cut, limits, next_number, tell_fault};

@@ -9,7 +9,7 @@
 
 use crate::client;
 use coap_client_engine::Client;
-use coap_limits::Limits;
+use coap_conn::Limits;
 use coap_model::{Config, ConnId};
 use coap_path::PathKey;
 use coap_server_engine::Server;

@@ -2,8 +2,8 @@
 
 use crate::request::Method;
 use crate::target::Target;
-use coap_application::Applications;
 use coap_conn::Limits;
+use coap_path::Applications;
 use coap_print::LogLevel;
 use std::net::IpAddr;
 

@@ -17,7 +17,6 @@
 //! `coap_server_engine/src/server.rt`.
 #![tactic(auto)]
 
-pub use coap_application::{ApplicationEntry, ApplicationFault, Applications};
 pub use coap_conn::{LimitFault, Limits, LimitsBuilder, Phase, Reason, Reply};
 pub use coap_io::{
     Clock, Door, Got, Outlet, Polled, ReadBuffer, ReadSource, Ready, Source, Tried, Wait, Wire,
@@ -27,6 +26,7 @@ pub use coap_model::{
     AnnounceFault, Backwards, Config, ConfigBuilder, ConfigFault, ConnId, Handled, NoSuch,
     OpenFault, ReleaseFault, ResponseFault, Starts, Status, TakeFault, Taken, WrittenFault,
 };
+pub use coap_path::{ApplicationEntry, ApplicationFault, Applications};
 pub use coap_script::{Event, ScriptFault, script, scripts_go_on_behind_whole_lines};
 pub use coap_server_engine::{
     Application, Call, DropReason, IoFault, Monitor, NoApplication, NoMonitor, ReplayFault, Server,
@@ -46,7 +46,6 @@ pub use coap_wire::{
 /// Theorems about every server. Each is the contract of a function with an empty body. The modules have those of the
 /// crates below, some of which have the same names.
 pub mod laws {
-    pub use coap_application::laws as applications;
     pub use coap_conn::laws as connections;
     pub use coap_frame::laws as frames;
     pub use coap_model::laws::{
@@ -56,6 +55,7 @@ pub mod laws {
         custody_comes_last, last_announced_size_applies, last_notification_matches_state,
         limits_are_kept, pending_entries_are_sent, queued_messages_fit_limit,
     };
+    pub use coap_path::laws as applications;
     pub use coap_server_engine::laws::{
         each_message_taken_is_handled_once, lent_requests_are_handed_over, no_change_is_lost,
         only_stores_allocate, responses_at_once_have_room, script_segmentation_is_irrelevant,

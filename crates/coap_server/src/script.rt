@@ -1,9 +1,9 @@
 //! Runs scripts of events.
 
 use crate::PROGRAM;
-use coap_application::Applications;
 use coap_io::WriteOutlet;
 use coap_model::Config;
+use coap_path::Applications;
 use coap_program::{ENDED, FAULT, FileError, USAGE, read_whole};
 use coap_script::{Event, ScriptFault, script};
 use coap_server_engine::{ReplayFault, Server};

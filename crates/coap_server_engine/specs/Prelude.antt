@@ -29,7 +29,7 @@ unfoldable pub use Rattle.coap_frame.specs.Framing.{framing}
 -- ---- coap_conn
 pub use Rattle.coap_conn.specs.Fit.{fits}
 pub use Rattle.coap_conn.specs.History.{after, IsHistory}
-pub use Rattle.coap_limits.specs.Limits.{LimitValues, AreInRange}
+pub use Rattle.coap_conn.specs.Limits.{LimitValues, AreInRange}
 pub use Rattle.coap_conn.specs.LinkValue.{LinkValue}
 pub use Rattle.coap_conn.specs.LinkValue.{new_link}
 pub use Rattle.coap_conn.specs.Phases.{takes_messages, stop_of}

@@ -18,9 +18,9 @@ mod responses;
 mod sessions;
 mod states;
 
-use coap_application::Applications;
 use coap_conn::Reason;
 use coap_model::{Config, ConnId};
+use coap_path::Applications;
 use coap_server_session::{ServerState, Session};
 use concerned::Concerned;
 use indexmap::IndexMap;

@@ -34,7 +34,7 @@ pub use Rattle.coap_conn.specs.Fit.{bare_response, fit, fits}
 pub use Rattle.coap_conn.specs.PendingEntries.{PendingEntryValue, Answer, Pong, due_moment, next_moment, future_moment}
 unfoldable pub use Rattle.coap_conn.specs.PendingEntries.{first_due, without_due}
 pub use Rattle.coap_conn.specs.History.{limit_now, after, History, IsHistory, link_of}
-pub use Rattle.coap_limits.specs.Limits.{LimitValues, AreInRange}
+pub use Rattle.coap_conn.specs.Limits.{LimitValues, AreInRange}
 pub use Rattle.coap_conn.specs.LinkValue.{IsReady, can_hold, limit_in, is_finished, LinkValue, free_in, link_with}
 pub use Rattle.coap_conn.specs.LinkValue.{own_csm, standing_in, sizes_of}
 pub use Rattle.coap_conn.specs.LinkViews.{verdict_value}
@@ -72,8 +72,7 @@ unfoldable pub use Rattle.coap_store.specs.State.{key_for, state_at}
 pub use Rattle.coap_store.specs.Store.{StoreValue, Representation}
 unfoldable pub use Rattle.coap_store.specs.Store.{found_in}
 pub use Rattle.coap_store.specs.Observing.{MayObserve}
--- ---- coap_application
-pub use Rattle.coap_application.specs.Applications.{ApplicationsValue}
+pub use Rattle.coap_path.specs.Applications.{ApplicationsValue}
 -- ---- coap_model
 pub use Rattle.coap_model.specs.world.Observers.{asks_entry, is_whole, Observer, entry_for, format_of, goes_on}
 pub use Rattle.coap_model.specs.world.Observers.{has_place, left_of, notification, notification_message, same_state}

@@ -12,7 +12,7 @@ pub use Rattle.coap_wire.specs.Refusal.{RefusedBy}
 pub use Rattle.coap_wire.specs.Stream.{Stream, split_on}
 -- ---- coap_conn
 pub use Rattle.coap_conn.specs.Calls.{end_reason}
-pub use Rattle.coap_limits.specs.Limits.{LimitValues, AreInRange}
+pub use Rattle.coap_conn.specs.Limits.{LimitValues, AreInRange}
 pub use Rattle.coap_conn.specs.Phases.{is_over, stop_of}
 pub use Rattle.coap_conn.specs.QueueValue.{IsNextPart}
 pub use Rattle.coap_conn.specs.declared.reason.Reason.{Reason}

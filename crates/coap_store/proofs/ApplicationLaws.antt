@@ -4,7 +4,7 @@ use Rattle.coap_store.specs.Prelude.{Message, StoreValue, Answer, says, only, im
 use Rattle.coap_store.specs.Prelude.{application_deadline, unless_handed, passes_checks, ApplicationsValue, is_answered}
 use Rattle.coap_store.specs.Prelude.{is_dynamic, kind_of_path, path_of, if◌then◌else◌}
 use Rattle.coap_wire.specs.Codes as code
-use Rattle.coap_application.specs.Applications.{entry_for, names_method}
+use Rattle.coap_path.specs.Applications.{entry_for, names_method}
 
 -- ---- the deadline
 

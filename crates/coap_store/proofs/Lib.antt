@@ -19,3 +19,7 @@ pub mod RememberingLaws
 pub mod WatchLaws
 pub mod HoldLaws
 pub mod ApplicationLaws
+mod EntryLemmas
+mod MoveLemmas
+mod EscapeLemmas
+pub mod LinkLemmas

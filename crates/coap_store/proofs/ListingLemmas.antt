@@ -13,7 +13,7 @@ use Rattle.std.specs.Map.{keys_of}
 use Rattle.std.proofs.lemmas.List.{length-append, length-map, set-get_or}
 use Rattle.std.proofs.lemmas.List.Quantifiers.{position-Some}
 use Rattle.coap_store.specs.Store as store
-use Rattle.coap_listing.proofs.LinkLemmas.{entry_changed, entry_short}
+use Rattle.coap_store.proofs.LinkLemmas.{entry_changed, entry_short}
 
 -- The text of a resource in the listing.
 abbrev line : store.Resource → List ℕ

@@ -4,7 +4,7 @@ use Rattle.coap_wire.specs.Message.{Message}
 use Rattle.coap_wire.specs.Codes as code
 use Rattle.coap_wire.specs.OptionNumbers as numbers
 use Rattle.coap_wire.specs.Recognition.{first_critical}
-use Rattle.coap_application.specs.Applications.{ApplicationsValue, is_answered}
+use Rattle.coap_path.specs.Applications.{ApplicationsValue, is_answered}
 use Rattle.coap_store.specs.Store.{StoreValue}
 use Rattle.coap_store.specs.Requests.{has_option, path_of}
 use Rattle.coap_store.specs.Answer.{Answer, says, only, immediate_answer}

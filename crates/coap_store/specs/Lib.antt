@@ -24,4 +24,8 @@ pub mod StoreViews
 pub mod OptionScan
 pub mod ParsedRequestViews
 pub mod Observing
+pub mod Links
+pub mod Texts
+pub mod TextViews
+pub mod ListingViews
 pub mod Prelude

@@ -2,8 +2,8 @@
 
 -- ---- std and other crates
 pub use Rattle.arrayvec.specs.declared.array_vec.ArrayVec.{ArrayVec}
-unfoldable pub use Rattle.coap_listing.specs.Texts.{joined}
-pub use Rattle.coap_listing.specs.Texts.{with_end}
+unfoldable pub use Rattle.coap_store.specs.Texts.{joined}
+pub use Rattle.coap_store.specs.Texts.{with_end}
 pub use Rattle.indexmap.specs.IndexMap.{insert_entry, set_value_at}
 pub use Rattle.std.specs.Bool.{then_some}
 pub use Rattle.std.specs.Borrow.{Bor}
@@ -14,6 +14,10 @@ pub use Rattle.std.specs.Option.{option_eq}
 pub use Rattle.std.specs.Prelude.{IfSome, codes, if◌then◌else◌, is_none, is_some, nat_eq, nat_le, nat_lt, not}
 pub use Rattle.std.specs.Prelude.{option_copied, option_map, unwrap_or, ◌%◌, ◌/◌, ◌==◌, ◌⊎◌}
 pub use Rattle.std.specs.String.{string_bytes}
+pub use Rattle.std.specs.List.{remove, sum}
+pub use Rattle.percent_encoding.specs.Percent.{encode_byte}
+unfoldable pub use Rattle.percent_encoding.specs.AsciiSet.{should_percent_encode}
+unfoldable pub use Rattle.percent_encoding.specs.Percent.{percent_encode, percent_encode_byte}
 -- ---- coap_wire
 pub use Rattle.coap_wire.specs.Message.{Message, CoapOption}
 pub use Rattle.coap_wire.specs.Recognition.{known_options, first_critical, Placed, has_kind, once, placed}
@@ -38,9 +42,8 @@ pub use Rattle.coap_path.specs.UriPaths.{path_told}
 pub use Rattle.coap_path.specs.declared.path_match.PathMatch.{PathMatch}
 pub use Rattle.coap_path.specs.declared.resource_kind.ResourceKind.TheVariants.{Async, Dynamic, Listing, Root, Time}
 pub use Rattle.coap_path.specs.declared.resource_kind.ResourceKind.{ResourceKind}
--- ---- coap_application
-pub use Rattle.coap_application.specs.Applications.{ApplicationEntryValue, ApplicationsValue}
-unfoldable pub use Rattle.coap_application.specs.Applications.{is_answered}
+pub use Rattle.coap_path.specs.Applications.{ApplicationEntryValue, ApplicationsValue}
+unfoldable pub use Rattle.coap_path.specs.Applications.{is_answered}
 -- ---- coap_store
 pub use Rattle.coap_store.specs.Answer.{read_answer, etag_at, max_age_at, is_accepted, is_among, watch_of}
 pub use Rattle.coap_store.specs.Answer.{removes_watch, stored, delete_answer, needs_resource, says, delayed_response}
@@ -98,3 +101,5 @@ pub use Rattle.coap_store.specs.declared.fault.StoreFault.TheVariants.{BadPath, 
 pub use Rattle.coap_store.specs.declared.fault.StoreFault.TheVariants.{VersionsSpent}
 pub use Rattle.coap_store.specs.declared.plan.Watch.TheVariants.{Add, Drop}
 pub use Rattle.coap_store.specs.declared.resource.Resource.{Resource}
+unfoldable pub use Rattle.coap_store.specs.Texts.{split_by}
+pub use Rattle.coap_store.specs.declared.links.TheConstants.{ESCAPED}

@@ -1,7 +1,7 @@
 -- Defined by this project: the created resources of a server, which the methods of RFC 7252 section 5.8 change.
 use Rattle.std.specs.Prelude.{◌≡◌, ℕ, zero, suc, ◌+◌, true, false, List, [], ◌∷◌, Option, Some, None, if◌then◌else◌}
 use Rattle.coap_path.specs.Paths.{Path, same_path}
-use Rattle.coap_application.specs.Applications.{ApplicationsValue}
+use Rattle.coap_path.specs.Applications.{ApplicationsValue}
 
 -- A representation: its version, its Content-Format, if any, and its bytes.
 pub record Representation : Type 0 where

@@ -7,10 +7,10 @@ ghost use Rattle.coap_store.specs.Prelude.{found_in, put_at, listing as listing_
 ghost use Rattle.coap_store.specs.Prelude.{representation, removed_at, texts_of, entry_bytes, set_value_at, IsFoundAt};
 ghost use Rattle.coap_store.specs.Prelude.{replaced_at, first_bytes, head_of};
 
+use crate::links::{BUILT_IN_TEXT, entry_end, entry_text, first_text};
+use crate::listing::Listing;
 use crate::resource::{Resource, Resources};
-use coap_application::Applications;
-use coap_listing::{BUILT_IN_TEXT, Listing, entry_end, entry_text, first_text};
-use coap_path::PathKey;
+use coap_path::{Applications, PathKey};
 use indexmap::IndexMap;
 use std::alloc::{AllocError, Global};
 use std::marker::Model;

@@ -3,6 +3,8 @@
 //! - `Store` has the built-in and the created resources. `Store::answer` returns the `Plan` for a request: the
 //!   response, the `Change`, and the effect on the observers (`Watch`). `Store::apply` makes the change.
 //! - `Store::put` and `Store::remove` change resources on behalf of the embedding program (`StoreFault`).
+//! - `Listing` is the text of `/.well-known/core`: a list of byte strings that is stored as one text and changed in
+//!   place. `links.rt` returns the links of which it consists.
 //! - `PathKey` is the path of a resource (see `coap_path`). `laws` has the theorems on plans and changes.
 //!
 //! This crate has no connections and no list of observers: `coap_server_session` does. Continue with `store.rt`, then
@@ -15,7 +17,10 @@ mod delayed;
 mod fault;
 mod found;
 pub mod laws;
+mod links;
+mod listing;
 mod local_changes;
+mod moves;
 mod notifications;
 mod plan;
 mod request;
@@ -24,6 +29,7 @@ mod resource;
 mod states;
 mod store;
 mod target;
+mod text;
 
 pub use coap_path::{PathKey, ResourceKind, Segments, UriPath};
 pub use delayed::{delayed_response, expired_response, refused_delay};

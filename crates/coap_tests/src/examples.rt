@@ -9,10 +9,9 @@ mod application;
 mod embedding;
 mod quickstart;
 
-use coap_application::Applications;
 use coap_client::{Client, Event, Extras, Method, Target, client_words};
 use coap_frame::{FrameEvent, Framer};
-use coap_path::UriPath;
+use coap_path::{Applications, UriPath};
 use coap_serve::{
     Config, Limits, PathKey, ReadSource, Server, Starts, WriteOutlet, script, serve_one,
 };

@@ -1,7 +1,7 @@
 //! Theorems are functions with an empty body. This test calls each of these from another crate.
 
-use coap_application::laws as application_laws;
 use coap_conn::laws;
+use coap_path::laws as application_laws;
 use coap_serve::laws as server_laws;
 
 #[test]

@@ -6,7 +6,7 @@ ghost use Rattle.coap_command_line.specs.ApplicationWords as spec;
 
 use crate::arguments::option_values::{after, before, texts_of};
 use clap::ArgMatches;
-use coap_application::{ApplicationFault, Applications};
+use coap_path::{ApplicationFault, Applications};
 use coap_script::path_in;
 use coap_text::{number_in, split_once};
 use coap_wire::Code;

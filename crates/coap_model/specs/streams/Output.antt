@@ -3,7 +3,7 @@
 use Rattle.std.specs.Prelude.{ℕ, zero, suc, ◌+◌, List, [], ◌∷◌, length, Option, Some, None}
 use Rattle.coap_wire.specs.Stream.{Stream, split}
 use Rattle.coap_conn.specs.declared.reason.Reason.{Reason}
-use Rattle.coap_limits.specs.Limits.{LimitValues}
+use Rattle.coap_conn.specs.Limits.{LimitValues}
 use Rattle.coap_conn.specs.Phases.{stop_of}
 use Rattle.coap_conn.specs.LinkValue.{bytes_of}
 use Rattle.coap_model.specs.Configs.{ConfigValues}

@@ -5,7 +5,7 @@ use Rattle.std.specs.List.{AllByRecursion}
 use Rattle.coap_wire.specs.Message.{Message}
 use Rattle.coap_wire.specs.Stream.{StreamFault}
 use Rattle.coap_conn.specs.declared.phase.Role.TheVariants.{Server}
-use Rattle.coap_limits.specs.Limits.{LimitValues}
+use Rattle.coap_conn.specs.Limits.{LimitValues}
 use Rattle.coap_conn.specs.Phases.{takes_messages, is_open}
 use Rattle.coap_conn.specs.Verdicts.{is_request}
 use Rattle.coap_conn.specs.Reaction.{react}

@@ -11,7 +11,7 @@ use Rattle.coap_conn.specs.declared.pending.Responder.{Responder}
 use Rattle.coap_conn.specs.declared.pending.Responder.TheVariants.{Engine, Application}
 use Rattle.coap_conn.specs.Reaction.{asks_custody, is_custody_pong}
 use Rattle.coap_path.specs.Paths.{same_bytes}
-use Rattle.coap_application.specs.Applications.{ApplicationsValue}
+use Rattle.coap_path.specs.Applications.{ApplicationsValue}
 use Rattle.coap_store.specs.Answer.{is_delayed}
 use Rattle.coap_store.specs.ApplicationRequests.{application_deadline}
 use Rattle.coap_model.specs.world.Connections.{Connection}

@@ -1,7 +1,7 @@
 -- Defined by this project: steps as connections receive them. After a stop, the end of input no longer says whether it
 -- cuts a message. So events that differ only in bytes that nobody handles make the same steps.
 use Rattle.std.specs.Prelude.{ℕ, Bool, false, ◌&&◌, List, [], ◌∷◌, Option, Some, None}
-use Rattle.coap_limits.specs.Limits.{LimitValues}
+use Rattle.coap_conn.specs.Limits.{LimitValues}
 use Rattle.coap_conn.specs.Phases.{takes_messages}
 use Rattle.coap_model.specs.Configs.{ConfigValues}
 use Rattle.coap_model.specs.world.Connections.{Connection, kept_on}

@@ -5,7 +5,7 @@ use Rattle.std.specs.List.{AllByRecursion, list_any, flat_map}
 use Rattle.std.specs.List.Sorted.{IsPermutation}
 use Rattle.coap_wire.specs.Message.{Message}
 use Rattle.coap_wire.specs.Codes as code
-use Rattle.coap_limits.specs.Limits.{LimitValues}
+use Rattle.coap_conn.specs.Limits.{LimitValues}
 use Rattle.coap_conn.specs.declared.phase.Phase.{Phase}
 use Rattle.coap_conn.specs.declared.phase.Phase.TheVariants.{Stopped}
 use Rattle.coap_conn.specs.declared.pending.Responder.{Responder}
@@ -20,7 +20,7 @@ use Rattle.coap_conn.specs.Calls as call
 use Rattle.coap_conn.specs.Reaction.{is_asking}
 use Rattle.coap_conn.specs.Responses.{response_refusal, is_plain_response}
 use Rattle.coap_path.specs.Paths.{same_bytes}
-use Rattle.coap_application.specs.Applications.{ApplicationsValue}
+use Rattle.coap_path.specs.Applications.{ApplicationsValue}
 use Rattle.coap_store.specs.Store.{StoreValue}
 use Rattle.coap_store.specs.Answer.{only}
 use Rattle.coap_store.specs.ApplicationRequests.{application_deadline}

@@ -9,7 +9,7 @@ use Rattle.coap_path.specs.Paths.{same_bytes}
 use Rattle.coap_store.specs.Store.{Representation}
 use Rattle.coap_path.specs.ResourceKinds.{kind_of_path, is_dynamic}
 use Rattle.coap_store.specs.Requests.{etag_of}
-use Rattle.coap_application.specs.Applications.{ApplicationsValue}
+use Rattle.coap_path.specs.Applications.{ApplicationsValue}
 use Rattle.coap_store.specs.Answer.{Response, only, content, is_delayed}
 use Rattle.coap_store.specs.ApplicationRequests.{application_deadline}
 use Rattle.coap_store.specs.Messages.{response_with_observe}

@@ -1,7 +1,7 @@
 -- Defined by this project: the part of a server's events that one connection can see, as a list of events itself. The
 -- connection is opened first in it, so it may have another id.
 use Rattle.std.specs.Prelude.{ℕ, ◌+◌, List, [], ◌∷◌, ◌++◌, ◌==◌, if◌then◌else◌}
-use Rattle.coap_limits.specs.Limits.{LimitValues}
+use Rattle.coap_conn.specs.Limits.{LimitValues}
 use Rattle.coap_store.specs.Answer.{Change, Nothing, Put, Delete}
 use Rattle.coap_model.specs.Configs.{ConfigValues}
 use Rattle.coap_model.specs.world.World.{World, Step, step}

@@ -30,7 +30,7 @@ use Rattle.coap_conn.specs.declared.phase.Reply.TheVariants.{Whole, Bare, Stoppe
 use Rattle.coap_conn.specs.declared.phase.RespondFault.TheVariants as fault
 use Rattle.coap_conn.proofs.PendingLaws.{due_nothing}
 use Rattle.coap_conn.proofs.RequestLemmas.{react_asks, request_stays}
-use Rattle.coap_application.specs.Applications.{ApplicationsValue}
+use Rattle.coap_path.specs.Applications.{ApplicationsValue}
 use Rattle.coap_store.specs.ApplicationRequests.{application_deadline}
 use Rattle.coap_model.specs.world.Connections.{Delay, delay_or, moment_after}
 use Rattle.coap_model.proofs.OptionLemmas.{same_there}

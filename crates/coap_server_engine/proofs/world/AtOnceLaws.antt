@@ -12,7 +12,7 @@ use Rattle.coap_model.specs.world.Fates.{has_stopped}
 use Rattle.coap_server_session.proofs.values.SettleLemmas.{found_ready}
 use Rattle.coap_conn.specs.Responses.{is_plain_response}
 use Rattle.coap_model.specs.declared.answers.ResponseFault.TheVariants as responding
-use Rattle.coap_application.specs.Applications.{ApplicationsValue}
+use Rattle.coap_path.specs.Applications.{ApplicationsValue}
 use Rattle.coap_model.proofs.OptionLemmas.{same_there, one_made}
 use Rattle.coap_model.proofs.world.AcrossLaws.{applications_stay}
 use Rattle.coap_model.proofs.world.HearingLaws.{world_stays, world_known, world_hears}

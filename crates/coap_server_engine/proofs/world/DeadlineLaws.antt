@@ -3,7 +3,7 @@ use Rattle.std.proofs.Common.{if◌then◌else◌, ◌≡◌, ℕ, zero, suc, �
 use Rattle.std.proofs.lemmas.Bool.{cond_both, and_parts, leb-true, leb-false}
 use Rattle.coap_conn.specs.PendingEntries.{PendingEntryValue, Answer, Pong, due_moment}
 use Rattle.coap_conn.specs.declared.pending.Responder.TheVariants.{Engine, Application}
-use Rattle.coap_application.specs.Applications.{ApplicationsValue, is_answered}
+use Rattle.coap_path.specs.Applications.{ApplicationsValue, is_answered}
 use Rattle.coap_store.specs.Requests.{path_of}
 use Rattle.coap_store.specs.ApplicationRequests.{application_deadline, passes_checks}
 use Rattle.coap_store.specs.Store.{StoreValue}

@@ -10,7 +10,7 @@ use Rattle.coap_server_engine.specs.Prelude.{Message, ConfigValues, ServerValue,
 use Rattle.coap_server_engine.specs.Prelude.{AcceptedCall, Opened, Took, Wrote, server_of, Shows, framing, response_refusal, session_of, handed, handed_frame}
 use Rattle.coap_server_engine.specs.Prelude.{taking, session_handled, session_settled, IsAccepted, AreAcceptedBehind}
 use Rattle.coap_server_session.specs.values.Sessions.{without_entry, is_stale, next_stale, next_held_in, session_settled_once, session_settled_within}
-use Rattle.coap_application.specs.Applications.{is_answered}
+use Rattle.coap_path.specs.Applications.{is_answered}
 use Rattle.coap_server_engine.proofs.world.AtOnceLaws.{at_once_accepted}
 
 -- Unfolding this unfolds all that the examples compute with.

@@ -8,7 +8,7 @@ use Rattle.coap_frame.specs.Framing.{Framing, FrameEventValue, Nothing, AFrame, 
 use Rattle.coap_conn.specs.declared.phase.Role.TheVariants.{Server}
 use Rattle.coap_conn.specs.declared.phase.Reject.{Reject}
 use Rattle.coap_conn.specs.declared.phase.Reject.TheVariants as reject
-use Rattle.coap_limits.specs.Limits.{LimitValues}
+use Rattle.coap_conn.specs.Limits.{LimitValues}
 use Rattle.coap_conn.specs.Phases.{takes_messages, is_open}
 use Rattle.coap_conn.specs.Verdicts.{is_request}
 use Rattle.coap_conn.specs.Reaction.{react}
@@ -23,7 +23,7 @@ use Rattle.coap_path.specs.Paths.{Path, same_bytes}
 use Rattle.coap_store.specs.Store.{Representation}
 use Rattle.coap_store.specs.State.{state_of}
 use Rattle.coap_store.specs.Requests.{path_of}
-use Rattle.coap_application.specs.Applications.{ApplicationsValue}
+use Rattle.coap_path.specs.Applications.{ApplicationsValue}
 use Rattle.coap_store.specs.Answer.{Answer, Change, changed}
 use Rattle.coap_store.specs.ApplicationRequests.{prompt_answer}
 use Rattle.coap_store.specs.Changes.{IsPut}

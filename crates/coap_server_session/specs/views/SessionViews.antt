@@ -1,7 +1,7 @@
 -- The value that contracts see for `Session`, and its invariant.
 use Rattle.std.specs.Prelude.{◌≡◌, ◌⊎◌, true, []}
 use Rattle.coap_frame.specs.Framing.{IsFramer}
-use Rattle.coap_limits.specs.Limits.{AreInRange}
+use Rattle.coap_conn.specs.Limits.{AreInRange}
 use Rattle.coap_conn.specs.Phases.{is_open}
 use Rattle.coap_server_session.specs.values.Sessions.{SessionValue, MarkedSession}
 use Rattle.coap_server_session.specs.declared.session.Session.TheInside.{Inside}

@@ -1,7 +1,7 @@
 -- Defined by this project: the progress of a run over one input, and the effect of one chunk and of one turn on its
 -- server.
 use Rattle.std.specs.Prelude.{◌≡◌, ◌≢◌, ◌⊎◌, ℕ, ◌+◌, ◌≤◌, List, [], ◌∷◌, ◌++◌, length, None, Some, Result, Ok, Err}
-use Rattle.coap_limits.specs.Limits.{AreInRange}
+use Rattle.coap_conn.specs.Limits.{AreInRange}
 use Rattle.coap_conn.specs.Calls.{end_reason}
 use Rattle.coap_model.specs.Configs.{ConfigValues}
 use Rattle.coap_server_streams.specs.declared.serve.Turn.{Turn}

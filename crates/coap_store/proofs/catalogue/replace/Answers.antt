@@ -1,7 +1,7 @@
 use Rattle.std.proofs.Common.{length, get_or, [], sym, ap, ◌∙◌, arith}
 use Rattle.coap_store.specs.Prelude.{joined, resources_in, head_of, texts_of, end_bytes}
 use Rattle.coap_store.proofs.CatalogueLemmas.{equal_format}
-use Rattle.coap_listing.proofs.LinkLemmas.{end_within}
+use Rattle.coap_store.proofs.LinkLemmas.{end_within}
 use Rattle.coap_store.proofs.ListingLemmas.{entry_of, text_at, texts_kept, texts_changed, texts_length, texts_count}
 use Rattle.coap_store.proofs.catalogue.replace.Goals as goal
 

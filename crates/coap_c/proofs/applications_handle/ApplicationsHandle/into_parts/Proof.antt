@@ -31,7 +31,7 @@ use Rattle.std_alloc.proofs.ResultValues.{and_tt}
 use Rattle.std_alloc.specs.Box.Ownership.{box_owns}
 use Rattle.coap_handle.proofs.Slots.{handle_val, handle_good, pointer_good, slot_out}
 use Rattle.coap_handle.proofs.Values.{both, Parts, al, parts_good, parts_in}
-use Rattle.coap_application.specs.contracts.applications.Applications as applications
+use Rattle.coap_path.specs.contracts.applications.Applications as applications
 use Rattle.coap_c.proofs.ApplicationsSlots.{Handle, handle_out}
 use Rattle.coap_c.specs.contracts.applications_handle.ApplicationsHandle.into_parts as f
 use Rattle.coap_c.proofs.applications_handle.ApplicationsHandle.into_parts.Statement.{statement}

@@ -24,7 +24,7 @@ use Rattle.std.proofs.alloc.Calls.{Goes-blank}
 use Rattle.std.proofs.raw_atomic.Walks.{proved_at, leaves}
 use Rattle.coap_handle.proofs.Slots.{handle_val}
 use Rattle.coap_handle.proofs.Values.{both, Parts, parts_good, parts_out}
-use Rattle.coap_application.specs.contracts.applications.Applications as applications
+use Rattle.coap_path.specs.contracts.applications.Applications as applications
 use Rattle.coap_c.specs.ApplicationsSlots.{applications_slot}
 use Rattle.coap_c.proofs.ApplicationsSlots.{handle_in, handle_of}
 use Rattle.coap_c.specs.contracts.applications_handle.ApplicationsHandle.of as f

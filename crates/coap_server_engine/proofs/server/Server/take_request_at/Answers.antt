@@ -13,7 +13,7 @@ use Rattle.coap_server_engine.proofs.world.RefusedLaws.{take_refused_for}
 use Rattle.coap_model.specs.declared.answers.TakeFault.TheVariants as taking
 use Rattle.coap_server_engine.proofs.values.TurnLemmas.{same_session}
 use Rattle.coap_server_engine.specs.Prelude.{frame_back, completed, ServerState, config_with, unmarked, set_value_at}
-use Rattle.coap_application.specs.Applications.{ApplicationsValue}
+use Rattle.coap_path.specs.Applications.{ApplicationsValue}
 use Rattle.coap_server_engine.proofs.values.ServerLemmas.{read_written, same_split}
 use Rattle.coap_server_engine.proofs.values.ServerTakenLemmas.{applications_stay, taken_request, taken_change}
 use Rattle.coap_server_engine.proofs.values.ChangedLemmas.{handed_given, changing_given, take_alters}

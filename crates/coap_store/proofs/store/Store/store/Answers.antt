@@ -1,6 +1,6 @@
 use Rattle.std.proofs.Common.{subst, sym, ◌+◌, arith}
 use Rattle.coap_store.specs.Prelude.{CatalogueValue, store_value, TakesPut, IsStore}
-use Rattle.coap_listing.proofs.LinkLemmas.{entry_short}
+use Rattle.coap_store.proofs.LinkLemmas.{entry_short}
 use Rattle.coap_store.proofs.StoreLemmas.{store_put, bare_listing_short}
 use Rattle.coap_store.proofs.store.Store.store.Goals as goal
 

@@ -1,5 +1,0 @@
-mod Worked
-pub mod PathStartLemmas
-pub mod LongestLemmas
-mod LawLemmas
-mod AddLemmas

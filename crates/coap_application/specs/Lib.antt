@@ -1,9 +1,0 @@
-pub mod Applications
-pub mod Methods
-pub mod Attributes
-pub mod LongestPrefix
-pub mod Refusals
-pub mod Invariant
-pub mod EntryViews
-pub mod ApplicationViews
-pub mod Prelude

@@ -1,4 +1,0 @@
-mod EntryLemmas
-mod MoveLemmas
-mod EscapeLemmas
-pub mod LinkLemmas

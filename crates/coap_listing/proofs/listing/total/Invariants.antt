@@ -1,7 +1,0 @@
--- The sum of the numbers so far.
-use Rattle.std.proofs.Common.{◌≡◌, take}
-use Rattle.coap_listing.specs.Prelude.{sum}
-use Rattle.coap_listing.proofs.listing.total.Given as goal
-
-abbrev pub invariant-loop-length : goal.invariant-loop-length
-invariant-loop-length l = l.total ≡ sum (take l.length-index l.lengths)
