@@ -103,6 +103,8 @@ pub struct Server {
     ids: u64,
     sessions: Sessions,
     sets: Concerned,
+    /// Index of the connection that was found last. A search looks there first.
+    recent: usize,
 }
 
 impl Model for Server {
@@ -142,6 +144,7 @@ impl Server {
             ids: starts.ids,
             sessions: IndexMap::with_capacity(alloc, config.connections())?,
             sets: Concerned::new(alloc)?,
+            recent: 0,
         })
     }
 
@@ -168,6 +171,7 @@ impl Server {
             ids,
             sessions,
             sets,
+            recent,
         } = Server::new(alloc, config)?;
         let ServerState { store, now } = host;
         prove!(1 <= applications.deadline());
@@ -182,6 +186,7 @@ impl Server {
             ids,
             sessions,
             sets,
+            recent,
         })
     }
 

@@ -20,7 +20,6 @@ use Rattle.coap_server_engine.proofs.world.ShowLaws.{refused_on}
 use Rattle.coap_server_session.proofs.values.TakenLemmas.{refused_within}
 use Rattle.coap_model.specs.world.Events as world
 use Rattle.coap_model.specs.declared.answers.TakeFault.TheVariants as taking
-use Rattle.coap_server_engine.proofs.scripting.FollowLemmas.{followed_none, followed_then}
 
 -- ---- one event
 

@@ -1,9 +1,9 @@
 -- The sets of the connections that a change may concern have each such connection.
-use Rattle.std.proofs.Common.{◌≡◌, ◌≢◌, ℕ, zero, suc, ◌+◌, ◌<◌, ◌≤◌, Bool, true, false, cond, List, [], ◌∷◌, length, replicate, Option, Some, None, refl, sym, ap, subst, ◌∙◌, ◌⊎◌, inl, inr, arith, map, OnOk, OnErr, Result, Ok, Err, nat_eq, slice_get, slice_set, if◌then◌else◌}
+use Rattle.std.proofs.Common.{◌≡◌, ◌≢◌, ℕ, zero, suc, ◌+◌, ◌<◌, ◌≤◌, Bool, true, false, List, [], ◌∷◌, length, replicate, Some, None, refl, sym, ap, subst, ◌∙◌, ◌⊎◌, inl, inr, arith, map, OnOk, OnErr, Result, Ok, Err, nat_eq, slice_get, slice_set, remove}
 use Rattle.std.proofs.lemmas.Bool.{cond_both, cases_eq, cases_lt}
 use Rattle.coap_server_engine.specs.Prelude.{values_of, set_value_at, insert_entry, ServerState, Cause, SessionValue, LimitValues}
 use Rattle.coap_server_engine.specs.Prelude.{MarkedSession, new_session, session_settled, changed_at, settled_entry, unmarked}
-use Rattle.coap_server_engine.specs.Prelude.{IsFlushedAt, session_written, AreUntouched, IsUnaffected, ConcernsNone}
+use Rattle.coap_server_engine.specs.Prelude.{IsFlushedAt, session_written, AreUntouched}
 use Rattle.coap_server_engine.specs.Prelude.{IndexSet, Concerned, IsOutside, bit_of, Covers, AreCovered, AreCoveredBut}
 use Rattle.coap_server_engine.specs.Prelude.{may_concern, last_hash, Message, FormatFault, session_given_by}
 use Rattle.coap_server_session.specs.declared.cause.Cause.TheVariants as cause
@@ -106,6 +106,24 @@ new_unconcerned limits (cause.Moment before) = refl
 pub covered_opened : (c : Concerned) (id : ℕ) (limits : LimitValues) (es fs : Entries) → fs ≡ insert_entry nat_eq es id (new_session limits) → AreCovered c es → AreCovered c fs
 covered_opened c id limits es fs is =
     rw is (covered_by c es (insert_entry nat_eq es id (new_session limits)) (λ why words. each_inserted (λ i s. IsOutside words i → may_concern why s ≡ false) id (new_session limits) (λ i outside. new_unconcerned limits why) es))
+
+-- ---- a removed connection
+
+-- Without the last connection, each other one keeps its index.
+kept_before_last : (es : Entries) (k i : ℕ) (s : SessionValue) → length es ≤ k + 1 → slice_get (values_of (remove es k)) i ≡ Some s
+    → slice_get (values_of es) i ≡ Some s
+kept_before_last [] zero i s last at = at
+kept_before_last [] (suc k) i s last at = at
+kept_before_last (e ∷ []) zero zero s last at = absurd cc
+kept_before_last (e ∷ []) zero (suc i) s last at = absurd cc
+kept_before_last (e ∷ f ∷ es) zero i s last at = absurd (omega (arith, last))
+kept_before_last (e ∷ es) (suc k) zero s last at = at
+kept_before_last (e ∷ es) (suc k) (suc i) s last at = kept_before_last es k i s (omega (arith, last)) at
+
+pub covered_without_last : (c : Concerned) (es : Entries) (k count : ℕ) → count ≤ k + 1 → length es ≡ count → AreCovered c es
+    → AreCovered c (remove es k)
+covered_without_last c es k count last many =
+    covered_by c es (remove es k) (λ why words covers i s at. covers i s (kept_before_last es k i s (omega (arith, last, many)) at))
 
 -- ---- full sets
 

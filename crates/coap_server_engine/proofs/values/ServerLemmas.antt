@@ -9,9 +9,11 @@ use Rattle.coap_server_engine.specs.Prelude.{IsServer, open_refusal, splits_of, 
 use Rattle.std.proofs.lemmas.Bool.{eqb-true, ne_eqb, cond_both}
 use Rattle.std.proofs.lemmas.List.{length-map, length_push}
 use Rattle.std.proofs.lemmas.List.Sums.{length-filter, count_by-le-length}
-use Rattle.std.proofs.lemmas.Map.Entries.{length-keys_of, length-values_of}
+use Rattle.std.proofs.lemmas.Bool.Decides.{nat_tests}
+use Rattle.std.proofs.lemmas.Map.Entries.{length-keys_of, length-values_of, lookup_from_place}
+use Rattle.std.proofs.lemmas.Map.Keys.{IsDistinct-head, IsDistinct-tail}
 use Rattle.std.proofs.lemmas.Map.Made.{keys_of-map_values}
-use Rattle.std.proofs.lemmas.Option.{cond_some}
+use Rattle.std.proofs.lemmas.Option.{cond_some, slice_get-map, slice_get_within}
 use Rattle.coap_server_session.proofs.values.SettleLemmas.{none_held, settled_quiet, settled_is_settled, settled_stays}
 use Rattle.coap_model.proofs.OptionLemmas.{there_is_none, there_at}
 use Rattle.coap_model.proofs.world.EntryLemmas.{all_to, all_append, all_filter, all_map}
@@ -103,6 +105,35 @@ one_where_some id es (Some i) distinct index within value =
       index = rw (keys_unmarked es) (cond_some _ _ i (sym index)).1;
       within = rw (length-map es unmarked_entry) within;
       found = unmarked_looked_up id es ∙ ap (option_map (λ (s : MarkedSession). s.session)) (sym value) ∙ sym (value_unmarked es i);
+    }
+
+-- The key at an index is none that each key differs from.
+differs_at : (k id i : ℕ) (ks : List ℕ) → AllByRecursion (λ y. nat_eq k y ≡ false) ks → slice_get ks i ≡ Some id → nat_eq k id ≡ false
+differs_at k id i [] each at = absurd cc
+differs_at k id zero (y ∷ ks) each at = let same : y ≡ id = cc in rw same at each.0
+differs_at k id (suc i) (y ∷ ks) each at = differs_at k id i ks each.1 at
+
+-- The index of a key, if all are distinct.
+first_of : (id i : ℕ) (ks : List ℕ) → IsDistinct nat_eq ks → slice_get ks i ≡ Some id → position_or_len (nat_eq id) ks ≡ i
+first_of id i [] distinct at = absurd cc
+first_of id zero (k ∷ ks) distinct at = let same : k ≡ id = cc in grind (arith, nat_tests)
+first_of id (suc i) (k ∷ ks) distinct at =
+    let apart : nat_eq k id ≡ false = differs_at k id i ks (IsDistinct-head nat_eq k ks distinct) at in
+    let rest = first_of id i ks (IsDistinct-tail nat_eq k ks distinct) at in
+    grind (arith, nat_tests)
+
+-- A connection lies where its id does.
+pub lies_at_key : (id i : ℕ) (s : MarkedSession) (es : MarkedEntries) → IsDistinct nat_eq (keys_of es) → slice_get es i ≡ Some (id, s)
+    → LiesAt id i (unmarked es)
+lies_at_key id i s es distinct at =
+    let key : slice_get (keys_of es) i ≡ Some id = rw (slice_get-map, at) refl in
+    let value : slice_get (values_of es) i ≡ Some s = rw (slice_get-map, at) refl in
+    let found = lookup_from_place nat_eq_equiv es i id s distinct at in
+    record {
+      distinct = rw (keys_unmarked es) distinct;
+      index = rw (keys_unmarked es) (first_of id i (keys_of es) distinct key);
+      within = rw (length-map es unmarked_entry) (slice_get_within es i (id, s) at);
+      found = unmarked_looked_up id es ∙ ap (option_map (λ (s : MarkedSession). s.session)) (found ∙ sym value) ∙ sym (value_unmarked es i);
     }
 
 -- ---- changes

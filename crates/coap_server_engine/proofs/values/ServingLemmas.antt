@@ -154,6 +154,20 @@ taken_stays v id i piece lies =
 
 -- ---- one take
 
+-- If no byte was written, nothing is given.
+unasked : (v : ServerValue) (id limit : ℕ) (o : Option Message) → ((asking v id limit [] o).server ≡ v) × ((asking v id limit [] o).events ≡ [])
+unasked v id limit None = (refl, refl)
+unasked v id limit (Some m) = (nothing_offered v id, nothing_told v id)
+
+asked_exchanges : (v : ServerValue) (id limit : ℕ) (o : Option Message) → (asking v id limit [] o).exchanges ≡ asks_for id limit [] o
+asked_exchanges v id limit None = refl
+asked_exchanges v id limit (Some m) = refl
+
+-- The application wrote no byte.
+pub asks_unanswered : (id limit : ℕ) (o : Option Message) → AreUnanswered (asks_for id limit [] o)
+asks_unanswered id limit None = tt
+asks_unanswered id limit (Some m) = (refl, tt)
+
 module _ (v u after : ServerValue) (id : ℕ) (left response : List ℕ) (k : ℕ) (a b c : Following) (x y : Answering) (took : u ≡ server_taken v id left) (shows : ShowsMore v u (Took id (take k left) ∷ [])) (told : FollowsMore a b (Took id (take k left) ∷ []))
     (asked : AnswersMore x y (asks_for id (message_limit v id) response (handed_by v id left))) where
   -- A request was handed over, and the application was asked.
@@ -171,13 +185,14 @@ module _ (v u after : ServerValue) (id : ℕ) (left response : List ℕ) (k : �
         exchanged = rw effect (rw handed at asked);
       }
 
--- The application was not asked: it has written no byte.
-unasked : (v : ServerValue) (id limit : ℕ) (o : Option Message) → ((asking v id limit [] o).server ≡ v) × ((asking v id limit [] o).events ≡ []) × AreUnanswered (asking v id limit [] o).exchanges
-unasked v id limit None = (refl, refl, tt)
-unasked v id limit (Some m) = (nothing_offered v id, nothing_told v id, (refl, tt))
-
-pub taken_unasked : (v u : ServerValue) (id : ℕ) (left : List ℕ) (k : ℕ) (a b : Following) → u ≡ server_taken v id left → ShowsMore v u (Took id (take k left) ∷ []) → FollowsMore a b (Took id (take k left) ∷ [])
-    → IsTakenFor v id left [] k u (FollowsMore a b) (λ exchanges. AreUnanswered exchanges)
-taken_unasked v u id left k a b took shows told =
-    let none = unasked (server_taken v id left) id (message_limit v id) (handed_by v id left) in
-    record { server = took ∙ sym none.0; shows = rw none.1 shows; tells = rw none.1 told; exchanged = none.2 }
+  -- The application wrote no byte, or no request was handed over.
+  pub taken_silent : response ≡ [] → IsTakenFor v id left response k u (FollowsMore a b) (AnswersMore x y)
+  taken_silent empty =
+      let nothing = unasked (server_taken v id left) id (message_limit v id) (handed_by v id left) in
+      let exchanged = asked_exchanges (server_taken v id left) id (message_limit v id) (handed_by v id left) in
+      rw empty (record {
+        server = took ∙ sym nothing.0;
+        shows = rw nothing.1 shows;
+        tells = rw nothing.1 told;
+        exchanged = rw exchanged (rw empty at asked);
+      })

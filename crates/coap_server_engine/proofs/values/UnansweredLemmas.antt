@@ -1,10 +1,9 @@
 -- Takes for an application that writes no byte have the effect of takes without one.
-use Rattle.std.proofs.Common.{◌≡◌, ◌≢◌, ℕ, suc, ◌+◌, ◌<◌, ◌≤◌, Bool, true, false, not, ◌&&◌, ◌==◌, List, [], ◌∷◌, ◌++◌, length, take, drop, Option, Some, None, refl, sym, ap, ◌∙◌, arith, nat_lt}
+use Rattle.std.proofs.Common.{◌≡◌, ℕ, suc, ◌≤◌, Bool, true, false, not, ◌&&◌, List, [], ◌∷◌, ◌++◌, length, take, drop, Option, Some, None, refl, sym, ap, ◌∙◌, arith, nat_lt}
 use Rattle.std.proofs.lemmas.Bool.{and_parts, ltb-true, eqb-false}
-use Rattle.std.proofs.lemmas.List.{append-nil}
 use Rattle.coap_server_engine.specs.Prelude.{ServerValue, session_of, is_there, count_taken, server_taken, server_taken_on, AcceptedCall, Took, taking, host_changed}
-use Rattle.coap_server_engine.specs.Prelude.{InResult, in_result, fed_turns, fed_more, took, took_turns, where_there, Exchange, AreUnanswered, AskResult, asked_by, asking, served, ServeResult, AreMade, IsServed}
-use Rattle.coap_server_engine.specs.Prelude.{Message, handed_by, message_limit, response_for, server_offered, SessionValue}
+use Rattle.coap_server_engine.specs.Prelude.{InResult, in_result, fed_turns, took, took_turns, where_there, Exchange, AreUnanswered, asked_by, asking, served, ServeResult, AreMade, IsServed}
+use Rattle.coap_server_engine.specs.Prelude.{Message, handed_by, message_limit, SessionValue}
 use Rattle.coap_server_engine.specs.values.InResults.{goes_on}
 use Rattle.coap_server_engine.proofs.values.ResponseLemmas.{nothing_offered, nothing_told}
 use Rattle.coap_server_engine.proofs.world.AtOnceLaws.{becomes_settled}

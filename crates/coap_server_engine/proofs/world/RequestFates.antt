@@ -1,5 +1,5 @@
 -- The request that a take lends is the one that was handed to the application.
-use Rattle.std.proofs.Common.{◌≡◌, ℕ, Bool, true, false, cond, ◌&&◌, List, [], ◌∷◌, ◌++◌, length, drop, Option, Some, None, refl, sym, ap, ◌∙◌, inl, inr, option_and_then}
+use Rattle.std.proofs.Common.{◌≡◌, ℕ, Bool, true, cond, ◌&&◌, List, [], ◌∷◌, ◌++◌, length, drop, Option, Some, None, refl, sym, ap, ◌∙◌, inl, inr, option_and_then}
 use Rattle.std.specs.Option.{option_to_list}
 use Rattle.std.specs.List.{flat_map}
 use Rattle.std.proofs.lemmas.Bool.{cases_Bool}
@@ -9,7 +9,7 @@ use Rattle.coap_conn.specs.History.{after}
 use Rattle.coap_conn.specs.Calls as call
 use Rattle.coap_conn.specs.declared.pending.Responder.{Responder}
 use Rattle.coap_conn.specs.declared.pending.Responder.TheVariants.{Engine, Application}
-use Rattle.coap_server_engine.specs.Prelude.{Message, Stream, takes_messages, ConfigValues, Connection, World, side_of, AcceptedCall, Took, IsAccepted, AreAccepted, takes, stream_on, world_after, is_handed}
+use Rattle.coap_server_engine.specs.Prelude.{Message, Stream, takes_messages, ConfigValues, Connection, World, side_of, AcceptedCall, Took, IsAccepted, AreAccepted, takes, world_after, is_handed}
 use Rattle.coap_server_engine.specs.Prelude.{request_in, request_between, request_to, message_between}
 use Rattle.coap_server_session.specs.values.HandedRequests.{is_application}
 use Rattle.coap_model.specs.world.Connections.{asks_answer, held_for, delay_of, Delay}

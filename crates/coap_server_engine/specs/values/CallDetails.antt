@@ -1,5 +1,5 @@
 -- Defined by this project: the true details of a call that a monitor receives, by the server that it receives with it.
-use Rattle.std.specs.Prelude.{◌≡◌, ◌++◌, ℕ, true, false, List, length, take, Option, Some}
+use Rattle.std.specs.Prelude.{◌≡◌, ◌++◌, ℕ, true, false, List, length, take, Some}
 use Rattle.coap_model.specs.declared.answers.Handled.{Handled}
 use Rattle.coap_model.specs.declared.answers.Handled.TheVariants as handled
 use Rattle.coap_model.specs.declared.answers.TakeFault.TheVariants as fault

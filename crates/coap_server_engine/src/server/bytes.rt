@@ -1,6 +1,6 @@
 //! The input and the output of a server's connections.
 
-use super::sessions::{find, flush_at, settle_after, what_was_handled, written_at};
+use super::sessions::{find, flush_at, written_at};
 use super::{ConnIndex, FlushStep, Server};
 use crate::monitor::{Call, Monitor};
 use coap_io::{Outlet, WriteFailed};
@@ -9,7 +9,7 @@ use std::alloc::AllocError;
 
 impl Server {
     ghost use Rattle.std.specs.Prelude.{◌≡◌, ◌+◌, ◌≤◌, ◌++◌, ◌∷◌, ⊤, List, [], length, take, true, false, is_err};
-    ghost use Rattle.std.specs.Prelude.{is_some, IfOk, IfErr, IfSome, OnOk, OnErr, option_copied};
+    ghost use Rattle.std.specs.Prelude.{is_some, IfOk, IfErr, IfNone, IfSome, OnOk, OnErr, option_copied};
     ghost use Rattle.coap_server_engine.specs.Prelude.{sem, follows_so, none, RefusedBy, IsPartialIn, in_result, took};
     ghost use Rattle.coap_server_engine.specs.Prelude.{ShowsMore, ShowsPartlyFed, AddsBytes, WritesPart, waiting_at};
     ghost use Rattle.coap_server_engine.specs.Prelude.{more_at, IsFlushedOnce, session_of, is_there, count_taken};
@@ -28,7 +28,7 @@ impl Server {
     pub fn can_take(&self, id: ConnId) -> bool
         ensures { result ≡ can_take_on (session_of id self.now.sessions) }
     {
-        let Some(at) = find(&self.sessions, id) else {
+        let Some(at) = find(&self.sessions, self.recent, id) else {
             return false;
         };
         self.sessions[at].takes()
@@ -63,7 +63,7 @@ impl Server {
         ensures refused_for { IfErr result (λ fault.
             (events : List AcceptedCall) → Shows self.old events → IsRefusedFor self.old.config events id piece.now fault) }
     {
-        let Some(at) = find(&self.sessions, id) else {
+        let Some(at) = self.seek(id) else {
             return Err(TakeFault::NoSuch);
         };
         self.take_at(ConnIndex { id, at }, piece)
@@ -78,7 +78,18 @@ impl Server {
         ensures at { IfSome result (λ at. LiesAt id at self.now.sessions) }
         ensures settled { AreSettled self.now.host self.now.sessions }
     {
-        find(&self.sessions, id)
+        find(&self.sessions, self.recent, id)
+    }
+
+    /// Returns the index of a connection as `index_of` does. The next search looks there first.
+    pub(super) fn seek(&mut self, id: ConnId) -> Option<usize>
+        ensures none { IfNone result (session_of id self.old.sessions ≡ None) }
+        ensures at { IfSome result (λ at. LiesAt id at self.old.sessions) }
+        ensures same { self.new ≡ self.old }
+    {
+        let at = find(&self.sessions, self.recent, id)?;
+        self.recent = at;
+        Some(at)
     }
 
     /// Accepts bytes as `take` does, on the connection at an index.
@@ -112,70 +123,7 @@ impl Server {
             IsRefusedFor self.old.config events index.id piece.now fault) }
         ensures lies { OnOk result (LiesAt index.id index.at self.new.sessions) }
     {
-        let takes = self.sessions[index.at].takes();
-        match self.sessions[index.at].take(&mut self.host, piece) {
-            Err(bytes) => Err(TakeFault::Memory { bytes }),
-            Ok(taking) => {
-                settle_after(
-                    taking.changed,
-                    &mut self.sets,
-                    &mut self.sessions,
-                    index.at,
-                    &self.host,
-                );
-                let stop = self.sessions[index.at].phase().stop();
-                Ok(Taken {
-                    bytes: taking.count,
-                    handled: what_was_handled(takes, taking.handled, stop),
-                })
-            }
-        }
-    }
-
-    /// Accepts bytes once as `take_at` does, of the remaining bytes `rest`, and returns their number. The monitor receives the
-    /// call, also if it accepts no byte or allocation fails.
-    ///
-    /// # Errors
-    ///
-    /// Returns `AllocError` if allocation fails in the take.
-    pub(super) fn take_unasked<W, M: Monitor<W>>(
-        &mut self,
-        at: usize,
-        id: ConnId,
-        rest: &[u8],
-        monitor: &mut M,
-    ) -> Result<usize, AllocError>
-        requires { LiesAt id at self.old.sessions }
-        ensures within { IfOk result (λ n. n ≤ length rest.now) }
-        ensures count { IfOk result (λ n. n ≡ count_taken self.old id rest.now) }
-        ensures there { OnOk result (is_there (session_of id self.old.sessions) ≡ true) }
-        ensures ok { IfOk result (λ n. IsTakenFor self.old id rest.now [] n self.new
-            (FollowsMore (M.follows monitor.old) (M.follows monitor.new)) AreUnanswered) }
-        ensures lies { OnOk result (LiesAt id at self.new.sessions) }
-        ensures err { OnErr result (IsNotTakenFor self.old id rest.now self.new
-            (FollowsMore (M.follows monitor.old) (M.follows monitor.new))) }
-    {
-        match self.take_at(ConnIndex { id, at }, rest) {
-            Ok(taken) => {
-                let took = Call::Took {
-                    id,
-                    bytes: &rest[..taken.bytes],
-                    handled: taken.handled,
-                };
-                monitor.accepted(took, self);
-                Ok(taken.bytes)
-            }
-            Err(TakeFault::NoSuch) => unreachable!(),
-            Err(TakeFault::Memory { bytes }) => {
-                let took = Call::Took {
-                    id,
-                    bytes: &rest[..bytes],
-                    handled: Handled::Nothing,
-                };
-                monitor.accepted(took, self);
-                Err(AllocError)
-            }
-        }
+        Ok(self.take_request_at(index, piece)?.taken)
     }
 
     /// Accepts bytes until none is left or none is accepted, and returns the number accepted.
@@ -193,7 +141,7 @@ impl Server {
         ensures err { OnErr result (IsPartialIn self.old id bytes.now self.new) }
         ensures shows_refused { OnErr result (ShowsPartlyFed self.old id bytes.now self.new) }
     {
-        let Some(at) = find(&self.sessions, id) else {
+        let Some(at) = find(&self.sessions, self.recent, id) else {
             return Ok(0);
         };
         let mut taken = 0;
@@ -218,7 +166,7 @@ impl Server {
     pub fn settle_bound(&self, id: ConnId) -> usize
         ensures { result ≡ more_at id self.now }
     {
-        let Some(at) = find(&self.sessions, id) else {
+        let Some(at) = find(&self.sessions, self.recent, id) else {
             return 0;
         };
         self.sessions[at].settle_bound()
@@ -233,7 +181,8 @@ impl Server {
             (λ s. s ≡ self.old)) }
         ensures front { option_copied result ≡ front_of self.old id }
     {
-        let at = find(&self.sessions, id)?;
+        let at = find(&self.sessions, self.recent, id)?;
+        self.recent = at;
         Some(self.sessions[at].front())
     }
 
@@ -246,7 +195,7 @@ impl Server {
         ensures there { is_some result ≡ is_there (session_of id self.now.sessions) }
         ensures parts { IfSome result (λ parts. parts.0.now ++ parts.1.now ≡ waiting_at id self.now) }
     {
-        let at = find(&self.sessions, id)?;
+        let at = find(&self.sessions, self.recent, id)?;
         Some(self.sessions[at].parts())
     }
 
@@ -266,7 +215,7 @@ impl Server {
             Shows self.new (events ++ Wrote id count ∷ [])) }
         ensures err { OnErr result (self.new ≡ self.old) }
     {
-        let Some(at) = find(&self.sessions, id) else {
+        let Some(at) = find(&self.sessions, self.recent, id) else {
             return Err(WrittenFault::NoSuch);
         };
         if self.sessions[at].waiting() < count {
@@ -301,7 +250,7 @@ impl Server {
         ensures err { OnErr result (self.new ≡ self.old) }
         ensures failure { W.is_failed writer.new ≡ is_err result }
     {
-        let Some(at) = find(&self.sessions, id) else {
+        let Some(at) = find(&self.sessions, self.recent, id) else {
             return Ok(FlushStep {
                 waited: false,
                 more: 0,

@@ -1,6 +1,6 @@
 //! The connections of a server that a change may concern.
 
-ghost use Rattle.std.specs.Prelude.{◌≡◌, Some, IfOk, List, ℕ, length, slice_get};
+ghost use Rattle.std.specs.Prelude.{◌≡◌, ◌<◌, Some, IfOk, List, ℕ, length, remove, slice_get};
 ghost use Rattle.coap_server_engine.specs.Prelude.{AreCovered, AreCoveredBut, SessionValue, values_of};
 
 use crate::index_set::IndexSet;
@@ -36,8 +36,21 @@ impl Concerned {
         })
     }
 
-    /// Adds all indices to each set. Call this when connections change their indices.
-    pub(super) fn fill(&mut self)
+    /// Follows the removal of the connection at an index, of this number of connections. Those after it change their
+    /// indices: unless there is none, all indices are added to each set.
+    pub(super) fn follow_removal(&mut self, at: usize, count: usize)
+        requires many { length self.old.paths.items ≡ 256 }
+        requires within { at < count }
+        ensures { (sessions : List (ℕ × SessionValue)) → length sessions ≡ count → AreCovered self.old sessions →
+            AreCovered self.new (remove sessions at) }
+    {
+        if at + 1 < count {
+            self.fill();
+        }
+    }
+
+    /// Adds all indices to each set.
+    fn fill(&mut self)
         requires { length self.old.paths.items ≡ 256 }
         ensures { (sessions : List (ℕ × SessionValue)) → AreCovered self.new sessions }
     {

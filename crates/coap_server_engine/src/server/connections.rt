@@ -72,7 +72,7 @@ impl Server {
             Shows self.new (events ++ Ended id ∷ [])) }
         ensures err { OnErr result (self.new ≡ self.old) }
     {
-        let Some(at) = find(&self.sessions, id) else {
+        let Some(at) = find(&self.sessions, self.recent, id) else {
             return Err(NoSuch);
         };
         end_at(&mut self.sessions, at, &self.host);
@@ -98,7 +98,7 @@ impl Server {
             Shows self.new (events ++ Released id ∷ [])) }
         ensures err { OnErr result (self.new ≡ self.old) }
     {
-        let Some(at) = find(&self.sessions, id) else {
+        let Some(at) = find(&self.sessions, self.recent, id) else {
             return Err(ReleaseFault::NoSuch);
         };
         release_at(&mut self.sessions, at, &self.host)
@@ -129,7 +129,7 @@ impl Server {
             Shows self.new (events ++ Announced id new ∷ [])) }
         ensures err { OnErr result (self.new ≡ self.old) }
     {
-        let Some(at) = find(&self.sessions, id) else {
+        let Some(at) = find(&self.sessions, self.recent, id) else {
             return Err(AnnounceFault::NoSuch);
         };
         announce_at(&mut self.sessions, at, &self.host, new)
@@ -149,11 +149,11 @@ impl Server {
             Shows self.new (events ++ Dropped id ∷ [])) }
         ensures err { OnErr result (self.new ≡ self.old) }
     {
-        let Some(at) = find(&self.sessions, id) else {
+        let Some(at) = find(&self.sessions, self.recent, id) else {
             return Err(NoSuch);
         };
+        self.sets.follow_removal(at, self.sessions.len());
         self.sessions.shift_remove_index(at);
-        self.sets.fill();
         Ok(())
     }
 
@@ -161,7 +161,8 @@ impl Server {
     pub fn status(&self, id: ConnId) -> Option<Status>
         ensures { result ≡ status_of self.now id }
     {
-        let session = self.sessions.get(&id)?;
+        let at = find(&self.sessions, self.recent, id)?;
+        let session = &self.sessions[at];
         Some(Status {
             phase: session.phase(),
             kept: session.kept(),
@@ -177,7 +178,8 @@ impl Server {
     pub fn outlook(&self, id: ConnId) -> Option<ConnectionWork>
         ensures { result ≡ outlook_of self.now id }
     {
-        let session = self.sessions.get(&id)?;
+        let at = find(&self.sessions, self.recent, id)?;
+        let session = &self.sessions[at];
         Some(ConnectionWork {
             takes: session.takes(),
             stopped: session.phase().stop().is_some(),

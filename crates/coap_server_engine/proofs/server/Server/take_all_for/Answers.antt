@@ -1,5 +1,4 @@
-use Rattle.std.proofs.Common.{◌≡◌, ◌≤◌, None, length, subst, arith}
-use Rattle.coap_server_engine.specs.Prelude.{LiesAt, session_of}
+use Rattle.std.proofs.Common.{◌≤◌, length, arith}
 use Rattle.coap_io.proofs.streams.WriteLemmas.{rest_of}
 use Rattle.coap_server_engine.proofs.values.ResponseLemmas.{on_err}
 use Rattle.coap_server_engine.proofs.values.ServerLemmas.{is_there_at}
@@ -9,12 +8,13 @@ use Rattle.coap_server_engine.proofs.server.Server.take_all_for.Goals as goal
 -- No connection has this id.
 pub returns-in_default-clause-served : goal.returns-in_default-clause-served
 returns-in_default-clause-served g c =
-    let none : session_of c.args.id c.args.self.now.sessions ≡ None = rw (← c.self.view_is) c.in_default.ensures.none in
-    serves_nobody c.args.self.now c.args.id c.args.bytes.now (g.M.Monitor.follows c.args.monitor.now) (g.A.Application.follows c.args.application.now) none
+    rw c.in_default.ensures.same
+    (serves_nobody c.args.self.now c.args.id c.args.bytes.now (g.M.Monitor.follows c.args.monitor.now) (g.A.Application.follows c.args.application.now) c.in_default.ensures.none)
 
 pub loop-taken-init : goal.loop-taken-init
 loop-taken-init g c =
-    let lies = subst (λ v. LiesAt c.args.id c.in-Some.at v.sessions) c.self.view_is c.in-Some.ensures.some in
+    let lies = c.in-Some.ensures.at in
+    rw c.in-Some.ensures.same
     (serves_nothing c.args.self.now c.args.id c.args.bytes.now (g.M.Monitor.follows c.args.monitor.now) (g.A.Application.follows c.args.application.now) (is_there_at c.args.id c.in-Some.at c.args.self.now.sessions lies), lies)
 
 -- Allocation failed in a take.

@@ -1,7 +1,7 @@
-use Rattle.std.proofs.Common.{ℕ, take, ap, arith, refl}
+use Rattle.std.proofs.Common.{ℕ, take, ap, arith, refl, sym}
 use Rattle.coap_server_engine.specs.Prelude.{WasRefused, WasTaken}
 use Rattle.coap_server_engine.proofs.values.ResponseLemmas.{token_made}
-use Rattle.coap_server_engine.proofs.values.ServingLemmas.{taken_stays, taken_asked}
+use Rattle.coap_server_engine.proofs.values.ServingLemmas.{taken_stays, taken_asked, taken_silent}
 use Rattle.coap_server_engine.proofs.scripting.ReplayLemmas.{not_taken_within}
 use Rattle.coap_server_engine.proofs.server.Server.take_for.Goals as goal
 
@@ -23,13 +23,23 @@ accepted-requires-in-Err-Memory g c = let e = rw (c.in-Err-Memory.field-0-is) at
 pub returns-in-Some-clause-ok : goal.returns-in-Some-clause-ok
 returns-in-Some-clause-ok g c =
     let e = c.in-Ok.ensures in
-    let made = token_made _ _ (rw c.in-Some.is at e.token) in
+    let made = token_made _ _ (sym (rw c.in-Some.is at e.token)) in
     let given = rw c.deref.ensures.value at c.give_at_once.ensures in
     let asked = rw c.message_limit-limit.ensures at e.asked in
     taken_asked c.args.self.now c.take_and_ask.new.self c.give_at_once.new.self c.args.id c.args.rest.now c.take_and_ask.new.response.items c.in-Ok.taken.bytes
     (g.M.Monitor.follows c.args.monitor.now) (g.M.Monitor.follows c.accepted.new.self) (g.M.Monitor.follows c.give_at_once.new.monitor)
     (g.A.Application.follows c.args.application.now) (g.A.Application.follows c.take_and_ask.new.application)
     e.ok e.shows c.accepted.ensures asked made.0 c.in-Some.token.items made.1 made.2 given.after given.shows given.told
+
+-- The application was not asked, or there is no request.
+pub returns-in_default-clause-ok : goal.returns-in_default-clause-ok
+returns-in_default-clause-ok g c =
+    let e = c.in-Ok.ensures in
+    let asked = rw c.message_limit-limit.ensures at e.asked in
+    taken_silent c.args.self.now c.take_and_ask.new.self c.take_and_ask.new.self c.args.id c.args.rest.now c.take_and_ask.new.response.items c.in-Ok.taken.bytes
+    (g.M.Monitor.follows c.args.monitor.now) (g.M.Monitor.follows c.accepted.new.self) (g.M.Monitor.follows c.accepted.new.self)
+    (g.A.Application.follows c.args.application.now) (g.A.Application.follows c.take_and_ask.new.application)
+    e.ok e.shows c.accepted.ensures asked (rw c.in_default.is at e.unasked)
 
 pub give_at_once-requires : goal.give_at_once-requires
 give_at_once-requires g c =

@@ -1,5 +1,5 @@
 use Rattle.coap_server_engine.proofs.values.ServerLemmas.{none_where_none, one_where_some}
-use Rattle.coap_server_engine.proofs.server.sessions.find.Goals as goal
+use Rattle.coap_server_engine.proofs.server.sessions.search.Goals as goal
 
 pub returns-clause-none : goal.returns-clause-none
 returns-clause-none c = none_where_none c.args.id _ _ c.get_index_of.ensures.found
